@@ -1,0 +1,41 @@
+-- The order that a command line gives.
+use Rattle.std.specs.Prelude.{List, [], ◌≡◌, ◌≢◌, Option, Some, codes}
+use Rattle.clap.specs.Words.{Text, Row, first_of, fault_of, subcommand_of, IsAmong}
+use Rattle.clap.specs.declared.error.kind.ErrorKind.TheVariants.{DisplayHelp}
+use Rattle.mls_cli.specs.Commands.{mlscheck_app}
+use Rattle.mls_cli.specs.declared.order.Order.{Order}
+use Rattle.mls_cli.specs.declared.order.Order.TheVariants as order
+use Rattle.mls_cli.specs.declared.order.OrderFault.{OrderFault}
+use Rattle.mls_cli.specs.declared.order.OrderFault.TheVariants.{Help, Memory}
+use Rattle.mls_cli.specs.declared.show.ShowKind.{ShowKind}
+use Rattle.mls_cli.specs.declared.show.ShowKind.TheVariants as kind
+
+-- the word that names a kind on the command line
+abbrev pub kind_text : ShowKind → Text
+kind_text kind.Tree = codes "tree"
+
+-- the arguments KIND and FILE are these
+abbrev pub IsShow : List Row → ShowKind → Text → Type 0
+IsShow rows k file = (first_of (codes "KIND") rows ≡ Some (kind_text k)) × (first_of (codes "FILE") rows ≡ Some file)
+
+-- the order is what clap found: a subcommand's name, and the values of its arguments
+abbrev pub IsOrder : Option (Text × List Row) → Order → Type 0
+IsOrder found (order.Show k file) = (rows : List Row) × (found ≡ Some (codes "show", rows)) × IsShow rows k file
+
+-- clap refuses none of the words, and what it finds in them is the order
+pub record IsOrderOf (words : List Text) (o : Order) : Type 0 where
+  pub passes : fault_of mlscheck_app words ≡ []
+  pub found : IsOrder (subcommand_of mlscheck_app words) o
+
+-- a fault other than want of memory comes only where nothing has the property
+abbrev pub Refuses : {A : Type 0} → (A → Type 0) → OrderFault → Type 0
+Refuses {A} P e = e ≢ Memory → (x : A) → P x → ⊥
+
+-- help is answered
+abbrev pub IsHelp : OrderFault → Type 0
+IsHelp (Help text) = Unit {0}
+IsHelp _ = ⊥
+
+-- help is among what clap may answer to the words
+abbrev pub AsksForHelp : List Text → Type 0
+AsksForHelp words = IsAmong DisplayHelp (fault_of mlscheck_app words)

@@ -1,0 +1,62 @@
+-- The report `show`.
+use Rattle.std.specs.Prelude.{ℕ, ◌≤◌, List, [], ◌++◌, length, codes, Option, Some, ◌≡◌, ◌⊎◌}
+use Rattle.std.specs.Io.KnownBytes.{Appends}
+use Rattle.mls_wire.specs.Devices.{AppendsPrefix}
+use Rattle.mls_nodes.specs.Value.{NodeValue}
+use Rattle.mls_nodes.specs.RatchetTree.{ratchet_tree, filled}
+use Rattle.mls_cli.specs.ReadAll.{ReadsAll, input_limit}
+use Rattle.mls_cli.specs.Texts.{IsOneLine}
+use Rattle.mls_cli.specs.TreeText.{tree_text}
+use Rattle.mls_cli.specs.declared.outcome.Verdict.{Verdict}
+use Rattle.mls_cli.specs.declared.outcome.Verdict.TheVariants.{Yes, No}
+use Rattle.mls_cli.specs.declared.show.ShowKind.{ShowKind}
+use Rattle.mls_cli.specs.declared.show.ShowKind.TheVariants as kind
+
+-- the nodes are those of the ratchet tree that the bytes of an input spell (RFC 9420, section 12.4.3.3)
+pub record IsTree (bytes : List ℕ) (nodes : List (Option NodeValue)) : Type 0 where
+  pub spelled : ratchet_tree nodes ≡ Some bytes
+  pub bounded : length bytes ≤ input_limit
+
+-- the report of an input that can't be read: one line that names the fault
+pub record IsUnreadable (text : List ℕ) (verdict : Verdict) : Type 0 where
+  pub fault : List ℕ
+  pub one_line : IsOneLine fault
+  pub text_is : text ≡ codes "unreadable " ++ (fault ++ codes "\n")
+  pub verdict_is : verdict ≡ No
+
+-- the report of a tree that can be read
+pub record IsTreeReport (bytes text : List ℕ) (verdict : Verdict) : Type 0 where
+  pub nodes : List (Option NodeValue)
+  pub is_tree : IsTree bytes nodes
+  pub text_is : text ≡ tree_text (filled nodes)
+  pub verdict_is : verdict ≡ Yes
+
+-- the bytes are those of no tree, and the report says so
+pub record IsNoTreeReport (bytes text : List ℕ) (verdict : Verdict) : Type 0 where
+  pub no_tree : (nodes : List (Option NodeValue)) → IsTree bytes nodes → ⊥
+  pub unreadable : IsUnreadable text verdict
+
+-- the report of bytes that are shown as a kind, and its verdict
+abbrev pub IsShowReport : ShowKind → List ℕ → List ℕ → Verdict → Type 0
+IsShowReport kind.Tree bytes text verdict = IsTreeReport bytes text verdict ⊎ IsNoTreeReport bytes text verdict
+
+-- the input was read to its end, and the report of its bytes was written whole
+pub record Shows (k : ShowKind) (left0 left1 written0 written1 : Option (List ℕ)) (verdict : Verdict) : Type 0 where
+  pub bytes : List ℕ
+  pub text : List ℕ
+  pub read : ReadsAll left0 left1 bytes
+  pub report : IsShowReport k bytes text verdict
+  pub wrote : Appends written0 written1 text
+
+-- the input was read to its end, and a prefix of the report of its bytes was written
+pub record ShowsPrefix (k : ShowKind) (left0 left1 written0 written1 : Option (List ℕ)) : Type 0 where
+  pub bytes : List ℕ
+  pub text : List ℕ
+  pub verdict : Verdict
+  pub read : ReadsAll left0 left1 bytes
+  pub report : IsShowReport k bytes text verdict
+  pub wrote : AppendsPrefix written0 written1 text
+
+-- nothing was written, or a prefix of the report of an input that had ended
+abbrev pub ShowsPart : ShowKind → Option (List ℕ) → Option (List ℕ) → Option (List ℕ) → Option (List ℕ) → Type 0
+ShowsPart k left0 left1 written0 written1 = Appends written0 written1 [] ⊎ ShowsPrefix k left0 left1 written0 written1

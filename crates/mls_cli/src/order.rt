@@ -1,0 +1,157 @@
+//! What a command line asks for.
+
+ghost use Rattle.std.specs.Prelude.{◌≡◌, ◌≢◌, IfOk, IfErr, codes, Some, option_map, map, string_bytes};
+ghost use Rattle.clap.specs.Values.{kind_of};
+ghost use Rattle.clap.specs.Words.{first_of, rows_of, found_of, subcommand_rows_of};
+ghost use Rattle.mls_cli.specs.Orders.{IsOrder, IsOrderOf, IsHelp, AsksForHelp, Refuses, kind_text};
+ghost use Rattle.mls_cli.specs.Status.{fault_status};
+
+use crate::command::mlscheck_command;
+use crate::file_name::FileName;
+use crate::show::ShowKind;
+use clap::error::ErrorKind;
+use clap::{ArgMatches, Error};
+use std::alloc::{AllocError, Global};
+
+/// What the program is to do.
+#[derive(Debug, Drop)]
+pub enum Order {
+    /// `show KIND FILE`: print what a file holds.
+    Show {
+        /// What the file is to be read as.
+        kind: ShowKind,
+        /// The file.
+        file: FileName,
+    },
+}
+
+/// Why a command line gives no order.
+#[derive(Debug, Drop)]
+pub enum OrderFault {
+    /// It asks for help, which is this text.
+    Help(String),
+    /// It is none of the forms that the program knows. The text says why.
+    Usage(String),
+    /// There was not enough memory.
+    Memory,
+}
+
+impl OrderFault {
+    /// The exit status of a command line that gives no order: 0 for help, 2 for a usage fault, 3 for
+    /// want of memory.
+    pub fn status(&self) -> u8
+        ensures { result ≡ fault_status self.now }
+    {
+        match self {
+            OrderFault::Help(_) => 0,
+            OrderFault::Usage(_) => 2,
+            OrderFault::Memory => 3,
+        }
+    }
+}
+
+impl From<AllocError> for OrderFault {
+    ghost use Rattle.mls_cli.specs.declared.order.OrderFault.TheVariants.{Memory};
+
+    ghost from_gives = { λ _ e. e ≡ Memory };
+
+    fn from(_e: AllocError) -> OrderFault {
+        OrderFault::Memory
+    }
+}
+
+/// What a refusal of clap is.
+fn refusal(alloc: Global, error: &Error) -> OrderFault
+    ensures memory { kind_of error.now ≡ ErrorKind.OutOfMemory → result ≡ OrderFault.Memory }
+    ensures help { IsHelp result → kind_of error.now ≡ ErrorKind.DisplayHelp }
+{
+    match format!(in alloc; "{error}") {
+        Ok(text) => match error.kind() {
+            ErrorKind::OutOfMemory => OrderFault::Memory,
+            ErrorKind::DisplayHelp => OrderFault::Help(text),
+            _ => OrderFault::Usage(text),
+        },
+        Err(_) => OrderFault::Memory,
+    }
+}
+
+/// A refusal of our own.
+fn usage(alloc: Global, text: &str) -> OrderFault
+    ensures { IsHelp result → ⊥ }
+{
+    match String::from_str(alloc, text) {
+        Ok(text) => OrderFault::Usage(text),
+        Err(_) => OrderFault::Memory,
+    }
+}
+
+/// The value of an argument.
+fn value<'a>(matches: &ArgMatches<'a>, id: &str) -> Option<&'a str>
+    ensures { option_map (λ s. s.now) result ≡ first_of id.now (rows_of (found_of matches.now)) }
+{
+    matches.get_str(id)
+}
+
+/// The file that an argument names.
+fn file_of(alloc: Global, matches: &ArgMatches<'_>, id: &str) -> Result<FileName, OrderFault>
+    ensures file { IfOk result (λ f. first_of id.now (rows_of (found_of matches.now)) ≡ Some f) }
+    ensures refused { IfErr result (Refuses (λ (f : FileName). first_of id.now (rows_of (found_of matches.now)) ≡ Some f)) }
+    ensures own { IfErr result (λ e. IsHelp e → ⊥) }
+{
+    match value(matches, id) {
+        Some(text) => Ok(FileName::new(alloc, text)?),
+        None => Err(usage(alloc, "usage: a file is missing\n")),
+    }
+}
+
+/// The kind that `show` is given.
+fn show_kind(alloc: Global, matches: &ArgMatches<'_>) -> Result<ShowKind, OrderFault>
+    ensures kind { IfOk result (λ k. first_of (codes "KIND") (rows_of (found_of matches.now)) ≡ Some (kind_text k)) }
+    ensures refused { IfErr result (Refuses (λ k. first_of (codes "KIND") (rows_of (found_of matches.now)) ≡ Some (kind_text k))) }
+    ensures own { IfErr result (λ e. IsHelp e → ⊥) }
+{
+    match value(matches, "KIND") {
+        Some("tree") => Ok(ShowKind::Tree),
+        _ => Err(usage(alloc, "usage: KIND is tree\n")),
+    }
+}
+
+/// The order of `show`.
+fn show_order(alloc: Global, matches: &ArgMatches<'_>) -> Result<Order, OrderFault>
+    ensures order { IfOk result (IsOrder (Some (codes "show", rows_of (found_of matches.now)))) }
+    ensures refused { IfErr result (Refuses (IsOrder (Some (codes "show", rows_of (found_of matches.now))))) }
+    ensures own { IfErr result (λ e. IsHelp e → ⊥) }
+{
+    let kind = show_kind(alloc, matches)?;
+    let file = file_of(alloc, matches, "FILE")?;
+    Ok(Order::Show { kind, file })
+}
+
+/// The order that clap's matches give.
+fn read_order(alloc: Global, matches: &ArgMatches<'_>) -> Result<Order, OrderFault>
+    ensures order { IfOk result (IsOrder (subcommand_rows_of matches.now)) }
+    ensures refused { IfErr result (Refuses (IsOrder (subcommand_rows_of matches.now))) }
+    ensures own { IfErr result (λ e. IsHelp e → ⊥) }
+{
+    match matches.subcommand() {
+        Some((name, inner)) if name == "show" => show_order(alloc, inner),
+        Some(_) => Err(usage(alloc, "usage: no such command\n")),
+        None => Err(usage(alloc, "usage: a command is missing\n")),
+    }
+}
+
+/// The order of a command line, whose first word is the program's name.
+///
+/// A word that asks for help is answered with `Help`, and any other command line that gives no
+/// order with `Usage`.
+pub fn order_of(alloc: Global, words: &[String]) -> Result<Order, OrderFault>
+    ensures order { IfOk result (IsOrderOf (map string_bytes words.now)) }
+    ensures refused { IfErr result (Refuses (IsOrderOf (map string_bytes words.now))) }
+    ensures help { IfErr result (λ e. IsHelp e → AsksForHelp (map string_bytes words.now)) }
+{
+    let command = mlscheck_command(alloc)?;
+    match command.try_get_matches_from(words) {
+        Ok(matches) => read_order(alloc, &matches),
+        Err(error) => Err(refusal(alloc, &error)),
+    }
+}

@@ -1,0 +1,58 @@
+//! How a report ends, and the exit status that tells it.
+
+ghost use Rattle.std.specs.Prelude.{◌≡◌};
+ghost use Rattle.mls_cli.specs.Status.{status};
+
+use std::alloc::AllocError;
+use std::fmt;
+
+/// What a report says of its inputs, once it is written whole.
+#[derive(Clone, Copy, Debug, PartialEq, Eq)]
+pub enum Verdict {
+    /// All is well: each input could be read, and none was refused.
+    Yes,
+    /// An input could not be read, or was refused.
+    No,
+}
+
+/// Why a report was not written whole.
+#[derive(Clone, Copy, Debug, PartialEq, Eq)]
+pub enum RunFault {
+    /// A source failed, or a file can't be opened.
+    Read,
+    /// The sink failed.
+    Write,
+    /// There was not enough memory.
+    Memory,
+}
+
+impl fmt::Display for RunFault {
+    fn fmt<W: fmt::Write>(&self, f: &mut fmt::Formatter<W>) -> fmt::Result {
+        match self {
+            RunFault::Read => write!(f, "read"),
+            RunFault::Write => write!(f, "write"),
+            RunFault::Memory => write!(f, "memory"),
+        }
+    }
+}
+
+impl From<AllocError> for RunFault {
+    ghost use Rattle.mls_cli.specs.declared.outcome.RunFault.TheVariants.{Memory};
+
+    ghost from_gives = { λ _ e. e ≡ Memory };
+
+    fn from(_e: AllocError) -> RunFault {
+        RunFault::Memory
+    }
+}
+
+/// The exit status of a report: 0 for yes, 1 for no, 3 for a fault.
+pub fn status_of(outcome: &Result<Verdict, RunFault>) -> u8
+    ensures { result ≡ status outcome.now }
+{
+    match outcome {
+        Ok(Verdict::Yes) => 0,
+        Ok(Verdict::No) => 1,
+        Err(_) => 3,
+    }
+}

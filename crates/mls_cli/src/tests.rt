@@ -1,0 +1,271 @@
+//! What no clause says: the words of faults and usage, and each call on worked examples.
+
+ghost use Rattle.std.specs.Prelude.{None};
+
+use super::*;
+use mls_wire::{DeviceFault, Source, StdSink, StdSource};
+use std::alloc::Global;
+use std::io::Read;
+use std::test::*;
+
+/// A leaf with keys `a0` and `b0`, identity `40` and signature `c0`.
+const LEAF: [u8; 39] = [
+    0x01, 0xa0, 0x01, 0xb0, 0x00, 0x01, 0x01, 0x40, 0x02, 0x00, 0x01, 0x02, 0x00, 0x01, 0x00, 0x00,
+    0x02, 0x00, 0x01, 0x01, 0x00, 0x00, 0x00, 0x00, 0x00, 0x00, 0x00, 0x00, 0xff, 0xff, 0xff, 0xff,
+    0xff, 0xff, 0xff, 0xff, 0x00, 0x01, 0xc0,
+];
+
+/// The lines of a tree of this one leaf.
+const ONE_LEAF: &str = "0 leaf 0 a0 b0 key_package 0 18446744073709551615\nleaves 1 members 1\n";
+
+/// An entry of a tree that is a leaf: [`LEAF`] with so much added to its keys, identity and signature.
+fn push_leaf(bytes: &mut Vec<u8>, more: u8) -> Result<(), Fail> {
+    bytes.extend_from_slice(&[1, 1])?;
+    for (at, byte) in LEAF.iter().enumerate() {
+        let added = if matches!(at, 1 | 3 | 7 | 38) {
+            more
+        } else {
+            0
+        };
+        bytes.push(byte.wrapping_add(added))?;
+    }
+    Ok(())
+}
+
+/// A tree of leaves, with blanks between them: the vector's length, and the entries.
+fn tree_of_leaves(alloc: Global, length: &[u8], leaves: u8) -> Result<Vec<u8>, Fail> {
+    let mut bytes = Vec::from_slice(alloc, length)?;
+    for more in 0..leaves {
+        if more > 0 {
+            bytes.push(0)?;
+        }
+        push_leaf(&mut bytes, more)?;
+    }
+    Ok(bytes)
+}
+
+/// What `show tree` of the bytes writes, and its verdict.
+fn shown(alloc: Global, bytes: &[u8]) -> Result<(Verdict, String), Fail> {
+    let mut input = StdSource::new(bytes);
+    let mut text = Vec::new(alloc);
+    let mut out = StdSink::new(&mut text);
+    let verdict = run_show(alloc, ShowKind::Tree, &mut input, &mut out)
+        .ok()
+        .ok_or("a report")?;
+    drop(out);
+    let text = String::from_utf8(text).ok().ok_or("text")?;
+    Ok((verdict, text))
+}
+
+/// A source that gives some bytes, and then fails.
+#[derive(Drop)]
+struct Breaking {
+    pulls: usize,
+    is_broken: bool,
+}
+
+impl Source for Breaking {
+    ghost left = { λ _. None };
+
+    ghost is_failed = { λ s. s.is_broken };
+
+    fn pull(&mut self, into: &mut [u8]) -> Result<usize, DeviceFault> {
+        if self.is_broken || self.pulls == 0 {
+            self.is_broken = true;
+            return Err(DeviceFault);
+        }
+        self.pulls -= 1;
+        Ok(into.len().min(1))
+    }
+
+    fn failed(&self) -> bool {
+        self.is_broken
+    }
+}
+
+/// What is read from a source that gives the bytes before a place and those behind it apart.
+fn read_apart(alloc: Global, bytes: &[u8], place: usize) -> Result<Vec<u8>, RunFault> {
+    let (front, back) = bytes.split_at(place.min(bytes.len()));
+    read_all(alloc, &mut StdSource::new(front.chain(back)))
+}
+
+#[test]
+fn inputs_are_read_whole(rt: HostRuntime) -> Result<(), Fail> {
+    let alloc = rt.alloc();
+    let bytes = vec![in alloc; 7u8; 20000]?;
+    for place in [0, 1, 8191, 8192, 20000] {
+        let read = read_apart(alloc, bytes.as_slice(), place)
+            .ok()
+            .ok_or("bytes")?;
+        assert!(rt; read == bytes, "cut at {place}");
+    }
+    let mut empty = StdSource::new([].as_slice());
+    let read = read_all(alloc, &mut empty).ok().ok_or("no bytes")?;
+    assert!(rt; read.is_empty());
+    let mut breaking = Breaking {
+        pulls: 3,
+        is_broken: false,
+    };
+    assert_eq!(rt; read_all(alloc, &mut breaking).err(), Some(RunFault::Read));
+    Ok(())
+}
+
+#[test]
+fn trees_are_shown(rt: HostRuntime) -> Result<(), Fail> {
+    let alloc = rt.alloc();
+    let one = tree_of_leaves(alloc, &[0x29], 1)?;
+    let two = tree_of_leaves(alloc, &[0x40, 0x53], 2)?;
+    let three = tree_of_leaves(alloc, &[0x40, 0x7d], 3)?;
+    let two_lines = "0 leaf 0 a0 b0 key_package 0 18446744073709551615\n1 blank\n\
+        2 leaf 1 a1 b1 key_package 0 18446744073709551615\nleaves 2 members 2\n";
+    let three_lines = "0 leaf 0 a0 b0 key_package 0 18446744073709551615\n1 blank\n\
+        2 leaf 1 a1 b1 key_package 0 18446744073709551615\n3 blank\n\
+        4 leaf 2 a2 b2 key_package 0 18446744073709551615\n5 blank\n6 blank\nleaves 4 members 3\n";
+    for (bytes, size, lines) in [
+        (&one, 42, ONE_LEAF),
+        (&two, 85, two_lines),
+        (&three, 127, three_lines),
+    ] {
+        assert_eq!(rt; bytes.len(), size);
+        let (verdict, text) = shown(alloc, bytes.as_slice())?;
+        assert_eq!(rt; (verdict, text.as_str()), (Verdict::Yes, lines));
+    }
+    Ok(())
+}
+
+#[test]
+fn each_kind_of_node_is_shown(rt: HostRuntime) -> Result<(), Fail> {
+    let alloc = rt.alloc();
+    // An updated leaf without a signature key, a parent with two unmerged leaves, a leaf of a commit.
+    let update = [
+        0x01, 0x01, 0x02, 0xab, 0x0f, 0x00, 0x00, 0x01, 0x00, 0x00, 0x00, 0x00, 0x00, 0x00, 0x02,
+        0x00, 0x00,
+    ];
+    let parent = [
+        0x01, 0x02, 0x01, 0xd1, 0x00, 0x08, 0x00, 0x00, 0x00, 0x01, 0x00, 0x00, 0x01, 0x00,
+    ];
+    let commit = [
+        0x01, 0x01, 0x00, 0x01, 0x05, 0x00, 0x01, 0x00, 0x00, 0x00, 0x00, 0x00, 0x00, 0x03, 0x02,
+        0x12, 0x34, 0x00, 0x00,
+    ];
+    let mut bytes = Vec::from_slice(alloc, &[0x32])?;
+    for entry in [update.as_slice(), parent.as_slice(), commit.as_slice()] {
+        bytes.extend_from_slice(entry)?;
+    }
+    let (verdict, text) = shown(alloc, bytes.as_slice())?;
+    let lines = "0 leaf 0 ab0f - update\n1 parent d1 - 1,256\n\
+        2 leaf 1 - 05 commit 1234\nleaves 2 members 2\n";
+    assert_eq!(rt; (verdict, text.as_str()), (Verdict::Yes, lines));
+    Ok(())
+}
+
+#[test]
+fn faults_are_told(rt: HostRuntime) -> Result<(), Fail> {
+    let alloc = rt.alloc();
+    let mut blank_at_end = tree_of_leaves(alloc, &[0x2a], 1)?;
+    blank_at_end.push(0)?;
+    let mut trailing = tree_of_leaves(alloc, &[0x29], 1)?;
+    trailing.push(0)?;
+    for (bytes, line) in [
+        ([0x00].as_slice(), "unreadable EmptyTree\n"),
+        (blank_at_end.as_slice(), "unreadable LastBlank\n"),
+        (
+            &[0x06, 0x01, 0x02, 0x01, 0xd3, 0x00, 0x00],
+            "unreadable WrongNodeKind 0\n",
+        ),
+        (&[0x01, 0x02], "unreadable BadOptional 1\n"),
+        (&[0x02, 0x01, 0x03], "unreadable BadTag 3 2\n"),
+        (trailing.as_slice(), "unreadable Trailing 42\n"),
+        (&[], "unreadable Truncated 0\n"),
+        (&[0x40, 0x3f], "unreadable NotShortest 0\n"),
+        (&[0xc0], "unreadable BadPrefix 0\n"),
+    ] {
+        let (verdict, text) = shown(alloc, bytes)?;
+        assert_eq!(rt; (verdict, text.as_str()), (Verdict::No, line));
+    }
+    Ok(())
+}
+
+#[test]
+fn devices_that_fail(rt: HostRuntime) -> Result<(), Fail> {
+    let alloc = rt.alloc();
+    let one = tree_of_leaves(alloc, &[0x29], 1)?;
+    let mut input = StdSource::new(one.as_slice());
+    let mut room = [0u8; 10];
+    let mut out = StdSink::new(room.as_mut_slice());
+    let outcome = run_show(alloc, ShowKind::Tree, &mut input, &mut out);
+    assert_eq!(rt; outcome, Err(RunFault::Write));
+    drop(out);
+    assert_eq!(rt; room.as_slice(), b"0 leaf 0 a".as_slice());
+
+    let mut breaking = Breaking {
+        pulls: 42,
+        is_broken: false,
+    };
+    let mut text = Vec::new(alloc);
+    let mut out = StdSink::new(&mut text);
+    let outcome = run_show(alloc, ShowKind::Tree, &mut breaking, &mut out);
+    assert_eq!(rt; outcome, Err(RunFault::Read));
+    drop(out);
+    assert!(rt; text.is_empty());
+    Ok(())
+}
+
+/// The order of the words of a line, behind the program's name.
+fn order(alloc: Global, line: &str) -> Result<Result<Order, OrderFault>, Fail> {
+    let mut words = Vec::new(alloc);
+    words.push(String::from_str(alloc, "mlscheck")?)?;
+    for word in line.split_whitespace() {
+        words.push(String::from_str(alloc, word)?)?;
+    }
+    Ok(order_of(alloc, words.as_slice()))
+}
+
+#[test]
+fn orders_are_read(rt: HostRuntime) -> Result<(), Fail> {
+    let alloc = rt.alloc();
+    let order_of_show = order(alloc, "show tree x")?.ok().ok_or("an order")?;
+    match &order_of_show {
+        Order::Show { kind, file } => {
+            assert_eq!(rt; *kind, ShowKind::Tree);
+            assert_eq!(rt; file.as_str(), "x");
+        }
+    }
+    for (line, wanted) in [
+        ("show nope x", "usage: KIND is tree\n"),
+        ("nope", "unrecognized subcommand 'nope'"),
+        ("show tree", "<FILE>"),
+        ("show tree x y", "unexpected argument 'y'"),
+        ("", "requires a subcommand"),
+    ] {
+        let refused = order(alloc, line)?.err().ok_or("a refusal")?;
+        assert_eq!(rt; refused.status(), 2);
+        match &refused {
+            OrderFault::Usage(text) => assert!(rt; text.contains(wanted), "{line}"),
+            _ => return Err(Fail::from("usage")),
+        }
+    }
+    for line in ["--help", "show --help", "help show"] {
+        let help = order(alloc, line)?.err().ok_or("help")?;
+        assert_eq!(rt; help.status(), 0);
+        match &help {
+            OrderFault::Help(text) => assert!(rt; text.contains("Usage: mlscheck"), "{line}"),
+            _ => return Err(Fail::from("help")),
+        }
+    }
+    Ok(())
+}
+
+#[test]
+fn statuses(rt: HostRuntime) {
+    for (outcome, status) in [
+        (Ok(Verdict::Yes), 0),
+        (Ok(Verdict::No), 1),
+        (Err(RunFault::Read), 3),
+        (Err(RunFault::Write), 3),
+        (Err(RunFault::Memory), 3),
+    ] {
+        assert_eq!(rt; status_of(&outcome), status);
+    }
+    assert_eq!(rt; OrderFault::Memory.status(), 3);
+}

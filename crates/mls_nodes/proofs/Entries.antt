@@ -1,0 +1,278 @@
+-- Reading entries one after the other, each at its place, and whole trees.
+use Rattle.std.specs.Int.{w8}
+use Rattle.std.proofs.Common.{◌≡◌, ℕ, suc, ◌+◌, ◌≤◌, ◌<◌, Bool, true, false, ◌&&◌, List, [], ◌∷◌, ◌++◌, length, Option, Some, None, Err, refl, sym, ap, ◌∙◌, append_assoc, arith, length-append, nat_le, slice_get, Result, Ok, cond, eqb, ◌-◌, ◌%◌, map, subst}
+use Rattle.std.proofs.lemmas.Bool.{leb-true, and_left, and_right, and_from, le-leb, lt-leb, eqb-true, and_parts}
+use Rattle.mls_wire.specs.Input.{Input, at}
+use Rattle.mls_wire.specs.Parsing.{number_at, flag_at, items_at, optional_at, body_at, ◌>>=◌}
+use Rattle.mls_wire.specs.Spelling.{optional, items, list, sized}
+use Rattle.mls_wire.specs.Loops.{with_front, Shortens, shortens, items_stop, items_go_on}
+use Rattle.mls_wire.specs.Optionals.{optional_exact, optional_long}
+use Rattle.mls_wire.specs.Lists.{items_some, items_take, items_again, sized_of, sized_parts}
+use Rattle.mls_wire.specs.Exact.{IsExact}
+use Rattle.mls_wire.specs.Steps.{bind_some, some_is, allowed}
+use Rattle.mls_wire.specs.Vectors.{body_takes, body_again}
+use Rattle.mls_nodes.specs.Exact.{node_exact}
+use Rattle.mls_nodes.specs.Value.{NodeValue, leaf_node, parent_node, entry_value}
+use Rattle.mls_nodes.specs.Layout.{node}
+use Rattle.mls_nodes.specs.RatchetTree.{stands_at, stand_from, is_placed, is_set, ends_set, ratchet_tree}
+use Rattle.std.specs.Prelude.{IfOk, IfErr}
+use Rattle.std.proofs.Common.{Vec, Global, zero, replicate, ◌*◌}
+use Rattle.std.proofs.lemmas.List.{map_push}
+use Rattle.mls_wire.specs.Reading.{seen}
+use Rattle.mls_nodes.specs.RatchetTree.{full_from, full_size, filled}
+use Rattle.mls_nodes.specs.Filled.{full_from-doubles}
+use Rattle.mls_nodes.specs.Parsing.{node_at, node_in, leaf_at, parent_at, placed, tree_at, FindsNodes, GivesNode}
+use Rattle.mls_nodes.specs.Faults.{DecodesTree}
+use Rattle.mls_nodes.specs.declared.leaf.LeafNode.{LeafNode}
+use Rattle.mls_nodes.specs.declared.parent.ParentNode.{ParentNode}
+use Rattle.mls_nodes.specs.declared.node.Node.{Node}
+use Rattle.mls_nodes.specs.declared.fault.NodeFault.{NodeFault}
+use Rattle.mls_nodes.specs.declared.fault.NodeFault.TheVariants as nodes
+use Rattle.std.specs.Prelude.{option_map}
+use Rattle.std.proofs.lemmas.Option.{slice_get-map}
+use Rattle.std.proofs.lemmas.List.{length-map, append-nil, nil_from_length}
+
+and_assoc : (a b c : Bool) → (a && (b && c)) ≡ ((a && b) && c)
+and_assoc true b c = refl
+and_assoc false b c = refl
+
+pub stand_push : (p : ℕ) (xs : List (Option NodeValue)) (x : Option NodeValue) (more : List (Option NodeValue)) → stand_from p (xs ++ x ∷ more) ≡ (stand_from p xs && (stands_at (p + length xs) x && stand_from (p + length xs + 1) more))
+stand_push p [] x more = ap (λ (n : ℕ). stands_at n x && stand_from (n + 1) more) (omega arith)
+stand_push p (y ∷ xs) x more =
+    let e : (p + 1) + length xs ≡ p + suc (length xs) = omega arith in
+    ap (λ (b : Bool). stands_at p y && b) (stand_push (p + 1) xs x more ∙ ap (λ (n : ℕ). stand_from (p + 1) xs && (stands_at n x && stand_from (n + 1) more)) e)
+    ∙ and_assoc (stands_at p y) (stand_from (p + 1) xs) _
+
+refused : (ns : List (Option NodeValue)) → stand_from 0 ns ≡ false → placed (Some ns) ≡ None
+refused ns e = rw e refl
+
+pub wrong_place : (xs : List (Option NodeValue)) (x : Option NodeValue) (o total : Option (List (Option NodeValue))) → stands_at (length xs) x ≡ false → with_front (xs ++ x ∷ []) o ≡ total → placed total ≡ None
+wrong_place xs x None total h e = ap placed (sym e)
+wrong_place xs x (Some more) total h e =
+    let here : stands_at (0 + length xs) x ≡ false = ap (λ (n : ℕ). stands_at n x) (omega arith) ∙ h in
+    let bad : stand_from 0 (xs ++ x ∷ more) ≡ false = stand_push 0 xs x more ∙ and_right (stand_from 0 xs) _ (and_left _ (stand_from (0 + length xs + 1) more) here) in
+    let same : (xs ++ x ∷ []) ++ more ≡ xs ++ x ∷ more = append_assoc xs (x ∷ []) more in
+    ap placed (sym e) ∙ refused ((xs ++ x ∷ []) ++ more) (ap (stand_from 0) same ∙ bad)
+
+pub entry_short : Shortens (optional_at node_at)
+entry_short = shortens (optional node) (optional_at node_at) (optional_exact node node_at node_exact) (optional_long node)
+
+crowded : (ns : List (Option NodeValue)) → 2097151 < length ns → placed (Some ns) ≡ None
+crowded ns lt = rw (and_right (stand_from 0 ns) _ (lt-leb (length ns) 2097151 lt)) refl
+
+pub too_many : (xs ys : List (Option NodeValue)) (total : Option (List (Option NodeValue))) → 2097151 ≤ length xs → 0 < length ys → with_front xs (Some ys) ≡ total → placed total ≡ None
+too_many xs ys total le some e = ap placed (sym e) ∙ crowded (xs ++ ys) (omega (arith, length-append xs ys))
+
+too_many_of : (i : Input) (xs : List (Option NodeValue)) (o total : Option (List (Option NodeValue))) → items_at (optional_at node_at) (length i.left) i ≡ o → 2097151 ≤ length xs → (i.left ≡ [] → ⊥) → with_front xs o ≡ total → placed total ≡ None
+too_many_of i xs None total r le some e = ap placed (sym e)
+too_many_of i xs (Some ys) total r le some e = too_many xs ys total le (items_some (optional node) (optional_at node_at) (optional_exact node node_at node_exact) i ys some r) e
+
+pub too_many_entries : (i : Input) (xs : List (Option NodeValue)) (total : Option (List (Option NodeValue))) → 2097151 ≤ length xs → (i.left ≡ [] → ⊥)
+    → with_front xs (items_at (optional_at node_at) (length i.left) i) ≡ total → placed total ≡ None
+too_many_entries i xs total le some e = too_many_of i xs (items_at (optional_at node_at) (length i.left) i) total refl le some e
+
+pub stand_more : (xs : List (Option NodeValue)) (x : Option NodeValue) → stand_from 0 xs ≡ true → stands_at (length xs) x ≡ true → stand_from 0 (xs ++ x ∷ []) ≡ true
+stand_more xs x p q =
+    let here : stands_at (0 + length xs) x ≡ true = ap (λ (n : ℕ). stands_at n x) (omega arith) ∙ q in
+    stand_push 0 xs x [] ∙ and_from _ _ p (and_from _ _ here refl)
+
+pub all_placed : (xs : List (Option NodeValue)) → stand_from 0 xs ≡ true → length xs ≤ 2097151 → placed (Some xs) ≡ Some xs
+all_placed xs p le = rw (p, le-leb (length xs) 2097151 le) refl
+
+-- ---- an entry whose kind is judged before its body
+
+-- what was read, where it may stand at a place
+abbrev kept : ℕ → Option (NodeValue × Input) → Option (NodeValue × Input)
+kept place None = None
+kept place (Some n) = cond (stands_at place (Some n.0)) (Some n) None
+
+abbrev entry_kept : ℕ → Option (Option NodeValue × Input) → Option (Option NodeValue × Input)
+entry_kept place None = None
+entry_kept place (Some x) = cond (stands_at place x.0) (Some x) None
+
+pub both_none : {A : Type 0} (b : Bool) → ◌≡◌ {A = Option A} (cond b None None) None
+both_none true = refl
+both_none false = refl
+
+one_kind : (k : ℕ) → eqb k 1 ≡ true → eqb k 2 ≡ true → ⊥
+one_kind k p q = absurd (omega (arith, eqb-true k 1 p, eqb-true k 2 q))
+
+judged : (place k : ℕ) (a b : Bool) → eqb k 1 ≡ a → eqb k 2 ≡ b → (l : Option (LeafNode × Input)) (o : Option (ParentNode × Input))
+    → cond (a && eqb (place % 2) 0) (l >>= λ x. Some (leaf_node x.0, x.1)) (cond (b && eqb (place % 2) 1) (o >>= λ x. Some (parent_node x.0, x.1)) None)
+    ≡ kept place (cond a (l >>= λ x. Some (leaf_node x.0, x.1)) (cond b (o >>= λ x. Some (parent_node x.0, x.1)) None))
+judged place k true true p q l o = absurd (one_kind k p q)
+judged place k true false p q None o = both_none (eqb (place % 2) 0)
+judged place k true false p q (Some x) o = refl
+judged place k false true p q l None = both_none (eqb (place % 2) 1)
+judged place k false true p q l (Some x) = refl
+judged place k false false p q l o = refl
+
+judged_of : (place : ℕ) (o : Option (ℕ × Input))
+    → (o >>= λ kind. cond (eqb kind.0 1 && eqb (place % 2) 0) (leaf_at kind.1 >>= λ x. Some (leaf_node x.0, x.1)) (cond (eqb kind.0 2 && eqb (place % 2) 1) (parent_at kind.1 >>= λ x. Some (parent_node x.0, x.1)) None))
+    ≡ kept place (o >>= λ kind. cond (eqb kind.0 1) (leaf_at kind.1 >>= λ x. Some (leaf_node x.0, x.1)) (cond (eqb kind.0 2) (parent_at kind.1 >>= λ x. Some (parent_node x.0, x.1)) None))
+judged_of place None = refl
+judged_of place (Some kind) = judged place kind.0 (eqb kind.0 1) (eqb kind.0 2) refl refl (leaf_at kind.1) (parent_at kind.1)
+
+node_in-kept : (place : ℕ) (i : Input) → node_in place i ≡ kept place (node_at i)
+unfolding node_in node_at
+node_in-kept place i = judged_of place (number_at w8 i)
+
+abbrev set : Option (NodeValue × Input) → Option (Option NodeValue × Input)
+set o = o >>= λ x. Some (Some x.0, x.1)
+
+set_test : (b : Bool) (n : NodeValue × Input) → set (cond b (Some n) None) ≡ cond b (Some (Some n.0, n.1)) None
+set_test true n = refl
+set_test false n = refl
+
+set_kept : (place : ℕ) (o : Option (NodeValue × Input)) → set (kept place o) ≡ entry_kept place (set o)
+set_kept place None = refl
+set_kept place (Some n) = set_test (stands_at place (Some n.0)) n
+
+there_kept : (place : ℕ) (b : Bool) (i : Input) → cond b (set (node_in place i)) (Some (None, i)) ≡ entry_kept place (cond b (set (node_at i)) (Some (None, i)))
+there_kept place true i = ap set (node_in-kept place i) ∙ set_kept place (node_at i)
+there_kept place false i = refl
+
+entry_of : (place : ℕ) (o : Option (Bool × Input))
+    → (o >>= λ there. cond there.0 (set (node_in place there.1)) (Some (None, there.1)))
+    ≡ entry_kept place (o >>= λ there. cond there.0 (set (node_at there.1)) (Some (None, there.1)))
+entry_of place None = refl
+entry_of place (Some there) = there_kept place there.0 there.1
+
+entry_in-kept : (place : ℕ) (i : Input) → optional_at (node_in place) i ≡ entry_kept place (optional_at node_at i)
+unfolding optional_at
+entry_in-kept place i = entry_of place (flag_at i)
+
+kept_is : (place : ℕ) (o : Option (Option NodeValue × Input)) (x : Option NodeValue) (j : Input) → entry_kept place o ≡ Some (x, j) → (o ≡ Some (x, j)) × (stands_at place x ≡ true)
+kept_is place None x j e = absurd cc
+kept_is place (Some y) x j e =
+    let a = allowed (stands_at place y.0) (Some y) (x, j) e in
+    (a.1, subst (λ (z : Option NodeValue × Input). stands_at place z.0 ≡ true) (some_is y (x, j) a.1) a.0)
+
+-- an entry that was read is one, and may stand at its place
+pub entry_found : (place : ℕ) (i : Input) (x : Option NodeValue) (j : Input) → optional_at (node_in place) i ≡ Some (x, j) → (optional_at node_at i ≡ Some (x, j)) × (stands_at place x ≡ true)
+entry_found place i x j e = kept_is place (optional_at node_at i) x j (sym (entry_in-kept place i) ∙ e)
+
+refused_test : {A : Type 0} (b : Bool) (x : A) → cond b (Some x) None ≡ None → b ≡ false
+refused_test true x e = absurd cc
+refused_test false x e = refl
+
+entry_lost : (xs : List (Option NodeValue)) (i : Input) (o : Option (Option NodeValue × Input)) (total : Option (List (Option NodeValue))) → (i.left ≡ [] → ⊥) → optional_at node_at i ≡ o → entry_kept (length xs) o ≡ None
+    → with_front xs (items_at (optional_at node_at) (length i.left) i) ≡ total → placed total ≡ None
+entry_lost xs i None total some read none e = ap placed (items_stop (optional_at node_at) entry_short xs i total some read e)
+entry_lost xs i (Some y) total some read none e =
+    wrong_place xs y.0 _ total (refused_test (stands_at (length xs) y.0) y none) (items_go_on (optional_at node_at) entry_short xs i y.0 y.1 total some read e)
+
+-- where no entry was read there is no tree
+pub entry_refused : (i : Input) (xs : List (Option NodeValue)) (total : Option (List (Option NodeValue))) → (i.left ≡ [] → ⊥) → optional_at (node_in (length xs)) i ≡ None
+    → with_front xs (items_at (optional_at node_at) (length i.left) i) ≡ total → placed total ≡ None
+entry_refused i xs total some none e = entry_lost xs i (optional_at node_at i) total some refl (sym (entry_in-kept (length xs) i) ∙ none) e
+
+pub entry_fault : (e : NodeFault) (place : ℕ) (i new : Input) (xs : List (Option NodeValue)) (total : Option (List (Option NodeValue))) → (i.left ≡ [] → ⊥) → place ≡ length xs
+    → GivesNode (optional_at (node_in place)) i new (Err e) → with_front xs (items_at (optional_at node_at) (length i.left) i) ≡ total → FindsNodes {A = List (Option NodeValue)} (placed total) (Err e)
+entry_fault nodes.OutOfMemory place i new xs total some p h e = tt
+entry_fault (nodes.Wire f) place i new xs total some p h e = entry_refused i xs total some (subst (λ (n : ℕ). optional_at (node_in n) i ≡ None) p h) e
+entry_fault (nodes.WrongNodeKind f) place i new xs total some p h e = entry_refused i xs total some (subst (λ (n : ℕ). optional_at (node_in n) i ≡ None) p h) e
+entry_fault nodes.LastBlank place i new xs total some p h e = entry_refused i xs total some (subst (λ (n : ℕ). optional_at (node_in n) i ≡ None) p h) e
+entry_fault nodes.EmptyTree place i new xs total some p h e = entry_refused i xs total some (subst (λ (n : ℕ). optional_at (node_in n) i ≡ None) p h) e
+entry_fault nodes.TooManyLeaves place i new xs total some p h e = entry_refused i xs total some (subst (λ (n : ℕ). optional_at (node_in n) i ≡ None) p h) e
+
+pub last_value : (es : List (Option Node)) (x : Option (Option Node)) → x ≡ slice_get es (length es - 1) → is_set (option_map entry_value x) ≡ ends_set (map entry_value es)
+last_value es x e =
+    ap (λ (y : Option (Option Node)). is_set (option_map entry_value y)) e
+    ∙ ap is_set (sym (slice_get-map entry_value es (length es - 1)) ∙ ap (λ (n : ℕ). slice_get (map entry_value es) (n - 1)) (sym (length-map es entry_value)))
+
+-- ---- whole trees
+
+placed_is : (o : Option (List (Option NodeValue))) (ns : List (Option NodeValue)) → placed o ≡ Some ns → (o ≡ Some ns) × ((stand_from 0 ns && nat_le (length ns) 2097151) ≡ true)
+placed_is None ns e = absurd cc
+placed_is (Some xs) ns e =
+    let a = allowed (stand_from 0 xs && nat_le (length xs) 2097151) (Some xs) ns e in
+    let same = some_is xs ns a.1 in
+    (ap (λ (x : List (Option NodeValue)). Some x) same, subst (λ (x : List (Option NodeValue)). (stand_from 0 x && nat_le (length x) 2097151) ≡ true) same a.0)
+
+entries_exact : IsExact (optional node) (optional_at node_at)
+entries_exact = optional_exact node node_at node_exact
+
+pub tree_takes : (bytes : List ℕ) (ns : List (Option NodeValue)) → tree_at bytes ≡ Some ns → ratchet_tree ns ≡ Some bytes
+unfolding tree_at ratchet_tree list
+tree_takes bytes ns e =
+    let f = optional_at node_at in
+    let a = bind_some (body_at (at 0 bytes)) (λ body. placed (items_at f (length body.0.left) body.0) >>= λ xs. cond (ends_set xs) (cond (eqb (length body.1.left) 0) (Some xs) None) None) ns e in
+    let body = a.0.0 in
+    let rest = a.0.1 in
+    let b = bind_some (placed (items_at f (length body.left) body)) (λ xs. cond (ends_set xs) (cond (eqb (length rest.left) 0) (Some xs) None) None) ns a.2 in
+    let c = allowed (ends_set b.0) (cond (eqb (length rest.left) 0) (Some b.0) None) ns b.2 in
+    let d = allowed (eqb (length rest.left) 0) (Some b.0) ns c.1 in
+    let p = placed_is _ b.0 b.1 in
+    let t = (body_takes (at 0 bytes) body rest a.1).0 in
+    let none : rest.left ≡ [] = nil_from_length rest.left (eqb-true _ _ d.0) in
+    let all : bytes ≡ t.0 = t.2 ∙ ap (λ (r : List ℕ). t.0 ++ r) none ∙ append-nil t.0 in
+    let text : items (optional node) b.0 ≡ Some body.left = items_take (optional node) f entries_exact (length body.left) body b.0 p.0 in
+    let whole : sized (items (optional node) b.0) ≡ Some bytes = sized_of _ body.left text ∙ t.1 ∙ ap (λ (r : List ℕ). Some r) (sym all) in
+    subst (λ (x : List (Option NodeValue)). cond (is_placed x && ends_set x) (sized (items (optional node) x)) None ≡ Some bytes) (some_is b.0 ns d.1) (rw (p.1, c.0) whole)
+
+pub tree_again : (bytes : List ℕ) (ns : List (Option NodeValue)) → ratchet_tree ns ≡ Some bytes → tree_at bytes ≡ Some ns
+unfolding tree_at ratchet_tree list
+tree_again bytes ns e =
+    let f = optional_at node_at in
+    let a = allowed (is_placed ns && ends_set ns) (sized (items (optional node) ns)) bytes e in
+    let p = and_parts (stand_from 0 ns && nat_le (length ns) 2097151) (ends_set ns) a.0 in
+    let b = sized_parts (items (optional node) ns) bytes a.1 in
+    let c = body_again b.0 bytes [] 0 b.2 in
+    let read : body_at (at 0 bytes) ≡ Some (at c.0 b.0, at (0 + length bytes) []) = ap (λ (r : List ℕ). body_at (at 0 r)) (sym (append-nil bytes)) ∙ c.1 in
+    let d : items_at f (length b.0) (at c.0 b.0) ≡ Some ns = items_again (optional node) f entries_exact (optional_long node) ns (length b.0) c.0 b.0 (omega arith) b.1 in
+    rw (read, d, p.0, p.1) refl
+
+-- ---- the answer
+
+pub tree_few : (bytes : List ℕ) (nodes : List (Option NodeValue)) → tree_at bytes ≡ Some nodes → length nodes ≤ 2097151
+unfolding ratchet_tree
+tree_few bytes nodes e =
+    let a = allowed (is_placed nodes && ends_set nodes) (list (optional node) nodes) bytes (tree_takes bytes nodes e) in
+    let b = and_parts (is_placed nodes) (ends_set nodes) a.0 in
+    leb-true (length nodes) 2097151 (and_parts (stand_from 0 nodes) _ b.0).1
+
+pub is_refused : (e : NodeFault) (bytes : List ℕ) → FindsNodes {A = List (Option NodeValue)} (tree_at bytes) (Err e) → DecodesTree bytes (Err e)
+is_refused nodes.OutOfMemory bytes h = tt
+is_refused (nodes.Wire w) bytes h = λ ns e le. let bad = sym h ∙ tree_again bytes ns e in absurd cc
+is_refused (nodes.WrongNodeKind w) bytes h = λ ns e le. let bad = sym h ∙ tree_again bytes ns e in absurd cc
+is_refused nodes.LastBlank bytes h = λ ns e le. let bad = sym h ∙ tree_again bytes ns e in absurd cc
+is_refused nodes.EmptyTree bytes h = λ ns e le. let bad = sym h ∙ tree_again bytes ns e in absurd cc
+is_refused nodes.TooManyLeaves bytes h = λ ns e le. let bad = sym h ∙ tree_again bytes ns e in absurd cc
+
+-- ---- filling up
+
+one_step_of : (count size steps : ℕ) → size < count → 1 ≤ size → count ≤ size + steps → full_from steps size count ≡ full_size count
+    → (n : ℕ) × (count ≤ 2 * size + 1 + n) × (full_from n (2 * size + 1) count ≡ full_size count)
+one_step_of count size zero lt some le e = absurd (omega arith)
+one_step_of count size (suc steps) lt some le e = (steps, omega arith, sym (full_from-doubles steps size count lt) ∙ e)
+
+pub one_step : (count size : ℕ) → size < count → 1 ≤ size → (steps : ℕ) × (count ≤ size + steps) × (full_from steps size count ≡ full_size count)
+    → (n : ℕ) × (count ≤ 2 * size + 1 + n) × (full_from n (2 * size + 1) count ≡ full_size count)
+one_step count size lt some h = one_step_of count size h.0 lt some h.1 h.2
+
+pub blank_more : (xs ys : List (Option Node)) (size k : ℕ) (whole : List (Option NodeValue)) → ys ≡ xs ++ None ∷ [] → k < size
+    → map entry_value xs ++ replicate (size - k) None ≡ whole → map entry_value ys ++ replicate (size - (k + 1)) None ≡ whole
+blank_more xs ys size k whole pushed lt e =
+    let n = size - (k + 1) in
+    let more : size - k ≡ suc n = omega arith in
+    let front : map entry_value ys ≡ map entry_value xs ++ None ∷ [] = ap (map entry_value) pushed ∙ map_push entry_value xs None in
+    ap (λ (zs : List (Option NodeValue)). zs ++ replicate n None) front
+    ∙ append_assoc (map entry_value xs) (None ∷ []) (replicate n None)
+    ∙ ap (λ (m : ℕ). map entry_value xs ++ replicate m None) (sym more)
+    ∙ e
+
+pub full_of : (xs : List (Option Node)) (size k : ℕ) (whole : List (Option NodeValue)) → size ≤ k → map entry_value xs ++ replicate (size - k) None ≡ whole → map entry_value xs ≡ whole
+full_of xs size k whole le e =
+    let none : size - k ≡ 0 = omega arith in
+    sym (append-nil (map entry_value xs)) ∙ ap (λ (m : ℕ). map entry_value xs ++ replicate m None) (sym none) ∙ e
+
+pub is_filled : (bytes : List ℕ) (xs : List (Option Node)) (r : Result (Vec (Option Node) Global) NodeFault) → tree_at bytes ≡ Some (map entry_value xs) → length bytes ≤ 268435456
+    → IfOk r (λ v. map entry_value v.items ≡ filled (map entry_value xs)) → IfErr r (λ e. e ≡ nodes.OutOfMemory) → DecodesTree bytes (seen (λ v. map entry_value v.items) r)
+is_filled bytes xs (Ok v) e le full memory = (map entry_value xs, tree_takes bytes (map entry_value xs) e, le, full)
+is_filled bytes xs (Err f) e le full memory = rw memory tt
+
+pub blanks_begin : (xs ys : List (Option Node)) (size k : ℕ) → ys ≡ xs → k ≡ length xs → size ≡ full_size (length xs) → map entry_value ys ++ replicate (size - k) None ≡ filled (map entry_value xs)
+blanks_begin xs ys size k same e is =
+    ap (λ (zs : List (Option Node)). map entry_value zs ++ replicate (size - k) None) same
+    ∙ ap (λ (n : ℕ). map entry_value xs ++ replicate n None) (ap (λ (n : ℕ). n - k) is ∙ ap (λ (n : ℕ). full_size (length xs) - n) e ∙ ap (λ (n : ℕ). full_size n - n) (sym (length-map xs entry_value)))

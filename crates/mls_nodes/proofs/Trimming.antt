@@ -1,0 +1,195 @@
+-- Entries without the blanks at their end.
+use Rattle.mls_wire.specs.Laws.{unambiguous}
+use Rattle.std.proofs.Common.{◌≡◌, ◌≢◌, ◌↔◌, ℕ, ◌+◌, ◌-◌, ◌<◌, ◌≤◌, true, false, ◌&&◌, ◌⊎◌, inl, inr, List, [], ◌∷◌, ◌++◌, length, take, map, get_or, slice_get, Option, Some, None, Result, Ok, Err, refl, sym, ap, ◌∙◌, arith}
+use Rattle.std.proofs.lemmas.List.{map_push, take_more, drop_more, length-map, length-take, get_or-map}
+use Rattle.std.proofs.lemmas.Option.{get_or_from_slice_get, slice_get_within}
+use Rattle.std.proofs.lemmas.Bool.{and_parts, and_right, and_left, lt-leb}
+use Rattle.std.specs.Prelude.{is_some}
+use Rattle.std.proofs.Common.{drop, subst, take-append-drop}
+use Rattle.mls_wire.specs.declared.fault.CodecFault.{CodecFault}
+use Rattle.mls_wire.specs.declared.fault.CodecFault.TheVariants as codec
+use Rattle.mls_wire.specs.Spelling.{list, optional}
+use Rattle.mls_wire.specs.Reading.{seen}
+use Rattle.mls_wire.specs.Writing.{Makes}
+use Rattle.mls_nodes.specs.Faults.{node_fault, EncodesTree}
+use Rattle.mls_wire.specs.Parsing.{list_at, optional_at}
+use Rattle.mls_wire.specs.Steps.{allowed}
+use Rattle.mls_wire.specs.Lists.{list_exact}
+use Rattle.mls_wire.specs.Optionals.{optional_exact, optional_long}
+use Rattle.mls_nodes.specs.Filled.{ends_more, trimmed-filled}
+use Rattle.mls_wire.specs.Spelling.{IsUnambiguous}
+use Rattle.mls_nodes.specs.Parsing.{node_at}
+use Rattle.mls_nodes.specs.Exact.{node_exact, tested_unambiguous}
+use Rattle.mls_nodes.specs.Writing.{FitsPlaces, WritesTree}
+use Rattle.mls_nodes.proofs.Entries.{both_none, stand_push, stand_more}
+use Rattle.mls_nodes.specs.declared.node.Node.{Node}
+use Rattle.mls_nodes.specs.declared.fault.NodeFault.{NodeFault}
+use Rattle.mls_nodes.specs.declared.fault.NodeFault.TheVariants as nodes
+use Rattle.mls_nodes.specs.Value.{NodeValue, node_value, entry_value}
+use Rattle.mls_nodes.specs.Layout.{node}
+use Rattle.mls_nodes.specs.RatchetTree.{stands_at, stand_from, IsFirstMisplaced, ends_set, is_placed, ratchet_tree, before, trimmed, filled}
+
+pub trimmed-blank : (xs : List (Option NodeValue)) → trimmed (xs ++ None ∷ []) ≡ trimmed xs
+trimmed-blank [] = refl
+trimmed-blank (x ∷ xs) = ap (before x) (trimmed-blank xs)
+
+before_some : (x : Option NodeValue) (xs : List (Option NodeValue)) (n : NodeValue) → before x (xs ++ Some n ∷ []) ≡ x ∷ xs ++ Some n ∷ []
+before_some (Some m) xs n = refl
+before_some None [] n = refl
+before_some None (y ∷ ys) n = refl
+
+pub trimmed-set : (xs : List (Option NodeValue)) (n : NodeValue) → trimmed (xs ++ Some n ∷ []) ≡ xs ++ Some n ∷ []
+trimmed-set [] n = refl
+trimmed-set (x ∷ xs) n = ap (before x) (trimmed-set xs n) ∙ before_some x xs n
+
+before_ends : (x : Option NodeValue) (ys : List (Option NodeValue)) → (ys ≡ []) ⊎ (ends_set ys ≡ true) → (before x ys ≡ []) ⊎ (ends_set (before x ys) ≡ true)
+before_ends None [] h = inl refl
+before_ends (Some n) [] h = inr refl
+before_ends None (y ∷ ys) (inl e) = absurd cc
+before_ends (Some n) (y ∷ ys) (inl e) = absurd cc
+before_ends None (y ∷ ys) (inr e) = inr (ends_more None y ys ∙ e)
+before_ends (Some n) (y ∷ ys) (inr e) = inr (ends_more (Some n) y ys ∙ e)
+
+pub trimmed-ends : (xs : List (Option NodeValue)) → (trimmed xs ≡ []) ⊎ (ends_set (trimmed xs) ≡ true)
+trimmed-ends [] = inl refl
+trimmed-ends (x ∷ xs) = before_ends x (trimmed xs) (trimmed-ends xs)
+
+-- ---- the loop from the end
+
+pub entry_at : (es : List (Option Node)) (i : ℕ) (x : Option Node) → i < length es → x ≡ get_or es i x → entry_value x ≡ get_or (map entry_value es) i (entry_value x)
+entry_at es i x lt is = ap entry_value is ∙ sym (get_or-map entry_value es i x (entry_value x) lt)
+
+split_end : (es : List (Option Node)) (count : ℕ) (x : Option Node) → 0 < count → count ≤ length es → x ≡ get_or es (count - 1) x → map entry_value (take count es) ≡ map entry_value (take (count - 1) es) ++ entry_value x ∷ []
+split_end es count x some le is =
+    let n : count ≡ count - 1 + 1 = omega arith in
+    let more : take (count - 1 + 1) es ≡ take (count - 1) es ++ x ∷ [] = rw (take_more es (count - 1) x (omega arith), ← is) refl in
+    ap (λ (k : ℕ). map entry_value (take k es)) n ∙ ap (map entry_value) more ∙ map_push entry_value (take (count - 1) es) x
+
+pub blank_end : (es : List (Option Node)) (count : ℕ) (x : Option Node) → 0 < count → count ≤ length es → x ≡ get_or es (count - 1) x → is_some x ≡ false → trimmed (map entry_value (take (count - 1) es)) ≡ trimmed (map entry_value (take count es))
+blank_end es count None some le is none = sym (ap trimmed (split_end es count None some le is) ∙ trimmed-blank (map entry_value (take (count - 1) es)))
+blank_end es count (Some n) some le is none = absurd cc
+
+pub set_end : (es : List (Option Node)) (count : ℕ) (x : Option Node) → 0 < count → count ≤ length es → x ≡ get_or es (count - 1) x → is_some x ≡ true → map entry_value (take count es) ≡ trimmed (map entry_value (take count es))
+set_end es count None some le is there = absurd cc
+set_end es count (Some n) some le is there =
+    let e = split_end es count (Some n) some le is in
+    e ∙ sym (ap trimmed e ∙ trimmed-set (map entry_value (take (count - 1) es)) (node_value n))
+
+pub no_end : (es : List (Option Node)) (count : ℕ) → count ≡ 0 → map entry_value (take count es) ≡ trimmed (map entry_value (take count es))
+no_end es count e = rw e refl
+
+-- ---- entries at their places
+
+-- one entry more that may stand at its place
+pub stand_next : (es : List (Option Node)) (place : ℕ) (x : Option Node) → place < length es → x ≡ get_or es place x → stand_from 0 (take place (map entry_value es)) ≡ true → stands_at place (entry_value x) ≡ true → stand_from 0 (take (place + 1) (map entry_value es)) ≡ true
+stand_next es place x lt is before here =
+    let xs = map entry_value es in
+    let lt2 : place < length xs = omega (arith, length-map es entry_value) in
+    let at : entry_value x ≡ get_or xs place (entry_value x) = entry_at es place x lt is in
+    let more : take (place + 1) xs ≡ take place xs ++ entry_value x ∷ [] = rw (take_more xs place (entry_value x) lt2, ← at) refl in
+    let len : length (take place xs) ≡ place = omega (arith, length-take place xs) in
+    rw more (stand_more (take place xs) (entry_value x) before (ap (λ (n : ℕ). stands_at n (entry_value x)) len ∙ here))
+
+-- ---- what was written
+
+pub none_at_all : (es : List (Option Node)) → length es ≡ 0 → map entry_value es ≡ []
+none_at_all [] e = refl
+none_at_all (x ∷ es) e = absurd (omega arith)
+
+pub some_at_all : (es : List (Option Node)) → length es ≢ 0 → map entry_value es ≢ []
+some_at_all [] some e = some refl
+some_at_all (x ∷ es) some e = absurd cc
+
+pub misjudged : (e : NodeFault) (ns : List (Option NodeValue)) → ns ≢ [] → FitsPlaces {A = Unit {0}} ns (Err e) → WritesTree ns (Err e)
+misjudged (nodes.WrongNodeKind place) ns some h = (some, h)
+misjudged nodes.TooManyLeaves ns some h = (some, h)
+misjudged (nodes.Wire f) ns some h = absurd h
+misjudged nodes.OutOfMemory ns some h = absurd h
+misjudged nodes.EmptyTree ns some h = absurd h
+misjudged nodes.LastBlank ns some h = absurd h
+
+pub unwritten : (e : CodecFault) (ns : List (Option NodeValue)) → ns ≢ [] → Makes (list (optional node) ns) (Err e) → WritesTree ns (Err (node_fault e))
+unwritten (codec.Wire f) ns some h = (some, h)
+unwritten codec.OutOfMemory ns some h = some
+
+-- an entry at its place among the others
+slice_get-split : {A : Type 0} (xs : List A) (i : ℕ) (x : A) → slice_get xs i ≡ Some x → (xs ≡ take i xs ++ x ∷ drop (i + 1) xs) × (length (take i xs) ≡ i)
+slice_get-split {A = A} xs i x e =
+    let lt : i < length xs = slice_get_within xs i x e in
+    let is : get_or xs i x ≡ x = get_or_from_slice_get xs i x x e in
+    (sym (take-append-drop i xs) ∙ ap (λ (ys : List A). take i xs ++ ys) (drop_more xs i x lt ∙ ap (λ (y : A). y ∷ drop (i + 1) xs) is), omega (arith, length-take i xs))
+
+-- ---- the answer
+
+misplaced : (ns : List (Option NodeValue)) (place : ℕ) → IsFirstMisplaced ns place → is_placed ns ≡ false
+misplaced ns place h =
+    let at = slice_get-split ns place h.1 h.2 in
+    let push = stand_push 0 (take place ns) h.1 (drop (place + 1) ns) in
+    let here : stands_at (0 + length (take place ns)) h.1 ≡ false = ap (λ (n : ℕ). stands_at n h.1) (omega (arith, at.1)) ∙ h.3 in
+    let bad : stand_from 0 ns ≡ false = ap (stand_from 0) at.0 ∙ push ∙ and_right (stand_from 0 (take place ns)) _ (and_left _ _ here) in
+    and_left (stand_from 0 ns) _ bad
+
+not_placed : (ns : List (Option NodeValue)) → is_placed ns ≡ false → ratchet_tree ns ≡ None
+unfolding ratchet_tree
+not_placed ns e = rw e refl
+
+not_spelled : (ns : List (Option NodeValue)) → list (optional node) ns ≡ None → ratchet_tree ns ≡ None
+unfolding ratchet_tree
+not_spelled ns e = rw e (both_none (is_placed ns && ends_set ns))
+
+no_tree : ratchet_tree [] ≡ None
+unfolding ratchet_tree
+no_tree = refl
+
+is_tree : (ns : List (Option NodeValue)) (bytes : List ℕ) → is_placed ns ≡ true → ends_set ns ≡ true → list (optional node) ns ≡ Some bytes → ratchet_tree ns ≡ Some bytes
+unfolding ratchet_tree
+is_tree ns bytes p q e = rw (p, q) e
+
+too_long : (ns : List (Option NodeValue)) → 2097151 < length ns → is_placed ns ≡ false
+too_long ns lt = and_right (stand_from 0 ns) _ (lt-leb (length ns) 2097151 lt)
+
+tree_of : (nodes : List (Option NodeValue)) (bytes : List ℕ) → trimmed nodes ≢ [] → is_placed (trimmed nodes) ≡ true → list (optional node) (trimmed nodes) ≡ Some bytes → ratchet_tree (trimmed nodes) ≡ Some bytes
+tree_of nodes bytes some p e =
+    elim (trimmed-ends nodes) [
+      | inl none ↦ absurd (some none)
+      | inr ends ↦ is_tree (trimmed nodes) bytes p ends e
+    ]
+
+pub is_encoded : (nodes : List (Option NodeValue)) (r : Result (List ℕ) NodeFault) → WritesTree (trimmed nodes) r → EncodesTree nodes r
+is_encoded ns (Ok bytes) h = tree_of ns bytes h.0 h.1 h.2
+is_encoded ns (Err nodes.OutOfMemory) h = tt
+is_encoded ns (Err nodes.EmptyTree) h = ap ratchet_tree h ∙ no_tree
+is_encoded ns (Err (nodes.WrongNodeKind place)) h = not_placed (trimmed ns) (misplaced (trimmed ns) place h.1)
+is_encoded ns (Err nodes.TooManyLeaves) h = not_placed (trimmed ns) (too_long (trimmed ns) h.1)
+is_encoded ns (Err (nodes.Wire f)) h = not_spelled (trimmed ns) h.1
+is_encoded ns (Err nodes.LastBlank) h = absurd h
+
+module _ {A : Type 0} (view : A → List ℕ) where
+  pub is_empty_tree : (ns : List (Option NodeValue)) (r : Result A NodeFault) → WritesTree ns (seen view r) → (r ≡ Err nodes.EmptyTree) ↔ (ns ≡ [])
+  is_empty_tree ns (Ok x) h = (λ e. absurd cc, λ e. absurd (h.0 e))
+  is_empty_tree ns (Err nodes.EmptyTree) h = (λ e. h, λ e. refl)
+  is_empty_tree ns (Err nodes.OutOfMemory) h = (λ e. absurd cc, λ e. absurd (h e))
+  is_empty_tree ns (Err (nodes.WrongNodeKind p)) h = (λ e. absurd cc, λ e. absurd (h.0 e))
+  is_empty_tree ns (Err nodes.TooManyLeaves) h = (λ e. absurd cc, λ e. absurd (h.0 e))
+  is_empty_tree ns (Err (nodes.Wire f)) h = (λ e. absurd cc, λ e. absurd (h.0 e))
+  is_empty_tree ns (Err nodes.LastBlank) h = absurd h
+
+  pub is_misplaced : (ns : List (Option NodeValue)) (r : Result A NodeFault) → WritesTree ns (seen view r) → (place : ℕ) → r ≡ Err (nodes.WrongNodeKind place) → IsFirstMisplaced ns place
+  is_misplaced ns r h place e = (subst (λ (x : Result A NodeFault). WritesTree ns (seen view x)) e h).1
+
+  pub is_too_long : (ns : List (Option NodeValue)) (r : Result A NodeFault) → WritesTree ns (seen view r) → r ≡ Err nodes.TooManyLeaves → 2097151 < length ns
+  is_too_long ns r h e = (subst (λ (x : Result A NodeFault). WritesTree ns (seen view x)) e h).1
+
+  pub no_last_blank : (ns : List (Option NodeValue)) (r : Result A NodeFault) → WritesTree ns (seen view r) → r ≢ Err nodes.LastBlank
+  no_last_blank ns r h e = subst (λ (x : Result A NodeFault). WritesTree ns (seen view x)) e h
+
+-- ---- laws
+
+pub ratchet_tree_unambiguous : IsUnambiguous ratchet_tree
+unfolding ratchet_tree
+ratchet_tree_unambiguous = tested_unambiguous (λ ns. is_placed ns && ends_set ns) (list (optional node))
+    (unambiguous (list (optional node)) (list_at (optional_at node_at)) (list_exact (optional node) (optional_at node_at) (optional_exact node node_at node_exact) (optional_long node)))
+
+pub tree_again_trimmed : (ns : List (Option NodeValue)) (bytes : List ℕ) → ratchet_tree ns ≡ Some bytes → trimmed (filled ns) ≡ ns
+unfolding ratchet_tree
+tree_again_trimmed ns bytes e = trimmed-filled ns (and_parts (is_placed ns) (ends_set ns) (allowed (is_placed ns && ends_set ns) (list (optional node) ns) bytes e).0).1

@@ -1,0 +1,21 @@
+use Rattle.mls_nodes.specs.Filled.{filled-full, filled-room, filled-least, filled-front, filled-back}
+use Rattle.mls_nodes.proofs.Trimming.{tree_again_trimmed}
+use Rattle.mls_nodes.proofs.laws.filling.Goals as goal
+
+pub returns-clause-full : goal.returns-clause-full
+returns-clause-full c = filled-full
+
+pub returns-clause-room : goal.returns-clause-room
+returns-clause-room c = filled-room
+
+pub returns-clause-least : goal.returns-clause-least
+returns-clause-least c = filled-least
+
+pub returns-clause-front : goal.returns-clause-front
+returns-clause-front c = filled-front
+
+pub returns-clause-back : goal.returns-clause-back
+returns-clause-back c = filled-back
+
+pub returns-clause-again : goal.returns-clause-again
+returns-clause-again c = tree_again_trimmed

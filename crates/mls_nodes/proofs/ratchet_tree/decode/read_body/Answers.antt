@@ -1,0 +1,5 @@
+use Rattle.mls_wire.specs.Answers.{Gives-body}
+use Rattle.mls_nodes.proofs.ratchet_tree.decode.read_body.Goals as goal
+
+pub returns : goal.returns
+returns c = Gives-body _ _ c.read_sub.result c.read_sub.ensures

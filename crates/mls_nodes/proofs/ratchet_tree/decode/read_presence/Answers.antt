@@ -1,0 +1,8 @@
+use Rattle.mls_wire.specs.Spelling.{flag}
+use Rattle.mls_wire.specs.Parsing.{flag_at}
+use Rattle.mls_wire.specs.Optionals.{flag_exact}
+use Rattle.mls_wire.specs.Answers.{Gives-reads}
+use Rattle.mls_nodes.proofs.ratchet_tree.decode.read_presence.Goals as goal
+
+pub returns : goal.returns
+returns c = Gives-reads flag flag_at flag_exact _ _ c.read_optional.result c.read_optional.ensures

@@ -1,0 +1,13 @@
+use Rattle.std.proofs.Common.{◌≡◌, ◌≤◌, map, take, length}
+use Rattle.mls_nodes.specs.Value.{entry_value}
+use Rattle.mls_nodes.specs.RatchetTree.{trimmed}
+use Rattle.mls_nodes.proofs.ratchet_tree.encode.trim.Given as goal
+
+abbrev pub invariant-loop-count : goal.invariant-loop-count
+invariant-loop-count l = record {
+  same : trimmed (map entry_value (take l.count l.entries)) ≡ trimmed (map entry_value l.entries);
+  within : l.count ≤ length l.entries;
+}
+
+abbrev pub decreases-loop-count : goal.decreases-loop-count
+decreases-loop-count l = l.count

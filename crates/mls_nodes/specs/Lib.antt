@@ -1,0 +1,11 @@
+pub mod Extension
+pub mod Value
+pub mod Layout
+pub mod RatchetTree
+pub mod Filled
+pub mod Faults
+pub mod Requirements
+pub mod Signed
+pub mod Parsing
+pub mod Writing
+pub mod Exact

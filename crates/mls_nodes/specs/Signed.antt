@@ -1,0 +1,18 @@
+-- What is signed of a leaf node (RFC 9420, section 7.2).
+use Rattle.std.specs.Prelude.{ℕ, List, [], Option, Some}
+use Rattle.std.specs.Int.{w32}
+use Rattle.mls_wire.specs.Spelling.{◌⊕◌, number, vector}
+use Rattle.mls_nodes.specs.declared.leaf_source.LeafSource.{LeafSource}
+use Rattle.mls_nodes.specs.declared.leaf_source.LeafSource.TheVariants.{KeyPackage, Update, Commit}
+use Rattle.mls_nodes.specs.declared.leaf.LeafNode.{LeafNode}
+use Rattle.mls_nodes.specs.Layout.{unsigned_leaf}
+
+-- what ties a leaf to its place: of the sources update and commit the group's id and the leaf's index
+unfoldable pub leaf_place : LeafSource → List ℕ → ℕ → Option (List ℕ)
+leaf_place (KeyPackage l) group_id index = Some []
+leaf_place Update group_id index = vector group_id ⊕ number w32 index
+leaf_place (Commit parent_hash) group_id index = vector group_id ⊕ number w32 index
+
+-- LeafNodeTBS: the leaf node without its signature, and its place
+unfoldable pub leaf_tbs : LeafNode → List ℕ → ℕ → Option (List ℕ)
+leaf_tbs n group_id index = unsigned_leaf n ⊕ leaf_place n.source group_id index

@@ -1,0 +1,25 @@
+-- How a ratchet tree is written, step by step: for proofs alone, no public contract speaks of it.
+use Rattle.std.specs.Prelude.{◌≡◌, ◌≢◌, ◌<◌, ℕ, List, [], length, true, Option, Some, None, Result, Ok, Err}
+use Rattle.mls_wire.specs.Spelling.{list, optional}
+use Rattle.mls_nodes.specs.declared.fault.NodeFault.{NodeFault}
+use Rattle.mls_nodes.specs.declared.fault.NodeFault.TheVariants as faults
+use Rattle.mls_nodes.specs.Value.{NodeValue}
+use Rattle.mls_nodes.specs.Layout.{node}
+use Rattle.mls_nodes.specs.RatchetTree.{is_placed, IsFirstMisplaced}
+
+-- What a call that judges places answered.
+abbrev pub FitsPlaces : {A : Type 0} → List (Option NodeValue) → Result A NodeFault → Type 0
+FitsPlaces nodes (Ok x) = is_placed nodes ≡ true
+FitsPlaces nodes (Err (faults.WrongNodeKind place)) = IsFirstMisplaced nodes place
+FitsPlaces nodes (Err faults.TooManyLeaves) = 2097151 < length nodes
+FitsPlaces nodes (Err e) = ⊥
+
+-- What a call that writes entries without blanks at their end answered, fault by fault.
+abbrev pub WritesTree : List (Option NodeValue) → Result (List ℕ) NodeFault → Type 0
+WritesTree nodes (Ok bytes) = (nodes ≢ []) × (is_placed nodes ≡ true) × (list (optional node) nodes ≡ Some bytes)
+WritesTree nodes (Err faults.OutOfMemory) = nodes ≢ []
+WritesTree nodes (Err faults.EmptyTree) = nodes ≡ []
+WritesTree nodes (Err (faults.WrongNodeKind place)) = (nodes ≢ []) × IsFirstMisplaced nodes place
+WritesTree nodes (Err faults.TooManyLeaves) = (nodes ≢ []) × (2097151 < length nodes)
+WritesTree nodes (Err (faults.Wire f)) = (nodes ≢ []) × (list (optional node) nodes ≡ None)
+WritesTree nodes (Err faults.LastBlank) = ⊥

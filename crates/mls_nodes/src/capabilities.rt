@@ -1,0 +1,76 @@
+//! What a member's client can do (RFC 9420, section 7.2).
+
+use crate::lists::Codes;
+use mls_wire::{CodecFault, Decode, Draft, Encode, Reader, TryClone};
+use std::alloc::Global;
+
+/// What a client supports: five lists of codes, in this order.
+#[derive(Debug, Drop)]
+pub struct Capabilities {
+    /// Protocol versions.
+    pub versions: Codes,
+    /// Cipher suites.
+    pub cipher_suites: Codes,
+    /// Types of extensions.
+    pub extensions: Codes,
+    /// Types of proposals.
+    pub proposals: Codes,
+    /// Types of credentials.
+    pub credentials: Codes,
+}
+
+impl Decode for Capabilities {
+    ghost use Rattle.mls_nodes.specs.Layout.{capabilities};
+    ghost use Rattle.mls_nodes.specs.Parsing.{capabilities_at};
+    ghost use Rattle.mls_nodes.specs.Exact.{capabilities_exact, capabilities_long};
+
+    ghost spelling = { capabilities };
+
+    ghost reading = { capabilities_at };
+
+    #[tactic(auto, unfolding(crate::specs::Parsing::capabilities_at))]
+    fn read(alloc: Global, reader: &mut Reader<'_>) -> Result<Capabilities, CodecFault> {
+        let mut ahead = reader.fork();
+        let versions = Codes::read(alloc, &mut ahead)?;
+        let cipher_suites = Codes::read(alloc, &mut ahead)?;
+        let extensions = Codes::read(alloc, &mut ahead)?;
+        let proposals = Codes::read(alloc, &mut ahead)?;
+        let credentials = Codes::read(alloc, &mut ahead)?;
+        *reader = ahead;
+        Ok(Capabilities {
+            versions,
+            cipher_suites,
+            extensions,
+            proposals,
+            credentials,
+        })
+    }
+
+    ghost exact = { capabilities_exact };
+
+    ghost long = { capabilities_long };
+}
+
+impl Encode for Capabilities {
+    #[tactic(auto, using(mls_wire::specs::Written::written), unfolding(crate::specs::Layout::capabilities))]
+    fn put(&self, alloc: Global, draft: &mut Draft) -> Result<(), CodecFault> {
+        self.versions.put(alloc, draft)?;
+        self.cipher_suites.put(alloc, draft)?;
+        self.extensions.put(alloc, draft)?;
+        self.proposals.put(alloc, draft)?;
+        self.credentials.put(alloc, draft)?;
+        Ok(())
+    }
+}
+
+impl TryClone for Capabilities {
+    fn try_clone(&self, alloc: Global) -> Result<Capabilities, CodecFault> {
+        Ok(Capabilities {
+            versions: self.versions.try_clone(alloc)?,
+            cipher_suites: self.cipher_suites.try_clone(alloc)?,
+            extensions: self.extensions.try_clone(alloc)?,
+            proposals: self.proposals.try_clone(alloc)?,
+            credentials: self.credentials.try_clone(alloc)?,
+        })
+    }
+}

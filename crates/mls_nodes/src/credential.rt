@@ -1,0 +1,73 @@
+//! Credentials (RFC 9420, section 5.3).
+
+use crate::lists::CertChain;
+use mls_wire::{
+    CodecFault, Decode, Draft, Encode, Opaque, Reader, TryClone, WireFault, WireFaultKind,
+};
+use std::alloc::Global;
+
+/// Who a leaf says that its member is: type 1 or 2, a `u16`, and the body of that type. A credential
+/// of another type is `BadTag` where it begins, since its body can't be skipped.
+#[derive(Debug, Drop)]
+pub enum Credential {
+    /// An identity, as bytes that the application knows.
+    Basic(Opaque),
+    /// X.509 certificates.
+    X509(CertChain),
+}
+
+impl Decode for Credential {
+    ghost use Rattle.mls_nodes.specs.Layout.{credential};
+    ghost use Rattle.mls_nodes.specs.Parsing.{credential_at};
+    ghost use Rattle.mls_nodes.specs.Exact.{credential_exact, credential_long};
+
+    ghost spelling = { credential };
+
+    ghost reading = { credential_at };
+
+    #[tactic(auto, unfolding(crate::specs::Parsing::credential_at))]
+    fn read(alloc: Global, reader: &mut Reader<'_>) -> Result<Credential, CodecFault> {
+        let mut ahead = reader.fork();
+        let credential = match u16::read(alloc, &mut ahead)? {
+            1 => Credential::Basic(Opaque::read(alloc, &mut ahead)?),
+            2 => Credential::X509(CertChain::read(alloc, &mut ahead)?),
+            kind => {
+                return Err(CodecFault::Wire(WireFault {
+                    kind: WireFaultKind::BadTag(kind),
+                    at: reader.place(),
+                }));
+            }
+        };
+        *reader = ahead;
+        Ok(credential)
+    }
+
+    ghost exact = { credential_exact };
+
+    ghost long = { credential_long };
+}
+
+impl Encode for Credential {
+    #[tactic(auto, using(mls_wire::specs::Written::written), unfolding(crate::specs::Layout::credential))]
+    fn put(&self, alloc: Global, draft: &mut Draft) -> Result<(), CodecFault> {
+        match self {
+            Credential::Basic(identity) => {
+                draft.put_u16(1)?;
+                identity.put(alloc, draft)
+            }
+            Credential::X509(chain) => {
+                draft.put_u16(2)?;
+                chain.put(alloc, draft)
+            }
+        }
+    }
+}
+
+impl TryClone for Credential {
+    fn try_clone(&self, alloc: Global) -> Result<Credential, CodecFault> {
+        match self {
+            Credential::Basic(identity) => Ok(Credential::Basic(identity.try_clone(alloc)?)),
+            Credential::X509(chain) => Ok(Credential::X509(chain.try_clone(alloc)?)),
+        }
+    }
+}

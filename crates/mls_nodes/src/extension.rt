@@ -1,0 +1,87 @@
+//! Extensions of leaves and groups (RFC 9420, sections 7.2 and 13).
+
+ghost use Rattle.mls_wire.specs.Spelling.{list};
+ghost use Rattle.mls_wire.specs.Reading.{Decodes};
+ghost use Rattle.mls_wire.specs.Writing.{Writes};
+ghost use Rattle.mls_nodes.specs.Extension.{extension};
+
+use crate::lists::Extensions;
+use mls_wire::{
+    CodecFault, Decode, Draft, Encode, Measure, Opaque, Reader, TryClone, Writer, read_value,
+};
+use std::alloc::Global;
+
+/// An extension of any type: application_id 1, ratchet_tree 2, required_capabilities 3,
+/// external_pub 4, external_senders 5 and those that the standard doesn't know.
+#[derive(Debug, Drop)]
+pub struct Extension {
+    /// Its type.
+    pub kind: u16,
+    /// Its data, not read any further.
+    pub body: Opaque,
+}
+
+impl Decode for Extension {
+    ghost use Rattle.mls_nodes.specs.Parsing.{extension_at};
+    ghost use Rattle.mls_nodes.specs.Exact.{extension_exact, extension_long};
+
+    ghost spelling = { extension };
+
+    ghost reading = { extension_at };
+
+    #[tactic(auto, unfolding(crate::specs::Parsing::extension_at))]
+    fn read(alloc: Global, reader: &mut Reader<'_>) -> Result<Extension, CodecFault> {
+        let mut ahead = reader.fork();
+        let kind = u16::read(alloc, &mut ahead)?;
+        let body = Opaque::read(alloc, &mut ahead)?;
+        *reader = ahead;
+        Ok(Extension { kind, body })
+    }
+
+    ghost exact = { extension_exact };
+
+    ghost long = { extension_long };
+}
+
+impl Encode for Extension {
+    #[tactic(auto, using(mls_wire::specs::Written::written), unfolding(crate::specs::Extension::extension))]
+    fn put(&self, alloc: Global, draft: &mut Draft) -> Result<(), CodecFault> {
+        draft.put_u16(self.kind)?;
+        self.body.put(alloc, draft)
+    }
+}
+
+impl Measure for Extension {
+    fn size(&self) -> Option<usize> {
+        let _kind = self.kind;
+        let size = self.body.size()?;
+        Some(size + 2)
+    }
+}
+
+impl TryClone for Extension {
+    fn try_clone(&self, alloc: Global) -> Result<Extension, CodecFault> {
+        Ok(Extension {
+            kind: self.kind,
+            body: self.body.try_clone(alloc)?,
+        })
+    }
+}
+
+/// The list of extensions at the front. A refusal leaves the reader.
+pub fn read_extensions(alloc: Global, reader: &mut Reader<'_>) -> Result<Extensions, CodecFault>
+    ensures { Decodes (list extension) reader.old reader.new result }
+{
+    read_value(alloc, reader)
+}
+
+/// Writes the list of extensions at the end. A refusal leaves the bytes.
+pub fn write_extensions(
+    alloc: Global,
+    extensions: &Extensions,
+    writer: &mut Writer,
+) -> Result<(), CodecFault>
+    ensures { Writes (list extension extensions.now) writer.old writer.new result }
+{
+    writer.write(alloc, extensions)
+}

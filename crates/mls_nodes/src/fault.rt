@@ -1,0 +1,68 @@
+//! Why a ratchet tree could not be read or written.
+
+use mls_wire::{CodecFault, WireFault};
+use std::alloc::{AllocError, AllocFailed};
+
+/// Why a ratchet tree could not be read or written. Places count the entries of the tree from 0.
+#[derive(Clone, Copy, Debug, PartialEq, Eq)]
+pub enum NodeFault {
+    /// The bytes can't be read, or the tree is too long for one vector.
+    Wire(WireFault),
+    /// A leaf at an odd place or a parent at an even one: the first such place.
+    WrongNodeKind(usize),
+    /// The last entry is blank, and another one is not.
+    LastBlank,
+    /// No entry is set.
+    EmptyTree,
+    /// More than 2,097,151 entries, those of 1,048,576 leaves.
+    TooManyLeaves,
+    /// A growth was refused.
+    OutOfMemory,
+}
+
+impl From<CodecFault> for NodeFault {
+    ghost use Rattle.std.specs.Prelude.{◌≡◌};
+    ghost use Rattle.mls_nodes.specs.Faults.{node_fault};
+
+    ghost from_gives = { λ f e. e ≡ node_fault f };
+
+    fn from(fault: CodecFault) -> NodeFault {
+        match fault {
+            CodecFault::Wire(fault) => NodeFault::Wire(fault),
+            CodecFault::OutOfMemory => NodeFault::OutOfMemory,
+        }
+    }
+}
+
+impl From<WireFault> for NodeFault {
+    ghost use Rattle.std.specs.Prelude.{◌≡◌};
+    ghost use Rattle.mls_nodes.specs.declared.fault.NodeFault.TheVariants.{Wire};
+
+    ghost from_gives = { λ f e. e ≡ Wire f };
+
+    fn from(fault: WireFault) -> NodeFault {
+        NodeFault::Wire(fault)
+    }
+}
+
+impl From<AllocError> for NodeFault {
+    ghost use Rattle.std.specs.Prelude.{◌≡◌};
+    ghost use Rattle.mls_nodes.specs.declared.fault.NodeFault.TheVariants.{OutOfMemory};
+
+    ghost from_gives = { λ _ e. e ≡ OutOfMemory };
+
+    fn from(_e: AllocError) -> NodeFault {
+        NodeFault::OutOfMemory
+    }
+}
+
+impl<T: Drop> From<AllocFailed<T>> for NodeFault {
+    ghost use Rattle.std.specs.Prelude.{◌≡◌};
+    ghost use Rattle.mls_nodes.specs.declared.fault.NodeFault.TheVariants.{OutOfMemory};
+
+    ghost from_gives = { λ _ e. e ≡ OutOfMemory };
+
+    fn from(_e: AllocFailed<T>) -> NodeFault {
+        NodeFault::OutOfMemory
+    }
+}

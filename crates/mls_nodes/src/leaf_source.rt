@@ -1,0 +1,132 @@
+//! How a leaf came into the tree (RFC 9420, section 7.2).
+
+use mls_wire::{
+    CodecFault, Decode, Draft, Encode, Opaque, Reader, TryClone, WireFault, WireFaultKind,
+};
+use std::alloc::Global;
+
+/// When a key package may be used, in seconds since the beginning of 1970.
+#[derive(Clone, Copy, Debug)]
+pub struct Lifetime {
+    /// The first second of it.
+    pub not_before: u64,
+    /// The last one.
+    pub not_after: u64,
+}
+
+/// How a leaf came into the tree: source 1, 2 or 3, a byte. Another source is `BadTag` where it begins.
+#[derive(Debug, Drop)]
+pub enum LeafSource {
+    /// By a key package that was added.
+    KeyPackage(Lifetime),
+    /// By an update of its member.
+    Update,
+    /// By a commit of its member.
+    Commit {
+        /// The parent hash of the leaf's parent, empty where it has none.
+        parent_hash: Opaque,
+    },
+}
+
+impl Decode for Lifetime {
+    ghost use Rattle.mls_nodes.specs.Layout.{lifetime};
+    ghost use Rattle.mls_nodes.specs.Parsing.{lifetime_at};
+    ghost use Rattle.mls_nodes.specs.Exact.{lifetime_exact, lifetime_long};
+
+    ghost spelling = { lifetime };
+
+    ghost reading = { lifetime_at };
+
+    #[tactic(auto, unfolding(crate::specs::Parsing::lifetime_at))]
+    fn read(alloc: Global, reader: &mut Reader<'_>) -> Result<Lifetime, CodecFault> {
+        let mut ahead = reader.fork();
+        let not_before = u64::read(alloc, &mut ahead)?;
+        let not_after = u64::read(alloc, &mut ahead)?;
+        *reader = ahead;
+        Ok(Lifetime {
+            not_before,
+            not_after,
+        })
+    }
+
+    ghost exact = { lifetime_exact };
+
+    ghost long = { lifetime_long };
+}
+
+impl Decode for LeafSource {
+    ghost use Rattle.mls_nodes.specs.Layout.{source};
+    ghost use Rattle.mls_nodes.specs.Parsing.{source_at};
+    ghost use Rattle.mls_nodes.specs.Exact.{source_exact, source_long};
+
+    ghost spelling = { source };
+
+    ghost reading = { source_at };
+
+    #[tactic(auto, unfolding(crate::specs::Parsing::source_at))]
+    fn read(alloc: Global, reader: &mut Reader<'_>) -> Result<LeafSource, CodecFault> {
+        let mut ahead = reader.fork();
+        let source = match u8::read(alloc, &mut ahead)? {
+            1 => LeafSource::KeyPackage(Lifetime::read(alloc, &mut ahead)?),
+            2 => LeafSource::Update,
+            3 => LeafSource::Commit {
+                parent_hash: Opaque::read(alloc, &mut ahead)?,
+            },
+            kind => {
+                return Err(CodecFault::Wire(WireFault {
+                    kind: WireFaultKind::BadTag(u16::from(kind)),
+                    at: reader.place(),
+                }));
+            }
+        };
+        *reader = ahead;
+        Ok(source)
+    }
+
+    ghost exact = { source_exact };
+
+    ghost long = { source_long };
+}
+
+impl Encode for Lifetime {
+    #[tactic(auto, using(mls_wire::specs::Written::written), unfolding(crate::specs::Layout::lifetime))]
+    fn put(&self, _alloc: Global, draft: &mut Draft) -> Result<(), CodecFault> {
+        draft.put_u64(self.not_before)?;
+        draft.put_u64(self.not_after)
+    }
+}
+
+impl Encode for LeafSource {
+    #[tactic(auto, using(mls_wire::specs::Written::written), unfolding(crate::specs::Layout::source))]
+    fn put(&self, alloc: Global, draft: &mut Draft) -> Result<(), CodecFault> {
+        match self {
+            LeafSource::KeyPackage(lifetime) => {
+                draft.put_u8(1)?;
+                lifetime.put(alloc, draft)
+            }
+            LeafSource::Update => draft.put_u8(2),
+            LeafSource::Commit { parent_hash } => {
+                draft.put_u8(3)?;
+                parent_hash.put(alloc, draft)
+            }
+        }
+    }
+}
+
+impl TryClone for Lifetime {
+    fn try_clone(&self, _alloc: Global) -> Result<Lifetime, CodecFault> {
+        Ok(*self)
+    }
+}
+
+impl TryClone for LeafSource {
+    fn try_clone(&self, alloc: Global) -> Result<LeafSource, CodecFault> {
+        match self {
+            LeafSource::KeyPackage(lifetime) => Ok(LeafSource::KeyPackage(*lifetime)),
+            LeafSource::Update => Ok(LeafSource::Update),
+            LeafSource::Commit { parent_hash } => Ok(LeafSource::Commit {
+                parent_hash: parent_hash.try_clone(alloc)?,
+            }),
+        }
+    }
+}

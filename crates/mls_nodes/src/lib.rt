@@ -1,0 +1,39 @@
+//! The nodes of MLS ratchet trees (RFC 9420, sections 5.3 and 7) as values and as bytes: credentials,
+//! leaf nodes, parent nodes and the ratchet tree that a group's members hand out.
+//!
+//! Contracts speak of spellings: how a value is written in bytes stands in `specs/`, once for each type.
+#![tactic(auto)]
+
+mod capabilities;
+mod context;
+mod credential;
+mod extension;
+mod fault;
+pub mod laws;
+mod leaf;
+mod leaf_source;
+mod lists;
+mod node;
+mod parent;
+mod ratchet_tree;
+mod required_capabilities;
+mod signed;
+mod unmerged;
+
+pub use capabilities::Capabilities;
+pub use context::{GroupContext, decode_context, encode_context, read_context, write_context};
+pub use credential::Credential;
+pub use extension::{Extension, read_extensions, write_extensions};
+pub use fault::NodeFault;
+pub use leaf::{LeafNode, decode_leaf, encode_leaf, read_leaf, write_leaf};
+pub use leaf_source::{LeafSource, Lifetime};
+pub use lists::{CertChain, Codes, Extensions};
+pub use node::Node;
+pub use parent::{ParentNode, write_parent};
+pub use ratchet_tree::{decode_ratchet_tree, encode_ratchet_tree};
+pub use required_capabilities::{RequiredCapabilities, find_extension, requirements};
+pub use signed::leaf_tbs;
+pub use unmerged::{MAX_UNMERGED, Unmerged};
+
+#[cfg(test)]
+mod tests;

@@ -1,0 +1,33 @@
+//! Nodes of a ratchet tree (RFC 9420, sections 7.8 and 12.4.3.3).
+
+ghost use Rattle.std.specs.Prelude.{◌≡◌, IfOk, IfErr};
+ghost use Rattle.mls_wire.specs.declared.fault.CodecFault.TheVariants as codec;
+
+use crate::leaf::LeafNode;
+use crate::parent::ParentNode;
+use mls_wire::{CodecFault, TryClone};
+use std::alloc::Global;
+
+/// A node that is not blank. Contracts see it as a `NodeValue`, its parts and not where they lie.
+#[derive(Debug, Drop)]
+pub enum Node {
+    /// A leaf, at an even place of the tree.
+    Leaf(Box<LeafNode>),
+    /// A parent, at an odd one.
+    Parent(Box<ParentNode>),
+}
+
+impl Node {
+    ghost use Rattle.mls_nodes.specs.Value.{node_value};
+
+    /// The same node again. Only want of memory is answered.
+    pub fn try_clone(&self, alloc: Global) -> Result<Node, CodecFault>
+        ensures same { IfOk result (λ node. node_value node ≡ node_value self.now) }
+        ensures memory { IfErr result (λ e. e ≡ codec.OutOfMemory) }
+    {
+        match self {
+            Node::Leaf(leaf) => Ok(Node::Leaf(Box::new(alloc, leaf.try_clone(alloc)?)?)),
+            Node::Parent(parent) => Ok(Node::Parent(Box::new(alloc, parent.try_clone(alloc)?)?)),
+        }
+    }
+}

@@ -1,0 +1,77 @@
+//! Parent nodes (RFC 9420, section 7.1).
+
+ghost use Rattle.mls_wire.specs.Writing.{Writes};
+ghost use Rattle.mls_nodes.specs.Layout.{parent};
+
+use crate::unmerged::Unmerged;
+use mls_wire::{CodecFault, Decode, Draft, Encode, Opaque, Reader, TryClone, Writer};
+use std::alloc::Global;
+
+/// A parent of the ratchet tree, whose secret the members under it share.
+#[derive(Debug, Drop)]
+pub struct ParentNode {
+    /// The public key that secrets are sent to.
+    pub encryption_key: Opaque,
+    /// The parent hash of the next parent above, empty where there is none.
+    pub parent_hash: Opaque,
+    /// The leaves under it whose members don't know its secret.
+    pub unmerged: Unmerged,
+}
+
+impl Decode for ParentNode {
+    ghost use Rattle.mls_nodes.specs.Parsing.{parent_at};
+    ghost use Rattle.mls_nodes.specs.Exact.{parent_exact, parent_long};
+
+    ghost spelling = { parent };
+
+    ghost reading = { parent_at };
+
+    #[tactic(auto, unfolding(crate::specs::Parsing::parent_at))]
+    fn read(alloc: Global, reader: &mut Reader<'_>) -> Result<ParentNode, CodecFault> {
+        let mut ahead = reader.fork();
+        let encryption_key = Opaque::read(alloc, &mut ahead)?;
+        let parent_hash = Opaque::read(alloc, &mut ahead)?;
+        let unmerged = Unmerged::read(alloc, &mut ahead)?;
+        *reader = ahead;
+        Ok(ParentNode {
+            encryption_key,
+            parent_hash,
+            unmerged,
+        })
+    }
+
+    ghost exact = { parent_exact };
+
+    ghost long = { parent_long };
+}
+
+impl Encode for ParentNode {
+    #[tactic(auto, using(mls_wire::specs::Written::written), unfolding(crate::specs::Layout::parent))]
+    fn put(&self, alloc: Global, draft: &mut Draft) -> Result<(), CodecFault> {
+        self.encryption_key.put(alloc, draft)?;
+        self.parent_hash.put(alloc, draft)?;
+        self.unmerged.put(alloc, draft)?;
+        Ok(())
+    }
+}
+
+impl TryClone for ParentNode {
+    fn try_clone(&self, alloc: Global) -> Result<ParentNode, CodecFault> {
+        Ok(ParentNode {
+            encryption_key: self.encryption_key.try_clone(alloc)?,
+            parent_hash: self.parent_hash.try_clone(alloc)?,
+            unmerged: self.unmerged.try_clone(alloc)?,
+        })
+    }
+}
+
+/// Writes the parent node at the end. A refusal leaves the bytes.
+pub fn write_parent(
+    alloc: Global,
+    value: &ParentNode,
+    writer: &mut Writer,
+) -> Result<(), CodecFault>
+    ensures { Writes (parent value.now) writer.old writer.new result }
+{
+    writer.write(alloc, value)
+}

@@ -1,0 +1,112 @@
+//! What a group requires of its members' clients (RFC 9420, section 11.1).
+
+ghost use Rattle.std.specs.Prelude.{◌≡◌, [], None, Some, MatchOption};
+ghost use Rattle.mls_nodes.specs.Requirements.{extension_of, FindsRequirements};
+
+use crate::context::GroupContext;
+use crate::extension::Extension;
+use crate::lists::Codes;
+use mls_wire::{CodecFault, Decode, Draft, Encode, Opaque, Reader, TryClone, read_all_of};
+use std::alloc::Global;
+
+/// The type of the extension that holds a group's requirements.
+const REQUIRED_CAPABILITIES: u16 = 3;
+
+/// What each member of a group has to support.
+#[derive(Debug, Drop)]
+pub struct RequiredCapabilities {
+    /// Types of extensions.
+    pub extensions: Codes,
+    /// Types of proposals.
+    pub proposals: Codes,
+    /// Types of credentials.
+    pub credentials: Codes,
+}
+
+impl Decode for RequiredCapabilities {
+    ghost use Rattle.mls_nodes.specs.Layout.{required_capabilities};
+    ghost use Rattle.mls_nodes.specs.Parsing.{required_capabilities_at};
+    ghost use Rattle.mls_nodes.specs.Exact.{required_capabilities_exact, required_capabilities_long};
+
+    ghost spelling = { required_capabilities };
+
+    ghost reading = { required_capabilities_at };
+
+    #[tactic(auto, unfolding(crate::specs::Parsing::required_capabilities_at))]
+    fn read(alloc: Global, reader: &mut Reader<'_>) -> Result<RequiredCapabilities, CodecFault> {
+        let mut ahead = reader.fork();
+        let extensions = Codes::read(alloc, &mut ahead)?;
+        let proposals = Codes::read(alloc, &mut ahead)?;
+        let credentials = Codes::read(alloc, &mut ahead)?;
+        *reader = ahead;
+        Ok(RequiredCapabilities {
+            extensions,
+            proposals,
+            credentials,
+        })
+    }
+
+    ghost exact = { required_capabilities_exact };
+
+    ghost long = { required_capabilities_long };
+}
+
+impl Encode for RequiredCapabilities {
+    #[tactic(auto, using(mls_wire::specs::Written::written), unfolding(crate::specs::Layout::required_capabilities))]
+    fn put(&self, alloc: Global, draft: &mut Draft) -> Result<(), CodecFault> {
+        self.extensions.put(alloc, draft)?;
+        self.proposals.put(alloc, draft)?;
+        self.credentials.put(alloc, draft)
+    }
+}
+
+impl TryClone for RequiredCapabilities {
+    fn try_clone(&self, alloc: Global) -> Result<RequiredCapabilities, CodecFault> {
+        Ok(RequiredCapabilities {
+            extensions: self.extensions.try_clone(alloc)?,
+            proposals: self.proposals.try_clone(alloc)?,
+            credentials: self.credentials.try_clone(alloc)?,
+        })
+    }
+}
+
+/// The data of the first extension of a type.
+pub fn find_extension(extensions: &[Extension], kind: u16) -> Option<&Opaque>
+    ensures { MatchOption result (extension_of kind extensions.now ≡ None) (λ body. extension_of kind extensions.now ≡ Some body.now) }
+{
+    for extension in extensions {
+        if extension.kind == kind {
+            return Some(&extension.body);
+        }
+    }
+    None
+}
+
+/// The empty list of codes.
+fn no_codes(alloc: Global) -> Codes
+    ensures { result ≡ [] }
+{
+    match Codes::new(Vec::new(alloc)) {
+        Ok(codes) => codes,
+        Err(_) => unreachable!(),
+    }
+}
+
+/// What the group requires: the data of its first extension of type 3, and empty lists where it has
+/// none, which takes no memory. Refused for another cause than memory exactly where that data spells no
+/// requirements.
+pub fn requirements(
+    alloc: Global,
+    context: &GroupContext,
+) -> Result<RequiredCapabilities, CodecFault>
+    ensures { FindsRequirements (extension_of 3 context.now.extensions) result }
+{
+    match find_extension(context.extensions.as_slice(), REQUIRED_CAPABILITIES) {
+        Some(body) => read_all_of(alloc, body.as_slice()),
+        None => Ok(RequiredCapabilities {
+            extensions: no_codes(alloc),
+            proposals: no_codes(alloc),
+            credentials: no_codes(alloc),
+        }),
+    }
+}

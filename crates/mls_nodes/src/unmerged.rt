@@ -1,0 +1,93 @@
+//! Lists of unmerged leaves (RFC 9420, sections 4.1.1 and 7.1).
+
+ghost use Rattle.std.specs.Prelude.{◌≡◌, ◌≤◌, ◌<◌, length, MatchResult};
+
+use mls_wire::{
+    CodecFault, Decode, Draft, Encode, Items, Reader, TryClone, WireFault, WireFaultKind,
+};
+use std::alloc::Global;
+use std::marker::Model;
+
+/// The most entries that a list of unmerged leaves has, as many as a tree has leaves.
+pub const MAX_UNMERGED: usize = 1048576;
+
+/// The indices of the leaves under a parent whose members don't know its secret, at most 1,048,576.
+#[derive(Debug, Drop)]
+pub struct Unmerged {
+    leaves: Items<u32>,
+}
+
+impl Model for Unmerged {
+    ghost use Rattle.std.specs.Prelude.{ℕ, ◌≤◌, List, length};
+
+    ghost Value = { List ℕ };
+
+    ghost view = { λ a. a.leaves };
+
+    ghost invariant = { λ a. length a.leaves ≤ 1048576 };
+}
+
+impl Unmerged {
+    /// The list of these leaves. A list over the limit is handed back.
+    pub fn new(leaves: Vec<u32>) -> Result<Unmerged, Vec<u32>>
+        ensures { MatchResult result (λ o. o ≡ leaves.items) (λ back. (back ≡ leaves) × (1048576 < length leaves.items)) }
+    {
+        if leaves.len() > MAX_UNMERGED {
+            return Err(leaves);
+        }
+        Ok(Unmerged {
+            leaves: Items::new(leaves)?,
+        })
+    }
+
+    /// The leaves in their order.
+    pub fn as_slice(&self) -> &[u32]
+        ensures items { result.now ≡ self.now }
+        ensures limit { length self.now ≤ 1048576 }
+    {
+        self.leaves.as_slice()
+    }
+}
+
+impl Decode for Unmerged {
+    ghost use Rattle.mls_nodes.specs.Layout.{unmerged};
+    ghost use Rattle.mls_nodes.specs.Parsing.{unmerged_at};
+    ghost use Rattle.mls_nodes.specs.Exact.{unmerged_exact, unmerged_long};
+
+    ghost spelling = { unmerged };
+
+    ghost reading = { unmerged_at };
+
+    /// The list at the front. A list over the limit is `TooLong` at its place.
+    #[tactic(auto, unfolding(crate::specs::Parsing::unmerged_at))]
+    fn read(alloc: Global, reader: &mut Reader<'_>) -> Result<Unmerged, CodecFault> {
+        let mut ahead = reader.fork();
+        let leaves = Items::<u32>::read(alloc, &mut ahead)?;
+        if leaves.as_slice().len() > MAX_UNMERGED {
+            return Err(CodecFault::Wire(WireFault {
+                kind: WireFaultKind::TooLong,
+                at: reader.place(),
+            }));
+        }
+        *reader = ahead;
+        Ok(Unmerged { leaves })
+    }
+
+    ghost exact = { unmerged_exact };
+
+    ghost long = { unmerged_long };
+}
+
+impl Encode for Unmerged {
+    fn put(&self, alloc: Global, draft: &mut Draft) -> Result<(), CodecFault> {
+        self.leaves.put(alloc, draft)
+    }
+}
+
+impl TryClone for Unmerged {
+    fn try_clone(&self, alloc: Global) -> Result<Unmerged, CodecFault> {
+        Ok(Unmerged {
+            leaves: self.leaves.try_clone(alloc)?,
+        })
+    }
+}

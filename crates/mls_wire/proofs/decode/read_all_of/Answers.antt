@@ -1,0 +1,5 @@
+use Rattle.mls_wire.specs.Answers.{DecodesAll-exact}
+use Rattle.mls_wire.proofs.decode.read_all_of.Goals as goal
+
+pub returns : goal.returns
+returns g c = DecodesAll-exact g.T.Decode.spelling g.T.Decode.reading g.met.T.Decode.exact _ c.whole.result c.whole.ensures

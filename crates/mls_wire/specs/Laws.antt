@@ -1,0 +1,26 @@
+-- What follows from an exact function for the spelling alone.
+use Rattle.std.proofs.Common.{ℕ, List, [], ◌++◌, Option, sym, ap, ◌∙◌}
+use Rattle.std.proofs.lemmas.List.{append-nil}
+use Rattle.mls_wire.specs.Input.{Input, at}
+use Rattle.mls_wire.specs.Steps.{some_is}
+use Rattle.mls_wire.specs.Spelling.{SpellsOnce, IsPrefixFree, IsUnambiguous}
+use Rattle.mls_wire.specs.Exact.{IsExact}
+
+-- bytes spell at most one value
+pub one_value : {A : Type 0} (s : A → Option (List ℕ)) (f : Input → Option (A × Input)) → IsExact s f → SpellsOnce s
+one_value {A = A} s f exact x y text p q =
+    let a = exact.again x text [] 0 tt p in
+    let b = exact.again y text [] 0 tt q in
+    ap (λ (z : A × Input). z.0) (some_is _ _ (sym a ∙ b))
+
+-- no spelling is a proper prefix of another
+pub no_prefix : {A : Type 0} (s : A → Option (List ℕ)) (f : Input → Option (A × Input)) → IsExact s f → IsPrefixFree s
+no_prefix {A = A} s f exact x y text more p q =
+    let a = exact.again x text more 0 tt p in
+    let b = exact.again y (text ++ more) [] 0 tt q in
+    let c = ap (λ (t : List ℕ). f (at 0 t)) (append-nil (text ++ more)) in
+    ap (λ (z : A × Input). z.1.left) (some_is _ _ (sym a ∙ (sym c ∙ b)))
+
+-- both
+pub unambiguous : {A : Type 0} (s : A → Option (List ℕ)) (f : Input → Option (A × Input)) → IsExact s f → IsUnambiguous s
+unambiguous s f exact = record { once = one_value s f exact; prefix_free = no_prefix s f exact }

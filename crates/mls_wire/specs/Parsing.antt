@@ -1,0 +1,112 @@
+-- What is spelled at the front of an input, as functions that find it, or find nothing. The contracts of public calls
+-- speak of spellings alone; these functions stand behind them, since proofs can compute with them.
+use Rattle.std.specs.Prelude.{◌≡◌, ℕ, zero, suc, ◌-◌, List, [], ◌∷◌, length, take, Bool, true, false, ◌&&◌, Option, Some, None, Result, Ok, Err, nat_lt, nat_eq, if◌then◌else◌}
+use Rattle.std.specs.Int.{Width, byte_len, from_be_bytes, w8, w16, w32}
+use Rattle.mls_wire.specs.declared.fault.WireFault.{WireFault}
+use Rattle.mls_wire.specs.declared.fault.CodecFault.{CodecFault}
+use Rattle.mls_wire.specs.declared.fault.CodecFault.TheVariants as faults
+use Rattle.mls_wire.specs.Input.{Input, at, skip}
+
+-- ---- answers
+
+-- a step, and then another by what it gave
+infixl 10 ◌>>=◌
+abbrev pub ◌>>=◌ : {A B : Type 0} → Option A → (A → Option B) → Option B
+(Some x) >>= f = f x
+None >>= f = None
+
+-- What a call answered, by the function that finds: what it found, with the rest of the input; or nothing, and then
+-- the input is unchanged.
+abbrev pub Gives : {A : Type 0} → (Input → Option (A × Input)) → Input → Input → Result A WireFault → Type 0
+Gives read old new (Ok x) = read old ≡ Some (x, new)
+Gives read old new (Err f) = (read old ≡ None) × (new ≡ old)
+
+-- the same of a call that takes memory
+abbrev pub GivesOrFull : {A : Type 0} → (Input → Option (A × Input)) → Input → Input → Result A CodecFault → Type 0
+GivesOrFull read old new (Ok x) = read old ≡ Some (x, new)
+GivesOrFull read old new (Err (faults.Wire f)) = (read old ≡ None) × (new ≡ old)
+GivesOrFull read old new (Err faults.OutOfMemory) = new ≡ old
+
+-- what a call answered that reads a whole input
+abbrev pub Finds : {A : Type 0} → Option A → Result A CodecFault → Type 0
+Finds found (Ok x) = found ≡ Some x
+Finds found (Err (faults.Wire f)) = found ≡ None
+Finds found (Err faults.OutOfMemory) = Unit {0}
+
+-- ---- numbers and lengths
+
+-- each of the numbers is within a byte
+abbrev pub all_bytes : List ℕ → Bool
+all_bytes [] = true
+all_bytes (b ∷ bs) = nat_lt b 256 && all_bytes bs
+
+-- an unsigned integer, the highest byte first (RFC 8446, section 3.3)
+unfoldable pub number_at : Width → Input → Option (ℕ × Input)
+number_at w i =
+    if nat_lt (length i.left) (byte_len w) then None
+    else if all_bytes (take (byte_len w) i.left) then Some (from_be_bytes w (take (byte_len w) i.left), skip (byte_len w) i)
+    else None
+
+-- a longer form of a length: a number from low on, which is the length and by (RFC 9420, section 2.1.2)
+abbrev pub longer : Width → ℕ → ℕ → Input → Option (ℕ × Input)
+longer w low by i = do
+  n ← number_at w i
+  if nat_lt n.0 low then None else Some (n.0 - by, n.1)
+
+-- a length, in the form that its first byte tells (RFC 9420, section 2.1.2)
+unfoldable pub length_at : Input → Option (ℕ × Input)
+length_at i = do
+  first ← number_at w8 i
+  if nat_lt first.0 64 then Some first
+      else if nat_lt first.0 128 then longer w16 16448 16384 i
+      else if nat_lt first.0 192 then longer w32 2147500032 2147483648 i
+      else None
+
+-- ---- vectors, optional values, lists
+
+-- the body of a vector, at its place (RFC 9420, section 2.1.2)
+unfoldable pub body_at : Input → Option (Input × Input)
+body_at i = do
+  n ← length_at i
+  if nat_lt (length n.1.left) n.0 then None else Some (at n.1.place (take n.0 n.1.left), skip n.0 n.1)
+
+-- the bytes of a vector's body (RFC 9420, section 2.1.2)
+unfoldable pub vector_at : Input → Option (List ℕ × Input)
+vector_at i = do
+  body ← body_at i
+  Some (body.0.left, body.1)
+
+-- the byte before an optional value (RFC 9420, section 2.1.1)
+unfoldable pub flag_at : Input → Option (Bool × Input)
+flag_at i = do
+  b ← number_at w8 i
+  if nat_eq b.0 0 then Some (false, b.1) else if nat_eq b.0 1 then Some (true, b.1) else None
+
+-- an optional value (RFC 9420, section 2.1.1)
+unfoldable pub optional_at : {A : Type 0} → (Input → Option (A × Input)) → Input → Option (Option A × Input)
+optional_at item_at i = do
+  there ← flag_at i
+  if there.0 then (item_at there.1 >>= λ x. Some (Some x.0, x.1)) else Some (None, there.1)
+
+-- items up to the end, of which there are at most as many as the first number says
+unfoldable pub items_at : {A : Type 0} → (Input → Option (A × Input)) → ℕ → Input → Option (List A)
+items_at item_at zero i = if nat_eq (length i.left) 0 then Some [] else None
+items_at item_at (suc n) i =
+    if nat_eq (length i.left) 0 then Some []
+    else (do
+      x ← item_at i
+      xs ← items_at item_at n x.1
+      Some (x.0 ∷ xs))
+
+-- a list: a vector whose body is items up to its end (RFC 9420, section 2.1.2)
+unfoldable pub list_at : {A : Type 0} → (Input → Option (A × Input)) → Input → Option (List A × Input)
+list_at item_at i = do
+  body ← body_at i
+  xs ← items_at item_at (length body.0.left) body.0
+  Some (xs, body.1)
+
+-- the value that is all of the input
+abbrev pub whole_at : {A : Type 0} → (Input → Option (A × Input)) → List ℕ → Option A
+whole_at read bytes = do
+  x ← read (at 0 bytes)
+  if nat_eq (length x.1.left) 0 then Some x.0 else None

@@ -1,0 +1,57 @@
+-- What a writer has after a text is written.
+use Rattle.std.specs.Prelude.{◌≡◌, ℕ, ◌+◌, List, ◌++◌, length, take, drop, Option, Some, None, IsSome, Result, Ok, Err}
+use Rattle.mls_wire.specs.declared.fault.CodecFault.{CodecFault}
+use Rattle.mls_wire.specs.declared.fault.CodecFault.TheVariants as faults
+use Rattle.mls_wire.specs.Faults.{too_long_at}
+
+-- the bytes with the text at their end, where it has a spelling
+unfoldable pub after : List ℕ → Option (List ℕ) → Option (List ℕ)
+after old None = None
+after old (Some s) = Some (old ++ s)
+
+-- What a call that writes at the end answered: the text stands there; a fault only where there is none;
+-- after a refusal the bytes are unchanged.
+abbrev pub Writes : {A : Type 0} → Option (List ℕ) → List ℕ → List ℕ → Result A CodecFault → Type 0
+Writes text old new (Ok x) = after old text ≡ Some new
+Writes text old new (Err (faults.Wire f)) = (text ≡ None) × (new ≡ old)
+Writes text old new (Err faults.OutOfMemory) = new ≡ old
+
+-- The same of one piece: a fault exactly where there is no text, and then it is TooLong at the number of bytes
+-- that were written so far.
+abbrev pub WritesPiece : {A : Type 0} → Option (List ℕ) → List ℕ → List ℕ → Result A CodecFault → Type 0
+WritesPiece text old new (Ok x) = after old text ≡ Some new
+WritesPiece text old new (Err (faults.Wire f)) = (text ≡ None) × (new ≡ old) × (f ≡ too_long_at (length old))
+WritesPiece text old new (Err faults.OutOfMemory) = (new ≡ old) × IsSome text
+
+-- what stood before, and what was added
+pub record Added : Type 0 where
+  pub kept : List ℕ
+  pub more : List ℕ
+
+-- all bytes, of which the first `count` stood before
+abbrev pub added : ℕ → List ℕ → Added
+added count bytes = record { kept = take count bytes; more = drop count bytes }
+
+-- the same, where a refusal leaves what stood before
+abbrev pub Puts : {A : Type 0} → Option (List ℕ) → Added → Added → Result A CodecFault → Type 0
+Puts text old new (Ok x) = (after old.more text ≡ Some new.more) × (new.kept ≡ old.kept)
+Puts text old new (Err (faults.Wire f)) = (text ≡ None) × (new.kept ≡ old.kept)
+Puts text old new (Err faults.OutOfMemory) = new.kept ≡ old.kept
+
+-- the same of one piece, whose only fault is TooLong at the number of bytes that stand
+abbrev pub PutsPiece : {A : Type 0} → Option (List ℕ) → Added → Added → Result A CodecFault → Type 0
+PutsPiece text old new (Ok x) = (after old.more text ≡ Some new.more) × (new.kept ≡ old.kept)
+PutsPiece text old new (Err (faults.Wire f)) = (text ≡ None) × (new.kept ≡ old.kept) × (f ≡ too_long_at (length old.kept + length old.more))
+PutsPiece text old new (Err faults.OutOfMemory) = (new.kept ≡ old.kept) × IsSome text
+
+-- a fault, where it is one of the bytes, is TooLong at n
+abbrev pub FaultsTooLong : {A : Type 0} → ℕ → Result A CodecFault → Type 0
+FaultsTooLong n (Ok x) = Unit {0}
+FaultsTooLong n (Err (faults.Wire f)) = f ≡ too_long_at n
+FaultsTooLong n (Err faults.OutOfMemory) = Unit {0}
+
+-- the bytes that a call made
+abbrev pub Makes : Option (List ℕ) → Result (List ℕ) CodecFault → Type 0
+Makes text (Ok bytes) = text ≡ Some bytes
+Makes text (Err (faults.Wire f)) = text ≡ None
+Makes text (Err faults.OutOfMemory) = Unit {0}

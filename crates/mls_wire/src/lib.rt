@@ -1,0 +1,45 @@
+//! The presentation language of MLS (RFC 9420, section 2.1): integers, lengths, vectors, optional values and lists as
+//! bytes, and the devices that give and take bytes.
+//!
+//! - A [`Reader`] goes over bytes from left to right, and a [`Writer`] adds pieces at the end of its own.
+//! - A type that implements [`Decode`] and [`Encode`] states how its values are spelled, and is then read by
+//!   [`read_value`], [`read_all_of`] and [`read_input`], and written by [`bytes_of`] and [`Writer::write`].
+//! - [`Opaque`] is the body of a vector, [`Items`] a list that fits into one, [`Sequence`] a list of any length.
+//! - A [`Source`] gives bytes and a [`Sink`] takes them, in pieces of any size; each over std or over memory.
+//!
+//! The contracts speak of spellings alone (`specs/Spelling.antt`): a read gives the value that is spelled at the front
+//! and is refused exactly where none is; a write adds exactly the spelling, or nothing.
+#![tactic(auto)]
+
+mod copy;
+mod decode;
+mod draft;
+mod encode;
+mod fault;
+mod integers;
+pub mod laws;
+mod measure;
+mod memory;
+mod opaque;
+mod optional;
+mod reader;
+mod sequence;
+mod sink;
+mod source;
+#[cfg(test)]
+mod tests;
+mod writer;
+
+pub use copy::TryClone;
+pub use decode::{Decode, MAX_INPUT, read_all_of, read_input, read_value};
+pub use draft::Draft;
+pub use encode::{Encode, bytes_of, put_list};
+pub use fault::{CodecFault, DeviceFault, WireFault, WireFaultKind};
+pub use measure::{Items, Measure, fits};
+pub use memory::{MemorySink, MemorySource};
+pub use opaque::{MAX_BODY, Opaque};
+pub use reader::Reader;
+pub use sequence::Sequence;
+pub use sink::{Sink, StdSink, write_all};
+pub use source::{Source, StdSource, fill};
+pub use writer::Writer;

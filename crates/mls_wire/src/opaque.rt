@@ -1,0 +1,94 @@
+//! The bytes of a vector.
+
+ghost use Rattle.std.specs.Prelude.{◌≡◌, ℕ, ◌≤◌, ◌<◌, List, Option, Err, length, MatchResult};
+ghost use Rattle.mls_wire.specs.Faults.{too_long_at};
+ghost use Rattle.mls_wire.specs.Input.{Input};
+ghost use Rattle.mls_wire.specs.Spelling.{vector};
+ghost use Rattle.mls_wire.specs.Parsing.{GivesOrFull, vector_at};
+ghost use Rattle.mls_wire.specs.Vectors.{vector_exact, vector_long};
+
+use crate::decode::Decode;
+use crate::draft::Draft;
+use crate::encode::Encode;
+use crate::fault::{CodecFault, WireFault, WireFaultKind};
+use crate::reader::Reader;
+use std::alloc::Global;
+use std::marker::Model;
+
+/// The most bytes that the body of a vector has (RFC 9420, section 2.1.2).
+pub const MAX_BODY: usize = 1073741823;
+
+/// The body of a vector, `opaque x<V>` (RFC 9420, section 2.1.2): bytes, at most [`MAX_BODY`] of them.
+#[derive(Debug, Drop)]
+pub struct Opaque {
+    bytes: Vec<u8>,
+}
+
+impl Model for Opaque {
+    ghost use Rattle.std.specs.Prelude.{ℕ, ◌≤◌, List, length};
+
+    ghost Value = { List ℕ };
+
+    ghost view = { λ a. a.bytes.items };
+
+    ghost invariant = { λ a. length a.bytes.items ≤ 1073741823 };
+}
+
+impl Opaque {
+    /// The bytes of a vector, without taking memory. A longer vector is handed back.
+    pub fn new(bytes: Vec<u8>) -> Result<Opaque, Vec<u8>>
+        ensures { MatchResult result (λ o. o ≡ bytes.items) (λ v. (v ≡ bytes) × (1073741823 < length bytes.items)) }
+    {
+        if bytes.len() > MAX_BODY {
+            return Err(bytes);
+        }
+        Ok(Opaque { bytes })
+    }
+
+    /// A copy of the bytes: `TooLong` at 0 for more of them than a vector's body may have.
+    pub fn copy(alloc: Global, bytes: &[u8]) -> Result<Opaque, CodecFault>
+        ensures long { 1073741823 < length bytes.now → result ≡ Err (CodecFault.Wire (too_long_at 0)) }
+        ensures short { length bytes.now ≤ 1073741823 → MatchResult result (λ o. o ≡ bytes.now) (λ e. e ≡ CodecFault.OutOfMemory) }
+    {
+        if bytes.len() > MAX_BODY {
+            return Err(CodecFault::Wire(WireFault {
+                kind: WireFaultKind::TooLong,
+                at: 0,
+            }));
+        }
+        let bytes = Vec::from_slice(alloc, bytes)?;
+        Ok(Opaque { bytes })
+    }
+
+    /// The bytes.
+    pub fn as_slice(&self) -> &[u8]
+        ensures bytes { result.now ≡ self.now }
+        ensures limit { length self.now ≤ 1073741823 }
+    {
+        self.bytes.as_slice()
+    }
+}
+
+impl Decode for Opaque {
+    ghost spelling = { vector };
+
+    ghost reading = { vector_at };
+
+    fn read(alloc: Global, reader: &mut Reader<'_>) -> Result<Opaque, CodecFault> {
+        let mut ahead = reader.fork();
+        let bytes = ahead.next_vec()?;
+        let bytes = Vec::from_slice(alloc, bytes)?;
+        *reader = ahead;
+        Ok(Opaque { bytes })
+    }
+
+    ghost exact = { vector_exact };
+
+    ghost long = { vector_long };
+}
+
+impl Encode for Opaque {
+    fn put(&self, _alloc: Global, draft: &mut Draft) -> Result<(), CodecFault> {
+        draft.put_vec(self.bytes.as_slice())
+    }
+}

@@ -1,0 +1,47 @@
+//! Optional values: a byte that tells whether one follows, and the value (RFC 9420, section 2.1.1).
+
+use crate::decode::Decode;
+use crate::draft::Draft;
+use crate::encode::Encode;
+use crate::fault::CodecFault;
+use crate::reader::Reader;
+use std::alloc::Global;
+
+impl<T: Decode> Decode for Option<T> {
+    ghost use Rattle.mls_wire.specs.Spelling.{optional};
+    ghost use Rattle.mls_wire.specs.Parsing.{optional_at};
+    ghost use Rattle.mls_wire.specs.Optionals.{optional_exact, optional_long};
+
+    ghost spelling = { optional T.spelling };
+
+    ghost reading = { optional_at T.reading };
+
+    #[tactic(auto, unfolding(crate::specs::Parsing::optional_at))]
+    fn read(alloc: Global, reader: &mut Reader<'_>) -> Result<Option<T>, CodecFault> {
+        let mut ahead = reader.fork();
+        let value = if ahead.next_optional()? {
+            Some(T::read(alloc, &mut ahead)?)
+        } else {
+            None
+        };
+        *reader = ahead;
+        Ok(value)
+    }
+
+    ghost exact = { optional_exact T.spelling T.reading T.exact };
+
+    ghost long = { optional_long T.spelling };
+}
+
+impl<T: Encode> Encode for Option<T> {
+    #[tactic(auto, using(crate::specs::Written::written), unfolding(crate::specs::Spelling::optional, crate::specs::Spelling::flag))]
+    fn put(&self, alloc: Global, draft: &mut Draft) -> Result<(), CodecFault> {
+        match self {
+            None => draft.put_optional(false),
+            Some(value) => {
+                draft.put_optional(true)?;
+                value.put(alloc, draft)
+            }
+        }
+    }
+}

@@ -1,0 +1,309 @@
+//! Reading from left to right.
+
+ghost use Rattle.std.specs.Prelude.{◌≡◌, ◌+◌, ◌≤◌, ◌<◌, ◌↔◌, ℕ, List, [], length, IsTrue, ◌≢◌, MatchOption, MatchResult, Some, None, take, drop};
+ghost use Rattle.std.specs.Int.{Width, w8, w16, w32, w64, byte_len, from_be_bytes};
+ghost use Rattle.mls_wire.specs.Faults.{trailing_at};
+ghost use Rattle.mls_wire.specs.Input.{Input, at, skip};
+ghost use Rattle.mls_wire.specs.Spelling.{number, length_form, vector, flag};
+ghost use Rattle.mls_wire.specs.Numbers.{IsBytes};
+ghost use Rattle.mls_wire.specs.Reading.{Reads, ReadsBody, seen};
+ghost use Rattle.mls_wire.specs.Parsing.{Gives, number_at, length_at, body_at, vector_at, flag_at};
+
+use crate::fault::{WireFault, WireFaultKind};
+use std::marker::Model;
+
+/// What is left of an input, and where it begins in the outermost input.
+///
+/// Each `read_..` call gives the one value that is spelled at the front, and moves behind it. It is refused exactly
+/// where no value is spelled there, and then the place stays. The fault stands at the first byte of the smallest item
+/// that can't be read.
+#[derive(Drop)]
+pub struct Reader<'a> {
+    place: usize,
+    left: &'a [u8],
+}
+
+impl<'a> Model for Reader<'a> {
+    ghost use Rattle.std.specs.Prelude.{◌<◌, ◌+◌, ◌^◌, length};
+    ghost use Rattle.mls_wire.specs.Input.{Input};
+
+    ghost Value = { Input };
+
+    ghost view = { λ r. record { place = r.place; left = r.left.now } };
+
+    ghost invariant = { λ r. r.place + length r.left.now < 2 ^ 64 };
+}
+
+/// The first `count` bytes, and the others.
+fn cut(bytes: &[u8], count: usize) -> Option<(&[u8], &[u8])>
+    ensures { MatchOption result (length bytes.now < count) (λ parts. (count ≤ length bytes.now) × (parts.0.now ≡ take count bytes.now) × (parts.1.now ≡ drop count bytes.now) × IsBytes parts.0.now) }
+{
+    if bytes.len() < count {
+        return None;
+    }
+    Some(bytes.split_at(count))
+}
+
+impl<'a> Reader<'a> {
+    /// A reader of an outermost input, at place 0.
+    pub fn new(bytes: &'a [u8]) -> Reader<'a>
+        ensures { result ≡ at 0 bytes.now }
+    {
+        Reader {
+            place: 0,
+            left: bytes,
+        }
+    }
+
+    /// How many bytes of the outermost input stand before what is left.
+    pub fn place(&self) -> usize
+        ensures { result ≡ self.now.place }
+    {
+        self.place
+    }
+
+    /// Whether nothing is left.
+    pub fn at_end(&self) -> bool
+        ensures { IsTrue result ↔ (self.now.left ≡ []) }
+    {
+        self.left.is_empty()
+    }
+
+    /// How many bytes are left.
+    pub(crate) fn len(&self) -> usize
+        ensures { result ≡ length self.now.left }
+    {
+        self.left.len()
+    }
+
+    /// A second reader of the same bytes, at the same place.
+    pub fn fork(&self) -> Reader<'a>
+        ensures { result ≡ self.now }
+    {
+        Reader {
+            place: self.place,
+            left: self.left,
+        }
+    }
+
+    /// A fault of this kind, at the present place.
+    fn fault(&self, kind: WireFaultKind) -> WireFault
+        ensures kind { result.kind ≡ kind }
+        ensures place { result.at ≡ self.now.place }
+    {
+        WireFault {
+            kind,
+            at: self.place,
+        }
+    }
+
+    /// The next `count` bytes, where there are as many.
+    fn front(&mut self, count: usize) -> Option<&'a [u8]>
+        ensures { MatchOption result ((self.new ≡ self.old) × ((w : Width) → byte_len w ≡ count → number_at w self.old ≡ None)) (λ front. (length front.now ≡ count) × ((w : Width) → byte_len w ≡ count → number_at w self.old ≡ Some (from_be_bytes w front.now, self.new))) }
+    {
+        let (front, rest) = cut(self.left, count)?;
+        self.left = rest;
+        self.place += count;
+        Some(front)
+    }
+
+    /// The function behind [`read_u8`](Reader::read_u8), which proofs of this crate know by what it computes.
+    pub(crate) fn next_u8(&mut self) -> Result<u8, WireFault>
+        ensures { Gives (number_at w8) self.old self.new result }
+    {
+        let Some(bytes) = self.front(1) else {
+            return Err(self.fault(WireFaultKind::Truncated));
+        };
+        Ok(bytes[0])
+    }
+
+    /// The function behind [`read_u16`](Reader::read_u16).
+    pub(crate) fn next_u16(&mut self) -> Result<u16, WireFault>
+        ensures { Gives (number_at w16) self.old self.new result }
+    {
+        let Some(bytes) = self.front(2) else {
+            return Err(self.fault(WireFaultKind::Truncated));
+        };
+        Ok(u16::from_be_bytes([bytes[0], bytes[1]]))
+    }
+
+    /// The function behind [`read_u32`](Reader::read_u32).
+    pub(crate) fn next_u32(&mut self) -> Result<u32, WireFault>
+        ensures { Gives (number_at w32) self.old self.new result }
+    {
+        let Some(bytes) = self.front(4) else {
+            return Err(self.fault(WireFaultKind::Truncated));
+        };
+        Ok(u32::from_be_bytes([bytes[0], bytes[1], bytes[2], bytes[3]]))
+    }
+
+    /// The function behind [`read_u64`](Reader::read_u64).
+    pub(crate) fn next_u64(&mut self) -> Result<u64, WireFault>
+        ensures { Gives (number_at w64) self.old self.new result }
+    {
+        let Some(bytes) = self.front(8) else {
+            return Err(self.fault(WireFaultKind::Truncated));
+        };
+        Ok(u64::from_be_bytes([
+            bytes[0], bytes[1], bytes[2], bytes[3], bytes[4], bytes[5], bytes[6], bytes[7],
+        ]))
+    }
+
+    /// The function behind [`read_len`](Reader::read_len).
+    #[tactic(auto, unfolding(crate::specs::Parsing::length_at))]
+    pub(crate) fn next_len(&mut self) -> Result<usize, WireFault>
+        ensures { Gives length_at self.old self.new result }
+    {
+        let mut short = self.fork();
+        let first = short.next_u8()?;
+        if first < 64 {
+            *self = short;
+            return Ok(usize::from(first));
+        }
+        let mut ahead = self.fork();
+        if first < 128 {
+            let form = ahead.next_u16()?;
+            if form < 16448 {
+                return Err(self.fault(WireFaultKind::NotShortest));
+            }
+            *self = ahead;
+            return Ok(usize::from(form) - 16384);
+        }
+        if first < 192 {
+            let form = ahead.next_u32()?;
+            if form < 2147500032 {
+                return Err(self.fault(WireFaultKind::NotShortest));
+            }
+            *self = ahead;
+            return Ok(form as usize - 2147483648);
+        }
+        Err(self.fault(WireFaultKind::BadPrefix))
+    }
+
+    /// A reader of the next `count` bytes.
+    fn split(&mut self, count: usize) -> Option<Reader<'a>>
+        ensures { MatchOption result ((self.new ≡ self.old) × (length self.old.left < count)) (λ body. (count ≤ length self.old.left) × (body ≡ at self.old.place (take count self.old.left)) × (self.new ≡ skip count self.old)) }
+    {
+        if self.left.len() < count {
+            return None;
+        }
+        let (front, rest) = self.left.split_at(count);
+        let body = Reader {
+            place: self.place,
+            left: front,
+        };
+        self.left = rest;
+        self.place += count;
+        Some(body)
+    }
+
+    /// The function behind [`read_sub`](Reader::read_sub).
+    #[tactic(auto, unfolding(crate::specs::Parsing::body_at))]
+    pub(crate) fn next_sub(&mut self) -> Result<Reader<'a>, WireFault>
+        ensures { Gives body_at self.old self.new result }
+    {
+        let mut ahead = self.fork();
+        let len = ahead.next_len()?;
+        let Some(body) = ahead.split(len) else {
+            return Err(self.fault(WireFaultKind::Truncated));
+        };
+        *self = ahead;
+        Ok(body)
+    }
+
+    /// The function behind [`read_vec`](Reader::read_vec).
+    #[tactic(auto, unfolding(crate::specs::Parsing::vector_at))]
+    pub(crate) fn next_vec(&mut self) -> Result<&'a [u8], WireFault>
+        ensures { Gives vector_at self.old self.new (seen (λ x. x.now) result) }
+    {
+        let body = self.next_sub()?;
+        Ok(body.left)
+    }
+
+    /// The function behind [`read_optional`](Reader::read_optional).
+    #[tactic(auto, unfolding(crate::specs::Parsing::flag_at))]
+    pub(crate) fn next_optional(&mut self) -> Result<bool, WireFault>
+        ensures { Gives flag_at self.old self.new result }
+    {
+        let mut ahead = self.fork();
+        let flag = match ahead.next_u8()? {
+            0 => false,
+            1 => true,
+            _ => return Err(self.fault(WireFaultKind::BadOptional)),
+        };
+        *self = ahead;
+        Ok(flag)
+    }
+
+    /// Refuses bytes that are left: `Trailing`, at the first of them.
+    pub fn finish(&self) -> Result<(), WireFault>
+        ensures { MatchResult result (λ _. self.now.left ≡ []) (λ e. (self.now.left ≢ []) × (e ≡ trailing_at self.now.place)) }
+    {
+        if self.at_end() {
+            Ok(())
+        } else {
+            Err(self.fault(WireFaultKind::Trailing))
+        }
+    }
+
+    /// Reads a `uint8`. `Truncated` where no byte is left.
+    pub fn read_u8(&mut self) -> Result<u8, WireFault>
+        ensures { Reads (number w8) self.old self.new result }
+    {
+        self.next_u8()
+    }
+
+    /// Reads a `uint16`, the high byte first. `Truncated` where fewer than two bytes are left.
+    pub fn read_u16(&mut self) -> Result<u16, WireFault>
+        ensures { Reads (number w16) self.old self.new result }
+    {
+        self.next_u16()
+    }
+
+    /// Reads a `uint32`, the highest byte first. `Truncated` where fewer than four bytes are left.
+    pub fn read_u32(&mut self) -> Result<u32, WireFault>
+        ensures { Reads (number w32) self.old self.new result }
+    {
+        self.next_u32()
+    }
+
+    /// Reads a `uint64`, the highest byte first. `Truncated` where fewer than eight bytes are left.
+    pub fn read_u64(&mut self) -> Result<u64, WireFault>
+        ensures { Reads (number w64) self.old self.new result }
+    {
+        self.next_u64()
+    }
+
+    /// Reads a length alone, without asking for the body (RFC 9420, section 2.1.2). The faults in this order: no first
+    /// byte (`Truncated`), a first byte from `c0` on (`BadPrefix`), a missing byte of a longer form (`Truncated`), a
+    /// form that is longer than needed (`NotShortest`).
+    pub fn read_len(&mut self) -> Result<usize, WireFault>
+        ensures { Reads length_form self.old self.new result }
+    {
+        self.next_len()
+    }
+
+    /// Reads a vector, `opaque x<V>`, and gives its body (RFC 9420, section 2.1.2). The faults of its length come first,
+    /// then `Truncated` where the body is longer than what is left; each at the place of the length.
+    pub fn read_vec(&mut self) -> Result<&'a [u8], WireFault>
+        ensures { Reads vector self.old self.new (seen (λ x. x.now) result) }
+    {
+        self.next_vec()
+    }
+
+    /// Reads the byte before an optional value: whether one follows (RFC 9420, section 2.1.1). `BadOptional` where it is
+    /// neither 0 nor 1.
+    pub fn read_optional(&mut self) -> Result<bool, WireFault>
+        ensures { Reads flag self.old self.new result }
+    {
+        self.next_optional()
+    }
+
+    /// Reads a vector as [`read_vec`](Reader::read_vec) does, and gives a reader of its body, whose places are counted
+    /// on from the start of the outermost input.
+    pub fn read_sub(&mut self) -> Result<Reader<'a>, WireFault>
+        ensures { ReadsBody self.old self.new result }
+    {
+        self.next_sub()
+    }
+}

@@ -1,0 +1,69 @@
+//! Lists that may be longer than a vector.
+
+ghost use Rattle.std.specs.Prelude.{◌≡◌};
+
+use crate::decode::{Decode, read_list};
+use crate::draft::Draft;
+use crate::encode::{Encode, put_list};
+use crate::fault::CodecFault;
+use crate::reader::Reader;
+use std::alloc::Global;
+use std::marker::Model;
+
+/// A list of any number of items. It is spelled by its length in bytes, and its items (RFC 9420, section 2.1.2); a list
+/// of more bytes than a vector's body may have has no spelling, and writing it is refused.
+#[derive(Debug, Drop)]
+pub struct Sequence<T: Decode> {
+    items: Vec<T>,
+}
+
+impl<T: Decode> Model for Sequence<T> {
+    ghost use Rattle.std.specs.Prelude.{List};
+
+    ghost Value = { List T };
+
+    ghost view = { λ a. a.items.items };
+}
+
+impl<T: Decode> Sequence<T> {
+    /// The list of these items, without taking memory.
+    pub fn new(items: Vec<T>) -> Sequence<T>
+        ensures { result ≡ items.items }
+    {
+        Sequence { items }
+    }
+
+    /// The items.
+    pub fn as_slice(&self) -> &[T]
+        ensures { result.now ≡ self.now }
+    {
+        self.items.as_slice()
+    }
+}
+
+impl<T: Decode> Decode for Sequence<T> {
+    ghost use Rattle.mls_wire.specs.Spelling.{list};
+    ghost use Rattle.mls_wire.specs.Parsing.{list_at};
+    ghost use Rattle.mls_wire.specs.Lists.{list_exact, list_long};
+
+    ghost spelling = { list T.spelling };
+
+    ghost reading = { list_at T.reading };
+
+    fn read(alloc: Global, reader: &mut Reader<'_>) -> Result<Sequence<T>, CodecFault> {
+        let mut ahead = reader.fork();
+        let items = read_list(alloc, &mut ahead)?;
+        *reader = ahead;
+        Ok(Sequence { items })
+    }
+
+    ghost exact = { list_exact T.spelling T.reading T.exact T.long };
+
+    ghost long = { list_long T.spelling };
+}
+
+impl<T: Encode> Encode for Sequence<T> {
+    fn put(&self, alloc: Global, draft: &mut Draft) -> Result<(), CodecFault> {
+        put_list(alloc, self.items.as_slice(), draft)
+    }
+}

@@ -1,0 +1,89 @@
+//! Devices that take bytes, in pieces of any size.
+
+ghost use Rattle.std.specs.Prelude.{◌≡◌, ◌<◌, ◌||◌, ℕ, List, Bool, true, false, Option, IfOk, OnOk, OnErr, IsErr, is_err, length};
+ghost use Rattle.std.specs.Io.{WritesAtMost};
+ghost use Rattle.std.specs.Io.KnownBytes.{Appends, WriteAppends};
+ghost use Rattle.mls_wire.specs.Devices.{AppendsPrefix};
+
+use crate::fault::DeviceFault;
+use std::io::Write;
+
+/// A device that takes bytes.
+pub trait Sink: Drop {
+    /// The bytes that it holds, where they are known.
+    ghost written: { Self → Option (List ℕ) };
+
+    /// Whether it has failed.
+    ghost is_failed: { Self → Bool };
+
+    /// Takes bytes from the front of `bytes`, and answers how many: none only where `bytes` is empty. A device that failed
+    /// answers nothing but [`DeviceFault`].
+    fn push(&mut self, bytes: &[u8]) -> Result<usize, DeviceFault>
+        ensures bound { WritesAtMost result bytes.now }
+        ensures bytes { WriteAppends (written self.old) (written self.new) result bytes.now }
+        ensures takes { IfOk result (λ n. 0 < length bytes.now → 0 < n) }
+        ensures failed { is_failed self.new ≡ (is_failed self.old || is_err result) }
+        ensures stays { is_failed self.old ≡ true → IsErr result };
+
+    /// Whether a call has answered [`DeviceFault`].
+    fn failed(&self) -> bool
+        ensures { result ≡ is_failed self.now };
+}
+
+/// A sink over a writer of std. Any error of the writer is a failure of the sink, and so is a write that takes nothing of
+/// bytes which are not empty.
+#[derive(Drop)]
+pub struct StdSink<W: Write + Drop> {
+    writer: W,
+    has_failed: bool,
+}
+
+impl<W: Write + Drop> StdSink<W> {
+    /// A sink that has not failed, behind the bytes that the writer holds.
+    pub fn new(writer: W) -> StdSink<W>
+        ensures written { ⟦<StdSink<W> as Sink>⟧.written result ≡ W.contents writer }
+        ensures fresh { ⟦<StdSink<W> as Sink>⟧.is_failed result ≡ false }
+    {
+        StdSink {
+            writer,
+            has_failed: false,
+        }
+    }
+}
+
+impl<W: Write + Drop> Sink for StdSink<W> {
+    ghost written = { λ s. W.contents s.writer };
+
+    ghost is_failed = { λ s. s.has_failed };
+
+    fn push(&mut self, bytes: &[u8]) -> Result<usize, DeviceFault> {
+        if self.has_failed {
+            return Err(DeviceFault);
+        }
+        match self.writer.write(bytes) {
+            Ok(n) if n > 0 || bytes.is_empty() => Ok(n),
+            _ => {
+                self.has_failed = true;
+                Err(DeviceFault)
+            }
+        }
+    }
+
+    fn failed(&self) -> bool {
+        self.has_failed
+    }
+}
+
+/// Pushes all the bytes, in as few pieces as the sink takes. Where it fails, a part of them from the front was taken.
+pub fn write_all<K: Sink>(sink: &mut K, bytes: &[u8]) -> Result<(), DeviceFault>
+    ensures all { OnOk result (Appends (K.written sink.old) (K.written sink.new) bytes.now) }
+    ensures part { OnErr result (AppendsPrefix (K.written sink.old) (K.written sink.new) bytes.now) }
+    ensures failed { K.is_failed sink.new ≡ (K.is_failed sink.old || is_err result) }
+{
+    let mut rest = bytes;
+    while !rest.is_empty() {
+        let n = sink.push(rest)?;
+        rest = &rest[n..];
+    }
+    Ok(())
+}

@@ -1,0 +1,74 @@
+//! The program `mlscheck`: it reads its command line, writes one report to standard output, and ends
+//! with an exit status: 0 for yes and for help, 1 for no, 2 for a usage fault, 3 for a fault.
+#![tactic(auto)]
+
+use mls_cli::{Order, OrderFault, RunFault, ShowKind, Verdict, order_of, run_show, status_of};
+use mls_wire::{StdSink, StdSource};
+use std::process::ExitCode;
+use std::{env, fs, io};
+
+/// Shows a file.
+fn show(rt: &HostRuntime, kind: ShowKind, name: &str) -> Result<Verdict, RunFault> {
+    let Ok(file) = fs::open(rt, name) else {
+        return Err(RunFault::Read);
+    };
+    let mut input = StdSource::new(file);
+    let mut out = StdSink::new(rt.stdout());
+    run_show(rt.alloc(), kind, &mut input, &mut out)
+}
+
+/// Carries out an order.
+fn carry_out(rt: &HostRuntime, order: &Order) -> Result<Verdict, RunFault> {
+    match order {
+        Order::Show { kind, file } => show(rt, *kind, file.as_str()),
+    }
+}
+
+/// The exit status of a report. A fault is told on standard error.
+fn end(rt: &HostRuntime, outcome: &Result<Verdict, RunFault>) -> u8 {
+    if let Err(fault) = outcome {
+        let _ = eprintln!(rt; "fault: {fault}");
+    }
+    status_of(outcome)
+}
+
+/// The exit status of a command line that gives no order. Help goes to standard output, usage to
+/// standard error.
+fn refuse(rt: &HostRuntime, fault: &OrderFault) -> u8 {
+    match fault {
+        OrderFault::Help(text) => {
+            if print!(rt; "{text}").is_err() {
+                return end(rt, &Err(RunFault::Write));
+            }
+        }
+        OrderFault::Usage(text) => {
+            let _ = eprint!(rt; "{text}");
+        }
+        OrderFault::Memory => {
+            let _ = eprintln!(rt; "fault: {}", RunFault::Memory);
+        }
+    }
+    fault.status()
+}
+
+/// The order of the command line that the program was started with.
+fn order(rt: &HostRuntime) -> Result<Order, OrderFault> {
+    let alloc = rt.alloc();
+    let words: Vec<String> = match env::args(rt) {
+        Ok(words) => words.collect(alloc)?,
+        Err(error) if error.kind() == io::ErrorKind::OutOfMemory => return Err(OrderFault::Memory),
+        Err(_) => {
+            let text = String::from_str(alloc, "usage: a word is not UTF-8 text\n")?;
+            return Err(OrderFault::Usage(text));
+        }
+    };
+    order_of(alloc, words.as_slice())
+}
+
+fn main(rt: HostRuntime) -> ExitCode {
+    let status = match order(&rt) {
+        Ok(order) => end(&rt, &carry_out(&rt, &order)),
+        Err(fault) => refuse(&rt, &fault),
+    };
+    ExitCode::from(status)
+}

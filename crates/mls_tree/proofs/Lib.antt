@@ -1,0 +1,16 @@
+pub mod Numbers
+pub mod Choices
+pub mod Trees
+pub mod Arrays
+pub mod Lookups
+pub mod Refusals
+pub mod FirstBlanks
+pub mod SameListings
+pub mod Coordinates
+pub mod Walking
+pub mod Halves
+pub mod Changing
+pub mod Growing
+pub mod Listings
+pub mod Lists
+pub mod Lens

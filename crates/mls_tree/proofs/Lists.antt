@@ -1,0 +1,171 @@
+-- The new lists of the parents above a leaf: made from the lowest up, and taken from the top down.
+use Rattle.std.proofs.Common.{◌≡◌, ◌≢◌, ℕ, suc, ◌+◌, ◌*◌, ◌-◌, ◌<◌, ◌≤◌, List, [], ◌∷◌, ◌++◌, Option, Some, None, refl, sym, ap, ◌∙◌, subst, arith, append_assoc, option_to_list, length, length-append}
+use Rattle.std.specs.Prelude.{slice_get, slice_set}
+use Rattle.mls_nodes.specs.declared.parent.ParentNode.{ParentNode}
+use Rattle.mls_nodes.specs.declared.node.Node.{Node}
+use Rattle.mls_tree.specs.Tree.{leaf_count, leaves_at}
+use Rattle.mls_tree.specs.Array.{parent_part, tree_in}
+use Rattle.std.specs.Prelude.{◌==◌, if◌then◌else◌, Bool, true, false, ◌||◌, IsTrue, nat_lt}
+use Rattle.mls_tree.specs.declared.error.TreeError.{TreeError}
+use Rattle.mls_tree.specs.declared.error.TreeError.TheVariants.{NoSuchNode, TooManyLeaves, BadShape, OutOfMemory}
+use Rattle.std.specs.List.{list_any}
+use Rattle.mls_tree.specs.Changes.{with_unmerged, insert_before, insert_number, is_overfilled, is_overfilled_above}
+use Rattle.mls_tree.specs.NewLists.{new_list, new_lists, with_new_list, IsListRefusal}
+use Rattle.mls_tree.proofs.Choices.{below, from}
+use Rattle.mls_tree.proofs.Numbers.{leaves_at-positive}
+use Rattle.mls_tree.proofs.Arrays.{tree_in-same, slice_get-set_other}
+use Rattle.mls_tree.proofs.Walking.{tree_in-split, near-count}
+
+module _ (xs : List (Option Node)) (first half level : ℕ) (deep : level ≢ 0) (e : half ≡ leaves_at (level - 1)) (i : ℕ) where
+  pub new_lists-left : i < first + half
+      → new_lists first (tree_in xs level first) i ≡ new_lists first (tree_in xs (level - 1) first) i ++ (new_list i (parent_part (slice_get xs (2 * (first + half) - 1)))) ∷ []
+  new_lists-left lt =
+      let c = near-count xs first half level deep e in
+      let p = parent_part (slice_get xs (2 * (first + half) - 1)) in
+      let l = tree_in xs (level - 1) first in
+      let r = tree_in xs (level - 1) (first + half) in
+      ap (λ t. new_lists first t i) (tree_in-split xs first half level deep e)
+      ∙ ap (λ v. v ++ (new_list i p) ∷ []) (below i (first + leaf_count l) (new_lists first l i) (new_lists (first + leaf_count l) r i) (omega arith))
+
+  pub new_lists-right : first + half ≤ i
+      → new_lists first (tree_in xs level first) i ≡ new_lists (first + half) (tree_in xs (level - 1) (first + half)) i ++ (new_list i (parent_part (slice_get xs (2 * (first + half) - 1)))) ∷ []
+  new_lists-right ge =
+      let c = near-count xs first half level deep e in
+      let p = parent_part (slice_get xs (2 * (first + half) - 1)) in
+      let l = tree_in xs (level - 1) first in
+      let r = tree_in xs (level - 1) (first + half) in
+      ap (λ t. new_lists first t i) (tree_in-split xs first half level deep e)
+      ∙ ap (λ v. v ++ (new_list i p) ∷ []) (from i (first + leaf_count l) (new_lists first l i) (new_lists (first + leaf_count l) r i) (omega arith))
+      ∙ ap (λ k. new_lists (first + k) r i ++ (new_list i p) ∷ []) c
+
+  -- whether a list that is passed is full
+  pub overfilled-left : i < first + half
+      → is_overfilled_above first (tree_in xs level first) i ≡ (is_overfilled_above first (tree_in xs (level - 1) first) i || is_overfilled i (parent_part (slice_get xs (2 * (first + half) - 1))))
+  overfilled-left lt =
+      let c = near-count xs first half level deep e in
+      let p = parent_part (slice_get xs (2 * (first + half) - 1)) in
+      let l = tree_in xs (level - 1) first in
+      let r = tree_in xs (level - 1) (first + half) in
+      ap (λ t. is_overfilled_above first t i) (tree_in-split xs first half level deep e)
+      ∙ ap (λ v. v || is_overfilled i p) (below i (first + leaf_count l) (is_overfilled_above first l i) (is_overfilled_above (first + leaf_count l) r i) (omega arith))
+
+  pub overfilled-right : first + half ≤ i
+      → is_overfilled_above first (tree_in xs level first) i ≡ (is_overfilled_above (first + half) (tree_in xs (level - 1) (first + half)) i || is_overfilled i (parent_part (slice_get xs (2 * (first + half) - 1))))
+  overfilled-right ge =
+      let c = near-count xs first half level deep e in
+      let p = parent_part (slice_get xs (2 * (first + half) - 1)) in
+      let l = tree_in xs (level - 1) first in
+      let r = tree_in xs (level - 1) (first + half) in
+      ap (λ t. is_overfilled_above first t i) (tree_in-split xs first half level deep e)
+      ∙ ap (λ v. v || is_overfilled i p) (from i (first + leaf_count l) (is_overfilled_above first l i) (is_overfilled_above (first + leaf_count l) r i) (omega arith))
+      ∙ ap (λ k. is_overfilled_above (first + k) r i || is_overfilled i p) c
+
+  module _ (old mid new : List (Option (List ℕ))) (o : Option (List ℕ)) (p : Option ParentNode) (at : parent_part (slice_get xs (2 * (first + half) - 1)) ≡ p) (made : o ≡ new_list i p) (pushed : new ≡ mid ++ o ∷ []) where
+    pub new_lists-pushed_left : i < first + half → mid ≡ old ++ new_lists first (tree_in xs (level - 1) first) i → new ≡ old ++ new_lists first (tree_in xs level first) i
+    new_lists-pushed_left lt ih =
+        pushed ∙ (λ j. ih j ++ (made ∙ ap (λ v. new_list i v) (sym at)) j ∷ []) ∙ append_assoc old _ _ ∙ ap (λ v. old ++ v) (sym (new_lists-left lt))
+
+    pub new_lists-pushed_right : first + half ≤ i → mid ≡ old ++ new_lists (first + half) (tree_in xs (level - 1) (first + half)) i → new ≡ old ++ new_lists first (tree_in xs level first) i
+    new_lists-pushed_right ge ih =
+        pushed ∙ (λ j. ih j ++ (made ∙ ap (λ v. new_list i v) (sym at)) j ∷ []) ∙ append_assoc old _ _ ∙ ap (λ v. old ++ v) (sym (new_lists-right ge))
+
+-- the last element of a list, taken off
+snoc-same : {X : Type 0} → (xs ys : List X) (a b : X) → xs ++ a ∷ [] ≡ ys ++ b ∷ [] → (xs ≡ ys) × (a ≡ b)
+snoc-same [] [] a b e = (refl, cc)
+snoc-same [] (y ∷ []) a b e = absurd (cc)
+snoc-same [] (y ∷ z ∷ ys) a b e = absurd (cc)
+snoc-same (x ∷ []) [] a b e = absurd (cc)
+snoc-same (x ∷ z ∷ xs) [] a b e = absurd (cc)
+snoc-same (x ∷ xs) (y ∷ ys) a b e =
+    let h = snoc-same xs ys a b (cc) in
+    let q : x ≡ y = cc in
+    ((λ i. q i ∷ h.0 i), h.1)
+
+snoc-not_nil : {X : Type 0} → (xs : List X) (a : X) → xs ++ a ∷ [] ≡ [] → ⊥
+snoc-not_nil [] a e = cc
+snoc-not_nil (x ∷ xs) a e = cc
+
+pub popped : {X : Type 0} → (all rest xs : List X) (a b : X) (r : Option X) → r ≡ Some b → all ≡ rest ++ option_to_list r → all ≡ xs ++ a ∷ [] → (rest ≡ xs) × (b ≡ a)
+popped all rest xs a b r s e f = snoc-same rest xs b a (sym (ap (λ v. rest ++ option_to_list v) s) ∙ sym e ∙ f)
+
+pub not_empty : {X : Type 0} → (all xs : List X) (a : X) → all ≡ xs ++ a ∷ [] → 0 < length all
+not_empty all xs a e = omega (arith, ap length e, length-append xs (a ∷ []))
+
+-- a list that doesn't have a number gets one entry more
+insert_before-either : (i x : ℕ) (xs : List ℕ) (b : Bool) → length (insert_before i xs) ≡ suc (length xs)
+    → length (if b then x ∷ insert_before i xs else i ∷ x ∷ xs) ≡ suc (suc (length xs))
+insert_before-either i x xs true ih = ap (λ n. suc n) ih
+insert_before-either i x xs false ih = refl
+
+insert_before-length : (i : ℕ) (xs : List ℕ) → length (insert_before i xs) ≡ suc (length xs)
+insert_before-length i [] = refl
+insert_before-length i (x ∷ xs) = insert_before-either i x xs (nat_lt x i) (insert_before-length i xs)
+
+pub insert_number-absent : (i : ℕ) (xs : List ℕ) → list_any (λ x. x == i) xs ≡ false → length (insert_number i xs) ≡ suc (length xs)
+insert_number-absent i xs e = ap (λ (b : Bool). length (if b then xs else insert_before i xs)) e ∙ insert_before-length i xs
+
+-- a full list is full in a larger tree
+pub or_left : (a b : Bool) → IsTrue a → IsTrue (a || b)
+or_left true b h = h
+or_left false b h = absurd (cc)
+
+pub or_right : (a b : Bool) → IsTrue b → IsTrue (a || b)
+or_right true b h = refl
+or_right false b h = h
+
+pub or_false : (a b : Bool) → a ≡ false → b ≡ false → (a || b) ≡ false
+or_false true b p q = p
+or_false false b p q = q
+
+pub IsListRefusal-map : (e : TreeError) (P Q : Type 0) → (P → Q) → IsListRefusal e P → IsListRefusal e Q
+IsListRefusal-map TooManyLeaves P Q f h = f h
+IsListRefusal-map OutOfMemory P Q f h = h
+IsListRefusal-map NoSuchNode P Q f h = h
+IsListRefusal-map BadShape P Q f h = h
+
+pub IsListRefusal-no_such : (e : TreeError) (P : Type 0) → IsListRefusal e P → e ≡ NoSuchNode → ⊥
+IsListRefusal-no_such TooManyLeaves P h q = cc
+IsListRefusal-no_such OutOfMemory P h q = cc
+IsListRefusal-no_such NoSuchNode P h q = h
+IsListRefusal-no_such BadShape P h q = h
+
+pub IsListRefusal-full : (e : TreeError) (P : Type 0) → IsListRefusal e P → e ≡ TooManyLeaves → P
+IsListRefusal-full TooManyLeaves P h q = h
+IsListRefusal-full OutOfMemory P h q = absurd (cc)
+IsListRefusal-full NoSuchNode P h q = absurd h
+IsListRefusal-full BadShape P h q = absurd h
+
+with_new_list-either : (p : ParentNode) (b : Bool) (xs : List ℕ)
+    → with_new_list (Some p) (if b then None else Some xs) ≡ Some (record p { unmerged = if b then p.unmerged else xs })
+with_new_list-either p true xs = refl
+with_new_list-either p false xs = refl
+
+pub with_new_list-made : (i : ℕ) (p : Option ParentNode) → with_new_list p (new_list i p) ≡ with_unmerged i p
+with_new_list-made i None = refl
+with_new_list-made i (Some p) = with_new_list-either p (list_any (λ x. x == i) p.unmerged) (insert_before i p.unmerged)
+
+-- what the lists hold, at the tree whose parent has been written
+module _ (xs : List (Option Node)) (first half level : ℕ) (deep : level ≢ 0) (e : half ≡ leaves_at (level - 1)) (i : ℕ) (v : Option Node)
+    (all rest : List (Option (List ℕ))) (b : Option (List ℕ)) (r : Option (Option (List ℕ)))
+    (held : all ≡ new_lists first (tree_in xs level first) i) (s : r ≡ Some b) (took : all ≡ rest ++ option_to_list r) where
+  pub popped-left : i < first + half
+      → (rest ≡ new_lists first (tree_in (slice_set xs (2 * (first + half) - 1) v) (level - 1) first) i) × (b ≡ new_list i (parent_part (slice_get xs (2 * (first + half) - 1))))
+  popped-left lt =
+      let pos : 0 < half = subst (λ n. 0 < n) (sym e) (leaves_at-positive (level - 1)) in
+      let h = popped all rest _ _ b r s took (held ∙ new_lists-left xs first half level deep e i lt) in
+      let t : tree_in (slice_set xs (2 * (first + half) - 1) v) (level - 1) first ≡ tree_in xs (level - 1) first
+      = tree_in-same _ xs (level - 1) first (λ p u w. slice_get-set_other xs (2 * (first + half) - 1) p v (λ q. omega arith)) in
+      (h.0 ∙ ap (λ u. new_lists first u i) (sym t), h.1)
+
+  pub popped-right : first + half ≤ i
+      → (rest ≡ new_lists (first + half) (tree_in (slice_set xs (2 * (first + half) - 1) v) (level - 1) (first + half)) i) × (b ≡ new_list i (parent_part (slice_get xs (2 * (first + half) - 1))))
+  popped-right ge =
+      let pos : 0 < half = subst (λ n. 0 < n) (sym e) (leaves_at-positive (level - 1)) in
+      let h = popped all rest _ _ b r s took (held ∙ new_lists-right xs first half level deep e i ge) in
+      let t : tree_in (slice_set xs (2 * (first + half) - 1) v) (level - 1) (first + half) ≡ tree_in xs (level - 1) (first + half)
+      = tree_in-same _ xs (level - 1) (first + half) (λ p u w. slice_get-set_other xs (2 * (first + half) - 1) p v (λ q. omega arith)) in
+      (h.0 ∙ ap (λ u. new_lists (first + half) u i) (sym t), h.1)
+
+-- the parent that was written
+pub written-part : (i : ℕ) (p : Option ParentNode) (q : Option ParentNode) (b : Option (List ℕ)) → q ≡ with_new_list p b → b ≡ new_list i p → q ≡ with_unmerged i p
+written-part i p q b e f = e ∙ ap (λ v. with_new_list p v) f ∙ with_new_list-made i p

@@ -1,0 +1,4 @@
+use Rattle.mls_tree.proofs.paths.+push_direct_path.Given as goal
+
+abbrev pub decreases-push_direct_path : goal.decreases-push_direct_path
+decreases-push_direct_path l = l.level

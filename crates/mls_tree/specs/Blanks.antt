@@ -1,0 +1,24 @@
+-- The first blank leaf of a tree (RFC 9420, 12.1.1).
+use Rattle.std.specs.Prelude.{◌≡◌, ℕ, ◌+◌, ◌<◌, Option, Some, None, IsSome}
+use Rattle.mls_tree.specs.Tree.{Tree, leaf, branch, leaf_count, leaf_at}
+
+-- the first number that there is
+abbrev pub first_of : Option ℕ → Option ℕ → Option ℕ
+first_of None b = b
+first_of (Some i) b = Some i
+
+-- the leftmost blank leaf
+abbrev pub first_blank_leaf : ℕ → Tree → Option ℕ
+first_blank_leaf first (leaf None) = Some first
+first_blank_leaf first (leaf (Some _)) = None
+first_blank_leaf first (branch l _ r) = first_of (first_blank_leaf first l) (first_blank_leaf (first + leaf_count l) r)
+
+-- leaf j is blank, and each one before it is set
+pub record IsFirstBlank (t : Tree) (j : ℕ) : Type 0 where
+  pub inside : j < leaf_count t
+  pub blank : leaf_at 0 t j ≡ None
+  pub earlier : (i : ℕ) → i < j → IsSome (leaf_at 0 t i)
+
+-- every leaf is set
+abbrev pub AllLeavesSet : Tree → Type 0
+AllLeavesSet t = (i : ℕ) → i < leaf_count t → IsSome (leaf_at 0 t i)

@@ -1,0 +1,10 @@
+pub mod Tree
+pub mod RatchetTree
+pub mod Places
+pub mod Paths
+pub mod Blanks
+pub mod Changes
+pub mod Replace
+pub mod Sizes
+pub mod Array
+pub mod NewLists

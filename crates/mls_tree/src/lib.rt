@@ -1,0 +1,24 @@
+//! Ratchet trees of RFC 9420, sections 4.1, 7.7 and Appendix C: the arithmetic of places, and `PublicTree`, a tree of public nodes kept
+//! as one array. Contracts see a `PublicTree` as a recursive tree (`specs/Tree.antt`); the array is private to this crate.
+//!
+//! Nodes are named by their places in the listing of the tree from left to right: leaf `i` stands at place `2 * i`, parents stand at odd
+//! places, and the root of a tree of `n` leaves at `n - 1`.
+#![tactic(auto)]
+
+mod blanks;
+mod entries;
+mod error;
+pub mod laws;
+mod paths;
+mod places;
+mod public_tree;
+mod resolution;
+mod sizes;
+mod unmerged;
+
+pub use error::TreeError;
+pub use places::{left, level, parent, right, root, sibling};
+pub use public_tree::PublicTree;
+
+#[cfg(test)]
+mod tests;

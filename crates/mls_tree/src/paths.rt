@@ -1,0 +1,98 @@
+//! Walks that collect the places of a path from a leaf to the root (RFC 9420, 4.1.2), the lowest first.
+//!
+//! Each walks a subtree given by its height `level` and the number of its first leaf `first`, and goes at most 20 halves deep.
+ghost use Rattle.std.specs.Prelude.{◌≡◌, ℕ, ◌≤◌, ◌+◌, ◌*◌, ◌-◌, ◌++◌, length, OnOk};
+ghost use Rattle.mls_tree.specs.Tree.{Tree, height, leaves_at, IsPerfect};
+ghost use Rattle.mls_tree.specs.Array.{tree_in};
+ghost use Rattle.mls_tree.specs.Paths.{direct_path, copath, filtered_direct_path};
+
+use crate::resolution::has_resolution;
+use crate::sizes::leaves_of;
+use mls_nodes::Node;
+use std::alloc::AllocError;
+
+pub(crate) fn push_direct_path(
+    out: &mut Vec<u32>,
+    level: u32,
+    first: u32,
+    leaf: u32,
+) -> Result<(), AllocError>
+    requires low { level ≤ 20 }
+    requires inside { first + leaves_at level ≤ 1048576 }
+    ensures { OnOk result ((t : Tree) → IsPerfect t → height t ≡ level → out.new.items ≡ out.old.items ++ direct_path first t leaf) }
+{
+    if level == 0 {
+        return Ok(());
+    }
+    let middle = first + leaves_of(level - 1);
+    if leaf < middle {
+        push_direct_path(out, level - 1, first, leaf)?;
+    } else {
+        push_direct_path(out, level - 1, middle, leaf)?;
+    }
+    out.push(2 * middle - 1)?;
+    Ok(())
+}
+
+// The place of the root of the subtree.
+fn root_of(level: u32, first: u32) -> u32
+    requires low { level ≤ 20 }
+    requires inside { first + leaves_at level ≤ 1048576 }
+    ensures { result + 1 ≡ 2 * first + leaves_at level }
+{
+    2 * first + leaves_of(level) - 1
+}
+
+pub(crate) fn push_copath(
+    out: &mut Vec<u32>,
+    level: u32,
+    first: u32,
+    leaf: u32,
+) -> Result<(), AllocError>
+    requires low { level ≤ 20 }
+    requires inside { first + leaves_at level ≤ 1048576 }
+    ensures { OnOk result ((t : Tree) → IsPerfect t → height t ≡ level → out.new.items ≡ out.old.items ++ copath first t leaf) }
+{
+    if level == 0 {
+        return Ok(());
+    }
+    let middle = first + leaves_of(level - 1);
+    if leaf < middle {
+        push_copath(out, level - 1, first, leaf)?;
+        out.push(root_of(level - 1, middle))?;
+    } else {
+        push_copath(out, level - 1, middle, leaf)?;
+        out.push(root_of(level - 1, first))?;
+    }
+    Ok(())
+}
+
+pub(crate) fn push_filtered_direct_path(
+    out: &mut Vec<u32>,
+    nodes: &[Option<Node>],
+    level: u32,
+    first: u32,
+    leaf: u32,
+) -> Result<(), AllocError>
+    requires low { level ≤ 20 }
+    requires inside { first + leaves_at level ≤ 1048576 }
+    requires long { 2 * (first + leaves_at level) ≤ length nodes.now + 1 }
+    ensures { OnOk result ((leaves : ℕ) → out.new.items ≡ out.old.items ++ filtered_direct_path leaves first (tree_in nodes.now level first) leaf) }
+{
+    if level == 0 {
+        return Ok(());
+    }
+    let middle = first + leaves_of(level - 1);
+    if leaf < middle {
+        push_filtered_direct_path(out, nodes, level - 1, first, leaf)?;
+        if has_resolution(nodes, level - 1, middle) {
+            out.push(2 * middle - 1)?;
+        }
+    } else {
+        push_filtered_direct_path(out, nodes, level - 1, middle, leaf)?;
+        if has_resolution(nodes, level - 1, first) {
+            out.push(2 * middle - 1)?;
+        }
+    }
+    Ok(())
+}

@@ -1,0 +1,323 @@
+//! The public tree of a group, kept as one array of nodes.
+ghost use Rattle.std.specs.Prelude.{◌≡◌, ℕ, ◌≤◌, ◌<◌, length, IfOk, IfErr, Err, MatchOption, OnOk, OnErr, IsOk, IsErr, ◌↔◌, ◌⊎◌, None, Some, map, option_map, option_copied};
+ghost use Rattle.std.specs.Bool.{OnTrue, OnFalse};
+ghost use Rattle.mls_nodes.specs.Value.{entry_value, node_value};
+ghost use Rattle.mls_tree.specs.Tree.{leaf_count, height, listing, node_at, leaf_at, IsParentPlace};
+ghost use Rattle.mls_tree.specs.Paths.{direct_path, copath, filtered_direct_path, resolution_at};
+ghost use Rattle.mls_tree.specs.Blanks.{first_blank_leaf, IsFirstBlank, AllLeavesSet};
+ghost use Rattle.mls_tree.specs.Changes.{put_leaf, put_parent, clear_path, enter_unmerged, IsOverfull, shrink, blank_tree, grow};
+ghost use Rattle.mls_tree.specs.Sizes.{IsPowerOfTwo, IsTooLong, IsListing};
+
+use crate::blanks::{blank_above, has_set_leaf, push_blanks};
+use crate::entries::{all_fit, as_leaf, clone_entries, leaf_entry, parent_entry};
+use crate::error::TreeError;
+use crate::paths::{push_copath, push_direct_path, push_filtered_direct_path};
+use crate::places::level_inside;
+use crate::resolution::push_resolution;
+use crate::sizes::{height_of, height_of_length, leaves_of};
+use crate::unmerged::{push_new_lists, put_lists};
+use mls_nodes::{LeafNode, Node, ParentNode};
+use std::alloc::Global;
+use std::marker::Model;
+
+/// The public tree of a group (RFC 9420, 4.1.1): a perfect binary tree of 1 to 1,048,576 leaves, a power of two, whose leaves and parents
+/// are each blank or set. A call that is refused leaves the tree as it was.
+#[derive(Drop)]
+pub struct PublicTree {
+    nodes: Vec<Option<Node>>,
+    height: u32,
+    ghost low: { height ≤ 20 },
+}
+
+impl Model for PublicTree {
+    ghost use Rattle.mls_tree.specs.RatchetTree.{RatchetTree, ratchet_tree_coded};
+    ghost use Rattle.mls_tree.specs.Array.{ratchet_tree_in, IsArrayOf};
+
+    ghost Value = { RatchetTree };
+
+    ghost coded = { ratchet_tree_coded };
+
+    ghost view = { λ s. ratchet_tree_in s.nodes.items s.height s.low };
+
+    ghost invariant = { λ s. IsArrayOf s.nodes.items s.height };
+}
+
+impl PublicTree {
+    /// The tree of these nodes, in the order of their places (RFC 9420, Appendix C). A vector that holds no tree comes back: with
+    /// `BadShape` where its length is not `2 * n - 1` for a power of two `n`, then with `TooManyLeaves` where `n` is above 1,048,576, then
+    /// with `BadShape` where a parent stands at an even place or a leaf at an odd one. Takes no memory.
+    pub fn from_nodes(
+        nodes: Vec<Option<Node>>,
+    ) -> Result<PublicTree, (TreeError, Vec<Option<Node>>)>
+        ensures tree { IfOk result (λ t. listing t.tree ≡ map entry_value nodes.items) }
+        ensures ok { IsOk result ↔ IsListing (map entry_value nodes.items) }
+
+        ensures too_many_leaves { (result ≡ Err (TreeError.TooManyLeaves, nodes)) ↔ IsTooLong (length nodes.items) }
+        ensures bad_shape { (result ≡ Err (TreeError.BadShape, nodes)) ↔ ((¬ IsListing (map entry_value nodes.items)) × ¬ IsTooLong (length nodes.items)) }
+        ensures handed_back { IfErr result (λ e. e.1 ≡ nodes) }
+    {
+        let height = match height_of_length(nodes.len()) {
+            Ok(height) => height,
+            Err(error) => return Err((error, nodes)),
+        };
+        if !all_fit(nodes.as_slice()) {
+            return Err((TreeError::BadShape, nodes));
+        }
+        Ok(PublicTree { nodes, height })
+    }
+
+    /// The tree of so many leaves with no set node. `BadShape` where `leaves` is no power of two, else `TooManyLeaves` where it is above
+    /// 1,048,576.
+    pub fn blank(alloc: Global, leaves: u32) -> Result<PublicTree, TreeError>
+        ensures leaves { IfOk result (λ t. leaf_count t.tree ≡ leaves) }
+        ensures blank { IfOk result (λ t. t.tree ≡ blank_tree (height t.tree)) }
+
+        ensures bad_shape { (result ≡ Err TreeError.BadShape) ↔ (¬ IsPowerOfTwo leaves) }
+        ensures too_many_leaves { (result ≡ Err TreeError.TooManyLeaves) ↔ (IsPowerOfTwo leaves × (1048576 < leaves)) }
+        ensures else_memory { IfErr result (λ e. (e ≡ TreeError.BadShape) ⊎ (e ≡ TreeError.TooManyLeaves) ⊎ (e ≡ TreeError.OutOfMemory)) }
+    {
+        let height = height_of(leaves as usize)?;
+        let mut nodes = Vec::new(alloc);
+        push_blanks(&mut nodes, 2 * leaves - 1)?;
+        Ok(PublicTree { nodes, height })
+    }
+
+    /// How many leaves the tree has, blank ones among them.
+    pub fn leaf_count(&self) -> u32
+        ensures { result ≡ leaf_count self.now.tree }
+    {
+        leaves_of(self.height)
+    }
+
+    /// All nodes, in the order of their places.
+    pub fn nodes(&self) -> &[Option<Node>]
+        ensures { map entry_value result.now ≡ listing self.now.tree }
+    {
+        self.nodes.as_slice()
+    }
+
+    /// The node at a place. None where it is blank or the tree has no such place.
+    pub fn node(&self, place: u32) -> Option<&Node>
+        ensures { option_map (λ n. node_value n.now) result ≡ node_at self.now.tree place }
+    {
+        match self.nodes.get(place as usize) {
+            Some(entry) => entry.as_ref(),
+            None => None,
+        }
+    }
+
+    /// The leaf of a number. None where it is blank or the tree has no such leaf.
+    pub fn leaf(&self, index: u32) -> Option<&LeafNode>
+        ensures { option_copied result ≡ leaf_at 0 self.now.tree index }
+    {
+        match self.nodes.get(2 * index as usize) {
+            Some(entry) => as_leaf(entry),
+            None => None,
+        }
+    }
+
+    /// The number of the leftmost blank leaf. None where all leaves are set.
+    pub fn first_blank_leaf(&self) -> Option<u32>
+        ensures first { result ≡ first_blank_leaf 0 self.now.tree }
+        ensures leftmost { MatchOption result (AllLeavesSet self.now.tree) (λ j. IsFirstBlank self.now.tree j) }
+    {
+        for index in 0..self.leaf_count() {
+            if self.leaf(index).is_none() {
+                return Some(index);
+            }
+        }
+        None
+    }
+
+    /// The places of the parents above a leaf, the lowest first (RFC 9420, 4.1.2). `NoSuchNode` where the tree has no such leaf.
+    pub fn direct_path(&self, alloc: Global, leaf: u32) -> Result<Vec<u32>, TreeError>
+        ensures places { IfOk result (λ v. v.items ≡ direct_path 0 self.now.tree leaf) }
+        ensures no_such_node { (result ≡ Err TreeError.NoSuchNode) ↔ (leaf_count self.now.tree ≤ leaf) }
+        ensures else_memory { IfErr result (λ e. (e ≡ TreeError.NoSuchNode) ⊎ (e ≡ TreeError.OutOfMemory)) }
+    {
+        if leaf >= self.leaf_count() {
+            return Err(TreeError::NoSuchNode);
+        }
+        let mut out = Vec::new(alloc);
+        push_direct_path(&mut out, self.height, 0, leaf)?;
+        Ok(out)
+    }
+
+    /// The places of the siblings of a leaf and of each node above it but the root, the lowest first (RFC 9420, 4.1.2). `NoSuchNode`
+    /// where the tree has no such leaf.
+    pub fn copath(&self, alloc: Global, leaf: u32) -> Result<Vec<u32>, TreeError>
+        ensures places { IfOk result (λ v. v.items ≡ copath 0 self.now.tree leaf) }
+        ensures no_such_node { (result ≡ Err TreeError.NoSuchNode) ↔ (leaf_count self.now.tree ≤ leaf) }
+        ensures else_memory { IfErr result (λ e. (e ≡ TreeError.NoSuchNode) ⊎ (e ≡ TreeError.OutOfMemory)) }
+    {
+        if leaf >= self.leaf_count() {
+            return Err(TreeError::NoSuchNode);
+        }
+        let mut out = Vec::new(alloc);
+        push_copath(&mut out, self.height, 0, leaf)?;
+        Ok(out)
+    }
+
+    /// The places of those parents above a leaf whose child on the copath has a resolution that is not empty, the lowest first (RFC 9420,
+    /// 4.1.2). `NoSuchNode` where the tree has no such leaf.
+    pub fn filtered_direct_path(&self, alloc: Global, leaf: u32) -> Result<Vec<u32>, TreeError>
+        ensures places { IfOk result (λ v. v.items ≡ filtered_direct_path (leaf_count self.now.tree) 0 self.now.tree leaf) }
+        ensures no_such_node { (result ≡ Err TreeError.NoSuchNode) ↔ (leaf_count self.now.tree ≤ leaf) }
+        ensures else_memory { IfErr result (λ e. (e ≡ TreeError.NoSuchNode) ⊎ (e ≡ TreeError.OutOfMemory)) }
+    {
+        if leaf >= self.leaf_count() {
+            return Err(TreeError::NoSuchNode);
+        }
+        let mut out = Vec::new(alloc);
+        push_filtered_direct_path(&mut out, self.nodes.as_slice(), self.height, 0, leaf)?;
+        Ok(out)
+    }
+
+    /// The places of the resolution of the node at a place (RFC 9420, 4.1.1): a set node and its unmerged leaves, or of a blank one what
+    /// its children resolve to. An unmerged leaf that the tree does not have is left out. `NoSuchNode` where the tree has no such place.
+    pub fn resolution(&self, alloc: Global, place: u32) -> Result<Vec<u32>, TreeError>
+        ensures places { IfOk result (λ v. resolution_at self.now.tree place ≡ Some v.items) }
+        ensures no_such_node { (result ≡ Err TreeError.NoSuchNode) ↔ (resolution_at self.now.tree place ≡ None) }
+        ensures else_memory { IfErr result (λ e. (e ≡ TreeError.NoSuchNode) ⊎ (e ≡ TreeError.OutOfMemory)) }
+    {
+        let leaves = self.leaf_count();
+        let Some(level) = level_inside(place, leaves) else {
+            return Err(TreeError::NoSuchNode);
+        };
+        let first = (place + 1 - leaves_of(level)) / 2;
+        let mut out = Vec::new(alloc);
+        push_resolution(&mut out, self.nodes.as_slice(), leaves, level, first)?;
+        Ok(out)
+    }
+
+    /// A tree with the same nodes.
+    pub fn try_clone(&self, alloc: Global) -> Result<PublicTree, TreeError>
+        ensures same { IfOk result (λ t. t ≡ self.now) }
+        ensures memory { IfErr result (λ e. e ≡ TreeError.OutOfMemory) }
+    {
+        let Ok(nodes) = clone_entries(alloc, self.nodes.as_slice()) else {
+            return Err(TreeError::OutOfMemory);
+        };
+        Ok(PublicTree {
+            nodes,
+            height: self.height,
+        })
+    }
+
+    /// Replaces a leaf, by a blank one for None. `NoSuchNode` where the tree has no such leaf; the leaf handed in then comes back.
+    pub fn set_leaf(
+        &mut self,
+        index: u32,
+        leaf: Option<Box<LeafNode>>,
+    ) -> Result<(), (TreeError, Option<Box<LeafNode>>)>
+        ensures ok { OnOk result (self.new.tree ≡ put_leaf 0 self.old.tree index (option_map (λ b. b.value) leaf)) }
+        ensures err { OnErr result (self.new ≡ self.old) }
+        ensures no_such_node { IsErr result ↔ (leaf_count self.old.tree ≤ index) }
+        ensures handed_back { IfErr result (λ e. e ≡ (TreeError.NoSuchNode, leaf)) }
+    {
+        if index >= leaves_of(self.height) {
+            return Err((TreeError::NoSuchNode, leaf));
+        }
+        self.nodes[2 * index as usize] = leaf_entry(leaf);
+        Ok(())
+    }
+
+    /// Replaces the parent at a place, by a blank one for None. `NoSuchNode` where the tree has no such place or it is that of a leaf; the
+    /// parent handed in then comes back.
+    pub fn put_parent(
+        &mut self,
+        place: u32,
+        parent: Option<Box<ParentNode>>,
+    ) -> Result<(), (TreeError, Option<Box<ParentNode>>)>
+        ensures ok { OnOk result (self.new.tree ≡ put_parent 0 self.old.tree place (option_map (λ b. b.value) parent)) }
+        ensures err { OnErr result (self.new ≡ self.old) }
+        ensures no_such_node { IsErr result ↔ (¬ IsParentPlace self.old.tree place) }
+        ensures handed_back { IfErr result (λ e. e ≡ (TreeError.NoSuchNode, parent)) }
+    {
+        if place % 2 == 0 || place as usize >= self.nodes.len() {
+            return Err((TreeError::NoSuchNode, parent));
+        }
+        self.nodes[place as usize] = parent_entry(parent);
+        Ok(())
+    }
+
+    /// Makes the parents above a leaf blank (RFC 9420, 12.1.2 and 12.1.3). The leaf stays. `NoSuchNode` where the tree has no such leaf.
+    pub fn blank_path(&mut self, index: u32) -> Result<(), TreeError>
+        ensures ok { OnOk result (self.new.tree ≡ clear_path self.old.tree index) }
+        ensures err { OnErr result (self.new ≡ self.old) }
+        ensures no_such_node { (result ≡ Err TreeError.NoSuchNode) ↔ (leaf_count self.old.tree ≤ index) }
+        ensures no_other { IfErr result (λ e. e ≡ TreeError.NoSuchNode) }
+    {
+        if index >= leaves_of(self.height) {
+            return Err(TreeError::NoSuchNode);
+        }
+        let height = self.height;
+        blank_above(self.nodes.as_mut_slice(), height, 0, index);
+        Ok(())
+    }
+
+    /// Puts a leaf's number into the list of unmerged leaves of each set parent above it, before the first entry that is not less (RFC 9420,
+    /// 12.1.1). A list that has the number stays. `NoSuchNode` where the tree has no such leaf, `TooManyLeaves` only where a list would get
+    /// more than 1,048,576 entries. All new lists are made before one is put in place.
+    pub fn add_unmerged(&mut self, alloc: Global, index: u32) -> Result<(), TreeError>
+        ensures ok { OnOk result (self.new.tree ≡ enter_unmerged self.old.tree index) }
+        ensures err { OnErr result (self.new ≡ self.old) }
+
+        ensures no_such_node { (result ≡ Err TreeError.NoSuchNode) ↔ (leaf_count self.old.tree ≤ index) }
+        ensures too_many_leaves { result ≡ Err TreeError.TooManyLeaves → (index < leaf_count self.old.tree) × IsOverfull self.old.tree index }
+        ensures overfull { IsOverfull self.old.tree index → IsErr result }
+        ensures else_memory { IfErr result (λ e. (e ≡ TreeError.NoSuchNode) ⊎ (e ≡ TreeError.TooManyLeaves) ⊎ (e ≡ TreeError.OutOfMemory)) }
+    {
+        if index >= leaves_of(self.height) {
+            return Err(TreeError::NoSuchNode);
+        }
+        let height = self.height;
+        let mut lists = Vec::new(alloc);
+        push_new_lists(&mut lists, alloc, self.nodes.as_slice(), height, 0, index)?;
+        put_lists(self.nodes.as_mut_slice(), &mut lists, height, 0, index);
+        Ok(())
+    }
+
+    // Takes the left half, where there is one and the right half has no set leaf.
+    fn halve(&mut self) -> bool
+        ensures same { shrink self.new.tree ≡ shrink self.old.tree }
+        ensures lower { OnTrue result (height self.new.tree < height self.old.tree) }
+        ensures done { OnFalse result (shrink self.new.tree ≡ self.new.tree) }
+    {
+        if self.height == 0 {
+            return false;
+        }
+        let below = self.height - 1;
+        let half = leaves_of(below);
+        if has_set_leaf(self.nodes.as_slice(), below, half) {
+            return false;
+        }
+        self.nodes.truncate(2 * half as usize - 1);
+        self.height = below;
+        true
+    }
+
+    /// Takes the left half of the tree for as long as there is one and the right half has no set leaf (RFC 9420, 7.7). Takes no memory.
+    pub fn truncate(&mut self)
+        ensures { self.new.tree ≡ shrink self.old.tree }
+    {
+        while self.halve() {}
+    }
+
+    /// Doubles the tree, which becomes the left half of one whose other nodes are blank (RFC 9420, 7.7). `TooManyLeaves` where the tree has
+    /// 1,048,576 leaves.
+    pub fn extend(&mut self) -> Result<(), TreeError>
+        ensures ok { OnOk result (self.new.tree ≡ grow self.old.tree) }
+        ensures err { OnErr result (self.new ≡ self.old) }
+        ensures too_many_leaves { (result ≡ Err TreeError.TooManyLeaves) ↔ (leaf_count self.old.tree ≡ 1048576) }
+        ensures else_memory { IfErr result (λ e. (e ≡ TreeError.TooManyLeaves) ⊎ (e ≡ TreeError.OutOfMemory)) }
+    {
+        if self.height == 20 {
+            return Err(TreeError::TooManyLeaves);
+        }
+        let more = 2 * leaves_of(self.height);
+        push_blanks(&mut self.nodes, more)?;
+        self.height += 1;
+        Ok(())
+    }
+}

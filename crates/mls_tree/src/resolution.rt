@@ -1,0 +1,77 @@
+//! Walks that collect the resolution of a subtree (RFC 9420, 4.1.1).
+//!
+//! Each walks a subtree given by its height `level` and the number of its first leaf `first`, and goes at most 20 halves deep.
+ghost use Rattle.std.specs.Prelude.{◌≡◌, ◌≢◌, ℕ, ◌≤◌, ◌+◌, ◌*◌, [], ◌++◌, length, OnOk, IsTrue, ◌↔◌};
+ghost use Rattle.mls_tree.specs.Tree.{leaves_at};
+ghost use Rattle.mls_tree.specs.Array.{tree_in};
+ghost use Rattle.mls_tree.specs.Paths.{resolution, unmerged_places};
+
+use crate::entries::{as_leaf, as_parent};
+use crate::sizes::leaves_of;
+use mls_nodes::Node;
+use std::alloc::AllocError;
+
+fn push_unmerged(out: &mut Vec<u32>, leaves: u32, unmerged: &[u32]) -> Result<(), AllocError>
+    requires { leaves ≤ 1048576 }
+    ensures { OnOk result (out.new.items ≡ out.old.items ++ unmerged_places leaves unmerged.now) }
+{
+    for leaf in unmerged {
+        if *leaf < leaves {
+            out.push(2 * *leaf)?;
+        }
+    }
+    Ok(())
+}
+
+pub(crate) fn push_resolution(
+    out: &mut Vec<u32>,
+    nodes: &[Option<Node>],
+    leaves: u32,
+    level: u32,
+    first: u32,
+) -> Result<(), AllocError>
+    requires low { level ≤ 20 }
+    requires inside { first + leaves_at level ≤ 1048576 }
+    requires long { 2 * (first + leaves_at level) ≤ length nodes.now + 1 }
+    requires leaves_low { leaves ≤ 1048576 }
+    ensures { OnOk result (out.new.items ≡ out.old.items ++ resolution leaves first (tree_in nodes.now level first)) }
+{
+    if level == 0 {
+        if as_leaf(&nodes[2 * first as usize]).is_some() {
+            out.push(2 * first)?;
+        }
+        return Ok(());
+    }
+    let middle = first + leaves_of(level - 1);
+    match as_parent(&nodes[2 * middle as usize - 1]) {
+        Some(parent) => {
+            out.push(2 * middle - 1)?;
+            push_unmerged(out, leaves, parent.unmerged.as_slice())?;
+        }
+        None => {
+            push_resolution(out, nodes, leaves, level - 1, first)?;
+            push_resolution(out, nodes, leaves, level - 1, middle)?;
+        }
+    }
+    Ok(())
+}
+
+// Whether the subtree's resolution is not empty.
+pub(crate) fn has_resolution(nodes: &[Option<Node>], level: u32, first: u32) -> bool
+    requires low { level ≤ 20 }
+    requires inside { first + leaves_at level ≤ 1048576 }
+    requires long { 2 * (first + leaves_at level) ≤ length nodes.now + 1 }
+    ensures { (leaves : ℕ) → IsTrue result ↔ (resolution leaves first (tree_in nodes.now level first) ≢ []) }
+{
+    if level == 0 {
+        return as_leaf(&nodes[2 * first as usize]).is_some();
+    }
+    let middle = first + leaves_of(level - 1);
+    if as_parent(&nodes[2 * middle as usize - 1]).is_some() {
+        return true;
+    }
+    if has_resolution(nodes, level - 1, first) {
+        return true;
+    }
+    has_resolution(nodes, level - 1, middle)
+}

@@ -1,0 +1,133 @@
+//! A leaf's number put into the lists of unmerged leaves above it (RFC 9420, 12.1.1): all new lists are made, which may want memory,
+//! before the first is put in place.
+//!
+//! Each walk is over a subtree given by its height `level` and the number of its first leaf `first`, and goes at most 20 halves deep.
+ghost use Rattle.std.specs.Prelude.{◌≡◌, ℕ, ◌≤◌, ◌<◌, ◌+◌, ◌*◌, ◌-◌, ◌++◌, Some, false, length, insert, OnOk, IsOk, IfOk, IfErr, IsTrue};
+ghost use Rattle.mls_tree.specs.Tree.{leaves_at};
+ghost use Rattle.mls_tree.specs.Array.{tree_in, ChangesWithin, parent_part, IsNoLeaf};
+ghost use Rattle.mls_tree.specs.Changes.{change_above, insert_before, insert_number, with_unmerged, is_overfilled_above};
+ghost use Rattle.mls_tree.specs.NewLists.{changed_list, new_lists, with_new_list, IsListRefusal};
+
+use crate::entries::as_parent;
+use crate::error::TreeError;
+use crate::sizes::leaves_of;
+use mls_nodes::{MAX_UNMERGED, Node, Unmerged};
+use std::alloc::Global;
+use std::mem;
+
+// How many entries of an ordered part are less than a number: where it goes.
+fn insertion_point(items: &[u32], number: u32) -> usize
+    ensures inside { result ≤ length items.now }
+    ensures place { insert_before number items.now ≡ insert items.now result number }
+{
+    for (index, item) in items.iter().enumerate() {
+        if *item >= number {
+            return index;
+        }
+    }
+    items.len()
+}
+
+// The list with a number put into it, unless the list has it.
+fn with_number(alloc: Global, list: &Unmerged, number: u32) -> Result<Option<Unmerged>, TreeError>
+    ensures made { IfOk result (λ new. new ≡ changed_list number list.now) }
+    ensures fits { IsOk result → length (insert_number number list.now) ≤ 1048576 }
+    ensures refused { IfErr result (λ e. IsListRefusal e (1048576 < length (insert_number number list.now))) }
+{
+    let list = list.as_slice();
+    if list.contains(&number) {
+        return Ok(None);
+    }
+    if list.len() == MAX_UNMERGED {
+        return Err(TreeError::TooManyLeaves);
+    }
+    let at = insertion_point(list, number);
+    let mut items = Vec::with_capacity(alloc, list.len() + 1)?;
+    items.extend_from_slice(&list[..at])?;
+    items.push(number)?;
+    items.extend_from_slice(&list[at..])?;
+    let Ok(new) = Unmerged::new(items) else {
+        unreachable!();
+    };
+    Ok(Some(new))
+}
+
+/// Makes the new lists of the parents above a leaf, the lowest first, with none for a blank parent and for a list that stays.
+pub(crate) fn push_new_lists(
+    out: &mut Vec<Option<Unmerged>>,
+    alloc: Global,
+    nodes: &[Option<Node>],
+    level: u32,
+    first: u32,
+    leaf: u32,
+) -> Result<(), TreeError>
+    requires low { level ≤ 20 }
+    requires inside { first + leaves_at level ≤ 1048576 }
+    requires long { 2 * (first + leaves_at level) ≤ length nodes.now + 1 }
+    ensures made { OnOk result (out.new.items ≡ out.old.items ++ new_lists first (tree_in nodes.now level first) leaf) }
+    ensures fits { OnOk result (is_overfilled_above first (tree_in nodes.now level first) leaf ≡ false) }
+    ensures refused { IfErr result (λ e. IsListRefusal e (IsTrue (is_overfilled_above first (tree_in nodes.now level first) leaf))) }
+{
+    if level == 0 {
+        return Ok(());
+    }
+    let middle = first + leaves_of(level - 1);
+    if leaf < middle {
+        push_new_lists(out, alloc, nodes, level - 1, first, leaf)?;
+    } else {
+        push_new_lists(out, alloc, nodes, level - 1, middle, leaf)?;
+    }
+    match as_parent(&nodes[2 * middle as usize - 1]) {
+        Some(parent) => {
+            let list = with_number(alloc, &parent.unmerged, leaf)?;
+            out.push(list)?;
+        }
+        None => out.push(None)?,
+    }
+    Ok(())
+}
+
+// Gives a parent a new list, where there is one.
+fn set_list(entry: &mut Option<Node>, list: Option<Unmerged>)
+    ensures part { parent_part (Some entry.new) ≡ with_new_list (parent_part (Some entry.old)) list }
+    ensures no_leaf { IsNoLeaf (Some entry.new) }
+{
+    *entry = match mem::replace(entry, None) {
+        Some(Node::Parent(mut parent)) => {
+            if let Some(list) = list {
+                parent.unmerged = list;
+            }
+            Some(Node::Parent(parent))
+        }
+        Some(Node::Leaf(_leaf)) => None,
+        None => None,
+    };
+}
+
+/// Puts the new lists of the parents above a leaf in place. They are taken from the end, the topmost first.
+pub(crate) fn put_lists(
+    nodes: &mut [Option<Node>],
+    lists: &mut Vec<Option<Unmerged>>,
+    level: u32,
+    first: u32,
+    leaf: u32,
+)
+    requires low { level ≤ 20 }
+    requires inside { first + leaves_at level ≤ 1048576 }
+    requires long { 2 * (first + leaves_at level) ≤ length nodes.old + 1 }
+    requires lists { lists.old.items ≡ new_lists first (tree_in nodes.old level first) leaf }
+    ensures tree { tree_in nodes.new level first ≡ change_above (with_unmerged leaf) first (tree_in nodes.old level first) leaf }
+    ensures changes { ChangesWithin nodes.old nodes.new (2 * first) (2 * (first + leaves_at level) - 1) }
+{
+    if level == 0 {
+        return;
+    }
+    let middle = first + leaves_of(level - 1);
+    let list = lists.pop().unwrap();
+    set_list(&mut nodes[2 * middle as usize - 1], list);
+    if leaf < middle {
+        put_lists(nodes, lists, level - 1, first, leaf);
+    } else {
+        put_lists(nodes, lists, level - 1, middle, leaf);
+    }
+}

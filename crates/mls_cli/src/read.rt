@@ -5,11 +5,8 @@ ghost use Rattle.std.specs.Io.KnownBytes.{Consumes, Keeps, IsAtEnd};
 ghost use Rattle.mls_cli.specs.ReadAll.{ReadsAll, ReadsSome};
 
 use crate::outcome::RunFault;
-use mls_wire::{DeviceFault, Source};
+use mls_wire::{DeviceFault, MAX_INPUT, Source};
 use std::alloc::Global;
-
-/// The most bytes that an input may have.
-const INPUT_LIMIT: usize = 268435456;
 
 /// How many bytes a source is asked for at once, at most.
 const PIECE: usize = 8192;
@@ -44,8 +41,8 @@ pub fn read_all<S: Source>(alloc: Global, source: &mut S) -> Result<Vec<u8>, Run
 {
     let mut bytes = Vec::new(alloc);
     let mut piece = [0u8; PIECE];
-    'pieces: while bytes.len() <= INPUT_LIMIT {
-        let room = (INPUT_LIMIT + 1 - bytes.len()).min(PIECE);
+    'pieces: while bytes.len() <= MAX_INPUT {
+        let room = (MAX_INPUT + 1 - bytes.len()).min(PIECE);
         let n = pull_piece(source, &mut piece[..room])?;
         if n == 0 {
             return Ok(bytes);

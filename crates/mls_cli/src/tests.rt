@@ -1,11 +1,8 @@
 //! What no clause says: the words of faults and usage, and each call on worked examples.
 
-ghost use Rattle.std.specs.Prelude.{None};
-
 use super::*;
-use mls_wire::{DeviceFault, Source, StdSink, StdSource};
+use mls_wire::{MemorySink, MemorySource, StdSink, StdSource};
 use std::alloc::Global;
-use std::io::Read;
 use std::test::*;
 
 /// A leaf with keys `a0` and `b0`, identity `40` and signature `c0`.
@@ -57,56 +54,38 @@ fn shown(alloc: Global, bytes: &[u8]) -> Result<(Verdict, String), Fail> {
     Ok((verdict, text))
 }
 
-/// A source that gives some bytes, and then fails.
-#[derive(Drop)]
-struct Breaking {
-    pulls: usize,
-    is_broken: bool,
+/// More bytes than a source is asked for at once.
+fn many_bytes(alloc: Global) -> Result<Vec<u8>, Fail> {
+    Ok(vec![in alloc; 7u8; 20000]?)
 }
 
-impl Source for Breaking {
-    ghost left = { λ _. None };
-
-    ghost is_failed = { λ s. s.is_broken };
-
-    fn pull(&mut self, into: &mut [u8]) -> Result<usize, DeviceFault> {
-        if self.is_broken || self.pulls == 0 {
-            self.is_broken = true;
-            return Err(DeviceFault);
-        }
-        self.pulls -= 1;
-        Ok(into.len().min(1))
-    }
-
-    fn failed(&self) -> bool {
-        self.is_broken
-    }
-}
-
-/// What is read from a source that gives the bytes before a place and those behind it apart.
-fn read_apart(alloc: Global, bytes: &[u8], place: usize) -> Result<Vec<u8>, RunFault> {
-    let (front, back) = bytes.split_at(place.min(bytes.len()));
-    read_all(alloc, &mut StdSource::new(front.chain(back)))
+/// What is read from a source that gives its bytes in pieces of a size, and how many it has left.
+fn read_in_pieces(
+    alloc: Global,
+    bytes: &[u8],
+    piece: usize,
+    fails_at: Option<usize>,
+) -> (Result<Vec<u8>, RunFault>, usize) {
+    let mut input = MemorySource::new(bytes, piece.max(1), fails_at);
+    let read = read_all(alloc, &mut input);
+    (read, input.left().len())
 }
 
 #[test]
 fn inputs_are_read_whole(rt: HostRuntime) -> Result<(), Fail> {
     let alloc = rt.alloc();
-    let bytes = vec![in alloc; 7u8; 20000]?;
-    for place in [0, 1, 8191, 8192, 20000] {
-        let read = read_apart(alloc, bytes.as_slice(), place)
-            .ok()
-            .ok_or("bytes")?;
-        assert!(rt; read == bytes, "cut at {place}");
+    let bytes = many_bytes(alloc)?;
+    for piece in [1, 8191, 8192, 30000] {
+        let (read, left) = read_in_pieces(alloc, bytes.as_slice(), piece, None);
+        assert!(rt; read.ok().ok_or("bytes")? == bytes, "in pieces of {piece}");
+        assert_eq!(rt; left, 0);
     }
+    let (read, left) = read_in_pieces(alloc, bytes.as_slice(), 10, Some(3));
+    assert_eq!(rt; read.err(), Some(RunFault::Read));
+    assert_eq!(rt; left, 19980);
     let mut empty = StdSource::new([].as_slice());
     let read = read_all(alloc, &mut empty).ok().ok_or("no bytes")?;
     assert!(rt; read.is_empty());
-    let mut breaking = Breaking {
-        pulls: 3,
-        is_broken: false,
-    };
-    assert_eq!(rt; read_all(alloc, &mut breaking).err(), Some(RunFault::Read));
     Ok(())
 }
 
@@ -190,24 +169,17 @@ fn faults_are_told(rt: HostRuntime) -> Result<(), Fail> {
 fn devices_that_fail(rt: HostRuntime) -> Result<(), Fail> {
     let alloc = rt.alloc();
     let one = tree_of_leaves(alloc, &[0x29], 1)?;
-    let mut input = StdSource::new(one.as_slice());
-    let mut room = [0u8; 10];
-    let mut out = StdSink::new(room.as_mut_slice());
+    let mut input = MemorySource::new(one.as_slice(), 5, None);
+    let mut out = MemorySink::new(alloc, 10, 4, None).ok().ok_or("a sink")?;
     let outcome = run_show(alloc, ShowKind::Tree, &mut input, &mut out);
     assert_eq!(rt; outcome, Err(RunFault::Write));
-    drop(out);
-    assert_eq!(rt; room.as_slice(), b"0 leaf 0 a".as_slice());
+    assert_eq!(rt; out.bytes(), b"0 leaf 0 a".as_slice());
 
-    let mut breaking = Breaking {
-        pulls: 42,
-        is_broken: false,
-    };
-    let mut text = Vec::new(alloc);
-    let mut out = StdSink::new(&mut text);
+    let mut breaking = MemorySource::new(one.as_slice(), 1, Some(42));
+    let mut out = MemorySink::new(alloc, 100, 100, None).ok().ok_or("a sink")?;
     let outcome = run_show(alloc, ShowKind::Tree, &mut breaking, &mut out);
     assert_eq!(rt; outcome, Err(RunFault::Read));
-    drop(out);
-    assert!(rt; text.is_empty());
+    assert!(rt; out.bytes().is_empty());
     Ok(())
 }
 
@@ -257,15 +229,17 @@ fn orders_are_read(rt: HostRuntime) -> Result<(), Fail> {
 }
 
 #[test]
-fn statuses(rt: HostRuntime) {
-    for (outcome, status) in [
-        (Ok(Verdict::Yes), 0),
-        (Ok(Verdict::No), 1),
-        (Err(RunFault::Read), 3),
-        (Err(RunFault::Write), 3),
-        (Err(RunFault::Memory), 3),
+fn faults_have_statuses_and_names(rt: HostRuntime) -> Result<(), Fail> {
+    assert_eq!(rt; status_of(&Ok(Verdict::Yes)), 0);
+    assert_eq!(rt; status_of(&Ok(Verdict::No)), 1);
+    for (fault, name) in [
+        (RunFault::Read, "read"),
+        (RunFault::Write, "write"),
+        (RunFault::Memory, "memory"),
     ] {
-        assert_eq!(rt; status_of(&outcome), status);
+        assert_eq!(rt; status_of(&Err(fault)), 3);
+        assert_eq!(rt; format!(in rt.alloc(); "{fault}")?.as_str(), name);
     }
     assert_eq!(rt; OrderFault::Memory.status(), 3);
+    Ok(())
 }

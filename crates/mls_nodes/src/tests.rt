@@ -1,5 +1,5 @@
 use super::*;
-use mls_wire::{CodecFault, Decode, Opaque, Reader, WireFault, WireFaultKind, Writer};
+use mls_wire::{CodecFault, Decode, Opaque, Reader, TryClone, WireFault, WireFaultKind, Writer};
 use std::test::*;
 
 /// The leaf node of a key package, with keys a0 and b0.
@@ -23,23 +23,21 @@ const CONTEXT: [u8; 34] = [
     0x00, 0x00,
 ];
 
-/// The bytes of a leaf node with this number added to its keys, its identity and its signature.
-fn put_leaf(bytes: &mut Vec<u8>, number: u8) -> Result<(), Fail>
-    requires { number < 16 }
-{
-    let mut leaf = LEAF;
-    leaf[1] += number;
-    leaf[3] += number;
-    leaf[7] += number;
-    leaf[38] += number;
-    bytes.extend_from_slice(&leaf)?;
+/// Adds the bytes of a leaf node with this number added to its keys, its identity and its signature.
+fn put_leaf(bytes: &mut Vec<u8>, number: u8) -> Result<(), Fail> {
+    for (place, byte) in LEAF.iter().enumerate() {
+        let is_numbered = matches!(place, 1 | 3 | 7 | 38);
+        bytes.push(if is_numbered {
+            byte.wrapping_add(number)
+        } else {
+            *byte
+        })?;
+    }
     Ok(())
 }
 
 /// The bytes of a ratchet tree with this many leaf nodes under blank parents.
-fn tree_of(rt: &HostRuntime, length: &[u8], leaves: u8) -> Result<Vec<u8>, Fail>
-    requires { leaves < 16 }
-{
+fn tree_of(rt: &HostRuntime, length: &[u8], leaves: u8) -> Result<Vec<u8>, Fail> {
     let mut bytes = Vec::from_slice(rt.alloc(), length)?;
     for number in 0..leaves {
         if number > 0 {
@@ -139,8 +137,10 @@ fn entries_that_are_no_tree(rt: HostRuntime) -> Result<(), Fail> {
 }
 
 #[test]
-fn leaves_are_read_and_written(rt: HostRuntime) -> Result<(), Fail> {
-    let leaf = decode_leaf(rt.alloc(), &LEAF)?;
+fn leaves_are_read(rt: HostRuntime) -> Result<(), Fail> {
+    let mut reader = Reader::new(&LEAF);
+    let leaf = read_leaf(rt.alloc(), &mut reader)?;
+    assert!(rt; reader.at_end());
     assert_eq!(rt; leaf.signature_key.as_slice(), [0xb0].as_slice());
     assert_eq!(rt; leaf.capabilities.cipher_suites.as_slice(), [1].as_slice());
     assert!(rt;
@@ -152,22 +152,24 @@ fn leaves_are_read_and_written(rt: HostRuntime) -> Result<(), Fail> {
             })
         )
     );
-    assert_eq!(rt; encode_leaf(rt.alloc(), &leaf)?.as_slice(), LEAF.as_slice());
-    let mut reader = Reader::new(&LEAF);
-    let read = read_leaf(rt.alloc(), &mut reader)?;
-    assert!(rt; reader.at_end());
-    let mut writer = Writer::new(rt.alloc());
-    write_leaf(rt.alloc(), &read.try_clone(rt.alloc())?, &mut writer)?;
-    write_extensions(rt.alloc(), &read.extensions, &mut writer)?;
-    assert_eq!(rt; writer.bytes().len(), 40);
-    assert_eq!(rt; &writer.bytes()[..39], LEAF.as_slice());
-    assert_eq!(rt; writer.bytes()[39], 0);
-    let mut odd = LEAF;
-    odd[8] = 1;
-    odd[9] = 0;
-    odd[10] = 2;
+    let mut odd = Vec::from_slice(rt.alloc(), &LEAF[..8])?;
+    odd.extend_from_slice(&[1, 0])?;
+    odd.extend_from_slice(&LEAF[11..])?;
     let fault = CodecFault::Wire(wire(WireFaultKind::OddLength, 8));
     assert!(rt; matches!(decode_leaf(rt.alloc(), &odd), Err(answered) if answered == fault));
+    Ok(())
+}
+
+#[test]
+fn leaves_are_written(rt: HostRuntime) -> Result<(), Fail> {
+    let leaf = decode_leaf(rt.alloc(), &LEAF)?.try_clone(rt.alloc())?;
+    assert_eq!(rt; encode_leaf(rt.alloc(), &leaf)?.as_slice(), LEAF.as_slice());
+    let mut writer = Writer::new(rt.alloc());
+    write_leaf(rt.alloc(), &leaf, &mut writer)?;
+    assert_eq!(rt; writer.bytes(), LEAF.as_slice());
+    writer.clear();
+    write_extensions(rt.alloc(), &leaf.extensions, &mut writer)?;
+    assert_eq!(rt; writer.bytes(), [0].as_slice());
     Ok(())
 }
 

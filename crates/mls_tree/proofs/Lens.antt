@@ -29,7 +29,7 @@ leaf_count-replace_at =
     (λ first l n r p s lt sub ih u c. ap leaf_count (replace_at-in_left first l n r p u lt) ∙ ap (λ k. k + leaf_count r) (ih u c))
     (λ first l n r p s gt sub ih u c. ap leaf_count (replace_at-in_right first l n r p u gt) ∙ ap (λ k. leaf_count l + k) (ih u c))
 
--- what was put_leaf is what is got
+-- what was put in is what is got
 pub subtree_at-replace_at : (first : ℕ) (t : Tree) (p : ℕ) (s : Subtree) → subtree_at first t p ≡ Some s
     → (u : Tree) → leaf_count u ≡ leaf_count s.tree → (q : ℕ) → q ≡ root_place s.first u → subtree_at first (replace_at first t p u) q ≡ Some (record { first = s.first; tree = u })
 subtree_at-replace_at =
@@ -71,10 +71,10 @@ put_root first (branch a m b) p e l n r w x =
     here (p + 1) (2 * (first + leaf_count a)) (branch a x b) (branch (put_parent first a p x) m b) (branch a m (put_parent (first + leaf_count a) b p x)) (omega (arith, leaf_count-positive a))
     ∙ (λ i. branch (al i) x (br i))
 
--- to put_leaf a parent is to replace its subtree by one with another root
-pub put_parent_at-replace : (first : ℕ) (t : Tree) (p g : ℕ) (l : Tree) (n : Option ParentNode) (r : Tree)
+-- to put a parent in is to replace its subtree by one with another root
+pub put_parent-replace : (first : ℕ) (t : Tree) (p g : ℕ) (l : Tree) (n : Option ParentNode) (r : Tree)
     → subtree_at first t p ≡ Some (record { first = g; tree = branch l n r }) → (x : Option ParentNode) → put_parent first t p x ≡ replace_at first t p (branch l x r)
-put_parent_at-replace first t p g l n r e x = go first t p _ e l n r refl
+put_parent-replace first t p g l n r e x = go first t p _ e l n r refl
   where
     go : (first : ℕ) (t : Tree) (p : ℕ) (s : Subtree) → subtree_at first t p ≡ Some s → (l : Tree) (n : Option ParentNode) (r : Tree) → s.tree ≡ branch l n r
         → put_parent first t p x ≡ replace_at first t p (branch l x r)

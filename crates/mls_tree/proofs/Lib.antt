@@ -9,6 +9,8 @@ pub mod SameListings
 pub mod Coordinates
 pub mod Walking
 pub mod Halves
+pub mod Descent
+pub mod Kept
 pub mod Changing
 pub mod Growing
 pub mod Listings

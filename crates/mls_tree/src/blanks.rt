@@ -12,7 +12,7 @@ use crate::sizes::leaves_of;
 use mls_nodes::Node;
 use std::alloc::AllocError;
 
-// Blanks the parents above a leaf.
+/// Blanks the parents above a leaf of the subtree.
 pub(crate) fn blank_above(nodes: &mut [Option<Node>], level: u32, first: u32, leaf: u32)
     requires low { level ≤ 20 }
     requires inside { first + leaves_at level ≤ 1048576 }
@@ -32,7 +32,7 @@ pub(crate) fn blank_above(nodes: &mut [Option<Node>], level: u32, first: u32, le
     }
 }
 
-// Whether a leaf of the subtree is set.
+/// Whether a leaf of the subtree is set.
 pub(crate) fn has_set_leaf(nodes: &[Option<Node>], level: u32, first: u32) -> bool
     requires low { level ≤ 20 }
     requires inside { first + leaves_at level ≤ 1048576 }
@@ -49,7 +49,7 @@ pub(crate) fn has_set_leaf(nodes: &[Option<Node>], level: u32, first: u32) -> bo
     has_set_leaf(nodes, level - 1, middle)
 }
 
-// Adds blank entries at the end.
+/// Adds blank entries at the end.
 pub(crate) fn push_blanks(nodes: &mut Vec<Option<Node>>, count: u32) -> Result<(), AllocError>
     ensures ok { OnOk result (nodes.new.items ≡ nodes.old.items ++ replicate count None) }
     ensures err { OnErr result (VecUnchanged nodes.old nodes.new) }

@@ -11,6 +11,7 @@ use crate::sizes::leaves_of;
 use mls_nodes::Node;
 use std::alloc::AllocError;
 
+/// Adds the places of the parents above a leaf of the subtree.
 pub(crate) fn push_direct_path(
     out: &mut Vec<u32>,
     level: u32,
@@ -43,6 +44,7 @@ fn root_of(level: u32, first: u32) -> u32
     2 * first + leaves_of(level) - 1
 }
 
+/// Adds the places of the roots of the halves away from a leaf of the subtree.
 pub(crate) fn push_copath(
     out: &mut Vec<u32>,
     level: u32,
@@ -67,6 +69,7 @@ pub(crate) fn push_copath(
     Ok(())
 }
 
+/// Adds the places of those parents above a leaf of the subtree whose half away from it has a resolution that is not empty.
 pub(crate) fn push_filtered_direct_path(
     out: &mut Vec<u32>,
     nodes: &[Option<Node>],

@@ -22,7 +22,7 @@ use std::marker::Model;
 
 /// The public tree of a group (RFC 9420, 4.1.1): a perfect binary tree of 1 to 1,048,576 leaves, a power of two, whose leaves and parents
 /// are each blank or set. A call that is refused leaves the tree as it was.
-#[derive(Drop)]
+#[derive(Debug, Drop)]
 pub struct PublicTree {
     nodes: Vec<Option<Node>>,
     height: u32,

@@ -11,6 +11,7 @@ use crate::sizes::leaves_of;
 use mls_nodes::Node;
 use std::alloc::AllocError;
 
+// Adds the places of unmerged leaves, without those that the tree does not have.
 fn push_unmerged(out: &mut Vec<u32>, leaves: u32, unmerged: &[u32]) -> Result<(), AllocError>
     requires { leaves ≤ 1048576 }
     ensures { OnOk result (out.new.items ≡ out.old.items ++ unmerged_places leaves unmerged.now) }
@@ -23,6 +24,7 @@ fn push_unmerged(out: &mut Vec<u32>, leaves: u32, unmerged: &[u32]) -> Result<()
     Ok(())
 }
 
+/// Adds the places of the resolution of the subtree, of a tree of so many leaves.
 pub(crate) fn push_resolution(
     out: &mut Vec<u32>,
     nodes: &[Option<Node>],
@@ -56,7 +58,7 @@ pub(crate) fn push_resolution(
     Ok(())
 }
 
-// Whether the subtree's resolution is not empty.
+/// Whether the subtree's resolution is not empty.
 pub(crate) fn has_resolution(nodes: &[Option<Node>], level: u32, first: u32) -> bool
     requires low { level ≤ 20 }
     requires inside { first + leaves_at level ≤ 1048576 }

@@ -1,3 +1,5 @@
+//! Worked values of the formats, refusals with their kinds and places, and devices that move pieces and fail.
+
 use super::*;
 use std::alloc::Global;
 use std::test::Fail;
@@ -70,6 +72,8 @@ fn a_vector_is_judged_in_order(rt: HostRuntime) -> Result<(), Fail> {
         let list: Result<Items<u16>, CodecFault> = read_input(rt.alloc(), bytes);
         assert_eq!(rt; list.err(), Some(wire(kind, 0)));
     }
+    let list: Result<Items<u32>, CodecFault> = read_input(rt.alloc(), &[0x02, 0x01, 0x02]);
+    assert_eq!(rt; list.err(), Some(wire(WireFaultKind::OddLength, 0)));
     let mut reader = Reader::new(&[7, 0x04, 0x40, 0x40, 1, 2, 9]);
     reader.read_u8()?;
     let mut body = reader.read_sub()?;

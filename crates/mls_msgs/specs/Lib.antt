@@ -1,0 +1,13 @@
+pub mod Layout
+pub mod Authenticated
+pub mod PublicMessage
+pub mod Message
+pub mod Signed
+pub mod Parsing
+pub mod FrameParsing
+pub mod MessageParsing
+pub mod ProposalExact
+pub mod CommitExact
+pub mod FrameExact
+pub mod AuthenticatedExact
+pub mod MessageExact

@@ -1,0 +1,144 @@
+-- Reading messages from left to right: for proofs alone, no public contract speaks of it.
+use Rattle.std.specs.Prelude.{ℕ, List, Option, Some, None, nat_eq, if◌then◌else◌}
+use Rattle.std.specs.Int.{w8, w16, w32, w64}
+use Rattle.mls_wire.specs.Input.{Input}
+use Rattle.mls_wire.specs.Parsing.{◌>>=◌, number_at, vector_at, list_at, optional_at}
+use Rattle.mls_nodes.specs.Parsing.{extension_at, leaf_at, group_context_at}
+use Rattle.mls_msgs.specs.declared.key_package.KeyPackage.{KeyPackage}
+use Rattle.mls_msgs.specs.declared.proposal.Proposal.{Proposal}
+use Rattle.mls_msgs.specs.declared.proposal.Proposal.TheVariants.{Add, Update, Remove}
+use Rattle.mls_msgs.specs.declared.proposal.ProposalOrRef.{ProposalOrRef}
+use Rattle.mls_msgs.specs.declared.proposal.ProposalOrRef.TheVariants as entries
+use Rattle.mls_msgs.specs.declared.commit.Ciphertext.{Ciphertext}
+use Rattle.mls_msgs.specs.declared.commit.PathNode.{PathNode}
+use Rattle.mls_msgs.specs.declared.commit.UpdatePath.{UpdatePath}
+use Rattle.mls_msgs.specs.declared.commit.Commit.{Commit}
+use Rattle.mls_msgs.specs.declared.frame.Sender.{Sender}
+use Rattle.mls_msgs.specs.declared.frame.Sender.TheVariants.{Member, External, NewMemberProposal, NewMemberCommit}
+use Rattle.mls_msgs.specs.declared.frame.Content.{Content}
+use Rattle.mls_msgs.specs.declared.frame.Content.TheVariants as contents
+use Rattle.mls_msgs.specs.declared.frame.FramedContent.{FramedContent}
+use Rattle.mls_msgs.specs.declared.group_info.GroupInfo.{GroupInfo}
+
+-- a key package
+unfoldable pub key_package_at : Input → Option (KeyPackage × Input)
+key_package_at i = do
+  version ← number_at w16 i
+  cipher_suite ← number_at w16 version.1
+  init_key ← vector_at cipher_suite.1
+  leaf_node ← leaf_at init_key.1
+  extensions ← list_at extension_at leaf_node.1
+  signature ← vector_at extensions.1
+  Some (
+    record {
+      version = version.0;
+      cipher_suite = cipher_suite.0;
+      init_key = init_key.0;
+      leaf_node = leaf_node.0;
+      extensions = extensions.0;
+      signature = signature.0;
+    },
+    signature.1,
+  )
+
+-- a proposal
+unfoldable pub proposal_at : Input → Option (Proposal × Input)
+proposal_at i = do
+  kind ← number_at w16 i
+  if nat_eq kind.0 1 then (key_package_at kind.1 >>= λ x. Some (Add x.0, x.1))
+      else if nat_eq kind.0 2 then (leaf_at kind.1 >>= λ x. Some (Update x.0, x.1))
+      else if nat_eq kind.0 3 then (number_at w32 kind.1 >>= λ x. Some (Remove x.0, x.1))
+      else None
+
+-- an entry of a commit's list
+unfoldable pub proposal_or_ref_at : Input → Option (ProposalOrRef × Input)
+proposal_or_ref_at i = do
+  kind ← number_at w8 i
+  if nat_eq kind.0 1 then (proposal_at kind.1 >>= λ x. Some (entries.Proposal x.0, x.1))
+      else if nat_eq kind.0 2 then (vector_at kind.1 >>= λ x. Some (entries.Reference x.0, x.1))
+      else None
+
+-- a ciphertext
+unfoldable pub ciphertext_at : Input → Option (Ciphertext × Input)
+ciphertext_at i = do
+  kem_output ← vector_at i
+  ciphertext ← vector_at kem_output.1
+  Some (record { kem_output = kem_output.0; ciphertext = ciphertext.0 }, ciphertext.1)
+
+-- a node of an update path
+unfoldable pub path_node_at : Input → Option (PathNode × Input)
+path_node_at i = do
+  encryption_key ← vector_at i
+  ciphertexts ← list_at ciphertext_at encryption_key.1
+  Some (record { encryption_key = encryption_key.0; ciphertexts = ciphertexts.0 }, ciphertexts.1)
+
+-- an update path
+unfoldable pub update_path_at : Input → Option (UpdatePath × Input)
+update_path_at i = do
+  leaf_node ← leaf_at i
+  nodes ← list_at path_node_at leaf_node.1
+  Some (record { leaf_node = leaf_node.0; nodes = nodes.0 }, nodes.1)
+
+-- a commit
+unfoldable pub commit_at : Input → Option (Commit × Input)
+commit_at i = do
+  proposals ← list_at proposal_or_ref_at i
+  path ← optional_at update_path_at proposals.1
+  Some (record { proposals = proposals.0; path = path.0 }, path.1)
+
+-- a sender
+unfoldable pub sender_at : Input → Option (Sender × Input)
+sender_at i = do
+  kind ← number_at w8 i
+  if nat_eq kind.0 1 then (number_at w32 kind.1 >>= λ x. Some (Member x.0, x.1))
+      else if nat_eq kind.0 2 then (number_at w32 kind.1 >>= λ x. Some (External x.0, x.1))
+      else if nat_eq kind.0 3 then Some (NewMemberProposal, kind.1)
+      else if nat_eq kind.0 4 then Some (NewMemberCommit, kind.1)
+      else None
+
+-- a content
+unfoldable pub content_at : Input → Option (Content × Input)
+content_at i = do
+  kind ← number_at w8 i
+  if nat_eq kind.0 1 then (vector_at kind.1 >>= λ x. Some (contents.Application x.0, x.1))
+      else if nat_eq kind.0 2 then (proposal_at kind.1 >>= λ x. Some (contents.Proposal x.0, x.1))
+      else if nat_eq kind.0 3 then (commit_at kind.1 >>= λ x. Some (contents.Commit x.0, x.1))
+      else None
+
+-- a framed content
+unfoldable pub framed_content_at : Input → Option (FramedContent × Input)
+framed_content_at i = do
+  group_id ← vector_at i
+  epoch ← number_at w64 group_id.1
+  sender ← sender_at epoch.1
+  authenticated ← vector_at sender.1
+  content ← content_at authenticated.1
+  Some (
+    record {
+      group_id = group_id.0;
+      epoch = epoch.0;
+      sender = sender.0;
+      authenticated = authenticated.0;
+      content = content.0;
+    },
+    content.1,
+  )
+
+-- a group info
+unfoldable pub group_info_at : Input → Option (GroupInfo × Input)
+group_info_at i = do
+  context ← group_context_at i
+  extensions ← list_at extension_at context.1
+  confirmation_tag ← vector_at extensions.1
+  signer ← number_at w32 confirmation_tag.1
+  signature ← vector_at signer.1
+  Some (
+    record {
+      context = context.0;
+      extensions = extensions.0;
+      confirmation_tag = confirmation_tag.0;
+      signer = signer.0;
+      signature = signature.0;
+    },
+    signature.1,
+  )

@@ -1,0 +1,249 @@
+//! Framed contents with their authentication.
+
+ghost use Rattle.std.specs.Prelude.{◌≡◌, ℕ, List, Option, option_map, IfOk, IsTrue, IsOk, is_some, IsSome, ◌↔◌, MatchResult};
+ghost use Rattle.mls_wire.specs.Reading.{DecodesAll, seen};
+ghost use Rattle.mls_wire.specs.Parsing.{GivesOrFull};
+ghost use Rattle.mls_wire.specs.Writing.{Makes, Puts};
+ghost use Rattle.mls_msgs.specs.Layout.{is_commit};
+ghost use Rattle.mls_msgs.specs.Authenticated.{is_frame_format, tag_fits, is_authenticated, tag_if, signed_frame, authenticated_content};
+ghost use Rattle.mls_msgs.specs.FrameParsing.{tag_if_at, frame_auth_at, frame_format_at, signed_frame_at};
+
+use crate::fault::bad_tag;
+use crate::frame::FramedContent;
+use mls_wire::{CodecFault, Decode, Draft, Encode, Opaque, Reader, bytes_of, read_all_of};
+use std::alloc::Global;
+use std::marker::Model;
+
+/// The parts of an [`Authenticated`], which may or may not fit together.
+#[derive(Debug, Drop)]
+pub struct AuthenticatedParts {
+    pub wire_format: u16,
+    pub content: FramedContent,
+    pub signature: Opaque,
+    pub confirmation_tag: Option<Opaque>,
+}
+
+/// A framed content with what its sender signed it by (RFC 9420, section 6: AuthenticatedContent). The wire format is
+/// that of a PublicMessage, 1, or of a PrivateMessage, 2, and there is a confirmation tag exactly for a commit.
+#[derive(Debug, Drop)]
+pub struct Authenticated {
+    parts: AuthenticatedParts,
+}
+
+impl Model for Authenticated {
+    ghost use Rattle.std.specs.Prelude.{IsTrue};
+    ghost use Rattle.mls_msgs.specs.declared.authenticated.AuthenticatedParts.{AuthenticatedParts};
+    ghost use Rattle.mls_msgs.specs.Authenticated.{is_authenticated};
+
+    ghost Value = { AuthenticatedParts };
+
+    ghost view = { λ a. a.parts };
+
+    ghost invariant = { λ a. IsTrue (is_authenticated a.parts) };
+}
+
+impl Authenticated {
+    /// Parts that do not fit together are handed back: another wire format than 1 and 2, a commit without a
+    /// confirmation tag, or a tag with another content.
+    pub fn new(parts: AuthenticatedParts) -> Result<Authenticated, AuthenticatedParts>
+        ensures held { MatchResult result (λ made. made ≡ parts) (λ back. back ≡ parts) }
+        ensures fits { IsOk result ↔ IsTrue (is_authenticated parts) }
+    {
+        let is_framed = parts.wire_format == 1 || parts.wire_format == 2;
+        if is_framed && parts.confirmation_tag.is_some() == parts.content.content.is_commit() {
+            Ok(Authenticated { parts })
+        } else {
+            Err(parts)
+        }
+    }
+
+    /// 1 for a PublicMessage, 2 for a PrivateMessage.
+    pub fn wire_format(&self) -> u16
+        ensures value { result ≡ self.now.wire_format }
+        ensures limit { IsTrue (is_frame_format result) }
+    {
+        self.parts.wire_format
+    }
+
+    /// What is sent.
+    pub fn content(&self) -> &FramedContent
+        ensures { result.now ≡ self.now.content }
+    {
+        &self.parts.content
+    }
+
+    /// The sender's signature over the content.
+    pub fn signature(&self) -> &Opaque
+        ensures { result.now ≡ self.now.signature }
+    {
+        &self.parts.signature
+    }
+
+    /// The tag that confirms a commit's new epoch.
+    pub fn confirmation_tag(&self) -> Option<&Opaque>
+        ensures value { option_map (λ t. t.now) result ≡ self.now.confirmation_tag }
+        ensures commit { IsSome result ↔ IsTrue (is_commit self.now.content.content) }
+    {
+        self.parts.confirmation_tag.as_ref()
+    }
+}
+
+/// A tag where one is wanted.
+#[tactic(auto, unfolding(crate::specs::FrameParsing::tag_if_at))]
+pub(crate) fn read_tag(
+    alloc: Global,
+    reader: &mut Reader<'_>,
+    wanted: bool,
+) -> Result<Option<Opaque>, CodecFault>
+    ensures read { GivesOrFull (tag_if_at wanted) reader.old reader.new result }
+    ensures fits { IfOk result (λ t. IsTrue (tag_fits wanted t)) }
+{
+    if wanted {
+        Ok(Some(Opaque::read(alloc, reader)?))
+    } else {
+        Ok(None)
+    }
+}
+
+/// Adds a tag where there is one.
+#[tactic(auto, unfolding(crate::specs::Authenticated::tag_if))]
+pub(crate) fn put_tag(
+    alloc: Global,
+    tag: &Option<Opaque>,
+    draft: &mut Draft,
+) -> Result<(), CodecFault>
+    ensures { Puts (tag_if (is_some tag.now) tag.now) draft.old draft.new result }
+{
+    match tag {
+        Some(tag) => tag.put(alloc, draft),
+        None => Ok(()),
+    }
+}
+
+/// What authenticates a framed content (RFC 9420, section 6.1).
+#[derive(Drop)]
+struct FrameAuth {
+    signature: Opaque,
+    confirmation_tag: Option<Opaque>,
+}
+
+/// The authentication of a content that is a commit or not.
+#[tactic(auto, unfolding(crate::specs::FrameParsing::frame_auth_at))]
+fn read_frame_auth(
+    alloc: Global,
+    reader: &mut Reader<'_>,
+    is_commit: bool,
+) -> Result<FrameAuth, CodecFault>
+    ensures read { GivesOrFull (frame_auth_at is_commit) reader.old reader.new (seen (λ a. (a.signature, a.confirmation_tag)) result) }
+    ensures fits { IfOk result (λ a. IsTrue (tag_fits is_commit a.confirmation_tag)) }
+{
+    let mut ahead = reader.fork();
+    let signature = Opaque::read(alloc, &mut ahead)?;
+    let confirmation_tag = read_tag(alloc, &mut ahead, is_commit)?;
+    *reader = ahead;
+    Ok(FrameAuth {
+        signature,
+        confirmation_tag,
+    })
+}
+
+/// What is framed, and its authentication, in a frame of this wire format.
+#[tactic(auto, unfolding(crate::specs::FrameParsing::signed_frame_at))]
+pub(crate) fn read_signed_frame(
+    alloc: Global,
+    reader: &mut Reader<'_>,
+    wire_format: u16,
+) -> Result<Authenticated, CodecFault>
+    requires { IsTrue (is_frame_format wire_format) }
+    ensures read { GivesOrFull (signed_frame_at wire_format) reader.old reader.new result }
+    ensures format { IfOk result (λ a. a.wire_format ≡ wire_format) }
+{
+    let mut ahead = reader.fork();
+    let content = FramedContent::read(alloc, &mut ahead)?;
+    let auth = read_frame_auth(alloc, &mut ahead, content.content.is_commit())?;
+    *reader = ahead;
+    Ok(Authenticated {
+        parts: AuthenticatedParts {
+            wire_format,
+            content,
+            signature: auth.signature,
+            confirmation_tag: auth.confirmation_tag,
+        },
+    })
+}
+
+/// The wire format of a framed content. `BadTag` for another one.
+#[tactic(auto, unfolding(crate::specs::FrameParsing::frame_format_at))]
+fn read_frame_format(alloc: Global, reader: &mut Reader<'_>) -> Result<u16, CodecFault>
+    ensures read { GivesOrFull frame_format_at reader.old reader.new result }
+    ensures limit { IfOk result (λ n. IsTrue (is_frame_format n)) }
+{
+    let mut ahead = reader.fork();
+    let wire_format = u16::read(alloc, &mut ahead)?;
+    if wire_format != 1 && wire_format != 2 {
+        return Err(bad_tag(wire_format, reader.place()));
+    }
+    *reader = ahead;
+    Ok(wire_format)
+}
+
+impl Decode for Authenticated {
+    ghost use Rattle.mls_msgs.specs.Authenticated.{authenticated_content};
+    ghost use Rattle.mls_msgs.specs.FrameParsing.{authenticated_content_at};
+    ghost use Rattle.mls_msgs.specs.AuthenticatedExact.{authenticated_content_exact, authenticated_content_long};
+
+    ghost spelling = { authenticated_content };
+
+    ghost reading = { authenticated_content_at };
+
+    #[tactic(auto, unfolding(crate::specs::FrameParsing::authenticated_content_at))]
+    fn read(alloc: Global, reader: &mut Reader<'_>) -> Result<Authenticated, CodecFault> {
+        let mut ahead = reader.fork();
+        let wire_format = read_frame_format(alloc, &mut ahead)?;
+        let authenticated = read_signed_frame(alloc, &mut ahead, wire_format)?;
+        *reader = ahead;
+        Ok(authenticated)
+    }
+
+    ghost exact = { authenticated_content_exact };
+
+    ghost long = { authenticated_content_long };
+}
+
+impl Authenticated {
+    /// Adds what is framed, and its authentication.
+    #[tactic(auto, using(mls_wire::specs::Written::written), unfolding(crate::specs::Authenticated::signed_frame, crate::specs::Authenticated::frame_auth))]
+    pub(crate) fn put_signed_frame(
+        &self,
+        alloc: Global,
+        draft: &mut Draft,
+    ) -> Result<(), CodecFault>
+        ensures { Puts (signed_frame self.now) draft.old draft.new result }
+    {
+        self.parts.content.put(alloc, draft)?;
+        self.parts.signature.put(alloc, draft)?;
+        put_tag(alloc, &self.parts.confirmation_tag, draft)
+    }
+}
+
+impl Encode for Authenticated {
+    #[tactic(auto, using(mls_wire::specs::Written::written, crate::proofs::PartLemmas::frame_format_fits), unfolding(crate::specs::Authenticated::authenticated_content))]
+    fn put(&self, alloc: Global, draft: &mut Draft) -> Result<(), CodecFault> {
+        draft.put_u16(self.wire_format())?;
+        self.put_signed_frame(alloc, draft)
+    }
+}
+
+/// The authenticated content that all of the bytes spell. `BadTag` for a wire format other than 1 and 2.
+pub fn decode_authenticated(alloc: Global, bytes: &[u8]) -> Result<Authenticated, CodecFault>
+    ensures decoded { DecodesAll authenticated_content bytes.now result }
+{
+    read_all_of(alloc, bytes)
+}
+
+/// The bytes that spell the authenticated content. `TooLong` where one of its vectors is over the limit.
+pub fn encode_authenticated(alloc: Global, value: &Authenticated) -> Result<Vec<u8>, CodecFault>
+    ensures encoded { Makes (authenticated_content value.now) (seen (λ bytes. bytes.items) result) }
+{
+    bytes_of(alloc, value)
+}

@@ -1,0 +1,173 @@
+//! Commits, and the update paths that they carry.
+
+use crate::proposal::ProposalOrRef;
+use mls_nodes::LeafNode;
+use mls_wire::{CodecFault, Decode, Draft, Encode, Opaque, Reader, Sequence};
+use std::alloc::Global;
+
+/// A path secret, encrypted to one node of the copath's resolution (RFC 9420, section 7.6).
+#[derive(Debug, Drop)]
+pub struct Ciphertext {
+    pub kem_output: Opaque,
+    pub ciphertext: Opaque,
+}
+
+/// One ciphertext per node of a resolution.
+pub type Ciphertexts = Sequence<Ciphertext>;
+
+/// A node's new key, and its path secret for those under the node's copath child (RFC 9420, section 7.6).
+#[derive(Debug, Drop)]
+pub struct PathNode {
+    pub encryption_key: Opaque,
+    pub ciphertexts: Ciphertexts,
+}
+
+/// One node per node of the committer's filtered direct path, from the lowest to the root.
+pub type PathNodes = Sequence<PathNode>;
+
+/// The committer's new leaf, and the new nodes above it (RFC 9420, section 7.6).
+#[derive(Debug, Drop)]
+pub struct UpdatePath {
+    pub leaf_node: LeafNode,
+    pub nodes: PathNodes,
+}
+
+/// The proposals of a commit in their order.
+pub type Proposals = Sequence<ProposalOrRef>;
+
+/// What begins a new epoch: the proposals that are applied, and perhaps an update path (RFC 9420, section 12.4).
+#[derive(Debug, Drop)]
+pub struct Commit {
+    pub proposals: Proposals,
+    pub path: Option<UpdatePath>,
+}
+
+impl Decode for Ciphertext {
+    ghost use Rattle.mls_msgs.specs.Layout.{ciphertext};
+    ghost use Rattle.mls_msgs.specs.Parsing.{ciphertext_at};
+    ghost use Rattle.mls_msgs.specs.CommitExact.{ciphertext_exact, ciphertext_long};
+
+    ghost spelling = { ciphertext };
+
+    ghost reading = { ciphertext_at };
+
+    #[tactic(auto, unfolding(crate::specs::Parsing::ciphertext_at))]
+    fn read(alloc: Global, reader: &mut Reader<'_>) -> Result<Ciphertext, CodecFault> {
+        let mut ahead = reader.fork();
+        let kem_output = Opaque::read(alloc, &mut ahead)?;
+        let ciphertext = Opaque::read(alloc, &mut ahead)?;
+        *reader = ahead;
+        Ok(Ciphertext {
+            kem_output,
+            ciphertext,
+        })
+    }
+
+    ghost exact = { ciphertext_exact };
+
+    ghost long = { ciphertext_long };
+}
+
+impl Encode for Ciphertext {
+    #[tactic(auto, using(mls_wire::specs::Written::written), unfolding(crate::specs::Layout::ciphertext))]
+    fn put(&self, alloc: Global, draft: &mut Draft) -> Result<(), CodecFault> {
+        self.kem_output.put(alloc, draft)?;
+        self.ciphertext.put(alloc, draft)
+    }
+}
+
+impl Decode for PathNode {
+    ghost use Rattle.mls_msgs.specs.Layout.{path_node};
+    ghost use Rattle.mls_msgs.specs.Parsing.{path_node_at};
+    ghost use Rattle.mls_msgs.specs.CommitExact.{path_node_exact, path_node_long};
+
+    ghost spelling = { path_node };
+
+    ghost reading = { path_node_at };
+
+    #[tactic(auto, unfolding(crate::specs::Parsing::path_node_at))]
+    fn read(alloc: Global, reader: &mut Reader<'_>) -> Result<PathNode, CodecFault> {
+        let mut ahead = reader.fork();
+        let encryption_key = Opaque::read(alloc, &mut ahead)?;
+        let ciphertexts = Ciphertexts::read(alloc, &mut ahead)?;
+        *reader = ahead;
+        Ok(PathNode {
+            encryption_key,
+            ciphertexts,
+        })
+    }
+
+    ghost exact = { path_node_exact };
+
+    ghost long = { path_node_long };
+}
+
+impl Encode for PathNode {
+    #[tactic(auto, using(mls_wire::specs::Written::written), unfolding(crate::specs::Layout::path_node))]
+    fn put(&self, alloc: Global, draft: &mut Draft) -> Result<(), CodecFault> {
+        self.encryption_key.put(alloc, draft)?;
+        self.ciphertexts.put(alloc, draft)
+    }
+}
+
+impl Decode for UpdatePath {
+    ghost use Rattle.mls_msgs.specs.Layout.{update_path};
+    ghost use Rattle.mls_msgs.specs.Parsing.{update_path_at};
+    ghost use Rattle.mls_msgs.specs.CommitExact.{update_path_exact, update_path_long};
+
+    ghost spelling = { update_path };
+
+    ghost reading = { update_path_at };
+
+    #[tactic(auto, unfolding(crate::specs::Parsing::update_path_at))]
+    fn read(alloc: Global, reader: &mut Reader<'_>) -> Result<UpdatePath, CodecFault> {
+        let mut ahead = reader.fork();
+        let leaf_node = LeafNode::read(alloc, &mut ahead)?;
+        let nodes = PathNodes::read(alloc, &mut ahead)?;
+        *reader = ahead;
+        Ok(UpdatePath { leaf_node, nodes })
+    }
+
+    ghost exact = { update_path_exact };
+
+    ghost long = { update_path_long };
+}
+
+impl Encode for UpdatePath {
+    #[tactic(auto, using(mls_wire::specs::Written::written), unfolding(crate::specs::Layout::update_path))]
+    fn put(&self, alloc: Global, draft: &mut Draft) -> Result<(), CodecFault> {
+        self.leaf_node.put(alloc, draft)?;
+        self.nodes.put(alloc, draft)
+    }
+}
+
+impl Decode for Commit {
+    ghost use Rattle.mls_msgs.specs.Layout.{commit};
+    ghost use Rattle.mls_msgs.specs.Parsing.{commit_at};
+    ghost use Rattle.mls_msgs.specs.CommitExact.{commit_exact, commit_long};
+
+    ghost spelling = { commit };
+
+    ghost reading = { commit_at };
+
+    #[tactic(auto, unfolding(crate::specs::Parsing::commit_at))]
+    fn read(alloc: Global, reader: &mut Reader<'_>) -> Result<Commit, CodecFault> {
+        let mut ahead = reader.fork();
+        let proposals = Proposals::read(alloc, &mut ahead)?;
+        let path = Option::<UpdatePath>::read(alloc, &mut ahead)?;
+        *reader = ahead;
+        Ok(Commit { proposals, path })
+    }
+
+    ghost exact = { commit_exact };
+
+    ghost long = { commit_long };
+}
+
+impl Encode for Commit {
+    #[tactic(auto, using(mls_wire::specs::Written::written), unfolding(crate::specs::Layout::commit))]
+    fn put(&self, alloc: Global, draft: &mut Draft) -> Result<(), CodecFault> {
+        self.proposals.put(alloc, draft)?;
+        self.path.put(alloc, draft)
+    }
+}

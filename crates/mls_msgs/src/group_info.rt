@@ -1,0 +1,76 @@
+//! Group infos.
+
+use mls_nodes::{Extensions, GroupContext};
+use mls_wire::{CodecFault, Decode, Draft, Encode, Opaque, Reader};
+use std::alloc::Global;
+
+/// What a client that joins learns of a group's state (RFC 9420, section 12.4.3.1).
+#[derive(Debug, Drop)]
+pub struct GroupInfo {
+    /// The group's context.
+    pub context: GroupContext,
+    /// Extensions of the group info itself, as the ratchet tree.
+    pub extensions: Extensions,
+    /// The tag that confirms the epoch.
+    pub confirmation_tag: Opaque,
+    /// The leaf of the member that signed it.
+    pub signer: u32,
+    /// The signer's signature over the fields above.
+    pub signature: Opaque,
+}
+
+impl Decode for GroupInfo {
+    ghost use Rattle.mls_msgs.specs.Layout.{group_info};
+    ghost use Rattle.mls_msgs.specs.Parsing.{group_info_at};
+    ghost use Rattle.mls_msgs.specs.MessageExact.{group_info_exact, group_info_long};
+
+    ghost spelling = { group_info };
+
+    ghost reading = { group_info_at };
+
+    #[tactic(auto, unfolding(crate::specs::Parsing::group_info_at))]
+    fn read(alloc: Global, reader: &mut Reader<'_>) -> Result<GroupInfo, CodecFault> {
+        let mut ahead = reader.fork();
+        let context = GroupContext::read(alloc, &mut ahead)?;
+        let extensions = Extensions::read(alloc, &mut ahead)?;
+        let confirmation_tag = Opaque::read(alloc, &mut ahead)?;
+        let signer = u32::read(alloc, &mut ahead)?;
+        let signature = Opaque::read(alloc, &mut ahead)?;
+        *reader = ahead;
+        Ok(GroupInfo {
+            context,
+            extensions,
+            confirmation_tag,
+            signer,
+            signature,
+        })
+    }
+
+    ghost exact = { group_info_exact };
+
+    ghost long = { group_info_long };
+}
+
+impl GroupInfo {
+    ghost use Rattle.mls_wire.specs.Writing.{Puts};
+    ghost use Rattle.mls_msgs.specs.Signed.{info_tbs};
+
+    /// Adds the fields that are signed.
+    #[tactic(auto, using(mls_wire::specs::Written::written), unfolding(crate::specs::Signed::info_tbs))]
+    pub(crate) fn put_unsigned(&self, alloc: Global, draft: &mut Draft) -> Result<(), CodecFault>
+        ensures { Puts (info_tbs self.now) draft.old draft.new result }
+    {
+        self.context.put(alloc, draft)?;
+        self.extensions.put(alloc, draft)?;
+        self.confirmation_tag.put(alloc, draft)?;
+        draft.put_u32(self.signer)
+    }
+}
+
+impl Encode for GroupInfo {
+    #[tactic(auto, using(mls_wire::specs::Written::written, crate::proofs::Unsigned::info_signed))]
+    fn put(&self, alloc: Global, draft: &mut Draft) -> Result<(), CodecFault> {
+        self.put_unsigned(alloc, draft)?;
+        self.signature.put(alloc, draft)
+    }
+}

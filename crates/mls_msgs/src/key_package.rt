@@ -1,0 +1,89 @@
+//! Key packages.
+
+use mls_nodes::{Extensions, LeafNode};
+use mls_wire::{CodecFault, Decode, Draft, Encode, Opaque, Reader, TryClone};
+use std::alloc::Global;
+
+/// What a client publishes so that others can add it to a group (RFC 9420, section 10). The version and the cipher
+/// suite are kept as they are, whichever they are.
+#[derive(Debug, Drop)]
+pub struct KeyPackage {
+    pub version: u16,
+    pub cipher_suite: u16,
+    pub init_key: Opaque,
+    pub leaf_node: LeafNode,
+    pub extensions: Extensions,
+    pub signature: Opaque,
+}
+
+impl Decode for KeyPackage {
+    ghost use Rattle.mls_msgs.specs.Layout.{key_package};
+    ghost use Rattle.mls_msgs.specs.Parsing.{key_package_at};
+    ghost use Rattle.mls_msgs.specs.ProposalExact.{key_package_exact, key_package_long};
+
+    ghost spelling = { key_package };
+
+    ghost reading = { key_package_at };
+
+    #[tactic(auto, unfolding(crate::specs::Parsing::key_package_at))]
+    fn read(alloc: Global, reader: &mut Reader<'_>) -> Result<KeyPackage, CodecFault> {
+        let mut ahead = reader.fork();
+        let version = u16::read(alloc, &mut ahead)?;
+        let cipher_suite = u16::read(alloc, &mut ahead)?;
+        let init_key = Opaque::read(alloc, &mut ahead)?;
+        let leaf_node = LeafNode::read(alloc, &mut ahead)?;
+        let extensions = Extensions::read(alloc, &mut ahead)?;
+        let signature = Opaque::read(alloc, &mut ahead)?;
+        *reader = ahead;
+        Ok(KeyPackage {
+            version,
+            cipher_suite,
+            init_key,
+            leaf_node,
+            extensions,
+            signature,
+        })
+    }
+
+    ghost exact = { key_package_exact };
+
+    ghost long = { key_package_long };
+}
+
+impl KeyPackage {
+    ghost use Rattle.mls_wire.specs.Writing.{Puts};
+    ghost use Rattle.mls_msgs.specs.Signed.{package_tbs};
+
+    /// Adds the fields that are signed.
+    #[tactic(auto, using(mls_wire::specs::Written::written), unfolding(crate::specs::Signed::package_tbs))]
+    pub(crate) fn put_unsigned(&self, alloc: Global, draft: &mut Draft) -> Result<(), CodecFault>
+        ensures { Puts (package_tbs self.now) draft.old draft.new result }
+    {
+        draft.put_u16(self.version)?;
+        draft.put_u16(self.cipher_suite)?;
+        self.init_key.put(alloc, draft)?;
+        self.leaf_node.put(alloc, draft)?;
+        self.extensions.put(alloc, draft)
+    }
+}
+
+impl Encode for KeyPackage {
+    #[tactic(auto, using(mls_wire::specs::Written::written, crate::proofs::Unsigned::package_signed))]
+    fn put(&self, alloc: Global, draft: &mut Draft) -> Result<(), CodecFault> {
+        self.put_unsigned(alloc, draft)?;
+        self.signature.put(alloc, draft)
+    }
+}
+
+impl TryClone for KeyPackage {
+    fn try_clone(&self, alloc: Global) -> Result<KeyPackage, CodecFault> {
+        Ok(KeyPackage {
+            version: self.version,
+            cipher_suite: self.cipher_suite,
+            init_key: self.init_key.try_clone(alloc)?,
+            leaf_node: self.leaf_node.try_clone(alloc)?,
+            extensions: self.extensions.try_clone(alloc)?,
+            signature: self.signature.try_clone(alloc)?,
+        })
+    }
+}

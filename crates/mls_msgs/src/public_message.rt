@@ -1,0 +1,105 @@
+//! Messages in the open.
+
+ghost use Rattle.std.specs.Prelude.{◌≡◌, Option, option_map, IsTrue, IsOk, IsSome, ◌↔◌, MatchResult};
+ghost use Rattle.mls_msgs.specs.Layout.{is_member};
+ghost use Rattle.mls_msgs.specs.PublicMessage.{is_public};
+
+use crate::authenticated::{Authenticated, put_tag, read_signed_frame, read_tag};
+use mls_wire::{CodecFault, Decode, Draft, Encode, Opaque, Reader};
+use std::alloc::Global;
+use std::marker::Model;
+
+/// The parts of a [`PublicMessage`], which may or may not fit together.
+#[derive(Debug, Drop)]
+pub struct PublicParts {
+    pub auth: Authenticated,
+    pub membership_tag: Option<Opaque>,
+}
+
+/// A message in the open (RFC 9420, section 6.2). Its wire format is 1, and there is a membership tag exactly where a
+/// member sent it.
+#[derive(Debug, Drop)]
+pub struct PublicMessage {
+    parts: PublicParts,
+}
+
+impl Model for PublicMessage {
+    ghost use Rattle.std.specs.Prelude.{IsTrue};
+    ghost use Rattle.mls_msgs.specs.declared.public_message.PublicParts.{PublicParts};
+    ghost use Rattle.mls_msgs.specs.PublicMessage.{is_public};
+
+    ghost Value = { PublicParts };
+
+    ghost view = { λ m. m.parts };
+
+    ghost invariant = { λ m. IsTrue (is_public m.parts) };
+}
+
+impl PublicMessage {
+    /// Parts that do not fit together are handed back: another wire format than 1, a member's message without a
+    /// membership tag, or a tag with another sender.
+    pub fn new(parts: PublicParts) -> Result<PublicMessage, PublicParts>
+        ensures held { MatchResult result (λ made. made ≡ parts) (λ back. back ≡ parts) }
+        ensures fits { IsOk result ↔ IsTrue (is_public parts) }
+    {
+        let sender = parts.auth.content().sender;
+        if parts.auth.wire_format() == 1 && parts.membership_tag.is_some() == sender.is_member() {
+            Ok(PublicMessage { parts })
+        } else {
+            Err(parts)
+        }
+    }
+
+    /// What is sent, with its sender's authentication.
+    pub fn auth(&self) -> &Authenticated
+        ensures value { result.now ≡ self.now.auth }
+        ensures format { result.now.wire_format ≡ 1 }
+    {
+        &self.parts.auth
+    }
+
+    /// The tag that a member of the group made.
+    pub fn membership_tag(&self) -> Option<&Opaque>
+        ensures value { option_map (λ t. t.now) result ≡ self.now.membership_tag }
+        ensures member { IsSome result ↔ IsTrue (is_member self.now.auth.content.sender) }
+    {
+        self.parts.membership_tag.as_ref()
+    }
+}
+
+impl Decode for PublicMessage {
+    ghost use Rattle.mls_msgs.specs.PublicMessage.{public_message};
+    ghost use Rattle.mls_msgs.specs.FrameParsing.{public_message_at};
+    ghost use Rattle.mls_msgs.specs.AuthenticatedExact.{public_message_exact, public_message_long};
+
+    ghost spelling = { public_message };
+
+    ghost reading = { public_message_at };
+
+    #[tactic(auto, unfolding(crate::specs::FrameParsing::public_message_at))]
+    fn read(alloc: Global, reader: &mut Reader<'_>) -> Result<PublicMessage, CodecFault> {
+        let mut ahead = reader.fork();
+        let auth = read_signed_frame(alloc, &mut ahead, 1)?;
+        let is_member = auth.content().sender.is_member();
+        let membership_tag = read_tag(alloc, &mut ahead, is_member)?;
+        *reader = ahead;
+        Ok(PublicMessage {
+            parts: PublicParts {
+                auth,
+                membership_tag,
+            },
+        })
+    }
+
+    ghost exact = { public_message_exact };
+
+    ghost long = { public_message_long };
+}
+
+impl Encode for PublicMessage {
+    #[tactic(auto, using(mls_wire::specs::Written::written), unfolding(crate::specs::PublicMessage::public_message, crate::specs::PublicMessage::public_frame))]
+    fn put(&self, alloc: Global, draft: &mut Draft) -> Result<(), CodecFault> {
+        self.parts.auth.put_signed_frame(alloc, draft)?;
+        put_tag(alloc, &self.parts.membership_tag, draft)
+    }
+}

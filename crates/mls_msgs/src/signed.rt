@@ -1,0 +1,106 @@
+//! What is signed and what is hashed of a message.
+
+ghost use Rattle.std.specs.Prelude.{◌≡◌, ℕ, List, Option, option_map};
+ghost use Rattle.mls_wire.specs.Reading.{seen};
+ghost use Rattle.mls_wire.specs.Writing.{Makes, Puts};
+ghost use Rattle.mls_msgs.specs.Signed.{given_context, content_tbs, package_tbs, info_tbs, confirmed_input};
+
+use crate::authenticated::Authenticated;
+use crate::group_info::GroupInfo;
+use crate::key_package::KeyPackage;
+use mls_nodes::GroupContext;
+use mls_wire::{CodecFault, Draft, Encode};
+use std::alloc::Global;
+
+/// Adds a group context where one is handed in.
+#[tactic(auto, unfolding(crate::specs::Signed::given_context))]
+fn put_context(
+    alloc: Global,
+    context: Option<&GroupContext>,
+    draft: &mut Draft,
+) -> Result<(), CodecFault>
+    ensures { Puts (given_context (option_map (λ c. c.now) context.entry)) draft.old draft.new result }
+{
+    match context {
+        Some(context) => context.put(alloc, draft),
+        None => draft.put_bytes(&[]),
+    }
+}
+
+#[tactic(auto, using(mls_wire::specs::Written::written), unfolding(crate::specs::Signed::content_tbs))]
+fn put_content_tbs(
+    alloc: Global,
+    auth: &Authenticated,
+    context: Option<&GroupContext>,
+    draft: &mut Draft,
+) -> Result<(), CodecFault>
+    ensures { Puts (content_tbs auth.now (option_map (λ c. c.now) context.entry)) draft.old draft.new result }
+{
+    draft.put_u16(1)?;
+    draft.put_u16(auth.wire_format())?;
+    auth.content().put(alloc, draft)?;
+    put_context(alloc, context, draft)
+}
+
+#[tactic(auto, using(mls_wire::specs::Written::written), unfolding(crate::specs::Signed::confirmed_input))]
+fn put_confirmed_input(
+    alloc: Global,
+    auth: &Authenticated,
+    draft: &mut Draft,
+) -> Result<(), CodecFault>
+    ensures { Puts (confirmed_input auth.now) draft.old draft.new result }
+{
+    draft.put_u16(auth.wire_format())?;
+    auth.content().put(alloc, draft)?;
+    auth.signature().put(alloc, draft)
+}
+
+/// What a message's signature covers (RFC 9420, section 6.1: FramedContentTBS): the version, the wire format and the
+/// framed content, and then the group context exactly where one is handed in. By the standard that is for a member and
+/// for a new member's commit. Refused for another cause than memory only where there is no such spelling.
+#[tactic(auto, using(crate::proofs::PartLemmas::drafted))]
+pub fn content_tbs(
+    alloc: Global,
+    auth: &Authenticated,
+    context: Option<&GroupContext>,
+) -> Result<Vec<u8>, CodecFault>
+    ensures made { Makes (content_tbs auth.now (option_map (λ c. c.now) context.entry)) (seen (λ bytes. bytes.items) result) }
+{
+    let mut draft = Draft::new(alloc);
+    put_content_tbs(alloc, auth, context, &mut draft)?;
+    Ok(draft.finish())
+}
+
+/// What a key package's signature covers (RFC 9420, section 10: KeyPackageTBS): all fields before it. Refused for
+/// another cause than memory only where they have no spelling.
+#[tactic(auto, using(crate::proofs::PartLemmas::drafted))]
+pub fn package_tbs(alloc: Global, key_package: &KeyPackage) -> Result<Vec<u8>, CodecFault>
+    ensures made { Makes (package_tbs key_package.now) (seen (λ bytes. bytes.items) result) }
+{
+    let mut draft = Draft::new(alloc);
+    key_package.put_unsigned(alloc, &mut draft)?;
+    Ok(draft.finish())
+}
+
+/// What a group info's signature covers (RFC 9420, section 12.4.3.1: GroupInfoTBS): all fields before it. Refused for
+/// another cause than memory only where they have no spelling.
+#[tactic(auto, using(crate::proofs::PartLemmas::drafted))]
+pub fn info_tbs(alloc: Global, info: &GroupInfo) -> Result<Vec<u8>, CodecFault>
+    ensures made { Makes (info_tbs info.now) (seen (λ bytes. bytes.items) result) }
+{
+    let mut draft = Draft::new(alloc);
+    info.put_unsigned(alloc, &mut draft)?;
+    Ok(draft.finish())
+}
+
+/// What of a commit goes into the confirmed transcript hash (RFC 9420, section 8.2: ConfirmedTranscriptHashInput): the
+/// wire format, the framed content and its signature. Refused for another cause than memory only where they have no
+/// spelling.
+#[tactic(auto, using(crate::proofs::PartLemmas::drafted))]
+pub fn confirmed_input(alloc: Global, auth: &Authenticated) -> Result<Vec<u8>, CodecFault>
+    ensures made { Makes (confirmed_input auth.now) (seen (λ bytes. bytes.items) result) }
+{
+    let mut draft = Draft::new(alloc);
+    put_confirmed_input(alloc, auth, &mut draft)?;
+    Ok(draft.finish())
+}

@@ -34,32 +34,38 @@ HasShape-prop t x y = λ i. record { perfect = IsPerfect-prop t x.perfect y.perf
 pub RatchetTree-same : (x y : RatchetTree) → x.tree ≡ y.tree → x ≡ y
 RatchetTree-same x y e = λ i. record { tree = e i; shape = is_prop→PathP (λ j. HasShape (e j)) (λ j. HasShape-prop (e j)) x.shape y.shape i }
 
--- how a tree is numbered, which the type of a value seen by contracts needs: a tree's code tells the tree
+-- the first part of a code; a value that contracts see has to have one, which tells it from any other
 abbrev head : Gv → Gv
 head gnil = gnil
 head (gnum n) = gnil
 head (gcons a b) = a
 
+-- the rest of a code
 abbrev tail : Gv → Gv
 tail gnil = gnil
 tail (gnum n) = gnil
 tail (gcons a b) = b
 
+-- the code has two parts
 abbrev IsCons : Gv → Type 0
 IsCons gnil = ⊥
 IsCons (gnum n) = ⊥
 IsCons (gcons a b) = Unit {0}
 
+-- the code of a leaf
 abbrev leaf_coded : Coded (Option LeafNode)
 leaf_coded = coded_option leaf-node.the_row.coded
 
+-- the code of a parent
 abbrev parent_coded : Coded (Option ParentNode)
 parent_coded = coded_option parent-node.the_row.coded
 
+-- the code of a tree: those of its halves and of its node
 abbrev pub tree_code : Tree → Gv
 tree_code (leaf x) = gcons gnil (leaf_coded.code x)
 tree_code (branch l p r) = gcons (gcons (tree_code l) (tree_code r)) (parent_coded.code p)
 
+-- trees of one code are one tree
 pub tree_inj : (x y : Tree) → tree_code x ≡ tree_code y → x ≡ y
 tree_inj (leaf x) (leaf y) e = λ i. leaf (leaf_coded.inj x y (ap tail e) i)
 tree_inj (leaf x) (branch l p r) e = absurd (cc)
@@ -67,8 +73,10 @@ tree_inj (branch l p r) (leaf x) e = absurd (cc)
 tree_inj (branch l p r) (branch m q s) e =
     λ i. branch (tree_inj l m (ap (λ g. head (head g)) e) i) (parent_coded.inj p q (ap tail e) i) (tree_inj r s (ap (λ g. tail (head g)) e) i)
 
+-- so trees have codes
 abbrev pub tree_coded : Coded Tree
 tree_coded = record { code = tree_code; inj = tree_inj }
 
+-- and ratchet trees have them, by their trees
 abbrev pub ratchet_tree_coded : Coded RatchetTree
 ratchet_tree_coded = coded_via tree_coded (λ x. x.tree) RatchetTree-same

@@ -1,0 +1,7 @@
+use Rattle.std.proofs.Common.{arith}
+use Rattle.mls_check.specs.Members.{supports_own_extensions}
+use Rattle.mls_check.proofs.Leaves.{all_leaves-below}
+use Rattle.mls_check.proofs.members.first_unlisted_extension.Goals as goal
+
+pub returns : goal.returns
+returns c = all_leaves-below (λ _ x. supports_own_extensions x) c.args.tree.now.tree c.loop-index.index c.loop-index.invariant (omega (arith, c.leaf_count-index-end.ensures, c.loop-index-test.false))

@@ -1,0 +1,3 @@
+pub mod Signatures
+pub mod Receipts
+pub mod Members

@@ -1,0 +1,162 @@
+//! Whether the leaves of a tree may be members of a group (RFC 9420, 7.3).
+
+ghost use Rattle.std.specs.Prelude.{◌≡◌, ℕ, true, IfOk, IfErr, OnOk};
+ghost use Rattle.mls_tree.specs.Tree.{leaf_at};
+ghost use Rattle.mls_check.specs.Signatures.{Meaning};
+ghost use Rattle.mls_check.specs.Members.{Members, IsMemberFault, FindsFailing, supports_own_extensions, supports_required, is_leaf_signed};
+
+use crate::credentials::first_unsupported_credential;
+use crate::signature_keys::first_repeated_signature_key;
+use crate::signatures::{OutOfMemory, SignatureCheck, signed};
+use crate::support::{supports_own_extensions, supports_required};
+use mls_nodes::{LeafNode, RequiredCapabilities, leaf_tbs};
+use mls_tree::PublicTree;
+use mls_wire::{CodecFault, Opaque};
+use std::alloc::Global;
+
+/// The label under which members sign their leaf nodes (RFC 9420, 7.2).
+const LEAF_NODE_TBS: &str = "MLS 1.0 LeafNodeTBS";
+
+/// Why the leaves of a tree are no members: the first rule that fails at some leaf, and the smallest leaf at which it
+/// fails.
+#[derive(Clone, Copy, Debug, PartialEq, Eq)]
+pub enum MemberFault {
+    /// The leaf has an extension of a type that its capabilities don't list.
+    ExtensionUnlisted(u32),
+    /// The leaf's capabilities lack a type of extension, proposal or credential that the group requires.
+    RequirementUnmet(u32),
+    /// The leaf's capabilities lack the type of some member's credential.
+    CredentialUnsupported(u32),
+    /// Another leaf has the same signature key.
+    SignatureKeyRepeated(u32),
+    /// The leaf's signature isn't good.
+    LeafSignature(u32),
+    /// Memory ran out.
+    OutOfMemory,
+}
+
+impl From<OutOfMemory> for MemberFault {
+    ghost use Rattle.std.specs.Prelude.{◌≡◌};
+    ghost use Rattle.mls_check.specs.declared.members.MemberFault.TheVariants as faults;
+
+    ghost from_gives = { λ _ e. e ≡ faults.OutOfMemory };
+
+    fn from(_memory: OutOfMemory) -> MemberFault {
+        MemberFault::OutOfMemory
+    }
+}
+
+/// Whether the set leaves of a tree may be the members of a group (RFC 9420, 7.3) with this cipher suite, group id and
+/// required capabilities:
+///
+/// 1. Each leaf's capabilities list the types of its extensions; types 1 to 5 need not be listed.
+/// 2. They list the types that the group requires; extension types 1 to 5 and proposal types 1 to 7 need not be listed.
+/// 3. They list the type of each leaf's credential.
+/// 4. No two leaves have one signature key.
+/// 5. The checker takes each leaf's signature as good.
+///
+/// The first rule that fails anywhere is answered, with the smallest leaf at which it fails.
+pub fn validate_members(
+    alloc: Global,
+    suite: u16,
+    group_id: &Opaque,
+    requirements: &RequiredCapabilities,
+    tree: &PublicTree,
+    checker: &dyn SignatureCheck,
+) -> Result<(), MemberFault>
+    ensures members { OnOk result (Members (meaning checker.now) suite group_id.now requirements.now tree.now.tree) }
+    ensures fault { IfErr result (λ e. IsMemberFault (meaning checker.now) suite group_id.now requirements.now tree.now.tree e) }
+{
+    if let Some(leaf) = first_unlisted_extension(tree) {
+        return Err(MemberFault::ExtensionUnlisted(leaf));
+    }
+    if let Some(leaf) = first_unmet_requirement(tree, requirements) {
+        return Err(MemberFault::RequirementUnmet(leaf));
+    }
+    if let Some(leaf) = first_unsupported_credential(tree) {
+        return Err(MemberFault::CredentialUnsupported(leaf));
+    }
+    if let Some(leaf) = first_repeated_signature_key(alloc, tree)? {
+        return Err(MemberFault::SignatureKeyRepeated(leaf));
+    }
+    if let Some(leaf) = first_unsigned_leaf(alloc, suite, group_id, tree, checker)? {
+        return Err(MemberFault::LeafSignature(leaf));
+    }
+    Ok(())
+}
+
+/// The smallest leaf with an extension that its capabilities don't list.
+fn first_unlisted_extension(tree: &PublicTree) -> Option<u32>
+    ensures { FindsFailing (λ _ x. supports_own_extensions x) tree.now.tree result }
+{
+    for index in 0..tree.leaf_count() {
+        if let Some(leaf) = tree.leaf(index) {
+            if !supports_own_extensions(leaf) {
+                return Some(index);
+            }
+        }
+    }
+    None
+}
+
+/// The smallest leaf whose capabilities lack what the group requires.
+fn first_unmet_requirement(tree: &PublicTree, requirements: &RequiredCapabilities) -> Option<u32>
+    ensures { FindsFailing (λ _ x. supports_required requirements.now x) tree.now.tree result }
+{
+    for index in 0..tree.leaf_count() {
+        if let Some(leaf) = tree.leaf(index) {
+            if !supports_required(leaf, requirements) {
+                return Some(index);
+            }
+        }
+    }
+    None
+}
+
+/// The smallest leaf whose signature isn't good.
+fn first_unsigned_leaf(
+    alloc: Global,
+    suite: u16,
+    group_id: &Opaque,
+    tree: &PublicTree,
+    checker: &dyn SignatureCheck,
+) -> Result<Option<u32>, OutOfMemory>
+    ensures { IfOk result (FindsFailing (is_leaf_signed (meaning checker.now) suite group_id.now) tree.now.tree) }
+{
+    for index in 0..tree.leaf_count() {
+        if let Some(leaf) = tree.leaf(index) {
+            if !is_leaf_signed(alloc, suite, group_id, index, leaf, checker)? {
+                return Ok(Some(index));
+            }
+        }
+    }
+    Ok(None)
+}
+
+/// Whether the leaf of this number has signed its LeafNodeTBS (RFC 9420, 7.2).
+#[tactic(auto, unfolding(crate::specs::Members::is_leaf_signed))]
+fn is_leaf_signed(
+    alloc: Global,
+    suite: u16,
+    group_id: &Opaque,
+    index: u32,
+    leaf: &LeafNode,
+    checker: &dyn SignatureCheck,
+) -> Result<bool, OutOfMemory>
+    ensures { IfOk result (λ good. good ≡ is_leaf_signed (meaning checker.now) suite group_id.now index leaf.now) }
+{
+    let tbs = match leaf_tbs(alloc, leaf, group_id, index) {
+        Ok(tbs) => tbs,
+        Err(CodecFault::Wire(_)) => return Ok(false),
+        Err(CodecFault::OutOfMemory) => return Err(OutOfMemory),
+    };
+    signed(
+        alloc,
+        checker,
+        suite,
+        leaf.signature_key.as_slice(),
+        LEAF_NODE_TBS,
+        tbs.as_slice(),
+        leaf.signature.as_slice(),
+    )
+}

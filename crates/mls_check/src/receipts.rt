@@ -1,0 +1,161 @@
+//! Receipts: a file that lists the good signatures by their digests, and the checker that it makes.
+//!
+//! Each line has 64 hexadecimal digits, of either case, and is ended by LF, which may be missing on the last line. The
+//! digits are the SHA-256 digest, whatever the suite, of the suite in two bytes and of the key, the signed content and
+//! the signature, each as a vector.
+
+ghost use Rattle.std.specs.Prelude.{◌≡◌, ◌++◌, ℕ, ◌<◌, ◌≤◌, List, ◌∷◌, Bool, Option, Some, None, option_map, length, map, IfOk, IfErr, IfNone, OnSome};
+ghost use Rattle.sha2.specs.Sha256.{sha256};
+ghost use Rattle.mls_wire.specs.Spelling.{length_form, vector};
+ghost use Rattle.mls_check.specs.Receipts.{receipt_input, listed, receipt_lines, digest_of, bad_line, IsReceipts, IsReceiptsFault};
+ghost use Rattle.mls_check.specs.declared.receipts.ReceiptsFault.TheVariants.{BadLine, TooLong, OutOfMemory};
+
+use crate::signatures::SignatureCheck;
+use hex::FromHex;
+use mls_wire::MAX_BODY;
+use sha2::{Digest, Sha256};
+use std::alloc::{AllocFailed, Global};
+use std::marker::Model;
+
+/// The most bytes of a file of receipts.
+const MAX_INPUT: usize = 268435456;
+
+/// Why a file of receipts isn't read.
+#[derive(Clone, Copy, Debug, PartialEq, Eq)]
+pub enum ReceiptsFault {
+    /// The first line that isn't 64 hexadecimal digits, counted from 1.
+    BadLine(usize),
+    /// The file has more than 268,435,456 bytes.
+    TooLong,
+    /// Memory ran out.
+    OutOfMemory,
+}
+
+impl<T: Drop> From<AllocFailed<T>> for ReceiptsFault {
+    ghost use Rattle.std.specs.Prelude.{◌≡◌};
+    ghost use Rattle.mls_check.specs.declared.receipts.ReceiptsFault.TheVariants.{OutOfMemory};
+
+    ghost from_gives = { λ _ e. e ≡ OutOfMemory };
+
+    fn from(_failed: AllocFailed<T>) -> ReceiptsFault {
+        ReceiptsFault::OutOfMemory
+    }
+}
+
+/// A checker that takes as good the signatures that have a receipt.
+#[derive(Debug, Drop)]
+pub struct Listed {
+    digests: Vec<[u8; 32]>,
+}
+
+impl Model for Listed {
+    ghost use Rattle.std.specs.Prelude.{ℕ, List};
+    ghost use Rattle.std.specs.Cmp.Lexicographic.{slice_cmp};
+    ghost use Rattle.std.specs.Ordering.{nat_cmp};
+    ghost use Rattle.std.specs.List.Sorted.{IsSorted};
+
+    ghost Value = { List (List ℕ) };
+
+    ghost view = { λ l. l.digests.items };
+
+    ghost invariant = { λ l. IsSorted (slice_cmp nat_cmp) l.digests.items };
+}
+
+impl Listed {
+    /// The checker of a file of receipts. A file that is too long is refused first, then its first bad line.
+    pub fn read(alloc: Global, bytes: &[u8]) -> Result<Listed, ReceiptsFault>
+        ensures listed { IfOk result (λ l. (digests : List (List ℕ)) × IsReceipts bytes.now digests × (⟦<Listed as SignatureCheck>⟧.meaning l ≡ listed digests)) }
+        ensures refused { IfErr result (λ e. IsReceiptsFault e bytes.now) }
+    {
+        if bytes.len() > MAX_INPUT {
+            return Err(ReceiptsFault::TooLong);
+        }
+        let mut digests = digests_of(alloc, bytes)?;
+        digests.sort_unstable();
+        Ok(Listed { digests })
+    }
+}
+
+impl SignatureCheck for Listed {
+    ghost use Rattle.mls_check.specs.Receipts.{listed};
+
+    ghost meaning = { λ l. listed l };
+
+    fn good(&self, suite: u16, key: &[u8], content: &[u8], signature: &[u8]) -> bool {
+        match receipt(suite, key, content, signature) {
+            Some(digest) => self.digests.binary_search(&digest).is_ok(),
+            None => false,
+        }
+    }
+}
+
+/// The first line of what isn't empty, and what follows it.
+fn split_line(bytes: &[u8]) -> (&[u8], &[u8])
+    requires { 0 < length bytes.now }
+    ensures line { receipt_lines bytes.now ≡ result.0.now ∷ receipt_lines result.1.now }
+    ensures shorter { length result.1.now < length bytes.now }
+{
+    match bytes.iter().position(|&byte| byte == b'\n') {
+        Some(end) => (&bytes[..end], &bytes[end + 1..]),
+        None => (bytes, &[]),
+    }
+}
+
+/// The digests on the lines, in their order.
+fn digests_of(alloc: Global, bytes: &[u8]) -> Result<Vec<[u8; 32]>, ReceiptsFault>
+    requires { length bytes.now ≤ 268435456 }
+    ensures digests { IfOk result (λ digests. map digest_of (receipt_lines bytes.now) ≡ map (λ digest. Some digest) digests.items) }
+    ensures refused { IfErr result (λ e. IsReceiptsFault e bytes.now) }
+{
+    let mut digests = Vec::new(alloc);
+    let mut rest = bytes;
+    while !rest.is_empty() {
+        let (line, tail) = split_line(rest);
+        let Ok(digest) = <[u8; 32] as FromHex>::from_hex(line) else {
+            return Err(ReceiptsFault::BadLine(digests.len() + 1));
+        };
+        digests.push(digest)?;
+        rest = tail;
+    }
+    Ok(digests)
+}
+
+/// Adds the length of a vector, in the shortest of its three forms.
+#[tactic(auto, unfolding(mls_wire::specs::Spelling::length_form))]
+fn update_length(hasher: &mut Sha256, count: usize)
+    requires { count ≤ 1073741823 }
+    ensures { (m text : List ℕ) → ⟦<Sha256 as Digest>⟧.holds hasher.old m → length_form count ≡ Some text → ⟦<Sha256 as Digest>⟧.holds hasher.new (m ++ text) }
+{
+    if count < 64 {
+        hasher.update([count as u8]);
+    } else if count < 16384 {
+        hasher.update((count as u16 + 16384).to_be_bytes());
+    } else {
+        hasher.update((count as u32 + 2147483648).to_be_bytes());
+    }
+}
+
+/// Adds a vector; None where it is too long for one.
+fn update_vector(hasher: &mut Sha256, body: &[u8]) -> Option<()>
+    ensures none { IfNone result (vector body.now ≡ None) }
+    ensures some { OnSome result ((text : List ℕ) × (vector body.now ≡ Some text) × ((m : List ℕ) → ⟦<Sha256 as Digest>⟧.holds hasher.old m → ⟦<Sha256 as Digest>⟧.holds hasher.new (m ++ text))) }
+{
+    if body.len() > MAX_BODY {
+        return None;
+    }
+    update_length(hasher, body.len());
+    hasher.update(body);
+    Some(())
+}
+
+/// The digest of a receipt; None where an argument is too long for a vector.
+fn receipt(suite: u16, key: &[u8], content: &[u8], signature: &[u8]) -> Option<[u8; 32]>
+    ensures { result ≡ option_map sha256 (receipt_input suite key.now content.now signature.now) }
+{
+    let mut hasher = Sha256::new();
+    hasher.update(suite.to_be_bytes());
+    update_vector(&mut hasher, key)?;
+    update_vector(&mut hasher, content)?;
+    update_vector(&mut hasher, signature)?;
+    Some(hasher.finalize())
+}

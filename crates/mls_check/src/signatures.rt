@@ -1,0 +1,84 @@
+//! Signatures (RFC 9420, 5.1.2), which a checker that the caller hands in judges.
+
+ghost use Rattle.std.specs.Prelude.{◌≡◌, ℕ, List, Bool, true, IfOk};
+ghost use Rattle.mls_check.specs.Signatures.{is_signed, sign_content};
+ghost use Rattle.mls_wire.specs.Reading.{seen};
+ghost use Rattle.mls_wire.specs.Writing.{Makes};
+
+use mls_wire::{CodecFault, Draft};
+use std::alloc::{AllocFailed, Global};
+
+/// Says whether a signature is good. The arithmetic of the signature schemes is the checker's own.
+pub trait SignatureCheck: Drop {
+    /// What the checker says of a cipher suite, a public key, a signed content and a signature.
+    ghost meaning: { Self → ℕ → List ℕ → List ℕ → List ℕ → Bool };
+
+    /// Whether `signature` is good for `content`, a SignContent (RFC 9420, 5.1.2), under the public key `key` in the
+    /// cipher suite `suite`.
+    fn good(&self, suite: u16, key: &[u8], content: &[u8], signature: &[u8]) -> bool
+        ensures { result ≡ meaning self.now suite key.now content.now signature.now };
+}
+
+/// A checker that takes each signature as good.
+#[derive(Clone, Copy, Debug)]
+pub struct Trusting;
+
+impl SignatureCheck for Trusting {
+    ghost meaning = { λ _ _ _ _ _. true };
+
+    fn good(&self, _suite: u16, _key: &[u8], _content: &[u8], _signature: &[u8]) -> bool {
+        true
+    }
+}
+
+/// A boxed checker says what the checker in it says.
+impl SignatureCheck for Box<dyn SignatureCheck> {
+    ghost meaning = { λ b. (SignatureCheck-box b).meaning b.value };
+
+    fn good(&self, suite: u16, key: &[u8], content: &[u8], signature: &[u8]) -> bool {
+        (**self).good(suite, key, content, signature)
+    }
+}
+
+/// Memory ran out.
+#[derive(Clone, Copy, Debug, PartialEq, Eq)]
+pub struct OutOfMemory;
+
+impl<T: Drop> From<AllocFailed<T>> for OutOfMemory {
+    ghost use Rattle.std.specs.Prelude.{◌≡◌};
+
+    fn from(_failed: AllocFailed<T>) -> OutOfMemory {
+        OutOfMemory
+    }
+}
+
+/// The SignContent of a label and a content (RFC 9420, 5.1.2).
+#[tactic(auto, using(mls_wire::specs::Written::written), unfolding(crate::specs::Signatures::sign_content))]
+fn sign_content(alloc: Global, label: &str, content: &[u8]) -> Result<Vec<u8>, CodecFault>
+    ensures { Makes (sign_content label.now content.now) (seen (λ v. v.items) result) }
+{
+    let mut draft = Draft::new(alloc);
+    draft.put_vec(label.as_bytes())?;
+    draft.put_vec(content)?;
+    Ok(draft.finish())
+}
+
+/// VerifyWithLabel (RFC 9420, 5.1.2): whether the checker takes `signature` as good for the bytes `tbs` under the label
+/// `label`, which begins with `MLS 1.0 `. Bytes that are too long for a SignContent count as not signed.
+pub fn signed(
+    alloc: Global,
+    checker: &dyn SignatureCheck,
+    suite: u16,
+    key: &[u8],
+    label: &str,
+    tbs: &[u8],
+    signature: &[u8],
+) -> Result<bool, OutOfMemory>
+    ensures { IfOk result (λ good. good ≡ is_signed (meaning checker.now) suite key.now label.now tbs.now signature.now) }
+{
+    match sign_content(alloc, label, tbs) {
+        Ok(content) => Ok(checker.good(suite, key, content.as_slice(), signature)),
+        Err(CodecFault::Wire(_)) => Ok(false),
+        Err(CodecFault::OutOfMemory) => Err(OutOfMemory),
+    }
+}

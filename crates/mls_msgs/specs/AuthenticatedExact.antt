@@ -11,6 +11,7 @@ use Rattle.mls_wire.specs.Steps.{allowed, bind_some, some_is}
 use Rattle.mls_wire.specs.Numbers.{wide16, number_exact, number_long}
 use Rattle.mls_wire.specs.Vectors.{vector_exact}
 use Rattle.mls_wire.specs.Joined.{long_left}
+use Rattle.mls_nodes.specs.Exact.{tested_exact}
 use Rattle.mls_msgs.specs.Layout.{is_commit, is_member, framed_content}
 use Rattle.mls_msgs.specs.Parsing.{framed_content_at}
 use Rattle.mls_msgs.specs.FrameExact.{framed_content_exact, framed_content_long}
@@ -19,23 +20,7 @@ use Rattle.mls_msgs.specs.PublicMessage.{public_frame, public_message}
 use Rattle.mls_msgs.specs.FrameParsing.{frame_format_at, tag_if_at, frame_auth_at, signed_frame_at, authenticated_content_at, public_message_at}
 use Rattle.mls_msgs.specs.declared.authenticated.AuthenticatedParts.{AuthenticatedParts}
 
--- ---- values that are refused
-
-module _ {A : Type 0} (test : A → Bool) (s t : A → Option (List ℕ)) (f : Input → Option (A × Input)) where
-  -- a value that is read is kept where the test holds
-  pub tested : ((a : A) → cond (test a) (s a) None ≡ t a) → IsExact s f → IsExact t (λ i. f i >>= λ a. cond (test a.0) (Some a) None)
-  tested same exact = record {
-    takes = λ i r j e.
-        let b = bind_some (f i) (λ a. cond (test a.0) (Some a) None) (r, j) e in
-        let c = allowed (test b.0.0) (Some b.0) (r, j) b.2 in
-        let one = (exact.takes i b.0.0 b.0.1 b.1).1 in
-        let spelled : t b.0.0 ≡ Some one.0 = sym (same b.0.0) ∙ rw c.0 one.1 in
-        subst (λ (x : A × Input). Any x.0 × Takes t x.0 i x.1) (some_is b.0 (r, j) c.1) (tt, (one.0, spelled, one.2, one.3));
-    again = λ r front rest place p e.
-        let b = allowed (test r) (s r) front (same r ∙ e) in
-        let one = exact.again r front rest place tt b.1 in
-        rw (one, b.0) refl;
-  }
+-- ---- values that have no spelling
 
 module _ {A : Type 0} (P : A → Type 0) (s t : A → Option (List ℕ)) (f : Input → Option (A × Input)) where
   -- those alone of which P holds have a spelling
@@ -53,7 +38,7 @@ module _ {A : Type 0} (P : A → Type 0) (s t : A → Option (List ℕ)) (f : In
 
 pub frame_format_exact : IsExact frame_format frame_format_at
 unfolding frame_format frame_format_at
-frame_format_exact = tested is_frame_format (number w16) frame_format (number_at w16) (λ n. refl) (number_exact w16 wide16)
+frame_format_exact = tested_exact is_frame_format (number w16) (number_at w16) (number_exact w16 wide16)
 
 pub frame_format_long : IsLong frame_format
 unfolding frame_format

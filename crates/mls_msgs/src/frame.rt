@@ -7,7 +7,7 @@ use mls_wire::{CodecFault, Decode, Draft, Encode, Opaque, Reader};
 use std::alloc::Global;
 
 /// Who sent a message (RFC 9420, section 6).
-#[derive(Clone, Copy, Debug)]
+#[derive(Clone, Copy, Debug, PartialEq, Eq)]
 pub enum Sender {
     /// The member at this leaf.
     Member(u32),

@@ -1,7 +1,6 @@
 //! Laws of the spellings: bytes tell values apart.
 
-ghost use Rattle.mls_wire.specs.Spelling.{list};
-ghost use Rattle.mls_wire.specs.Spelling.{SpellsOnce, IsUnambiguous};
+ghost use Rattle.mls_wire.specs.Spelling.{list, SpellsOnce, IsUnambiguous};
 ghost use Rattle.mls_msgs.specs.Layout.{key_package, proposal, proposal_or_ref, ciphertext, path_node, update_path, commit, sender, content, framed_content, group_info};
 ghost use Rattle.mls_msgs.specs.Authenticated.{authenticated_content};
 ghost use Rattle.mls_msgs.specs.PublicMessage.{public_message};

@@ -1,9 +1,8 @@
 //! Messages as they are sent.
 
 ghost use Rattle.std.specs.Prelude.{◌≡◌, ◌≤◌, ℕ, List, length, Some};
-ghost use Rattle.mls_wire.specs.Reading.{DecodesInput};
+ghost use Rattle.mls_wire.specs.Reading.{DecodesInput, seen};
 ghost use Rattle.mls_wire.specs.Parsing.{Finds, GivesOrFull};
-ghost use Rattle.mls_wire.specs.Reading.{seen};
 ghost use Rattle.mls_wire.specs.Writing.{Makes, Puts};
 ghost use Rattle.mls_msgs.specs.Message.{header, is_unread, message};
 ghost use Rattle.mls_msgs.specs.MessageParsing.{header_at, rest_at, message_at};

@@ -1,5 +1,5 @@
 use super::*;
-use mls_wire::{CodecFault, Decode, MAX_INPUT, Opaque, Reader, TryClone, WireFault, WireFaultKind};
+use mls_wire::{CodecFault, Decode, Opaque, Reader, TryClone, WireFault, WireFaultKind};
 use std::test::*;
 
 /// A key package with the init key f1, whose leaf node has the keys a1 and b1.
@@ -284,14 +284,5 @@ fn messages_that_are_refused(rt: HostRuntime) -> Result<(), Fail> {
     }
     let answer = decode_authenticated(rt.alloc(), &[0, 3]);
     assert!(rt; matches!(answer, Err(answered) if answered == fault(WireFaultKind::BadTag(3), 0)));
-    Ok(())
-}
-
-#[test]
-fn inputs_have_a_limit(rt: HostRuntime) -> Result<(), Fail> {
-    let mut long = Vec::from_slice(rt.alloc(), &[0, 2])?;
-    long.resize(MAX_INPUT + 1, 0)?;
-    let answer = decode_message(rt.alloc(), &long);
-    assert!(rt; matches!(answer, Err(answered) if answered == fault(WireFaultKind::TooLong, 0)));
     Ok(())
 }

@@ -1,3 +1,4 @@
 pub mod Entries
 pub mod Limits
 pub mod Trimming
+pub mod Lengths

@@ -12,6 +12,7 @@ mod fault;
 pub mod laws;
 mod leaf;
 mod leaf_source;
+mod length;
 mod lists;
 mod node;
 mod parent;

@@ -16,3 +16,4 @@ pub mod Growing
 pub mod Listings
 pub mod Lists
 pub mod Lens
+pub mod Padding

@@ -8,3 +8,5 @@ pub mod Replace
 pub mod Sizes
 pub mod Array
 pub mod NewLists
+pub mod HashValue
+pub mod TreeHash

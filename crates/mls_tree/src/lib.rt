@@ -8,6 +8,7 @@
 mod blanks;
 mod entries;
 mod error;
+mod hash_value;
 pub mod laws;
 mod paths;
 mod places;
@@ -17,6 +18,7 @@ mod sizes;
 mod unmerged;
 
 pub use error::TreeError;
+pub use hash_value::HashValue;
 pub use places::{left, level, parent, right, root, sibling};
 pub use public_tree::PublicTree;
 

@@ -1,0 +1,129 @@
+-- What the calls that hash a subtree answer.
+use Rattle.std.proofs.Common.{◌≡◌, ℕ, ◌+◌, ◌<◌, List, [], Option, Some, None, IsSome, Result, Ok, Err, refl, sym, ap, subst, ◌∙◌, arith}
+use Rattle.std.specs.Prelude.{option_map, option_and_then, IfOk}
+use Rattle.std.specs.List.Sorted.{IsPermutation}
+use Rattle.mls_nodes.specs.declared.leaf.LeafNode.{LeafNode}
+use Rattle.mls_nodes.specs.declared.parent.ParentNode.{ParentNode}
+use Rattle.mls_tree.specs.Tree.{Tree, leaf, branch, height, leaf_count, Subtree, subtree_at}
+use Rattle.mls_tree.specs.RatchetTree.{RatchetTree}
+use Rattle.mls_tree.specs.TreeHash.{leaf_hash_input, parent_hash_input, hash_of_parent, tree_hash}
+use Rattle.mls_tree.proofs.Trees.{subtree_at-perfect}
+use Rattle.mls_hash.specs.declared.fault.HashFault.{HashFault}
+use Rattle.mls_hash.specs.declared.fault.HashFault.TheVariants as faults
+use Rattle.mls_hash.specs.Inputs.{HashesText, HashesSubtree}
+use Rattle.mls_hash.specs.Parts.{HasChildren}
+use Rattle.mls_hash.specs.Strip.{strip, stripped_leaf, stripped_parent, original_tree_hash, original_tree_hash_at, tree_hash_at}
+use Rattle.mls_hash.specs.declared.side.Side.{Side}
+use Rattle.mls_hash.specs.declared.side.Side.TheVariants as sides
+use Rattle.mls_hash.specs.ParentHash as parents
+use Rattle.mls_hash.proofs.Places.{depth}
+use Rattle.mls_hash.proofs.Strips.{leaf_count-strip, strip-none, strip-sorted}
+
+there : (o : Option Subtree) (s : Subtree) → o ≡ Some s → IsSome o
+there o s e = subst (λ (x : Option Subtree). IsSome x) (sym e) refl
+
+-- a leaf is hashed
+pub leaf_answer : (H : List ℕ → List ℕ) (L : List ℕ) (t : Tree) (p number : ℕ) (x y : Option LeafNode) (r : Result (List ℕ) HashFault)
+    → subtree_at 0 t p ≡ Some (record { first = number; tree = leaf x }) → y ≡ stripped_leaf L number x → HashesText (option_map H (leaf_hash_input number y)) r
+    → HashesSubtree (subtree_at 0 t p) (original_tree_hash_at H L t p) r
+leaf_answer H L t p number x y (Ok h) e f a =
+    ap (option_and_then (λ (s : Subtree). original_tree_hash H L s.first s.tree)) e ∙ ap (λ (z : Option LeafNode). option_map H (leaf_hash_input number z)) (sym f) ∙ a
+leaf_answer H L t p number x y (Err faults.UnsupportedSuite) e f a = a
+leaf_answer H L t p number x y (Err faults.NoSuchNode) e f a = absurd a
+leaf_answer H L t p number x y (Err faults.TooLong) e f a = a
+leaf_answer H L t p number x y (Err faults.OutOfMemory) e f a = there (subtree_at 0 t p) _ e
+
+module _ (t : Tree) (p q u : ℕ) (n : Option ParentNode) (c : HasChildren t p q u n) where
+  pub left_there : IsSome (subtree_at 0 t q)
+  left_there = there (subtree_at 0 t q) _ c.left_child
+
+  -- the original hash of a parent, from those of its children
+  whole_hash : (H : List ℕ → List ℕ) (L : List ℕ)
+      → original_tree_hash_at H L t p ≡ hash_of_parent H (option_map (stripped_parent L) n) (original_tree_hash_at H L t q) (original_tree_hash_at H L t u)
+  whole_hash H L =
+      ap (option_and_then (λ (s : Subtree). original_tree_hash H L s.first s.tree)) c.whole
+      ∙ ap (λ (k : ℕ). hash_of_parent H (option_map (stripped_parent L) n) (original_tree_hash H L c.first c.left) (tree_hash H (c.first + k) (strip L (c.first + leaf_count c.left) c.right)))
+      (leaf_count-strip L c.first c.left)
+      ∙ (λ i. hash_of_parent H (option_map (stripped_parent L) n)
+      (sym (ap (option_and_then (λ (s : Subtree). original_tree_hash H L s.first s.tree)) c.left_child) i)
+      (sym (ap (option_and_then (λ (s : Subtree). original_tree_hash H L s.first s.tree)) c.right_child) i))
+
+  -- a parent is hashed, after its children
+  pub parent_answer : (H : List ℕ → List ℕ) (L left right : List ℕ) (r : Result (List ℕ) HashFault)
+      → original_tree_hash_at H L t q ≡ Some left → original_tree_hash_at H L t u ≡ Some right
+      → HashesText (option_map H (parent_hash_input (option_map (stripped_parent L) n) left right)) r
+      → HashesSubtree (subtree_at 0 t p) (original_tree_hash_at H L t p) r
+  parent_answer H L left right (Ok h) a b s = whole_hash H L ∙ (λ i. hash_of_parent H (option_map (stripped_parent L) n) (a i) (b i)) ∙ s
+  parent_answer H L left right (Err faults.UnsupportedSuite) a b s = s
+  parent_answer H L left right (Err faults.NoSuchNode) a b s = absurd s
+  parent_answer H L left right (Err faults.TooLong) a b s = s
+  parent_answer H L left right (Err faults.OutOfMemory) a b s = there (subtree_at 0 t p) _ c.whole
+
+  -- a child is refused
+  pub left_fault : (hash whole : Option (List ℕ)) (e : HashFault) → HashesSubtree (subtree_at 0 t q) hash (Err e) → HashesSubtree (subtree_at 0 t p) whole (Err e)
+  left_fault hash whole faults.UnsupportedSuite a = a
+  left_fault hash whole faults.NoSuchNode a = let bad : ◌≡◌ {A = Option Subtree} None (Some (record { first = c.first; tree = c.left })) = sym a ∙ c.left_child in absurd cc
+  left_fault hash whole faults.TooLong a = a
+  left_fault hash whole faults.OutOfMemory a = there (subtree_at 0 t p) _ c.whole
+
+  pub right_fault : (hash whole : Option (List ℕ)) (e : HashFault) → HashesSubtree (subtree_at 0 t u) hash (Err e) → HashesSubtree (subtree_at 0 t p) whole (Err e)
+  right_fault hash whole faults.UnsupportedSuite a = a
+  right_fault hash whole faults.NoSuchNode a = let bad : ◌≡◌ {A = Option Subtree} None (Some (record { first = c.first + leaf_count c.left; tree = c.right })) = sym a ∙ c.right_child in absurd cc
+  right_fault hash whole faults.TooLong a = a
+  right_fault hash whole faults.OutOfMemory a = there (subtree_at 0 t p) _ c.whole
+
+-- the children are nearer to the leaves
+module _ (t : RatchetTree) (p q u : ℕ) (n : Option ParentNode) (c : HasChildren t.tree p q u n) where
+  pub left_lower : depth (subtree_at 0 t.tree q) < depth (subtree_at 0 t.tree p)
+  left_lower = omega (arith, ap depth c.left_child, ap depth c.whole)
+
+  pub right_lower : depth (subtree_at 0 t.tree u) < depth (subtree_at 0 t.tree p)
+  right_lower =
+      let e = (subtree_at-perfect 0 t.tree p _ c.whole t.shape.perfect).0.0 in
+      omega (arith, ap depth c.right_child, ap depth c.whole)
+
+-- ---- the answers of the public calls
+
+pub gives_hash : (found : Option Subtree) (hash same : Option (List ℕ)) (r : Result (List ℕ) HashFault) → hash ≡ same → HashesSubtree found hash r → IfOk r (λ h. same ≡ Some h)
+gives_hash found hash same (Ok h) e a = sym e ∙ a
+gives_hash found hash same (Err f) e a = tt
+
+pub whole_tree : (H : List ℕ → List ℕ) (t : Tree) (p : ℕ) → original_tree_hash_at H [] t p ≡ tree_hash_at H t p
+whole_tree H t p = go (subtree_at 0 t p)
+  where
+    go : (o : Option Subtree) → option_and_then (λ (s : Subtree). original_tree_hash H [] s.first s.tree) o ≡ option_and_then (λ (s : Subtree). tree_hash H s.first s.tree) o
+    go None = refl
+    go (Some s) = ap (tree_hash H s.first) (strip-none s.first s.tree)
+
+pub sorted_tree : (H : List ℕ → List ℕ) (L M : List ℕ) → IsPermutation L M → (t : Tree) (p : ℕ) → original_tree_hash_at H M t p ≡ original_tree_hash_at H L t p
+sorted_tree H L M h t p = go (subtree_at 0 t p)
+  where
+    go : (o : Option Subtree) → option_and_then (λ (s : Subtree). original_tree_hash H M s.first s.tree) o ≡ option_and_then (λ (s : Subtree). original_tree_hash H L s.first s.tree) o
+    go None = refl
+    go (Some s) = ap (tree_hash H s.first) (strip-sorted L M h s.first s.tree)
+
+-- the place of the child on a side
+abbrev pub child_on : Side → ℕ → ℕ → ℕ
+child_on sides.Left q u = q
+child_on sides.Right q u = u
+
+module _ (H : List ℕ → List ℕ) (t : Tree) (p q u : ℕ) (parent : ParentNode) (c : HasChildren t p q u (Some parent)) where
+  side_hash : (side : Side) (original : List ℕ) → original_tree_hash_at H parent.unmerged t (child_on side q u) ≡ Some original
+      → parents.parent_hash_at H t p side ≡ option_map H (parents.parent_hash_input parent original)
+  side_hash sides.Left original e =
+      ap (option_and_then (λ (s : Subtree). parents.root_parent_hash H sides.Left s.first s.tree)) c.whole
+      ∙ ap (option_and_then (λ (o : List ℕ). option_map H (parents.parent_hash_input parent o)))
+      (sym (ap (option_and_then (λ (s : Subtree). original_tree_hash H parent.unmerged s.first s.tree)) c.left_child) ∙ e)
+  side_hash sides.Right original e =
+      ap (option_and_then (λ (s : Subtree). parents.root_parent_hash H sides.Right s.first s.tree)) c.whole
+      ∙ ap (option_and_then (λ (o : List ℕ). option_map H (parents.parent_hash_input parent o)))
+      (sym (ap (option_and_then (λ (s : Subtree). original_tree_hash H parent.unmerged s.first s.tree)) c.right_child) ∙ e)
+
+  -- a parent hash, by the original hash of the child on a side
+  pub gives_parent_hash : (side : Side) (L : List ℕ) (child : ℕ) (original : List ℕ) (r : Result (List ℕ) HashFault)
+      → IsPermutation parent.unmerged L → child ≡ child_on side q u → original_tree_hash_at H L t child ≡ Some original
+      → HashesText (option_map H (parents.parent_hash_input parent original)) r
+      → IfOk r (λ h. parents.parent_hash_at H t p side ≡ Some h)
+  gives_parent_hash side L child original (Ok h) s e a b =
+      side_hash side original (sym (sorted_tree H parent.unmerged L s t (child_on side q u)) ∙ ap (original_tree_hash_at H L t) (sym e) ∙ a) ∙ b
+  gives_parent_hash side L child original (Err f) s e a b = tt

@@ -1,0 +1,6 @@
+pub mod Feeding
+pub mod Sets
+pub mod Places
+pub mod Inputs
+pub mod Strips
+pub mod Answers

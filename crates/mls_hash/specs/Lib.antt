@@ -1,0 +1,7 @@
+pub mod Suites
+pub mod Hashing
+pub mod Feeding
+pub mod Parts
+pub mod Inputs
+pub mod Strip
+pub mod ParentHash

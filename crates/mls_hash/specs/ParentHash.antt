@@ -1,0 +1,39 @@
+-- The parent hash of a parent node (RFC 9420, section 7.9).
+use Rattle.std.specs.Prelude.{ℕ, ◌+◌, List, Option, Some, None, option_map, option_and_then}
+use Rattle.mls_wire.specs.Spelling.{◌⊕◌, vector}
+use Rattle.mls_nodes.specs.declared.parent.ParentNode.{ParentNode}
+use Rattle.mls_tree.specs.Tree.{Tree, leaf, branch, leaf_count, Subtree, subtree_at}
+use Rattle.mls_hash.specs.declared.side.Side.{Side}
+use Rattle.mls_hash.specs.declared.side.Side.TheVariants.{Left, Right}
+use Rattle.mls_hash.specs.Strip.{original_tree_hash}
+
+-- ParentHashInput: the parent's key and its own parent hash, and the original tree hash of its child on the copath
+-- (section 7.9)
+abbrev pub parent_hash_input : ParentNode → List ℕ → Option (List ℕ)
+parent_hash_input p original = vector p.encryption_key ⊕ vector p.parent_hash ⊕ vector original
+
+-- The parent hash of a parent whose child on the copath is a subtree with the first leaf `first`: that child is hashed
+-- without the parent's unmerged leaves (section 7.9).
+abbrev pub parent_hash : (List ℕ → List ℕ) → ParentNode → ℕ → Tree → Option (List ℕ)
+parent_hash H p first sibling =
+    option_and_then (λ original. option_map H (parent_hash_input p original)) (original_tree_hash H p.unmerged first sibling)
+
+-- the parent hash of the root of a subtree, where it is a set parent, by its child on that side
+abbrev pub root_parent_hash : (List ℕ → List ℕ) → Side → ℕ → Tree → Option (List ℕ)
+root_parent_hash H side first (leaf _) = None
+root_parent_hash H side first (branch l None r) = None
+root_parent_hash H Left first (branch l (Some p) r) = parent_hash H p first l
+root_parent_hash H Right first (branch l (Some p) r) = parent_hash H p (first + leaf_count l) r
+
+-- the parent hash of the parent at a place, if one is set there
+abbrev pub parent_hash_at : (List ℕ → List ℕ) → Tree → ℕ → Side → Option (List ℕ)
+parent_hash_at H t place side = option_and_then (λ s. root_parent_hash H side s.first s.tree) (subtree_at 0 t place)
+
+-- the node of the root, where it is a set parent
+abbrev pub root_parent : Tree → Option ParentNode
+root_parent (leaf _) = None
+root_parent (branch _ p _) = p
+
+-- the parent that is set at a place, if there is one
+abbrev pub parent_at : Tree → ℕ → Option ParentNode
+parent_at t place = option_and_then (λ s. root_parent s.tree) (subtree_at 0 t place)

@@ -1,0 +1,51 @@
+//! Parent hashes (RFC 9420, section 7.9).
+
+ghost use Rattle.std.specs.Prelude.{◌≡◌, ◌↔◌, ◌⊎◌, None, Some, Err, IfOk, IfErr};
+ghost use Rattle.mls_hash.specs.Hashing.{hash_of};
+ghost use Rattle.mls_hash.specs.ParentHash.{parent_at, parent_hash_at};
+
+use crate::fault::HashFault;
+use crate::input::hash_parent_fields;
+use crate::leaf_set::LeafSet;
+use crate::part::{Part, part_at};
+use crate::side::Side;
+use crate::subtree::hash_subtree;
+use crate::suite::Suite;
+use mls_tree::{HashValue, PublicTree};
+use mls_wire::Writer;
+use std::alloc::Global;
+
+/// The parent hash of the parent that is set at a place, whose child on the copath is the one on that side (RFC 9420, section 7.9): the
+/// hash of its key, its own parent hash and the original tree hash of that child, without the parent's unmerged leaves. `NoSuchNode`
+/// where no set parent stands at the place.
+pub fn parent_hash(
+    alloc: Global,
+    suite: Suite,
+    tree: &PublicTree,
+    place: u32,
+    side: Side,
+) -> Result<HashValue, HashFault>
+    ensures hash { IfOk result (λ h. parent_hash_at (hash_of suite) tree.now.tree place side ≡ Some h) }
+    ensures no_such_node { (result ≡ Err HashFault.NoSuchNode) ↔ (parent_at tree.now.tree place ≡ None) }
+    ensures else_memory { IfErr result (λ e. (e ≡ HashFault.NoSuchNode) ⊎ (e ≡ HashFault.OutOfMemory)) }
+{
+    match part_at(tree, place) {
+        Some(
+            Part::Parent {
+                left,
+                right,
+                node: Some(parent),
+            },
+        ) => {
+            let child = match side {
+                Side::Left => left,
+                Side::Right => right,
+            };
+            let left_out = LeafSet::new(alloc, parent.unmerged.as_slice())?;
+            let mut writer = Writer::new(alloc);
+            let original = hash_subtree(alloc, suite, tree, &left_out, child, &mut writer)?;
+            hash_parent_fields(suite, parent, &original, &mut writer)
+        }
+        _ => Err(HashFault::NoSuchNode),
+    }
+}

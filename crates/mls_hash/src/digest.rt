@@ -1,0 +1,67 @@
+//! Hashes of bytes.
+
+ghost use Rattle.std.specs.Prelude.{◌≡◌, ℕ, List, ◌++◌, Some, None, option_map, MatchResult};
+ghost use Rattle.sha2.specs.Hashers.{Holds256};
+ghost use Rattle.mls_wire.specs.Spelling.{length_form, vector};
+ghost use Rattle.mls_hash.specs.Hashing.{hash_of, ref_hash_input};
+ghost use Rattle.mls_hash.specs.Feeding.{FeedsText};
+
+use crate::fault::HashFault;
+use crate::suite::Suite;
+use mls_tree::HashValue;
+use sha2::{Digest, Sha256};
+
+/// The value that a hasher ends with.
+#[tactic(auto, unfolding(crate::specs::Hashing::hash_of))]
+fn finish(hasher: Sha256, suite: Suite) -> HashValue
+    ensures { (m : List ℕ) → Holds256 hasher m → result ≡ hash_of suite m }
+{
+    let digest = hasher.finalize();
+    HashValue::new(&digest).unwrap()
+}
+
+/// The hash of `first` and `second`, taken as one message (RFC 9420, section 5.2). It takes no memory.
+pub fn hash(suite: Suite, first: &[u8], second: &[u8]) -> HashValue
+    ensures { result ≡ hash_of suite (first.now ++ second.now) }
+{
+    let mut hasher = Sha256::new();
+    hasher.update(first);
+    hasher.update(second);
+    finish(hasher, suite)
+}
+
+/// Feeds the length of a vector, in the shortest of its forms (RFC 9420, section 2.1.2).
+fn feed_length(hasher: &mut Sha256, length: usize) -> Result<(), HashFault>
+    ensures { FeedsText (length_form length) hasher.old hasher.new result }
+{
+    if length < 64 {
+        hasher.update(&[length as u8]);
+    } else if length < 16384 {
+        hasher.update(&(length as u16 + 0x4000).to_be_bytes());
+    } else if length < 0x4000_0000 {
+        hasher.update(&(length as u32 + 0x8000_0000).to_be_bytes());
+    } else {
+        return Err(HashFault::TooLong);
+    }
+    Ok(())
+}
+
+/// Feeds a vector: its length, and its body.
+fn feed_vector(hasher: &mut Sha256, body: &[u8]) -> Result<(), HashFault>
+    ensures { FeedsText (vector body.now) hasher.old hasher.new result }
+{
+    feed_length(hasher, body.len())?;
+    hasher.update(body);
+    Ok(())
+}
+
+/// The reference `RefHash(label, value)` (RFC 9420, section 5.2): the hash of the label and the value, each as a vector.
+/// A label or a value of more than 1,073,741,823 bytes is [`HashFault::TooLong`]. It takes no memory.
+pub fn ref_hash(suite: Suite, label: &str, value: &[u8]) -> Result<HashValue, HashFault>
+    ensures { MatchResult result (λ h. option_map (hash_of suite) (ref_hash_input label.now value.now) ≡ Some h) (λ e. (e ≡ HashFault.TooLong) × (ref_hash_input label.now value.now ≡ None)) }
+{
+    let mut hasher = Sha256::new();
+    feed_vector(&mut hasher, label.as_bytes())?;
+    feed_vector(&mut hasher, value)?;
+    Ok(finish(hasher, suite))
+}

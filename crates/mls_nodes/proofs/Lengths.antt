@@ -1,0 +1,132 @@
+-- How many bytes the parts of nodes take.
+use Rattle.std.proofs.Common.{◌≡◌, ℕ, zero, suc, ◌+◌, ◌*◌, ◌^◌, ◌<◌, ◌≤◌, List, [], ◌∷◌, ◌++◌, length, take, get_or, Option, Some, None, refl, sym, ap, subst, ◌∙◌, inl, inr, arith}
+use Rattle.std.proofs.lemmas.Bool.{cases_lt, le-leb}
+use Rattle.std.specs.Prelude.{option_map, IsSome}
+use Rattle.std.specs.Int.{w8, w16, w32, w64}
+use Rattle.mls_wire.specs.Spelling.{◌⊕◌, number, length_form, vector, sized, items, list}
+use Rattle.mls_wire.specs.Numbers.{number_made, wide8, wide16, wide32, wide64}
+use Rattle.mls_wire.specs.Lengths.{form_1, form_2, form_4}
+use Rattle.mls_wire.specs.Sizes.{some_size, number_size, size_push, fits_not, fits_none}
+use Rattle.mls_wire.specs.Written.{size_then, sized_makes}
+use Rattle.mls_nodes.specs.declared.credential.Credential.{Credential}
+use Rattle.mls_nodes.specs.declared.credential.Credential.TheVariants.{Basic, X509}
+use Rattle.mls_nodes.specs.declared.leaf_source.LeafSource.{LeafSource}
+use Rattle.mls_nodes.specs.declared.leaf_source.LeafSource.TheVariants.{KeyPackage, Update, Commit}
+use Rattle.mls_nodes.specs.declared.leaf_source.Lifetime.{Lifetime}
+use Rattle.mls_nodes.specs.declared.capabilities.Capabilities.{Capabilities}
+use Rattle.mls_nodes.specs.declared.leaf.LeafNode.{LeafNode}
+use Rattle.mls_nodes.specs.declared.parent.ParentNode.{ParentNode}
+use Rattle.mls_nodes.specs.Extension.{extension}
+use Rattle.mls_nodes.specs.Layout.{credential, codes, capabilities, lifetime, source, leaf, unmerged, parent}
+
+-- a text has a length
+abbrev pub HasLength : Option (List ℕ) → ℕ → Type 0
+HasLength text n = option_map length text ≡ Some n
+
+-- one text after another
+pub after_each : (a b : Option (List ℕ)) (m n k : ℕ) → HasLength a m → HasLength b n → k ≡ m + n → HasLength (a ⊕ b) k
+after_each a b m n k e f s = size_then a b m n e f ∙ ap (λ (x : ℕ). Some x) (sym s)
+
+pub number_w8 : (n : ℕ) → n < 2 ^ 8 → HasLength (number w8 n) 1
+number_w8 n lt = sym (number_size w8 wide8 n lt)
+
+pub number_w16 : (n : ℕ) → n < 2 ^ 16 → HasLength (number w16 n) 2
+number_w16 n lt = sym (number_size w16 wide16 n lt)
+
+pub number_w32 : (n : ℕ) → n < 2 ^ 32 → HasLength (number w32 n) 4
+number_w32 n lt = sym (number_size w32 wide32 n lt)
+
+pub number_w64 : (n : ℕ) → n < 2 ^ 64 → HasLength (number w64 n) 8
+number_w64 n lt = sym (number_size w64 wide64 n lt)
+
+pub vector_has : (body : List ℕ) (k n : ℕ) → HasLength (length_form (length body)) k → n ≡ k + length body → HasLength (vector body) n
+unfolding vector
+vector_has body k n e s = after_each (length_form (length body)) (Some body) k (length body) n e refl s
+
+pub sized_has : (text : Option (List ℕ)) (body k n : ℕ) → HasLength text body → HasLength (length_form body) k → n ≡ k + body → HasLength (sized text) n
+sized_has text body k n e f s =
+    let t = some_size text body e in
+    let g : HasLength (length_form (length t.0)) k = rw t.2 f in
+    ap (option_map length) (sized_makes text t.0 t.1) ∙ vector_has t.0 k n g (s ∙ ap (λ (x : ℕ). k + x) (sym t.2))
+
+pub list_has : {A : Type 0} (s : A → Option (List ℕ)) (xs : List A) (body k n : ℕ) → HasLength (items s xs) body → HasLength (length_form body) k → n ≡ k + body → HasLength (list s xs) n
+unfolding list
+list_has s xs body k n e f g = sized_has (items s xs) body k n e f g
+
+-- numbers of four bytes each
+pub numbers_have : (xs : List ℕ) → ((i : ℕ) → get_or xs i 0 < 2 ^ 32) → HasLength (items (number w32) xs) (4 * length xs)
+unfolding items
+numbers_have [] h = refl
+numbers_have (x ∷ xs) h = after_each (number w32 x) (items (number w32) xs) 4 (4 * length xs) _ (number_w32 x (h 0)) (numbers_have xs (λ i. h (suc i))) (omega arith)
+
+pub unmerged_has : (xs : List ℕ) (k n : ℕ) → length xs ≤ 1048576 → ((i : ℕ) → get_or xs i 0 < 2 ^ 32) → HasLength (length_form (4 * length xs)) k → n ≡ k + 4 * length xs → HasLength (unmerged xs) n
+unfolding unmerged
+unmerged_has xs k n le h e s = rw (le-leb (length xs) 1048576 le) (list_has (number w32) xs (4 * length xs) k n (numbers_have xs h) e s)
+
+pub basic_has : (identity : List ℕ) (n : ℕ) → HasLength (vector identity) n → HasLength (credential (Basic identity)) (2 + n)
+unfolding credential
+basic_has identity n e = after_each (number w16 1) (vector identity) 2 n (2 + n) (number_w16 1 (omega arith)) e refl
+
+pub x509_has : (chain : List (List ℕ)) (n : ℕ) → HasLength (list vector chain) n → HasLength (credential (X509 chain)) (2 + n)
+unfolding credential
+x509_has chain n e = after_each (number w16 2) (list vector chain) 2 n (2 + n) (number_w16 2 (omega arith)) e refl
+
+pub capabilities_have : (c : Capabilities) (a b d e f n : ℕ)
+    → HasLength (codes c.versions) a → HasLength (codes c.cipher_suites) b → HasLength (codes c.extensions) d → HasLength (codes c.proposals) e
+    → HasLength (codes c.credentials) f → n ≡ a + b + d + e + f → HasLength (capabilities c) n
+unfolding capabilities
+capabilities_have c a b d e f n pa pb pd pe pf s =
+    after_each _ _ a (b + (d + (e + f))) n pa (after_each _ _ b (d + (e + f)) _ pb (after_each _ _ d (e + f) _ pd (after_each _ _ e f _ pe pf refl) refl) refl) (omega arith)
+
+pub key_package_has : (l : Lifetime) → l.not_before < 2 ^ 64 → l.not_after < 2 ^ 64 → HasLength (source (KeyPackage l)) 17
+unfolding source lifetime
+key_package_has l a b =
+    after_each (number w8 1) _ 1 16 17 (number_w8 1 (omega arith)) (after_each (number w64 l.not_before) (number w64 l.not_after) 8 8 16 (number_w64 l.not_before a) (number_w64 l.not_after b) refl) refl
+
+pub update_has : HasLength (source Update) 1
+unfolding source
+update_has = number_w8 2 (omega arith)
+
+pub commit_has : (hash : List ℕ) (n : ℕ) → HasLength (vector hash) n → HasLength (source (Commit hash)) (1 + n)
+unfolding source
+commit_has hash n e = after_each (number w8 3) (vector hash) 1 n (1 + n) (number_w8 3 (omega arith)) e refl
+
+pub leaf_has : (x : LeafNode) (a b c d e f g n : ℕ)
+    → HasLength (vector x.encryption_key) a → HasLength (vector x.signature_key) b → HasLength (credential x.credential) c → HasLength (capabilities x.capabilities) d
+    → HasLength (source x.source) e → HasLength (list extension x.extensions) f → HasLength (vector x.signature) g
+    → n ≡ a + b + c + d + e + f + g → HasLength (leaf x) n
+unfolding leaf
+leaf_has x a b c d e f g n pa pb pc pd pe pf pg s =
+    after_each _ _ a (b + (c + (d + (e + (f + g))))) n pa
+    (after_each _ _ b (c + (d + (e + (f + g)))) _ pb
+    (after_each _ _ c (d + (e + (f + g))) _ pc (after_each _ _ d (e + (f + g)) _ pd (after_each _ _ e (f + g) _ pe (after_each _ _ f g _ pf pg refl) refl) refl) refl) refl)
+    (omega arith)
+
+pub parent_has : (x : ParentNode) (a b c n : ℕ)
+    → HasLength (vector x.encryption_key) a → HasLength (vector x.parent_hash) b → HasLength (unmerged x.unmerged) c → n ≡ a + b + c → HasLength (parent x) n
+unfolding parent
+parent_has x a b c n pa pb pc s = after_each _ _ a (b + c) n pa (after_each _ _ b c _ pb pc refl) (omega arith)
+
+pub prefix_1 : (n : ℕ) → n < 64 → HasLength (length_form n) 1
+prefix_1 n lt = ap (option_map length) (form_1 n lt)
+
+pub prefix_2 : (n : ℕ) → 64 ≤ n → n < 16384 → HasLength (length_form n) 2
+prefix_2 n le lt = ap (option_map length) (form_2 n (n + 16384) le lt refl)
+
+pub prefix_4 : (n : ℕ) → 16384 ≤ n → n < 1073741824 → HasLength (length_form n) 4
+prefix_4 n le lt = ap (option_map length) (form_4 n (n + 2147483648) le lt refl)
+
+-- the items of a list that has a spelling
+module _ {A : Type 0} (s : A → Option (List ℕ)) (xs : List A) (h : IsSome (list s xs)) where
+  pub item_there : (ys : List A) (i : ℕ) (x : A) (o : Option ℕ) → ys ≡ xs → i < length ys → x ≡ get_or ys i x → o ≡ option_map length (s x) → IsSome o
+  item_there ys i x None same lt is e =
+      absurd (fits_none s ys i x lt is e (subst (λ (zs : List A). IsSome (list s zs)) (sym same) h))
+  item_there ys i x (Some n) same lt is e = refl
+
+  pub items_step : (ys : List A) (i : ℕ) (x : A) (m n : ℕ) → ys ≡ xs → i < length ys → x ≡ get_or ys i x → HasLength (items s (take i xs)) m → Some n ≡ option_map length (s x)
+      → HasLength (items s (take (i + 1) xs)) (m + n) × (m + n ≤ 1073741823)
+  items_step ys i x m n same lt is e f =
+      let a : HasLength (items s (take i ys)) m = subst (λ (zs : List A). HasLength (items s (take i zs)) m) (sym same) e in
+      let b = size_push s ys i x m n lt is a f in
+      let c : HasLength (items s (take (i + 1) xs)) (m + n) = subst (λ (zs : List A). HasLength (items s (take (i + 1) zs)) (m + n)) same b in
+      (c, elim (cases_lt 1073741823 (m + n)) [ inl more ↦ absurd (fits_not s xs (i + 1) (m + n) c more h) | inr le ↦ le ])

@@ -1,0 +1,11 @@
+use Rattle.std.proofs.Common.{refl}
+use Rattle.mls_nodes.proofs.Lengths.{leaf_has}
+use Rattle.mls_nodes.proofs.leaf.LeafNode.encoded_len.Goals as goal
+
+pub returns-clause-length : goal.returns-clause-length
+returns-clause-length c =
+    leaf_has c.args.self.now c.length_of_vector-encryption_key.result c.length_of_vector-signature_key.result c.length_of_credential-credential.result
+    c.length_of_capabilities-capabilities.result c.length_of_source-source.result c.length_of_list-extensions.result c.length_of_vector-signature.result _
+    c.length_of_vector-encryption_key.ensures.length c.length_of_vector-signature_key.ensures.length c.length_of_credential-credential.ensures.length
+    c.length_of_capabilities-capabilities.ensures.length c.length_of_source-source.ensures.length c.length_of_list-extensions.ensures.length
+    c.length_of_vector-signature.ensures.length refl

@@ -1,0 +1,137 @@
+//! How many bytes nodes take. Each node has a spelling, since its parts are within their limits.
+
+ghost use Rattle.std.specs.Prelude.{◌≡◌, ◌≤◌, ◌^◌, Some, length, option_map};
+ghost use Rattle.mls_wire.specs.Spelling.{length_form, items, list, vector};
+ghost use Rattle.mls_nodes.specs.Layout.{capabilities, credential, leaf, parent, source, unmerged};
+
+use crate::capabilities::Capabilities;
+use crate::credential::Credential;
+use crate::leaf::LeafNode;
+use crate::leaf_source::LeafSource;
+use crate::parent::ParentNode;
+use mls_wire::{Items, Measure, Opaque};
+
+/// How many bytes the length of a vector takes.
+fn length_of_prefix(body: u64) -> u64
+    requires { body ≤ 1073741823 }
+    ensures length { option_map length (length_form body) ≡ Some result }
+    ensures small { result ≤ 4 }
+{
+    if body < 64 {
+        1
+    } else if body < 16384 {
+        2
+    } else {
+        4
+    }
+}
+
+/// How many bytes a vector takes, with its length.
+fn length_of_vector(bytes: &Opaque) -> u64
+    ensures length { option_map length (vector bytes.now) ≡ Some result }
+    ensures small { result ≤ 1073741827 }
+{
+    let body = bytes.as_slice().len() as u64;
+    length_of_prefix(body) + body
+}
+
+/// How many bytes the items of a list take.
+fn length_of_items<T: Measure>(values: &Items<T>) -> u64
+    ensures length { option_map length (items T.spelling values.now) ≡ Some result }
+    ensures small { result ≤ 1073741823 }
+{
+    let mut total = 0;
+    for value in values.as_slice() {
+        total += value.size().unwrap() as u64;
+    }
+    total
+}
+
+/// How many bytes a list takes, with its length.
+fn length_of_list<T: Measure>(values: &Items<T>) -> u64
+    ensures length { option_map length (list T.spelling values.now) ≡ Some result }
+    ensures small { result ≤ 1073741827 }
+{
+    let body = length_of_items(values);
+    length_of_prefix(body) + body
+}
+
+/// How many bytes a list of unmerged leaves takes.
+fn length_of_unmerged(leaves: &[u32]) -> u64
+    requires { length leaves.now ≤ 1048576 }
+    ensures length { option_map length (unmerged leaves.now) ≡ Some result }
+    ensures small { result ≤ 4194308 }
+{
+    let body = 4 * leaves.len() as u64;
+    length_of_prefix(body) + body
+}
+
+/// How many bytes a credential takes.
+fn length_of_credential(value: &Credential) -> u64
+    ensures length { option_map length (credential value.now) ≡ Some result }
+    ensures small { result ≤ 1073741829 }
+{
+    match value {
+        Credential::Basic(identity) => 2 + length_of_vector(identity),
+        Credential::X509(chain) => 2 + length_of_list(chain),
+    }
+}
+
+/// How many bytes the capabilities of a client take.
+fn length_of_capabilities(value: &Capabilities) -> u64
+    ensures length { option_map length (capabilities value.now) ≡ Some result }
+    ensures small { result ≤ 5368709135 }
+{
+    let versions = length_of_list(&value.versions);
+    let cipher_suites = length_of_list(&value.cipher_suites);
+    let extensions = length_of_list(&value.extensions);
+    let proposals = length_of_list(&value.proposals);
+    let credentials = length_of_list(&value.credentials);
+    versions + cipher_suites + extensions + proposals + credentials
+}
+
+/// How many bytes the source of a leaf takes, with what belongs to it.
+fn length_of_source(value: &LeafSource) -> u64
+    ensures length { option_map length (source value.now) ≡ Some result }
+    ensures small { result ≤ 1073741828 }
+{
+    match value {
+        LeafSource::KeyPackage(lifetime) => {
+            let _not_before = lifetime.not_before;
+            let _not_after = lifetime.not_after;
+            17
+        }
+        LeafSource::Update => 1,
+        LeafSource::Commit { parent_hash } => 1 + length_of_vector(parent_hash),
+    }
+}
+
+impl LeafNode {
+    /// How many bytes the leaf node takes.
+    pub fn encoded_len(&self) -> u64
+        ensures length { option_map length (leaf self.now) ≡ Some result }
+        ensures small { result ≤ 2 ^ 40 }
+    {
+        let encryption_key = length_of_vector(&self.encryption_key);
+        let signature_key = length_of_vector(&self.signature_key);
+        let credential = length_of_credential(&self.credential);
+        let capabilities = length_of_capabilities(&self.capabilities);
+        let source = length_of_source(&self.source);
+        let extensions = length_of_list(&self.extensions);
+        let signature = length_of_vector(&self.signature);
+        encryption_key + signature_key + credential + capabilities + source + extensions + signature
+    }
+}
+
+impl ParentNode {
+    /// How many bytes the parent node takes.
+    pub fn encoded_len(&self) -> u64
+        ensures length { option_map length (parent self.now) ≡ Some result }
+        ensures small { result ≤ 2 ^ 40 }
+    {
+        let encryption_key = length_of_vector(&self.encryption_key);
+        let parent_hash = length_of_vector(&self.parent_hash);
+        let unmerged = length_of_unmerged(self.unmerged.as_slice());
+        encryption_key + parent_hash + unmerged
+    }
+}

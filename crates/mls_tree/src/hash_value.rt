@@ -1,0 +1,54 @@
+//! Values of a hash function.
+ghost use Rattle.std.specs.Prelude.{◌≡◌, ◌↔◌, ◌≤◌, ◌<◌, length, IsNone, IfSome};
+
+use std::marker::Model;
+
+/// The most bytes that a hash value has.
+const MAX_BYTES: usize = 64;
+
+/// The value of a hash function: at most 64 bytes, as many as the longest hash of a cipher suite has (RFC 9420, 17.1), kept in place.
+/// Contracts see it as its bytes.
+#[derive(Clone, Copy, Debug, PartialEq, Eq)]
+pub struct HashValue {
+    bytes: [u8; 64],
+    len: usize,
+}
+
+impl Model for HashValue {
+    ghost use Rattle.std.specs.Prelude.{ℕ, List, length, take};
+    ghost use Rattle.mls_tree.specs.HashValue.{padded, IsPadded};
+
+    ghost Value = { List ℕ };
+
+    ghost view = { λ h. take h.len h.bytes };
+
+    ghost invariant = { λ h. IsPadded h.bytes h.len };
+
+    ghost inverse = { λ bytes. record { bytes = padded bytes; len = length bytes } };
+
+    ghost inverse_ok = { λ h p i. record { bytes = p.zeros i; len = p.fits i } };
+}
+
+impl HashValue {
+    /// The value with these bytes. None where there are more than 64. Takes no memory.
+    pub fn new(bytes: &[u8]) -> Option<HashValue>
+        ensures value { IfSome result (λ h. h ≡ bytes.now) }
+        ensures too_long { IsNone result ↔ (64 < length bytes.now) }
+    {
+        let len = bytes.len();
+        if len > MAX_BYTES {
+            return None;
+        }
+        let mut padded = [0; 64];
+        padded[..len].copy_from_slice(bytes);
+        Some(HashValue { bytes: padded, len })
+    }
+
+    /// The bytes, at most 64.
+    pub fn as_slice(&self) -> &[u8]
+        ensures bytes { result.now ≡ self.now }
+        ensures limit { length self.now ≤ 64 }
+    {
+        &self.bytes[..self.len]
+    }
+}

@@ -6,3 +6,12 @@ pub mod Used
 pub mod Keys
 pub mod Rules
 pub mod Judged
+pub mod Descent
+pub mod Elements
+pub mod Hashed
+pub mod Lists
+pub mod Lone
+pub mod Marking
+pub mod Placing
+pub mod Reaching
+pub mod Repeats

@@ -1,3 +1,10 @@
 pub mod Signatures
 pub mod Receipts
 pub mod Members
+pub mod Distinct
+pub mod FirstFailure
+pub mod Marks
+pub mod Position
+pub mod Reached
+pub mod Sound
+pub mod Valid

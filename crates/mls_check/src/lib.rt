@@ -1,18 +1,27 @@
-//! Whether the nodes of a ratchet tree may be members of a group (RFC 9420, 7.3), and the interface to the checker of
-//! signatures (5.1.2), which the caller hands in.
+//! Whether a ratchet tree is valid (RFC 9420, 7.9.2 and 12.4.3.1), whether its leaves may be members of a group (7.3), and the
+//! interface to the checker of signatures (5.1.2), which the caller hands in.
 #![tactic(auto)]
 
 mod credentials;
+mod distinct;
 pub mod laws;
 mod members;
+mod placed;
+mod position;
+mod reached;
 mod receipts;
 mod signature_keys;
 mod signatures;
+mod sorted;
 mod support;
+mod valid;
 
 pub use members::{MemberFault, validate_members};
 pub use receipts::{Listed, ReceiptsFault};
 pub use signatures::{OutOfMemory, SignatureCheck, Trusting, signed};
+pub use valid::{TreeFault, validate_tree};
 
 #[cfg(test)]
 mod tests;
+#[cfg(test)]
+mod tree_tests;

@@ -9,7 +9,7 @@ ghost use Rattle.mls_wire.specs.Writing.{Writes, WritesPiece, after};
 use crate::draft::Draft;
 use crate::encode::Encode;
 use crate::fault::{CodecFault, WireFault, WireFaultKind};
-use std::alloc::Global;
+use std::alloc::{AllocError, Global};
 use std::marker::Model;
 use std::mem::replace;
 
@@ -66,6 +66,13 @@ impl Writer {
         ensures { self.new ≡ [] }
     {
         self.bytes.clear();
+    }
+
+    /// Makes room for `more` bytes, so that they are written without taking memory.
+    pub fn reserve(&mut self, more: usize) -> Result<(), AllocError>
+        ensures { self.new ≡ self.old }
+    {
+        self.bytes.reserve(more)
     }
 
     /// Keeps the first `count` bytes.

@@ -1,0 +1,103 @@
+-- Marks of reached parents, through a walk halves first.
+use Rattle.std.proofs.Common.{◌≡◌, ◌≢◌, ℕ, ◌+◌, ◌*◌, ◌-◌, ◌<◌, Bool, true, false, List, Option, Some, None, Result, Ok, Err, refl, sym, ap, ◌∙◌, subst, arith, inl, inr, ◌++◌, take, length, IsTrue, IsSome, is_some, IfOk, get_or, replicate}
+use Rattle.std.proofs.Math.Seq.{take-append_seam}
+use Rattle.std.specs.Prelude.{◌↔◌, slice_set}
+use Rattle.std.proofs.Common.{get_or-set_same, get_or-set_other}
+use Rattle.std.proofs.lemmas.List.{get_or-replicate, get_or_past, length-replicate}
+use Rattle.std.proofs.lemmas.Option.{same_Some, none-some}
+use Rattle.std.proofs.lemmas.Bool.{cases_order, cases_lt, false≢true}
+use Rattle.mls_nodes.specs.declared.parent.ParentNode.{ParentNode}
+use Rattle.mls_tree.specs.RatchetTree.{RatchetTree}
+use Rattle.mls_tree.specs.Tree.{Tree, leaf, branch, leaf_count, Subtree, subtree_at, root_place, node_at, entry_of, root_entry}
+use Rattle.mls_tree.proofs.Trees.{subtree_at-stands, subtree_at-root, subtree_at-nested, subtree_at-in_left, subtree_at-in_right, root_place-below}
+use Rattle.mls_tree.proofs.Coordinates.{root-seen}
+use Rattle.mls_check.specs.FirstFailure.{IsFirstFailureIn}
+use Rattle.mls_check.specs.Position.{HasHalves, parent_of}
+use Rattle.mls_check.specs.Reached.{Reached, IsReachedAt, HasSetParent}
+use Rattle.mls_check.specs.Marks.{IsMarked, IsMarkedAt, AreSound, AreKept, AreAllMarkedAt, AreAllMarkedUnder, IsReachedHere}
+use Rattle.mls_check.proofs.Descent.{outside_above}
+
+-- an answer that was true exactly where P holds
+pub IfOk-same : {E P Q : Type 0} (r : Result Bool E) → (P → Q) → (Q → P) → IfOk r (λ b. IsTrue b ↔ P) → IfOk r (λ b. IsTrue b ↔ Q)
+IfOk-same (Ok b) f g h = (λ t. f (h.0 t), λ q. h.1 (g q))
+IfOk-same (Err e) f g h = tt
+
+pub inside_bound : (t : Tree) (p : ℕ) → IsSome (subtree_at 0 t p) → p + 1 < 2 * leaf_count t
+inside_bound t p h = go (subtree_at 0 t p) refl h
+  where
+    go : (o : Option Subtree) → subtree_at 0 t p ≡ o → IsSome o → p + 1 < 2 * leaf_count t
+    go None e h = absurd (false≢true h)
+    go (Some s) e h = let st = subtree_at-stands 0 t p s e in omega (arith, st.place, st.to_right, root_place-below s.first s.tree)
+
+module _ (H : List ℕ → List ℕ) (t : Tree) (marks : List Bool) where
+  -- what is marked in both halves is marked under the parent
+  pub under_from_halves : (p q u m : ℕ) (n : Option ParentNode) → HasHalves t p n q u m → AreAllMarkedAt H t marks q → AreAllMarkedAt H t marks u → AreAllMarkedUnder H t marks p
+  under_from_halves p q u m n h left right s e k v ne sub r =
+      let st = subtree_at-stands 0 t p _ h.whole in
+      let in_top : subtree_at h.first (branch h.left_tree n h.right_tree) k ≡ Some v = subst (λ w. subtree_at w.first w.tree k ≡ Some v) (same_Some _ _ (sym e ∙ h.whole)) sub in
+      elim (cases_order (k + 1) (2 * (h.first + leaf_count h.left_tree))) [
+        | inl at ↦ absurd (ne (omega (arith, st.place)))
+        | inr (inl lt) ↦ left _ h.left_half k v (sym (subtree_at-in_left h.first h.left_tree n h.right_tree k lt) ∙ in_top) r
+        | inr (inr gt) ↦
+            right _ h.right_half k v
+            (ap (λ w. subtree_at w h.right_tree k) h.split ∙ sym (subtree_at-in_right h.first h.left_tree n h.right_tree k gt) ∙ in_top) r
+      ]
+
+  pub kept-marked : (old : List Bool) (q : ℕ) → AreKept old marks → AreAllMarkedAt H t old q → AreAllMarkedAt H t marks q
+  kept-marked old q kept h s e k v sub r = kept k (h s e k v sub r)
+
+  -- the mark of the parent itself
+  pub marked-more : (p : ℕ) (b : Bool) → p < length marks → AreAllMarkedUnder H t marks p → (IsReachedHere H t p → b ≡ true) → AreAllMarkedAt H t (slice_set marks p b) p
+  marked-more p b l under found s e k v sub r =
+      elim (cases_order k p) [
+        | inl at ↦
+            (let whole : subtree_at 0 t p ≡ Some v = ap (λ w. subtree_at 0 t w) (sym at) ∙ subtree_at-nested 0 t p s e k v sub in
+            let f : b ≡ true = found (v, whole, r) in
+            subst (λ w. IsMarked (slice_set marks p b) w) (sym at) (rw get_or-set_same f))
+        | inr (inl lt) ↦ (let ne : k ≢ p = omega arith in rw get_or-set_other (under s e k v ne sub r))
+        | inr (inr gt) ↦ (let ne : k ≢ p = omega arith in rw get_or-set_other (under s e k v ne sub r))
+      ]
+
+  -- marks that are sound and whole tell which parents are reached
+  pub reached-marked : AreSound H t marks → ((s : Subtree) → subtree_at 0 t (root_place 0 t) ≡ Some s → (q : ℕ) (u : Subtree) → subtree_at s.first s.tree q ≡ Some u → Reached H (leaf_count t) u → IsMarked marks q)
+      → (o : Option ℕ) → IsFirstFailureIn (IsMarkedAt t marks) o → IsFirstFailureIn (IsReachedAt H t) o
+  reached-marked sound whole o f = go o f
+    where
+      there : (p : ℕ) → IsMarkedAt t marks p → IsReachedAt H t p
+      there p h s e set = sound p (h s e set) s e
+
+      back : (p : ℕ) → IsReachedAt H t p → IsMarkedAt t marks p
+      back p h s e set = whole (record { first = 0; tree = t }) (subtree_at-root 0 t) p s e (h s e set)
+
+      go : (o : Option ℕ) → IsFirstFailureIn (IsMarkedAt t marks) o → IsFirstFailureIn (IsReachedAt H t) o
+      go None f = λ p. there p (f p)
+      go (Some p) f = record { fails = λ h. f.fails (back p h); earlier = λ q l. there q (f.earlier q l) }
+
+pub none-marked : (H : List ℕ → List ℕ) (t : Tree) (marks : List Bool) (n : ℕ) → marks ≡ replicate n false → AreSound H t marks
+none-marked H t marks n e q m = absurd (false≢true (sym (unmarked n q) ∙ subst (λ ms. IsMarked ms q) e m))
+  where
+    unmarked : (n q : ℕ) → get_or (replicate n false) q false ≡ false
+    unmarked n q = elim (cases_lt q n) [ inl l ↦ get_or-replicate n q false false l | inr g ↦ get_or_past _ q false (omega (arith, length-replicate n false)) ]
+
+pub root_inside : (t : RatchetTree) (n : ℕ) → n ≡ leaf_count t.tree → IsSome (subtree_at 0 t.tree (n - 1))
+root_inside t n e = subst (λ p. IsSome (subtree_at 0 t.tree p)) (sym (root-seen t n (sym e))) (subst (λ o. IsSome o) (sym (subtree_at-root 0 t.tree)) refl)
+
+parent-set : (s : Subtree) → HasSetParent s.tree → is_some (parent_of (root_entry s.tree)) ≡ true
+parent-set s h = go s.tree h
+  where
+    go : (v : Tree) → HasSetParent v → is_some (parent_of (root_entry v)) ≡ true
+    go (leaf _) h = absurd h
+    go (branch l None r) h = absurd h
+    go (branch l (Some p) r) h = refl
+
+-- where no set parent stands there is nothing to mark
+pub unset-marked : (t : Tree) (marks : List Bool) (p : ℕ) → is_some (parent_of (node_at t p)) ≡ false → IsMarkedAt t marks p
+unset-marked t marks p n s e h = absurd (false≢true (sym n ∙ ap (λ o. is_some (parent_of (entry_of o))) e ∙ parent-set s h))
+
+pub marked_everywhere : (t : Tree) (marks : List Bool) (n : ℕ) → n + 1 ≡ 2 * leaf_count t → ((p : ℕ) → p < n → IsMarkedAt t marks p) → (p : ℕ) → IsMarkedAt t marks p
+marked_everywhere t marks n e h p s a =
+    elim (cases_lt p n) [ inl l ↦ h p l s a | inr g ↦ absurd (none-some s (sym (outside_above t p n e g) ∙ a)) ]
+
+-- a vector after its whole slice was written
+pub written_back : (new rest : List Bool) (n : ℕ) → n ≡ length new → take n (new ++ rest) ≡ new
+written_back new rest n e = ap (λ k. take k (new ++ rest)) e ∙ take-append_seam new rest

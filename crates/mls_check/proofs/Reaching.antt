@@ -1,0 +1,310 @@
+-- Chains of parent hashes, against the one place of each half that they can come from.
+use Rattle.std.proofs.Common.{◌≡◌, ◌≢◌, ℕ, ◌+◌, ◌*◌, ◌-◌, ◌%◌, ◌<◌, ◌≤◌, Bool, true, false, List, [], ◌∷◌, Option, Some, None, refl, sym, ap, ◌∙◌, subst, arith, inl, inr, IsTrue, IsSome, is_some}
+use Rattle.std.specs.Prelude.{◌⊎◌, ◌==◌, option_map, option_and_then}
+use Rattle.std.specs.List.{Contains}
+use Rattle.std.proofs.lemmas.Option.{same_Some}
+use Rattle.std.proofs.lemmas.Bool.{cases_lt, false≢true, eqb-true}
+use Rattle.std.proofs.lemmas.List.Elements.{Contains-append_cases, Contains-append_left, Contains-append_right}
+use Rattle.mls_nodes.specs.declared.parent.ParentNode.{ParentNode}
+use Rattle.mls_tree.specs.Tree.{Tree, leaf, branch, leaf_count, Subtree, subtree_at, root_place, entry_of}
+use Rattle.mls_tree.specs.Paths.{resolution, resolution_at, unmerged_places}
+use Rattle.mls_tree.proofs.Choices.{below, from}
+use Rattle.mls_tree.proofs.Trees.{leaf_count-positive, subtree_at-stands, subtree_at-root, subtree_at-nested, subtree_at-some, subtree_at-in_left, subtree_at-in_right, root_place-above, root_place-below}
+use Rattle.mls_hash.specs.ParentHash.{parent_hash, parent_hash_at, root_parent_hash, parent_at, root_parent}
+use Rattle.mls_hash.specs.declared.side.Side.{Side}
+use Rattle.mls_hash.specs.declared.side.Side.TheVariants.{Left, Right}
+use Rattle.mls_check.specs.Sound.{is_entered, is_placed, lists, IsPlaced}
+use Rattle.mls_check.specs.Position.{HasHalves}
+use Rattle.mls_check.specs.Reached.{linked_hash, AreHalves, IsUnmergedUnder, Link, Step, IsLeaf, Reached, from_leaf, from_parent}
+use Rattle.mls_check.specs.Marks.{IsLone, IsMarked, IsChainEnd, IsCandidateIn, CarriesHash, AreSound, AreAllMarkedUnder, IsReachedHere}
+use Rattle.mls_check.proofs.Lone.{lone_once}
+use Rattle.mls_check.proofs.Elements.{contains-nil, contains-cons, contains-head, contains-tail, contains-found, all-each, and-left, and-right, unmerged-in, unmerged-from}
+
+-- ---- entered leaves
+
+-- an entered leaf lies under the parent
+pub entered-range : (i first : ℕ) (t : Tree) → IsTrue (is_entered i first t) → (first ≤ i) × (i < first + leaf_count t)
+entered-range i first (leaf x) h = let e = eqb-true i first (and-left (i == first) (is_some x) h) in (omega arith, omega arith)
+entered-range i first (branch l p r) h =
+    let g = and-right (lists p i) _ h in
+    elim (cases_lt i (first + leaf_count l)) [
+      | inl a ↦
+          (let k = entered-range i first l (sym (below i (first + leaf_count l) (is_entered i first l) (is_entered i (first + leaf_count l) r) a) ∙ g) in
+          (k.0, omega (arith, k.1)))
+      | inr b ↦
+          (let k = entered-range i (first + leaf_count l) r (sym (from i (first + leaf_count l) (is_entered i first l) (is_entered i (first + leaf_count l) r) b) ∙ g) in
+          (omega (arith, k.0), omega (arith, k.1)))
+    ]
+
+-- an entered leaf is in the resolution
+pub entered-resolved : (n i first : ℕ) (t : Tree) → i < n → IsTrue (is_entered i first t) → Contains (resolution n first t) (2 * i)
+entered-resolved n i first (leaf None) l h = absurd (false≢true (and-right (i == first) false h))
+entered-resolved n i first (leaf (Some x)) l h =
+    let e : first ≡ i = sym (eqb-true i first (and-left (i == first) true h)) in
+    subst (λ v. Contains ((2 * first) ∷ []) (2 * v)) e (contains-head (2 * first) [])
+entered-resolved n i first (branch l None r) lt h =
+    elim (cases_lt i (first + leaf_count l)) [
+      | inl a ↦
+          Contains-append_left (resolution n first l) (resolution n (first + leaf_count l) r) (2 * i)
+          (entered-resolved n i first l lt (sym (below i (first + leaf_count l) (is_entered i first l) (is_entered i (first + leaf_count l) r) a) ∙ h))
+      | inr b ↦
+          Contains-append_right (resolution n first l) (resolution n (first + leaf_count l) r) (2 * i)
+          (entered-resolved n i (first + leaf_count l) r lt (sym (from i (first + leaf_count l) (is_entered i first l) (is_entered i (first + leaf_count l) r) b) ∙ h))
+    ]
+entered-resolved n i first (branch l (Some p) r) lt h =
+    contains-tail (2 * (first + leaf_count l) - 1) (unmerged_places n p.unmerged) (2 * i)
+    (unmerged-in n p.unmerged i (contains-found p.unmerged i (and-left (lists (Some p) i) _ h)) lt)
+
+-- ---- resolutions
+
+-- the lists of a subtree are placed
+abbrev pub PlacedIn : ℕ → Tree → Type 0
+PlacedIn first t = (p : ℕ) (s : Subtree) → subtree_at first t p ≡ Some s → IsTrue (is_placed s.first s.tree)
+
+in_left : (first : ℕ) (l : Tree) (n : Option ParentNode) (r : Tree) (p : ℕ) (s : Subtree) → subtree_at first l p ≡ Some s → subtree_at first (branch l n r) p ≡ Some s
+in_left first l n r p s e =
+    let at = subtree_at-stands first l p s e in
+    subtree_at-in_left first l n r p (omega (arith, at.place, at.to_right, root_place-below s.first s.tree)) ∙ e
+
+in_right : (first : ℕ) (l : Tree) (n : Option ParentNode) (r : Tree) (p : ℕ) (s : Subtree) → subtree_at (first + leaf_count l) r p ≡ Some s → subtree_at first (branch l n r) p ≡ Some s
+in_right first l n r p s e =
+    let at = subtree_at-stands (first + leaf_count l) r p s e in
+    subtree_at-in_right first l n r p (omega (arith, at.place, at.from_left, root_place-above s.first s.tree)) ∙ e
+
+entry-entered : (first : ℕ) (l : Tree) (p : ParentNode) (r : Tree) → PlacedIn first (branch l (Some p) r) → (i : ℕ) → Contains p.unmerged i → IsTrue (is_entered i first (branch l None r))
+entry-entered first l p r h i c =
+    all-each (λ i. is_entered i first (branch l None r)) p.unmerged i
+    (h (root_place first (branch l (Some p) r)) (record { first = first; tree = branch l (Some p) r }) (subtree_at-root first (branch l (Some p) r))) c
+
+-- the resolution of a subtree lies in it
+pub resolution-inside : (n first : ℕ) (t : Tree) → PlacedIn first t → (u : ℕ) → Contains (resolution n first t) u → (2 * first ≤ u) × (u + 1 < 2 * (first + leaf_count t))
+resolution-inside n first (leaf None) h u c = absurd (contains-nil u c)
+resolution-inside n first (leaf (Some x)) h u c =
+    elim (contains-cons (2 * first) [] u c) [ inl e ↦ (omega arith, omega arith) | inr d ↦ absurd (contains-nil u d) ]
+resolution-inside n first (branch l None r) h u c =
+    elim (Contains-append_cases (resolution n first l) (resolution n (first + leaf_count l) r) u c) [
+      | inl a ↦
+          (let k = resolution-inside n first l (λ p s e. h p s (in_left first l None r p s e)) u a in
+          (k.0, omega (arith, k.1, leaf_count-positive r)))
+      | inr b ↦
+          (let k = resolution-inside n (first + leaf_count l) r (λ p s e. h p s (in_right first l None r p s e)) u b in
+          (omega (arith, k.0), omega (arith, k.1)))
+    ]
+resolution-inside n first (branch l (Some p) r) h u c =
+    elim (contains-cons (2 * (first + leaf_count l) - 1) (unmerged_places n p.unmerged) u c) [
+      | inl e ↦ (omega (arith, leaf_count-positive l), omega (arith, leaf_count-positive l, leaf_count-positive r))
+      | inr d ↦
+          (let w = unmerged-from n p.unmerged u d in
+          let k = entered-range w.0 first (branch l None r) (entry-entered first l p r h w.0 w.1) in
+          let e = w.2 in
+          (omega (arith, k.0), omega (arith, k.1)))
+    ]
+
+-- ---- places
+
+leaf-even : (first : ℕ) (t : Tree) → IsLeaf t → root_place first t % 2 ≡ 0
+leaf-even first (leaf x) h = omega arith
+leaf-even first (branch l p r) h = absurd h
+
+even-leaf : (first : ℕ) (t : Tree) → root_place first t % 2 ≡ 0 → IsLeaf t
+even-leaf first (leaf x) h = tt
+even-leaf first (branch l p r) h = absurd (omega (arith, leaf_count-positive l))
+
+-- the steps that a chain to the parent on top can come by
+pub ends : {H : List ℕ → List ℕ} {n : ℕ} (s : Subtree) → Reached H n s → (d : Subtree) × Step H n d s × (IsLeaf d.tree ⊎ Reached H n d)
+ends _ (from_leaf d a step l) = (d, step, inl l)
+ends _ (from_parent d a step r) = (d, step, inr r)
+
+-- ---- one half of a parent
+
+module _ (H : List ℕ → List ℕ) (t : Tree) (node : ParentNode) (half other : Subtree) (c : ℕ)
+    (at : subtree_at 0 t c ≡ Some half)
+    (placed : IsPlaced t)
+    (entered : (i : ℕ) → Contains node.unmerged i → half.first ≤ i → i < half.first + leaf_count half.tree → IsTrue (is_entered i half.first half.tree)) where
+  placed-half : PlacedIn half.first half.tree
+  placed-half p s e = placed p s (subtree_at-nested 0 t c half at p s e)
+
+  -- what a link says of the resolution
+  link-lone : (d : Subtree) (k : Link H (leaf_count t) node half other d) → IsLone node.unmerged (resolution (leaf_count t) half.first half.tree) k.place
+  link-lone d k = record {
+    here = k.resolved;
+    unlisted = λ w.
+        let st = subtree_at-stands half.first half.tree k.place d k.stands in
+        let e = w.2 in
+        let lo : half.first ≤ w.0 = omega (arith, st.place, st.from_left, root_place-above d.first d.tree) in
+        let hi : w.0 < half.first + leaf_count half.tree = omega (arith, st.place, st.to_right, root_place-below d.first d.tree) in
+        ((k.unmerged k.place).1 (w.0, w.1, lo, hi, w.2)).1 refl;
+    others = λ u m ne. let w = (k.unmerged u).0 (m, ne) in (w.0, w.1, w.4);
+  }
+
+  lone-unmerged : (p : ℕ) → IsLone node.unmerged (resolution (leaf_count t) half.first half.tree) p
+      → (u : ℕ) → ((Contains (resolution (leaf_count t) half.first half.tree) u × (u ≢ p)) → IsUnmergedUnder node half u) × (IsUnmergedUnder node half u → (Contains (resolution (leaf_count t) half.first half.tree) u × (u ≢ p)))
+  lone-unmerged p h u = (
+    λ m. let w = h.others u m.0 m.1 in
+        let k = resolution-inside (leaf_count t) half.first half.tree placed-half u m.0 in
+        let e = w.2 in
+        (w.0, w.1, omega (arith, k.0), omega (arith, k.1), w.2),
+    λ w. let st = subtree_at-stands 0 t c half at in
+        let hi = w.3 in (
+          subst (λ v. Contains (resolution (leaf_count t) half.first half.tree) v) (sym w.4)
+              (entered-resolved (leaf_count t) w.0 half.first half.tree (omega (arith, st.to_right)) (entered w.0 w.1 w.2 w.3)),
+          λ e. h.unlisted (w.0, w.1, sym e ∙ w.4),
+        ),
+  )
+
+  module _ (p : ℕ) (side : Side) (hashed : parent_hash_at H t p side ≡ parent_hash H node other.first other.tree) (marks : List Bool) where
+    -- a candidate that carries the parent hash is a link
+    pub linked-up : AreSound H t marks → (o : Option ℕ) → IsCandidateIn t node.unmerged c marks o → CarriesHash H t p side o
+        → (d : Subtree) × Link H (leaf_count t) node half other d × (IsLeaf d.tree ⊎ Reached H (leaf_count t) d)
+    linked-up sound None k h = absurd h
+    linked-up sound (Some b) k h =
+        let same : k.places ≡ resolution (leaf_count t) half.first half.tree = same_Some _ _ (sym k.resolved ∙ ap (λ o. option_map (λ (s : Subtree). resolution (leaf_count t) s.first s.tree) o) at) in
+        let lone = subst (λ ps. IsLone node.unmerged ps b) same k.lone in
+        let inside = resolution-inside (leaf_count t) half.first half.tree placed-half b lone.here in
+        let d = subtree_at-some half.first half.tree b inside.0 inside.1 in
+        let whole : subtree_at 0 t b ≡ Some d.0 = subtree_at-nested 0 t c half at b d.0 d.1 in (
+          d.0,
+          record {
+            place = b;
+            stands = d.1;
+            hash = h.0;
+            linked = ap (λ o. linked_hash (entry_of o)) (sym whole) ∙ h.1;
+            expected = sym hashed ∙ h.2;
+            resolved = lone.here;
+            unmerged = lone-unmerged b lone;
+          },
+          elim k.ended [
+            | inl e ↦ inl (even-leaf d.0.first d.0.tree (subst (λ v. v % 2 ≡ 0) (subtree_at-stands 0 t b d.0 whole).place e))
+            | inr m ↦ inr (sound b m d.0 whole)
+          ],
+        )
+
+    -- the candidate of a half that a link comes from carries the parent hash
+    pub linked-down : ((q : ℕ) (v : Subtree) → subtree_at half.first half.tree q ≡ Some v → Reached H (leaf_count t) v → IsMarked marks q)
+        → (o : Option ℕ) → IsCandidateIn t node.unmerged c marks o
+        → (d : Subtree) → Link H (leaf_count t) node half other d → (IsLeaf d.tree ⊎ Reached H (leaf_count t) d) → CarriesHash H t p side o
+    linked-down marked o k d link e = go o k
+      where
+        whole : subtree_at 0 t link.place ≡ Some d
+        whole = subtree_at-nested 0 t c half at link.place d link.stands
+
+        ended : (IsLeaf d.tree ⊎ Reached H (leaf_count t) d) → IsChainEnd marks link.place
+        ended (inl l) = inl (subst (λ v. v % 2 ≡ 0) (sym (subtree_at-stands 0 t link.place d whole).place) (leaf-even d.first d.tree l))
+        ended (inr r) = inr (marked link.place d link.stands r)
+
+        known : resolution_at t c ≡ Some (resolution (leaf_count t) half.first half.tree)
+        known = ap (λ o. option_map (λ (s : Subtree). resolution (leaf_count t) s.first s.tree) o) at
+
+        carries : CarriesHash H t p side (Some link.place)
+        carries = (link.hash, ap (λ o. linked_hash (entry_of o)) whole ∙ link.linked, hashed ∙ link.expected)
+
+        go : (o : Option ℕ) → IsCandidateIn t node.unmerged c marks o → CarriesHash H t p side o
+        go None k = absurd (k link.place (record { places = resolution (leaf_count t) half.first half.tree; resolved = known; lone = link-lone d link; ended = ended e }))
+        go (Some b) k =
+            let same : k.places ≡ resolution (leaf_count t) half.first half.tree = same_Some _ _ (sym k.resolved ∙ known) in
+            let lone = link-lone d link in
+            let here = subst (λ ps. IsLone node.unmerged ps b) same k.lone in
+            subst (λ v. CarriesHash H t p side (Some v)) (sym (lone_once node.unmerged _ b link.place here lone.here lone.unlisted)) carries
+
+-- a link between equal parts
+coe_link : {H : List ℕ → List ℕ} {n : ℕ} (d : Subtree) (a : ParentNode) (half other : Subtree) {b : ParentNode} (x y : Subtree) → a ≡ b → half ≡ x → other ≡ y → Link H n a half other d → Link H n b x y d
+coe_link {H} {n} d a half other x y e f g link = subst (λ v. v) (λ i. Link H n (e i) (f i) (g i) d) link
+
+-- ---- a set parent
+
+module _ (H : List ℕ → List ℕ) (t : Tree) (p q u m : ℕ) (node : ParentNode) (h : HasHalves t p (Some node) q u m) (placed : IsPlaced t) (marks : List Bool) where
+  top : Subtree
+  top = record { first = h.first; tree = branch h.left_tree (Some node) h.right_tree }
+
+  all-entered : (i : ℕ) → Contains node.unmerged i → IsTrue (is_entered i h.first (branch h.left_tree None h.right_tree))
+  all-entered i c = all-each (λ i. is_entered i h.first (branch h.left_tree None h.right_tree)) node.unmerged i (placed p _ h.whole) c
+
+  entered-left : (i : ℕ) → Contains node.unmerged i → h.first ≤ i → i < h.first + leaf_count h.left_tree → IsTrue (is_entered i h.first h.left_tree)
+  entered-left i c lo hi =
+      sym (below i (h.first + leaf_count h.left_tree) (is_entered i h.first h.left_tree) (is_entered i (h.first + leaf_count h.left_tree) h.right_tree) hi) ∙ all-entered i c
+
+  entered-right : (i : ℕ) → Contains node.unmerged i → h.first + leaf_count h.left_tree ≤ i → i < h.first + leaf_count h.left_tree + leaf_count h.right_tree
+      → IsTrue (is_entered i (h.first + leaf_count h.left_tree) h.right_tree)
+  entered-right i c lo hi =
+      sym (from i (h.first + leaf_count h.left_tree) (is_entered i h.first h.left_tree) (is_entered i (h.first + leaf_count h.left_tree) h.right_tree) lo) ∙ all-entered i c
+
+  right-at : subtree_at 0 t u ≡ Some (record { first = h.first + leaf_count h.left_tree; tree = h.right_tree })
+  right-at = h.right_half ∙ ap (λ v. Some (record { first = v; tree = h.right_tree })) h.split
+
+  hashed-right : parent_hash_at H t p Right ≡ parent_hash H node (h.first + leaf_count h.left_tree) h.right_tree
+  hashed-right = ap (λ o. option_and_then (λ (s : Subtree). root_parent_hash H Right s.first s.tree) o) h.whole
+
+  hashed-left : parent_hash_at H t p Left ≡ parent_hash H node h.first h.left_tree
+  hashed-left = ap (λ o. option_and_then (λ (s : Subtree). root_parent_hash H Left s.first s.tree) o) h.whole
+
+  -- a chain that comes through the left half
+  pub reached-left : AreSound H t marks → (o : Option ℕ) → IsCandidateIn t node.unmerged q marks o → CarriesHash H t p Right o → IsReachedHere H t p
+  reached-left sound o k c =
+      let l = linked-up H t node (record { first = h.first; tree = h.left_tree }) (record { first = h.first + leaf_count h.left_tree; tree = h.right_tree }) q h.left_half placed entered-left p Right hashed-right marks sound o k c in
+      let step : Step H (leaf_count t) l.0 (record { first = h.first; tree = branch h.left_tree (Some node) h.right_tree }) = record {
+        parent = node;
+        half = record { first = h.first; tree = h.left_tree };
+        other = record { first = h.first + leaf_count h.left_tree; tree = h.right_tree };
+        halves = (refl, inl (refl, refl));
+        link = l.1;
+      } in (
+        record { first = h.first; tree = branch h.left_tree (Some node) h.right_tree },
+        h.whole,
+        elim l.2 [ inl e ↦ from_leaf l.0 _ step e | inr r ↦ from_parent l.0 _ step r ],
+      )
+
+  -- and one through the right half
+  pub reached-right : AreSound H t marks → (o : Option ℕ) → IsCandidateIn t node.unmerged u marks o → CarriesHash H t p Left o → IsReachedHere H t p
+  reached-right sound o k c =
+      let l = linked-up H t node (record { first = h.first + leaf_count h.left_tree; tree = h.right_tree }) (record { first = h.first; tree = h.left_tree }) u right-at placed entered-right p Left hashed-left marks sound o k c in
+      let step : Step H (leaf_count t) l.0 (record { first = h.first; tree = branch h.left_tree (Some node) h.right_tree }) = record {
+        parent = node;
+        half = record { first = h.first + leaf_count h.left_tree; tree = h.right_tree };
+        other = record { first = h.first; tree = h.left_tree };
+        halves = (refl, inr (refl, refl));
+        link = l.1;
+      } in (
+        record { first = h.first; tree = branch h.left_tree (Some node) h.right_tree },
+        h.whole,
+        elim l.2 [ inl e ↦ from_leaf l.0 _ step e | inr r ↦ from_parent l.0 _ step r ],
+      )
+
+  left-marked : AreAllMarkedUnder H t marks p → (k : ℕ) (v : Subtree) → subtree_at h.first h.left_tree k ≡ Some v → Reached H (leaf_count t) v → IsMarked marks k
+  left-marked under k v e r =
+      let st = subtree_at-stands 0 t p _ h.whole in
+      let at = subtree_at-stands h.first h.left_tree k v e in
+      under _ h.whole k v (λ d. omega (arith, st.place, at.place, at.to_right, root_place-below v.first v.tree))
+      (in_left h.first h.left_tree (Some node) h.right_tree k v e) r
+
+  right-marked : AreAllMarkedUnder H t marks p → (k : ℕ) (v : Subtree) → subtree_at (h.first + leaf_count h.left_tree) h.right_tree k ≡ Some v → Reached H (leaf_count t) v → IsMarked marks k
+  right-marked under k v e r =
+      let st = subtree_at-stands 0 t p _ h.whole in
+      let at = subtree_at-stands (h.first + leaf_count h.left_tree) h.right_tree k v e in
+      under _ h.whole k v (λ d. omega (arith, st.place, at.place, at.from_left, root_place-above v.first v.tree, leaf_count-positive h.left_tree))
+      (in_right h.first h.left_tree (Some node) h.right_tree k v e) r
+
+  -- a chain to the parent comes through one of its halves
+  pub reached-through : AreAllMarkedUnder H t marks p
+      → (o : Option ℕ) → IsCandidateIn t node.unmerged q marks o → (o' : Option ℕ) → IsCandidateIn t node.unmerged u marks o'
+      → IsReachedHere H t p → CarriesHash H t p Right o ⊎ CarriesHash H t p Left o'
+  reached-through under o k o' k' w =
+      let same = same_Some _ _ (sym w.1 ∙ h.whole) in
+      let e = ends (record { first = h.first; tree = branch h.left_tree (Some node) h.right_tree }) (subst (λ s. Reached H (leaf_count t) s) same w.2) in
+      by e.0 e.1.parent e.1.half e.1.other e.1.halves e.1.link e.2
+    where
+      by : (d : Subtree) (n : ParentNode) (half other : Subtree) → AreHalves h.first (branch h.left_tree (Some node) h.right_tree) n half other → Link H (leaf_count t) n half other d
+          → (IsLeaf d.tree ⊎ Reached H (leaf_count t) d) → CarriesHash H t p Right o ⊎ CarriesHash H t p Left o'
+      by d n half other (a, inl b) link e =
+          inl (linked-down H t node (record { first = h.first; tree = h.left_tree }) (record { first = h.first + leaf_count h.left_tree; tree = h.right_tree }) q h.left_half placed entered-left p Right hashed-right marks
+          (left-marked under) o k d (coe_link d n half other _ _ (sym a) b.0 b.1 link) e)
+      by d n half other (a, inr b) link e =
+          inr (linked-down H t node (record { first = h.first + leaf_count h.left_tree; tree = h.right_tree }) (record { first = h.first; tree = h.left_tree }) u right-at placed entered-right p Left hashed-left marks
+          (right-marked under) o' k' d (coe_link d n half other _ _ (sym a) b.0 b.1 link) e)
+
+pub other_way : {P Q : Type 0} → ¬ P → P ⊎ Q → Q
+other_way n (inl p) = absurd (n p)
+other_way n (inr q) = q
+
+-- a set parent stands where its halves are known
+pub set_here : (t : Tree) (p q u m : ℕ) (node : ParentNode) → HasHalves t p (Some node) q u m → IsSome (parent_at t p)
+set_here t p q u m node h = subst (λ o. IsSome (option_and_then (λ (s : Subtree). root_parent s.tree) o)) (sym h.whole) refl

@@ -1,0 +1,21 @@
+use Rattle.std.proofs.Common.{◌≡◌, ◌∙◌, ◌-◌, sym, subst, length, vec_len}
+use Rattle.mls_hash.specs.Hashing.{hash_of}
+use Rattle.mls_tree.specs.RatchetTree.{RatchetTree}
+use Rattle.mls_tree.proofs.Coordinates.{root-seen}
+use Rattle.mls_check.specs.Marks.{AreSound, AreAllMarkedAt}
+use Rattle.mls_check.proofs.Marking.{root_inside, reached-marked, written_back}
+use Rattle.mls_check.proofs.reached.first_unreached.Goals as goal
+
+pub mark_reached-requires-clause-inside : goal.mark_reached-requires-clause-inside
+mark_reached-requires-clause-inside c = let tree : RatchetTree = c.args.tree.now in root_inside tree c.leaf_count-root.result c.leaf_count-root.ensures
+
+pub returns : goal.returns
+returns c =
+    let tree : RatchetTree = c.args.tree.now in
+    let long : vec_len c.in_ok-reached.reached ≡ length c.mark_reached.new.reached = sym (c.mark_reached.auto.reached ∙ c.as_mut_slice.ensures.len) in
+    let same : c.mark_reached.new.reached ≡ c.as_slice.result.now = sym (c.as_slice.ensures.value ∙ written_back c.mark_reached.new.reached _ _ long) in
+    let sound = subst (λ ms. AreSound (hash_of c.args.suite) tree.tree ms) same c.in_ok-mark_reached.ensures.sound in
+    let marked = subst (λ ms. AreAllMarkedAt (hash_of c.args.suite) tree.tree ms (c.leaf_count-root.result - 1)) same c.in_ok-mark_reached.ensures.marked in
+    reached-marked (hash_of c.args.suite) tree.tree c.as_slice.result.now sound
+    (subst (λ p. AreAllMarkedAt (hash_of c.args.suite) tree.tree c.as_slice.result.now p) (root-seen tree c.leaf_count-root.result (sym c.leaf_count-root.ensures)) marked)
+    c.first_unmarked.result c.first_unmarked.ensures

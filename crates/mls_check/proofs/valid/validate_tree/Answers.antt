@@ -1,0 +1,24 @@
+use Rattle.std.proofs.Common.{◌∙◌, ap, subst, Some}
+use Rattle.mls_hash.specs.Hashing.{hash_of}
+use Rattle.mls_check.specs.Distinct.{HasOwnKeyAt}
+use Rattle.mls_check.specs.FirstFailure.{IsFirstFailureIn}
+use Rattle.mls_check.specs.Reached.{IsReachedAt}
+use Rattle.mls_check.proofs.valid.validate_tree.Goals as goal
+
+pub returns-in-Some-3-clause-first_fault : goal.returns-in-Some-3-clause-first_fault
+returns-in-Some-3-clause-first_fault c = record {
+  hashed = c.in_ok-has_hash.ensures.0 c.if-not-branch.false ∙ ap Some c.as_slice.ensures.bytes;
+  sorted = c.in_default.ensures;
+  placed = c.in_default-first_unplaced.ensures;
+  distinct = subst (λ o. IsFirstFailureIn (HasOwnKeyAt c.args.tree.now.tree) o) c.in_default-2.is c.in_ok-place.ensures;
+  first = subst (λ o. IsFirstFailureIn (IsReachedAt (hash_of c.args.suite) c.args.tree.now.tree) o) c.in-Some-3.is c.in_ok-place-2.ensures;
+}
+
+pub returns-clause-valid : goal.returns-clause-valid
+returns-clause-valid c = record {
+  hashed = c.in_ok-has_hash.ensures.0 c.if-not-branch.false ∙ ap Some c.as_slice.ensures.bytes;
+  sorted = c.in_default.ensures;
+  placed = c.in_default-first_unplaced.ensures;
+  distinct = subst (λ o. IsFirstFailureIn (HasOwnKeyAt c.args.tree.now.tree) o) c.in_default-2.is c.in_ok-place.ensures;
+  reached = subst (λ o. IsFirstFailureIn (IsReachedAt (hash_of c.args.suite) c.args.tree.now.tree) o) c.in_default-3.is c.in_ok-place-2.ensures;
+}

@@ -1,0 +1,43 @@
+//! Whether no two set nodes have one encryption key.
+
+ghost use Rattle.std.specs.Prelude.{◌≡◌, IfOk};
+ghost use Rattle.std.specs.Option.{option_copied};
+ghost use Rattle.mls_check.specs.FirstFailure.{IsFirstFailureIn};
+ghost use Rattle.mls_check.specs.Distinct.{key_at, HasOwnKeyAt};
+
+use crate::position::place_count;
+use mls_nodes::Node;
+use mls_tree::PublicTree;
+use std::alloc::{AllocError, Global};
+use std::collections::BTreeSet;
+
+/// The encryption key of the set node at a place.
+fn key_at(tree: &PublicTree, place: u32) -> Option<&[u8]>
+    ensures { option_copied result ≡ key_at tree.now.tree place }
+{
+    match tree.node(place) {
+        Some(Node::Leaf(leaf)) => Some(leaf.encryption_key.as_slice()),
+        Some(Node::Parent(parent)) => Some(parent.encryption_key.as_slice()),
+        None => None,
+    }
+}
+
+/// The first place of a set node whose encryption key another one has. It is the last one met, going down from the last place, whose key
+/// stands at a later place.
+pub(crate) fn first_repeated(alloc: Global, tree: &PublicTree) -> Result<Option<u32>, AllocError>
+    ensures { IfOk result (λ o. IsFirstFailureIn (HasOwnKeyAt tree.now.tree) o) }
+{
+    let mut later = BTreeSet::new(alloc);
+    let mut first = None;
+    let mut place = place_count(tree);
+    while place > 0 {
+        place -= 1;
+        let Some(key) = key_at(tree, place) else {
+            continue;
+        };
+        if !later.insert(key)? {
+            first = Some(place);
+        }
+    }
+    Ok(first)
+}

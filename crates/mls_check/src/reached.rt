@@ -1,0 +1,221 @@
+//! Whether every set parent is parent-hash valid (RFC 9420, 7.9.2): whether a chain of parent hashes leads to it from a leaf.
+//!
+//! Parents are met halves first, and each that is reached is marked. In a tree whose unmerged lists are sound, a half of a parent has at
+//! most one node that a step of a chain can come from: the one of its resolution that the parent doesn't list.
+
+ghost use Rattle.std.specs.Prelude.{ℕ, ◌≡◌, ◌↔◌, ◌+◌, ◌*◌, IsTrue, IsSome, IfSome, IfOk, OnOk, MatchOption, Some, length};
+ghost use Rattle.std.specs.Option.{option_copied};
+ghost use Rattle.std.specs.List.Sorted.{IsStrictlyIncreasing};
+ghost use Rattle.mls_tree.specs.Tree.{leaf_count, subtree_at, node_at};
+ghost use Rattle.mls_hash.specs.Hashing.{hash_of};
+ghost use Rattle.mls_hash.specs.ParentHash.{parent_at};
+ghost use Rattle.mls_check.specs.FirstFailure.{IsFirstFailureIn};
+ghost use Rattle.mls_check.specs.Sound.{IsSorted, IsPlaced};
+ghost use Rattle.mls_check.specs.Reached.{linked_hash, IsReachedAt};
+ghost use Rattle.mls_check.specs.Marks.{IsListed, IsLone, IsChainEnd, IsCandidateIn, CarriesHash, AreSound, AreKept, AreAllMarkedAt, AreAllMarkedUnder, IsMarkedAt, IsReachedHere};
+
+use crate::position::{Position, parent_at, place_count, position_at};
+use mls_hash::{HashFault, Side, Suite, parent_hash};
+use mls_nodes::{LeafSource, Node};
+use mls_tree::{PublicTree, TreeError};
+use std::alloc::{AllocError, Global};
+
+/// Whether a place is that of a leaf of the list.
+fn is_listed(list: &[u32], place: u32) -> bool
+    requires { IsStrictlyIncreasing list.now }
+    ensures { IsTrue result ↔ IsListed list.now place }
+{
+    place % 2 == 0 && list.binary_search(&(place / 2)).is_ok()
+}
+
+/// The one of the places that isn't that of a leaf of the list.
+fn lone_place(places: &[u32], list: &[u32]) -> Option<u32>
+    requires { IsStrictlyIncreasing list.now }
+    ensures { MatchOption result ((p : ℕ) → ¬ IsLone list.now places.now p) (λ p. IsLone list.now places.now p) }
+{
+    let mut lone = None;
+    for &place in places {
+        if is_listed(list, place) {
+            continue;
+        }
+        if lone == Some(place) {
+            continue;
+        }
+        if lone.is_some() {
+            return None;
+        }
+        lone = Some(place);
+    }
+    lone
+}
+
+/// Whether a chain that comes to the node at a place has come from a leaf: the node is a leaf, or marked.
+fn ends_chain(reached: &[bool], place: u32) -> bool
+    ensures { IsTrue result ↔ IsChainEnd reached.now place }
+{
+    if place % 2 == 0 {
+        return true;
+    }
+    match reached.get(place as usize) {
+        Some(marked) => *marked,
+        None => false,
+    }
+}
+
+/// The place of the one node of a half's resolution that a parent with this list doesn't list, where a chain has come to it.
+fn candidate(
+    alloc: Global,
+    tree: &PublicTree,
+    list: &[u32],
+    half: u32,
+    reached: &[bool],
+) -> Result<Option<u32>, AllocError>
+    requires inside { IsSome (subtree_at 0 tree.now.tree half) }
+    requires sorted { IsStrictlyIncreasing list.now }
+    ensures { IfOk result (λ o. IsCandidateIn tree.now.tree list.now half reached.now o) }
+{
+    let places = match tree.resolution(alloc, half) {
+        Ok(places) => places,
+        Err(TreeError::OutOfMemory) => return Err(AllocError),
+        Err(_) => unreachable!(),
+    };
+    let Some(place) = lone_place(places.as_slice(), list) else {
+        return Ok(None);
+    };
+    if !ends_chain(reached, place) {
+        return Ok(None);
+    }
+    Ok(Some(place))
+}
+
+/// The parent hash that the set node at a place carries.
+fn linked_hash(tree: &PublicTree, place: u32) -> Option<&[u8]>
+    ensures { option_copied result ≡ linked_hash (node_at tree.now.tree place) }
+{
+    match tree.node(place) {
+        Some(Node::Leaf(leaf)) => match &leaf.source {
+            LeafSource::Commit { parent_hash } => Some(parent_hash.as_slice()),
+            LeafSource::KeyPackage(_) => None,
+            LeafSource::Update => None,
+        },
+        Some(Node::Parent(parent)) => Some(parent.parent_hash.as_slice()),
+        None => None,
+    }
+}
+
+/// Whether the node at `below`, if there is one, carries the parent hash of the parent at `place` over its half on the given side.
+fn is_linked(
+    alloc: Global,
+    suite: Suite,
+    tree: &PublicTree,
+    place: u32,
+    side: Side,
+    below: Option<u32>,
+) -> Result<bool, AllocError>
+    requires { IsSome (parent_at tree.now.tree place) }
+    ensures { IfOk result (λ b. IsTrue b ↔ CarriesHash (hash_of suite) tree.now.tree place side below) }
+{
+    let Some(below) = below else {
+        return Ok(false);
+    };
+    let Some(linked) = linked_hash(tree, below) else {
+        return Ok(false);
+    };
+    let expected = match parent_hash(alloc, suite, tree, place, side) {
+        Ok(hash) => hash,
+        Err(HashFault::OutOfMemory) => return Err(AllocError),
+        Err(_) => unreachable!(),
+    };
+    Ok(expected.as_slice() == linked)
+}
+
+/// Whether a chain from a leaf leads to the set parent at a place. The parents under it that are reached are marked.
+fn is_reached(
+    alloc: Global,
+    suite: Suite,
+    tree: &PublicTree,
+    place: u32,
+    reached: &[bool],
+) -> Result<bool, AllocError>
+    requires inside { IsSome (subtree_at 0 tree.now.tree place) }
+    requires sorted { IsSorted tree.now.tree }
+    requires placed { IsPlaced tree.now.tree }
+    requires sound { AreSound (hash_of suite) tree.now.tree reached.now }
+    requires marked { AreAllMarkedUnder (hash_of suite) tree.now.tree reached.now place }
+    ensures { IfOk result (λ b. IsTrue b ↔ IsReachedHere (hash_of suite) tree.now.tree place) }
+{
+    let Position::Parent {
+        node: Some(parent),
+        left,
+        right,
+        ..
+    } = position_at(tree, place)
+    else {
+        return Ok(false);
+    };
+    let list = parent.unmerged.as_slice();
+    let from_left = candidate(alloc, tree, list, left, reached)?;
+    if is_linked(alloc, suite, tree, place, Side::Right, from_left)? {
+        return Ok(true);
+    }
+    let from_right = candidate(alloc, tree, list, right, reached)?;
+    is_linked(alloc, suite, tree, place, Side::Left, from_right)
+}
+
+/// Marks the parents of a subtree that are reached, halves first.
+fn mark_reached(
+    alloc: Global,
+    suite: Suite,
+    tree: &PublicTree,
+    place: u32,
+    reached: &mut [bool],
+) -> Result<(), AllocError>
+    requires inside { IsSome (subtree_at 0 tree.now.tree place) }
+    requires sorted { IsSorted tree.now.tree }
+    requires placed { IsPlaced tree.now.tree }
+    requires room { length reached.old + 1 ≡ 2 * leaf_count tree.now.tree }
+    requires sound { AreSound (hash_of suite) tree.now.tree reached.old }
+    ensures sound { OnOk result (AreSound (hash_of suite) tree.now.tree reached.new) }
+    ensures kept { OnOk result (AreKept reached.old reached.new) }
+    ensures marked { OnOk result (AreAllMarkedAt (hash_of suite) tree.now.tree reached.new place) }
+{
+    let Position::Parent { left, right, .. } = position_at(tree, place) else {
+        return Ok(());
+    };
+    mark_reached(alloc, suite, tree, left, reached)?;
+    mark_reached(alloc, suite, tree, right, reached)?;
+    reached[place as usize] = is_reached(alloc, suite, tree, place, reached)?;
+    Ok(())
+}
+
+/// The first place of a set parent that isn't marked.
+fn first_unmarked(tree: &PublicTree, reached: &[bool]) -> Option<u32>
+    requires { length reached.now + 1 ≡ 2 * leaf_count tree.now.tree }
+    ensures { IsFirstFailureIn (IsMarkedAt tree.now.tree reached.now) result }
+{
+    for place in 0..place_count(tree) {
+        if parent_at(tree, place).is_none() {
+            continue;
+        }
+        if !reached[place as usize] {
+            return Some(place);
+        }
+    }
+    None
+}
+
+/// The first place of a set parent to which no chain from a leaf leads.
+pub(crate) fn first_unreached(
+    alloc: Global,
+    suite: Suite,
+    tree: &PublicTree,
+) -> Result<Option<u32>, AllocError>
+    requires sorted { IsSorted tree.now.tree }
+    requires placed { IsPlaced tree.now.tree }
+    ensures { IfOk result (λ o. IsFirstFailureIn (IsReachedAt (hash_of suite) tree.now.tree) o) }
+{
+    let mut reached = vec![in alloc; false; place_count(tree) as usize]?;
+    let root = tree.leaf_count() - 1;
+    mark_reached(alloc, suite, tree, root, reached.as_mut_slice())?;
+    Ok(first_unmarked(tree, reached.as_slice()))
+}

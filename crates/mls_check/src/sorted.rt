@@ -1,0 +1,43 @@
+//! Whether every unmerged list is strictly increasing.
+
+ghost use Rattle.std.specs.Prelude.{◌≡◌, ◌↔◌, IsTrue};
+ghost use Rattle.std.specs.List.Sorted.{IsStrictlyIncreasing};
+ghost use Rattle.mls_check.specs.FirstFailure.{IsFirstFailureIn};
+ghost use Rattle.mls_check.specs.Sound.{IsSortedAt};
+
+use crate::position::{parent_at, place_count};
+use mls_tree::PublicTree;
+
+/// Whether each number is below the next.
+fn is_strictly_increasing(numbers: &[u32]) -> bool
+    ensures { IsTrue result ↔ IsStrictlyIncreasing numbers.now }
+{
+    for index in 1..numbers.len() {
+        if numbers[index - 1] >= numbers[index] {
+            return false;
+        }
+    }
+    true
+}
+
+/// Whether the set parent at a place, if there is one, has a sorted list.
+fn is_sorted_at(tree: &PublicTree, place: u32) -> bool
+    ensures { IsTrue result ↔ IsSortedAt tree.now.tree place }
+{
+    match parent_at(tree, place) {
+        Some(parent) => is_strictly_increasing(parent.unmerged.as_slice()),
+        None => true,
+    }
+}
+
+/// The first place of a set parent whose unmerged list isn't strictly increasing.
+pub(crate) fn first_unsorted(tree: &PublicTree) -> Option<u32>
+    ensures { IsFirstFailureIn (IsSortedAt tree.now.tree) result }
+{
+    for place in 0..place_count(tree) {
+        if !is_sorted_at(tree, place) {
+            return Some(place);
+        }
+    }
+    None
+}

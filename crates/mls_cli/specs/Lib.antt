@@ -6,3 +6,4 @@ pub mod Show
 pub mod Status
 pub mod Texts
 pub mod TreeText
+pub mod Trees

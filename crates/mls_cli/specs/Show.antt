@@ -3,19 +3,15 @@ use Rattle.std.specs.Prelude.{ℕ, ◌≤◌, List, [], ◌++◌, length, codes,
 use Rattle.std.specs.Io.KnownBytes.{Appends}
 use Rattle.mls_wire.specs.Devices.{AppendsPrefix}
 use Rattle.mls_nodes.specs.Value.{NodeValue}
-use Rattle.mls_nodes.specs.RatchetTree.{ratchet_tree, filled}
+use Rattle.mls_nodes.specs.RatchetTree.{filled}
 use Rattle.mls_cli.specs.ReadAll.{ReadsAll, input_limit}
 use Rattle.mls_cli.specs.Texts.{IsOneLine}
 use Rattle.mls_cli.specs.TreeText.{tree_text}
+use Rattle.mls_cli.specs.Trees.{IsTree, IsNoTree}
 use Rattle.mls_cli.specs.declared.outcome.Verdict.{Verdict}
 use Rattle.mls_cli.specs.declared.outcome.Verdict.TheVariants.{Yes, No}
 use Rattle.mls_cli.specs.declared.show.ShowKind.{ShowKind}
 use Rattle.mls_cli.specs.declared.show.ShowKind.TheVariants as kind
-
--- the nodes are those of the ratchet tree that the bytes of an input spell (RFC 9420, section 12.4.3.3)
-pub record IsTree (bytes : List ℕ) (nodes : List (Option NodeValue)) : Type 0 where
-  pub spelled : ratchet_tree nodes ≡ Some bytes
-  pub bounded : length bytes ≤ input_limit
 
 -- the report of an input that can't be read: one line that names the fault
 pub record IsUnreadable (text : List ℕ) (verdict : Verdict) : Type 0 where
@@ -33,7 +29,7 @@ pub record IsTreeReport (bytes text : List ℕ) (verdict : Verdict) : Type 0 whe
 
 -- the bytes are those of no tree, and the report says so
 pub record IsNoTreeReport (bytes text : List ℕ) (verdict : Verdict) : Type 0 where
-  pub no_tree : (nodes : List (Option NodeValue)) → IsTree bytes nodes → ⊥
+  pub no_tree : IsNoTree bytes
   pub unreadable : IsUnreadable text verdict
 
 -- the report of bytes that are shown as a kind, and its verdict

@@ -12,6 +12,7 @@ mod show;
 mod tests;
 mod text;
 mod tree_text;
+mod trees;
 mod write;
 
 pub use file_name::FileName;

@@ -7,8 +7,9 @@ use crate::fault_text::node_fault_text;
 use crate::outcome::{RunFault, Verdict};
 use crate::read::read_all;
 use crate::tree_text::tree_text;
+use crate::trees::read_tree;
 use crate::write::write_text;
-use mls_nodes::{NodeFault, decode_ratchet_tree};
+use mls_nodes::NodeFault;
 use mls_wire::{Sink, Source};
 use std::alloc::{AllocError, Global};
 
@@ -56,9 +57,9 @@ fn tree_report(alloc: Global, bytes: &[u8]) -> Result<Report, RunFault>
     ensures report { IfOk result (λ r. IsShowReport ShowKind.Tree bytes.now (string_bytes r.text) r.verdict) }
     ensures memory { IfErr result (λ e. e ≡ RunFault.Memory) }
 {
-    match decode_ratchet_tree(alloc, bytes) {
-        Ok(nodes) => Ok(Report {
-            text: tree_text(alloc, nodes.as_slice())?,
+    match read_tree(alloc, bytes) {
+        Ok(tree) => Ok(Report {
+            text: tree_text(alloc, &tree)?,
             verdict: Verdict::Yes,
         }),
         Err(fault) => no_tree_report(alloc, fault),

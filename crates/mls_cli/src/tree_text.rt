@@ -1,12 +1,14 @@
 //! The lines of `show tree`.
 
-ghost use Rattle.std.specs.Prelude.{◌≡◌, ◌++◌, List, ℕ, Option, IfOk, map, codes, string_bytes};
+ghost use Rattle.std.specs.Prelude.{◌≡◌, ◌++◌, ◌+◌, ◌/◌, length, List, ℕ, Option, IfOk, map, codes, string_bytes};
 ghost use Rattle.std.specs.Fmt.{decimal};
 ghost use Rattle.mls_nodes.specs.Value.{entry_value};
+ghost use Rattle.mls_tree.specs.Tree.{listing};
 ghost use Rattle.mls_cli.specs.TreeText as lines;
 
 use crate::text::{hex_of, numbers_of};
 use mls_nodes::{LeafNode, LeafSource, Lifetime, Node, ParentNode};
+use mls_tree::PublicTree;
 use std::alloc::{AllocError, Global};
 
 /// A lifetime in seconds since 1970.
@@ -91,13 +93,21 @@ fn member_count(nodes: &[Option<Node>]) -> usize
     members
 }
 
-/// The report of a tree, whose nodes stand in the order of their places.
-pub(crate) fn tree_text(alloc: Global, nodes: &[Option<Node>]) -> Result<String, AllocError>
-    ensures { IfOk result (λ text. string_bytes text ≡ lines.tree_text (map entry_value nodes.now)) }
+/// How many leaves there are, blank ones among them.
+#[tactic(auto, using(crate::proofs::Listings::half_listing))]
+fn leaf_count(tree: &PublicTree) -> u32
+    ensures { result ≡ (length (listing tree.now.tree) + 1) / 2 }
 {
-    let mut text = node_lines(alloc, nodes)?;
-    let leaves = nodes.len().div_ceil(2);
-    let members = member_count(nodes);
+    tree.leaf_count()
+}
+
+/// The report of a tree.
+pub(crate) fn tree_text(alloc: Global, tree: &PublicTree) -> Result<String, AllocError>
+    ensures { IfOk result (λ text. string_bytes text ≡ lines.tree_text (listing tree.now.tree)) }
+{
+    let mut text = node_lines(alloc, tree.nodes())?;
+    let leaves = leaf_count(tree);
+    let members = member_count(tree.nodes());
     let counts = format!(in alloc; "leaves {leaves} members {members}\n")?;
     text.push_str(counts.as_str())?;
     Ok(text)

@@ -1,5 +1,7 @@
 //! Tests of what no contract says: the hashes themselves, which are expected as `sha2` gives them for the inputs of RFC 9420.
 
+ghost use Rattle.std.specs.Prelude.{◌<◌};
+
 use super::*;
 use mls_nodes::{LeafNode, ParentNode, Unmerged, decode_leaf};
 use mls_tree::PublicTree;

@@ -152,6 +152,21 @@ fn fields_are_written_and_read(rt: HostRuntime) -> Result<(), Fail> {
     Ok(())
 }
 
+#[test]
+fn room_is_made_behind_the_bytes(rt: HostRuntime) -> Result<(), Fail> {
+    let mut writer = Writer::new(rt.alloc());
+    writer.reserve(0)?;
+    assert!(rt; writer.bytes().is_empty());
+    writer.write_u16(0x0102)?;
+    for more in [0, 1, 300] {
+        writer.reserve(more)?;
+        assert_eq!(rt; writer.bytes(), [1, 2].as_slice(), "room for {more}");
+    }
+    writer.write_u8(3)?;
+    assert_eq!(rt; writer.bytes(), [1, 2, 3].as_slice());
+    Ok(())
+}
+
 /// A body of so many bytes of 7.
 fn body(alloc: Global, count: usize) -> Result<Opaque, Fail> {
     let mut bytes = Vec::new(alloc);

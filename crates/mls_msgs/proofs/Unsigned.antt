@@ -1,5 +1,5 @@
 -- A signature stands behind the fields that it covers.
-use Rattle.std.proofs.Common.{◌≡◌, ℕ, List, ◌++◌, Option, Some, None, refl, sym, ap, append_assoc}
+use Rattle.std.proofs.Common.{◌≡◌, ℕ, List, Option, Some, None, refl, sym, ap, append_assoc}
 use Rattle.mls_wire.specs.Spelling.{◌⊕◌, vector}
 use Rattle.mls_msgs.specs.Layout.{key_package, group_info}
 use Rattle.mls_msgs.specs.Signed.{package_tbs, info_tbs}

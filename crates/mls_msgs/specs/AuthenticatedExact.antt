@@ -1,13 +1,12 @@
 -- What is read as an authenticated content or a public message is spelled so, and what is spelled so is read.
-use Rattle.std.proofs.Common.{◌≡◌, ℕ, List, [], Bool, true, false, cond, Option, Some, None, refl, sym, subst, ◌∙◌, arith}
+use Rattle.std.proofs.Common.{◌≡◌, ℕ, List, Bool, true, false, Option, Some, None, refl, sym, ◌∙◌}
 use Rattle.std.specs.Int.{w16}
 use Rattle.std.proofs.lemmas.Bool.{eqb-true, eq-eqb}
 use Rattle.mls_wire.specs.Input.{Input}
-use Rattle.mls_wire.specs.Spelling.{◌⊕◌, number, vector}
-use Rattle.mls_wire.specs.Parsing.{◌>>=◌, number_at, vector_at}
-use Rattle.mls_wire.specs.Reading.{Takes}
+use Rattle.mls_wire.specs.Spelling.{number, vector}
+use Rattle.mls_wire.specs.Parsing.{number_at, vector_at}
 use Rattle.mls_wire.specs.Exact.{Exact, IsExact, IsLong, Any, field_then, made_of, known}
-use Rattle.mls_wire.specs.Steps.{allowed, bind_some, some_is}
+use Rattle.mls_wire.specs.Steps.{allowed}
 use Rattle.mls_wire.specs.Numbers.{wide16, number_exact, number_long}
 use Rattle.mls_wire.specs.Vectors.{vector_exact}
 use Rattle.mls_wire.specs.Joined.{long_left}

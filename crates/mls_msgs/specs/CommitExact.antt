@@ -1,5 +1,5 @@
 -- What is read as a commit or a part of one is spelled so, and what is spelled so is read.
-use Rattle.std.proofs.Common.{◌≡◌, ℕ, List, Option, refl}
+use Rattle.std.proofs.Common.{refl}
 use Rattle.mls_wire.specs.Spelling.{vector, list, optional}
 use Rattle.mls_wire.specs.Parsing.{vector_at, list_at, optional_at}
 use Rattle.mls_wire.specs.Exact.{IsExact, IsLong, Any, field_then, made_of}

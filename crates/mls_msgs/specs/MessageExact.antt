@@ -1,5 +1,5 @@
 -- What is read as a group info or a message is spelled so, and what is spelled so is read.
-use Rattle.std.proofs.Common.{◌≡◌, ◌≤◌, ◌⊎◌, inl, inr, ℕ, ◌+◌, List, [], ◌++◌, length, Bool, true, false, cond, ◌||◌, Option, Some, None, Result, Ok, Err, refl, sym, ap, subst, ◌∙◌, append_assoc, arith}
+use Rattle.std.proofs.Common.{◌≡◌, ◌≤◌, ◌⊎◌, inl, inr, ℕ, ◌+◌, List, [], ◌++◌, length, Bool, true, false, cond, ◌||◌, Option, Some, None, Result, Ok, Err, refl, sym, ap, subst, ◌∙◌}
 use Rattle.std.specs.Int.{w16, w32}
 use Rattle.std.specs.Prelude.{nat_eq}
 use Rattle.std.proofs.lemmas.Bool.{eqb-true, eqb-false}
@@ -12,11 +12,11 @@ use Rattle.mls_wire.specs.Parsing.{◌>>=◌, Finds, number_at, vector_at, list_
 use Rattle.mls_wire.specs.Exact.{Exact, IsExact, IsLong, Any, field_then, made_of, chosen, never}
 use Rattle.mls_wire.specs.Joined.{joined, join, long_left}
 use Rattle.mls_wire.specs.Steps.{bind_some, some_is, allowed, chosen_parts}
-use Rattle.mls_wire.specs.Numbers.{wide16, wide32, number_exact, number_long}
+use Rattle.mls_wire.specs.Numbers.{wide16, wide32, number_exact}
 use Rattle.mls_wire.specs.Vectors.{vector_exact}
 use Rattle.mls_wire.specs.Written.{none_second}
 use Rattle.mls_nodes.specs.Extension.{extension}
-use Rattle.mls_nodes.specs.Layout.{leaf, group_context}
+use Rattle.mls_nodes.specs.Layout.{group_context}
 use Rattle.mls_nodes.specs.Parsing.{extension_at, group_context_at}
 use Rattle.mls_nodes.specs.Exact.{extensions_exact, group_context_exact, group_context_long}
 use Rattle.mls_wire.specs.Reading.{DecodesInput}

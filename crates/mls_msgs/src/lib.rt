@@ -25,3 +25,6 @@ pub use message::{Message, decode_message, encode_message};
 pub use proposal::{Proposal, ProposalOrRef, decode_proposal, encode_proposal};
 pub use public_message::{PublicMessage, PublicParts};
 pub use signed::{confirmed_input, content_tbs, info_tbs, package_tbs};
+
+#[cfg(test)]
+mod tests;

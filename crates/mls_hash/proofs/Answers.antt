@@ -11,7 +11,7 @@ use Rattle.mls_tree.proofs.Trees.{subtree_at-perfect}
 use Rattle.mls_hash.specs.declared.fault.HashFault.{HashFault}
 use Rattle.mls_hash.specs.declared.fault.HashFault.TheVariants as faults
 use Rattle.mls_hash.specs.Inputs.{HashesText, HashesSubtree}
-use Rattle.mls_hash.specs.Parts.{HasChildren}
+use Rattle.mls_hash.specs.Parts.{HasChildren, HasChildOn, child_on}
 use Rattle.mls_hash.specs.Strip.{strip, stripped_leaf, stripped_parent, original_tree_hash, original_tree_hash_at, tree_hash_at}
 use Rattle.mls_hash.specs.declared.side.Side.{Side}
 use Rattle.mls_hash.specs.declared.side.Side.TheVariants as sides
@@ -102,28 +102,22 @@ sorted_tree H L M h t p = go (subtree_at 0 t p)
     go None = refl
     go (Some s) = ap (tree_hash H s.first) (strip-sorted L M h s.first s.tree)
 
--- the place of the child on a side
-abbrev pub child_on : Side → ℕ → ℕ → ℕ
-child_on sides.Left q u = q
-child_on sides.Right q u = u
-
-module _ (H : List ℕ → List ℕ) (t : Tree) (p q u : ℕ) (parent : ParentNode) (c : HasChildren t p q u (Some parent)) where
-  side_hash : (side : Side) (original : List ℕ) → original_tree_hash_at H parent.unmerged t (child_on side q u) ≡ Some original
-      → parents.parent_hash_at H t p side ≡ option_map H (parents.parent_hash_input parent original)
+-- the parent hash of a set parent, by the original hash of its child on a side
+module _ (H : List ℕ → List ℕ) (t : Tree) (p : ℕ) (side : Side) (child : ℕ) (parent : ParentNode) (c : HasChildOn t p side child parent) where
+  side_hash : (s : Side) (original : List ℕ) → original_tree_hash_at H parent.unmerged t (child_on s c.left c.right) ≡ Some original
+      → parents.parent_hash_at H t p s ≡ option_map H (parents.parent_hash_input parent original)
   side_hash sides.Left original e =
-      ap (option_and_then (λ (s : Subtree). parents.root_parent_hash H sides.Left s.first s.tree)) c.whole
+      ap (option_and_then (λ (s : Subtree). parents.root_parent_hash H sides.Left s.first s.tree)) c.children.whole
       ∙ ap (option_and_then (λ (o : List ℕ). option_map H (parents.parent_hash_input parent o)))
-      (sym (ap (option_and_then (λ (s : Subtree). original_tree_hash H parent.unmerged s.first s.tree)) c.left_child) ∙ e)
+      (sym (ap (option_and_then (λ (s : Subtree). original_tree_hash H parent.unmerged s.first s.tree)) c.children.left_child) ∙ e)
   side_hash sides.Right original e =
-      ap (option_and_then (λ (s : Subtree). parents.root_parent_hash H sides.Right s.first s.tree)) c.whole
+      ap (option_and_then (λ (s : Subtree). parents.root_parent_hash H sides.Right s.first s.tree)) c.children.whole
       ∙ ap (option_and_then (λ (o : List ℕ). option_map H (parents.parent_hash_input parent o)))
-      (sym (ap (option_and_then (λ (s : Subtree). original_tree_hash H parent.unmerged s.first s.tree)) c.right_child) ∙ e)
+      (sym (ap (option_and_then (λ (s : Subtree). original_tree_hash H parent.unmerged s.first s.tree)) c.children.right_child) ∙ e)
 
-  -- a parent hash, by the original hash of the child on a side
-  pub gives_parent_hash : (side : Side) (L : List ℕ) (child : ℕ) (original : List ℕ) (r : Result (List ℕ) HashFault)
-      → IsPermutation parent.unmerged L → child ≡ child_on side q u → original_tree_hash_at H L t child ≡ Some original
+  pub gives_parent_hash : (L original : List ℕ) (r : Result (List ℕ) HashFault) → IsPermutation parent.unmerged L → original_tree_hash_at H L t child ≡ Some original
       → HashesText (option_map H (parents.parent_hash_input parent original)) r
       → IfOk r (λ h. parents.parent_hash_at H t p side ≡ Some h)
-  gives_parent_hash side L child original (Ok h) s e a b =
-      side_hash side original (sym (sorted_tree H parent.unmerged L s t (child_on side q u)) ∙ ap (original_tree_hash_at H L t) (sym e) ∙ a) ∙ b
-  gives_parent_hash side L child original (Err f) s e a b = tt
+  gives_parent_hash L original (Ok h) s a b =
+      side_hash side original (sym (sorted_tree H parent.unmerged L s t (child_on side c.left c.right)) ∙ ap (original_tree_hash_at H L t) (sym c.here) ∙ a) ∙ b
+  gives_parent_hash L original (Err f) s a b = tt

@@ -4,3 +4,5 @@ pub mod Places
 pub mod Inputs
 pub mod Strips
 pub mod Answers
+pub mod Apart
+pub mod Filling

@@ -5,3 +5,4 @@ pub mod Parts
 pub mod Inputs
 pub mod Strip
 pub mod ParentHash
+pub mod SubtreeHashes

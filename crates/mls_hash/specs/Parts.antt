@@ -3,6 +3,8 @@ use Rattle.std.specs.Prelude.{◌≡◌, ℕ, ◌+◌, Option, Some, None, optio
 use Rattle.mls_nodes.specs.declared.parent.ParentNode.{ParentNode}
 use Rattle.mls_nodes.specs.Value.{NodeValue, leaf_node, parent_node}
 use Rattle.mls_tree.specs.Tree.{Tree, leaf, branch, leaf_count, Subtree, subtree_at}
+use Rattle.mls_hash.specs.declared.side.Side.{Side}
+use Rattle.mls_hash.specs.declared.side.Side.TheVariants as sides
 use Rattle.mls_hash.specs.declared.part.Part.{Part}
 use Rattle.mls_hash.specs.declared.part.Part.TheVariants.{Leaf, Parent}
 
@@ -25,3 +27,15 @@ abbrev pub parent_of : Option NodeValue → Option ParentNode
 parent_of None = None
 parent_of (Some (leaf_node _)) = None
 parent_of (Some (parent_node p)) = Some p
+
+-- the place of the child on a side
+abbrev pub child_on : Side → ℕ → ℕ → ℕ
+child_on sides.Left left right = left
+child_on sides.Right left right = right
+
+-- a set parent stands at place p, and its child on that side at place `child`
+pub record HasChildOn (t : Tree) (p : ℕ) (side : Side) (child : ℕ) (parent : ParentNode) : Type 0 where
+  pub left : ℕ
+  pub right : ℕ
+  pub children : HasChildren t p left right (Some parent)
+  pub here : child ≡ child_on side left right

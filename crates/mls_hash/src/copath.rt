@@ -1,8 +1,9 @@
 //! Parent hashes (RFC 9420, section 7.9).
 
-ghost use Rattle.std.specs.Prelude.{◌≡◌, ◌↔◌, ◌⊎◌, None, Some, Err, IfOk, IfErr};
+ghost use Rattle.std.specs.Prelude.{◌≡◌, ◌↔◌, ◌⊎◌, None, Some, Err, IfOk, IfErr, MatchOption};
 ghost use Rattle.mls_hash.specs.Hashing.{hash_of};
 ghost use Rattle.mls_hash.specs.ParentHash.{parent_at, parent_hash_at};
+ghost use Rattle.mls_hash.specs.Parts.{HasChildOn};
 
 use crate::fault::HashFault;
 use crate::input::hash_parent_fields;
@@ -11,9 +12,34 @@ use crate::part::{Part, part_at};
 use crate::side::Side;
 use crate::subtree::hash_subtree;
 use crate::suite::Suite;
+use mls_nodes::ParentNode;
 use mls_tree::{HashValue, PublicTree};
 use mls_wire::Writer;
 use std::alloc::Global;
+
+/// The parent that is set at a place, and the place of its child on a side. `None` where no set parent stands there.
+pub(crate) fn parent_and_child(
+    tree: &PublicTree,
+    place: u32,
+    side: Side,
+) -> Option<(&ParentNode, u32)>
+    ensures { MatchOption result (parent_at tree.now.tree place ≡ None) (λ r. HasChildOn tree.now.tree place side r.1 r.0.now) }
+{
+    let Some(
+        Part::Parent {
+            left,
+            right,
+            node: Some(parent),
+        },
+    ) = part_at(tree, place)
+    else {
+        return None;
+    };
+    match side {
+        Side::Left => Some((parent, left)),
+        Side::Right => Some((parent, right)),
+    }
+}
 
 /// The parent hash of the parent that is set at a place, whose child on the copath is the one on that side (RFC 9420, section 7.9): the
 /// hash of its key, its own parent hash and the original tree hash of that child, without the parent's unmerged leaves. `NoSuchNode`
@@ -29,23 +55,11 @@ pub fn parent_hash(
     ensures no_such_node { (result ≡ Err HashFault.NoSuchNode) ↔ (parent_at tree.now.tree place ≡ None) }
     ensures else_memory { IfErr result (λ e. (e ≡ HashFault.NoSuchNode) ⊎ (e ≡ HashFault.OutOfMemory)) }
 {
-    match part_at(tree, place) {
-        Some(
-            Part::Parent {
-                left,
-                right,
-                node: Some(parent),
-            },
-        ) => {
-            let child = match side {
-                Side::Left => left,
-                Side::Right => right,
-            };
-            let left_out = LeafSet::new(alloc, parent.unmerged.as_slice())?;
-            let mut writer = Writer::new(alloc);
-            let original = hash_subtree(alloc, suite, tree, &left_out, child, &mut writer)?;
-            hash_parent_fields(suite, parent, &original, &mut writer)
-        }
-        _ => Err(HashFault::NoSuchNode),
-    }
+    let Some((parent, child)) = parent_and_child(tree, place, side) else {
+        return Err(HashFault::NoSuchNode);
+    };
+    let left_out = LeafSet::new(alloc, parent.unmerged.as_slice())?;
+    let mut writer = Writer::new(alloc);
+    let original = hash_subtree(alloc, suite, tree, &left_out, child, &mut writer)?;
+    hash_parent_fields(suite, parent, &original, &mut writer)
 }

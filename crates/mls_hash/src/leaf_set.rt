@@ -1,8 +1,9 @@
 //! Sets of leaves.
 
-ghost use Rattle.std.specs.Prelude.{◌≡◌, [], IfOk};
+ghost use Rattle.std.specs.Prelude.{◌≡◌, ◌↔◌, [], IfOk, IsTrue};
 ghost use Rattle.std.specs.List.Sorted.{IsPermutation};
 ghost use Rattle.mls_hash.specs.Strip.{is_among};
+ghost use Rattle.mls_hash.specs.SubtreeHashes.{IsApartFrom};
 
 use std::alloc::{AllocError, Global};
 use std::marker::Model;
@@ -48,5 +49,18 @@ impl LeafSet {
         ensures { result ≡ is_among self.now leaf }
     {
         self.leaves.binary_search(&leaf).is_ok()
+    }
+
+    /// Whether no leaf from number `first` up to `end` is in the set, by binary search.
+    pub(crate) fn is_apart_from(&self, first: u32, end: u32) -> bool
+        ensures { IsTrue result ↔ IsApartFrom self.now first end }
+    {
+        match self.leaves.binary_search(&first) {
+            Ok(_) => end <= first,
+            Err(next) => match self.leaves.get(next) {
+                Some(leaf) => end <= *leaf,
+                None => true,
+            },
+        }
     }
 }

@@ -2,7 +2,8 @@
 //! sections 5.2, 7.8 and 7.9), for the cipher suites that hash with SHA-256.
 //!
 //! A tree hash is computed on the tree as it stands, with one hash for each node. The original tree hash of a subtree,
-//! which leaves some leaves out, is computed on the same tree, and no tree is copied.
+//! which leaves some leaves out, is computed on the same tree, and no tree is copied. [`SubtreeHashes`] keeps the tree
+//! hashes of all subtrees, so that a parent hash is computed anew only where leaves are left out.
 #![tactic(auto)]
 
 mod copath;
@@ -13,6 +14,7 @@ mod leaf_set;
 mod part;
 mod side;
 mod subtree;
+mod subtree_hashes;
 mod suite;
 
 pub use copath::parent_hash;
@@ -21,6 +23,7 @@ pub use fault::HashFault;
 pub use mls_tree::HashValue;
 pub use side::Side;
 pub use subtree::{original_tree_hash, tree_hash};
+pub use subtree_hashes::SubtreeHashes;
 pub use suite::Suite;
 
 #[cfg(test)]

@@ -17,7 +17,7 @@ use mls_wire::Writer;
 use std::alloc::Global;
 
 /// The node of a leaf. `None` where it is blank or in the set.
-fn kept_leaf<'a>(
+pub(crate) fn kept_leaf<'a>(
     number: u32,
     node: Option<&'a LeafNode>,
     left_out: &LeafSet,

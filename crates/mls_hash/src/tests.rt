@@ -93,15 +93,34 @@ fn commit_leaf_bytes(alloc: Global, parent_hash: &[u8]) -> Result<Vec<u8>, Alloc
     )
 }
 
-/// A parent with no unmerged leaves.
-fn parent(alloc: Global, key: u8, parent_hash: &[u8]) -> Result<Box<ParentNode>, Fail> {
-    let unmerged = Unmerged::new(Vec::new(alloc)).ok().ok_or("an empty list")?;
+/// A parent with these unmerged leaves.
+fn parent_with(
+    alloc: Global,
+    key: u8,
+    parent_hash: &[u8],
+    unmerged: &[u32],
+) -> Result<Box<ParentNode>, Fail> {
+    let unmerged = Unmerged::new(Vec::from_slice(alloc, unmerged)?)?;
     let node = ParentNode {
         encryption_key: Opaque::copy(alloc, &[key])?,
         parent_hash: Opaque::copy(alloc, parent_hash)?,
         unmerged,
     };
     Ok(Box::new(alloc, node)?)
+}
+
+/// A parent with no unmerged leaves.
+fn parent(alloc: Global, key: u8, parent_hash: &[u8]) -> Result<Box<ParentNode>, Fail> {
+    parent_with(alloc, key, parent_hash, &[])
+}
+
+/// A tree of four leaves, of which the last two are set, under a set root that has leaf 3 unmerged.
+fn tree_with_unmerged(alloc: Global) -> Result<PublicTree, Fail> {
+    let mut tree = PublicTree::blank(alloc, 4)?;
+    tree.set_leaf(2, Some(leaf(alloc, 2)?))?;
+    tree.set_leaf(3, Some(leaf(alloc, 3)?))?;
+    tree.put_parent(3, Some(parent_with(alloc, 0xd3, b"", &[3])?))?;
+    Ok(tree)
 }
 
 #[test]
@@ -245,5 +264,19 @@ fn hashes_a_path(rt: HostRuntime) -> Result<(), Fail> {
         parent_hash(alloc, suite, &tree, 3, Side::Right)?.as_slice(),
         upper.as_slice()
     );
+    Ok(())
+}
+
+#[test]
+fn keeps_all_hashes(rt: HostRuntime) -> Result<(), Fail> {
+    let alloc = rt.alloc();
+    let suite = Suite::from_u16(1)?;
+    let tree = tree_with_unmerged(alloc)?;
+    let hashes = SubtreeHashes::new(alloc, suite, &tree)?;
+    for place in 0..7 {
+        let expected = tree_hash(alloc, suite, &tree, place)?;
+        assert_eq!(rt; hashes.get(place), Some(expected));
+    }
+    assert_eq!(rt; hashes.get(7), None);
     Ok(())
 }

@@ -1,0 +1,105 @@
+-- The hashes of all subtrees, put into a list halves first.
+use Rattle.std.proofs.Common.{◌≡◌, ◌≢◌, ℕ, ◌+◌, ◌*◌, ◌-◌, ◌<◌, List, [], ◌++◌, take, length, map, Option, Some, None, IsSome, Result, Ok, Err, refl, sym, ap, subst, ◌∙◌, arith, inl, inr}
+use Rattle.std.specs.Prelude.{option_map, option_and_then, slice_get, slice_set}
+use Rattle.std.proofs.Math.Seq.{take-append_seam}
+use Rattle.std.proofs.lemmas.Bool.{cases_order, cases_lt}
+use Rattle.std.proofs.lemmas.List.{length-map}
+use Rattle.std.proofs.lemmas.Option.{same_Some, slice_get_past}
+use Rattle.mls_nodes.specs.declared.leaf.LeafNode.{LeafNode}
+use Rattle.mls_nodes.specs.declared.parent.ParentNode.{ParentNode}
+use Rattle.mls_nodes.specs.declared.node.Node.{Node}
+use Rattle.mls_nodes.specs.Value.{entry_value}
+use Rattle.mls_tree.specs.Tree.{Tree, leaf, branch, leaf_count, listing, Subtree, subtree_at, root_place}
+use Rattle.mls_tree.specs.RatchetTree.{RatchetTree}
+use Rattle.mls_tree.specs.TreeHash.{leaf_hash_input, parent_hash_input, tree_hash}
+use Rattle.mls_tree.proofs.Arrays.{slice_get-set_same, slice_get-set_other}
+use Rattle.mls_tree.proofs.Coordinates.{root-seen}
+use Rattle.mls_tree.proofs.Trees.{length-listing, subtree_at-stands, subtree_at-root, subtree_at-some, subtree_at-none, subtree_at-in_left, subtree_at-in_right, root_place-above, root_place-below}
+use Rattle.mls_hash.specs.declared.fault.HashFault.{HashFault}
+use Rattle.mls_hash.specs.Inputs.{HashesText, HashesSubtree}
+use Rattle.mls_hash.specs.Parts.{HasChildren}
+use Rattle.mls_hash.specs.Strip.{stripped_parent, tree_hash_at}
+use Rattle.mls_hash.specs.SubtreeHashes.{IsSubtreeHashAt, AreSubtreeHashes, AreHashesKept, AreHashesUnder}
+use Rattle.mls_hash.proofs.Answers.{leaf_answer, parent_answer, whole_tree}
+
+pub inside_bound : (t : Tree) (p : ℕ) (s : Subtree) → subtree_at 0 t p ≡ Some s → p + 1 < 2 * leaf_count t
+inside_bound t p s e = let st = subtree_at-stands 0 t p s e in omega (arith, st.place, st.to_right, root_place-below s.first s.tree)
+
+module _ (H : List ℕ → List ℕ) (t : Tree) where
+  -- what a leaf's hash answers
+  pub leaf_hashed : (p number : ℕ) (x : Option LeafNode) (r : Result (List ℕ) HashFault) → subtree_at 0 t p ≡ Some (record { first = number; tree = leaf x })
+      → HashesText (option_map H (leaf_hash_input number x)) r → HashesSubtree (subtree_at 0 t p) (tree_hash_at H t p) r
+  leaf_hashed p number x r e a = subst (λ (o : Option (List ℕ)). HashesSubtree (subtree_at 0 t p) o r) (whole_tree H t p) (leaf_answer H [] t p number x x r e refl a)
+
+  -- what a parent's hash answers, after its children
+  pub parent_hashed : (p q u : ℕ) (n : Option ParentNode) (c : HasChildren t p q u n) (L left right : List ℕ) (r : Result (List ℕ) HashFault) → L ≡ []
+      → tree_hash_at H t q ≡ Some left → tree_hash_at H t u ≡ Some right
+      → HashesText (option_map H (parent_hash_input (option_map (stripped_parent L) n) left right)) r
+      → HashesSubtree (subtree_at 0 t p) (tree_hash_at H t p) r
+  parent_hashed p q u n c L left right r none a b h =
+      subst (λ (o : Option (List ℕ)). HashesSubtree (subtree_at 0 t p) o r) (whole_tree H t p)
+      (parent_answer t p q u n c H [] left right r (whole_tree H t q ∙ a) (whole_tree H t u ∙ b)
+      (subst (λ (M : List ℕ). HashesText (option_map H (parent_hash_input (option_map (stripped_parent M) n) left right)) r) none h))
+
+  -- ---- one hash is put
+
+  module _ (old new : List (List ℕ)) (p : ℕ) (hash : List ℕ) (under : p < length old) (is : new ≡ slice_set old p hash) (right : tree_hash_at H t p ≡ Some hash) where
+    put_here : IsSubtreeHashAt H t new p
+    put_here = ap (λ (hs : List (List ℕ)). slice_get hs p) is ∙ slice_get-set_same old p hash under ∙ sym right
+
+    other : (q : ℕ) → q ≢ p → IsSubtreeHashAt H t old q → IsSubtreeHashAt H t new q
+    other q ne e = ap (λ (hs : List (List ℕ)). slice_get hs q) is ∙ slice_get-set_other old p q hash ne ∙ e
+
+    pub put_keeps : AreHashesKept H t old new
+    put_keeps q e =
+        elim (cases_order q p) [
+          | inl at ↦ subst (λ (k : ℕ). IsSubtreeHashAt H t new k) (sym at) put_here
+          | inr (inl lt) ↦ other q (omega arith) e
+          | inr (inr gt) ↦ other q (omega arith) e
+        ]
+
+    -- a leaf has no other subtree
+    pub leaf_put : (number : ℕ) (x : Option LeafNode) → subtree_at 0 t p ≡ Some (record { first = number; tree = leaf x }) → AreHashesUnder H t new p
+    leaf_put number x e s f q u sub =
+        let place = (subtree_at-stands 0 t p _ e).place in
+        let inside : subtree_at number (leaf x) q ≡ Some u = subst (λ (v : Subtree). subtree_at v.first v.tree q ≡ Some u) (same_Some _ _ (sym f ∙ e)) sub in
+        let st = subtree_at-stands number (leaf x) q u inside in
+        let at : q ≡ p = omega (arith, place, st.place, st.from_left, st.to_right, root_place-above u.first u.tree, root_place-below u.first u.tree) in
+        subst (λ (k : ℕ). IsSubtreeHashAt H t new k) (sym at) put_here
+
+    -- a parent has those of its halves besides
+    pub parent_put : (q u : ℕ) (n : Option ParentNode) → HasChildren t p q u n → AreHashesUnder H t old q → AreHashesUnder H t old u → AreHashesUnder H t new p
+    parent_put q u n c left after s f k v sub =
+        let place = (subtree_at-stands 0 t p _ c.whole).place in
+        let inside : subtree_at c.first (branch c.left n c.right) k ≡ Some v = subst (λ (w : Subtree). subtree_at w.first w.tree k ≡ Some v) (same_Some _ _ (sym f ∙ c.whole)) sub in
+        elim (cases_order (k + 1) (2 * (c.first + leaf_count c.left))) [
+          | inl at ↦ subst (λ (w : ℕ). IsSubtreeHashAt H t new w) (omega (arith, place)) put_here
+          | inr (inl lt) ↦ put_keeps k (left _ c.left_child k v (sym (subtree_at-in_left c.first c.left n c.right k lt) ∙ inside))
+          | inr (inr gt) ↦ put_keeps k (after _ c.right_child k v (sym (subtree_at-in_right c.first c.left n c.right k gt) ∙ inside))
+        ]
+
+  pub keep_under : (old new : List (List ℕ)) (q : ℕ) → AreHashesKept H t old new → AreHashesUnder H t old q → AreHashesUnder H t new q
+  keep_under old new q kept h s e k v sub = kept k (h s e k v sub)
+
+  -- ---- all hashes are put
+
+  pub all_put : (hashes : List (List ℕ)) (root : ℕ) → length hashes + 1 ≡ 2 * leaf_count t → root ≡ root_place 0 t → AreHashesUnder H t hashes root → AreSubtreeHashes H t hashes
+  all_put hashes root room at h p =
+      elim (cases_lt (p + 1) (2 * leaf_count t)) [
+        | inl lt ↦
+            (let s = subtree_at-some 0 t p (omega arith) (omega arith) in
+            h (record { first = 0; tree = t }) (ap (subtree_at 0 t) at ∙ subtree_at-root 0 t) p s.0 s.1)
+        | inr past ↦
+            slice_get_past hashes p (omega arith)
+            ∙ sym (ap (option_and_then (λ (s : Subtree). tree_hash H s.first s.tree)) (subtree_at-none 0 t p (omega arith)))
+      ]
+
+pub node_count : (t : Tree) (nodes : List (Option Node)) → map entry_value nodes ≡ listing t → length nodes + 1 ≡ 2 * leaf_count t
+node_count t nodes e = omega (arith, ap length e, length-map nodes entry_value, length-listing t)
+
+pub root_there : (t : RatchetTree) (n : ℕ) → n ≡ leaf_count t.tree → IsSome (subtree_at 0 t.tree (n - 1))
+root_there t n e = subst (λ (p : ℕ). IsSome (subtree_at 0 t.tree p)) (sym (root-seen t n (sym e))) (subst (λ (o : Option Subtree). IsSome o) (sym (subtree_at-root 0 t.tree)) refl)
+
+-- a vector after its whole slice was written
+pub written_back : (new rest : List (List ℕ)) (n : ℕ) → n ≡ length new → take n (new ++ rest) ≡ new
+written_back new rest n e = ap (λ (k : ℕ). take k (new ++ rest)) e ∙ take-append_seam new rest

@@ -1,0 +1,8 @@
+use Rattle.mls_hash.specs.Hashing.{hash_of}
+use Rattle.mls_hash.proofs.Answers.{gives_parent_hash}
+use Rattle.mls_hash.proofs.subtree_hashes.SubtreeHashes.parent_hash.Goals as goal
+
+pub returns-clause-hash : goal.returns-clause-hash
+returns-clause-hash c =
+    gives_parent_hash (hash_of c.args.suite) c.args.tree.now.tree c.args.place c.args.side _ c.in-Some.parent.now c.in-Some.ensures _ c.in_ok-original.original c.hash_parent_fields.result
+    (rw c.as_slice.ensures.items at c.in_ok-left_out.ensures) c.in_ok-original.ensures c.hash_parent_fields.ensures

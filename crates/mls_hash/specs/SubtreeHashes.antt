@@ -1,0 +1,41 @@
+-- The tree hashes of all subtrees of a tree, each at the place of its subtree (RFC 9420, section 7.8).
+use Rattle.std.specs.Prelude.{◌≡◌, ℕ, ◌+◌, ◌≤◌, ◌<◌, false, List, Some, All, slice_get}
+use Rattle.mls_nodes.specs.declared.parent.ParentNode.{ParentNode}
+use Rattle.mls_tree.specs.Tree.{Tree, leaf_count, Subtree, subtree_at}
+use Rattle.mls_hash.specs.ParentHash.{root_parent}
+use Rattle.mls_hash.specs.Strip.{is_among, tree_hash_at}
+
+-- the list has at place p the tree hash of the subtree there, and nothing where there is no subtree
+abbrev pub IsSubtreeHashAt : (List ℕ → List ℕ) → Tree → List (List ℕ) → ℕ → Type 0
+IsSubtreeHashAt H t hashes p = slice_get hashes p ≡ tree_hash_at H t p
+
+-- the list has the tree hash of the subtree at each place, and no more
+abbrev pub AreSubtreeHashes : (List ℕ → List ℕ) → Tree → List (List ℕ) → Type 0
+AreSubtreeHashes H t hashes = (p : ℕ) → IsSubtreeHashAt H t hashes p
+
+-- number i is that of a leaf of the subtree
+abbrev pub IsLeafOf : Subtree → ℕ → Type 0
+IsLeafOf s i = (s.first ≤ i) × (i < s.first + leaf_count s.tree)
+
+-- each entry of the unmerged list of the parent at place p, if one is set there, is the number of a leaf under it
+abbrev pub HoldsOwnLeavesAt : Tree → ℕ → Type 0
+HoldsOwnLeavesAt t p = (s : Subtree) (q : ParentNode) → subtree_at 0 t p ≡ Some s → root_parent s.tree ≡ Some q → All (IsLeafOf s) q.unmerged
+
+-- the unmerged list of every set parent has numbers of leaves under it alone
+abbrev pub HoldsOwnLeaves : Tree → Type 0
+HoldsOwnLeaves t = (p : ℕ) → HoldsOwnLeavesAt t p
+
+-- ---- for the code alone
+
+-- no number from `first` up to `end` is in the list
+abbrev pub IsApartFrom : List ℕ → ℕ → ℕ → Type 0
+IsApartFrom leaves first end = (i : ℕ) → first ≤ i → i < end → is_among leaves i ≡ false
+
+-- what was a hash in the old list is one in the new
+abbrev pub AreHashesKept : (List ℕ → List ℕ) → Tree → List (List ℕ) → List (List ℕ) → Type 0
+AreHashesKept H t old new = (q : ℕ) → IsSubtreeHashAt H t old q → IsSubtreeHashAt H t new q
+
+-- the list has the hashes of all subtrees of the subtree at a place
+abbrev pub AreHashesUnder : (List ℕ → List ℕ) → Tree → List (List ℕ) → ℕ → Type 0
+AreHashesUnder H t hashes place =
+    (s : Subtree) → subtree_at 0 t place ≡ Some s → (q : ℕ) (u : Subtree) → subtree_at s.first s.tree q ≡ Some u → IsSubtreeHashAt H t hashes q

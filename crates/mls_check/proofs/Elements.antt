@@ -81,7 +81,7 @@ unmerged-from n (x ∷ xs) u c =
       | inr g ↦ listed-more x xs u (unmerged-from n xs u (subst (λ ys. Contains ys u) (left_out n x xs g) c))
     ]
 
-found-at : (xs : List ℕ) (i k : ℕ) → k < length xs → get_or xs k i ≡ i → list_any (λ x. x == i) xs ≡ true
+pub found-at : (xs : List ℕ) (i k : ℕ) → k < length xs → get_or xs k i ≡ i → list_any (λ x. x == i) xs ≡ true
 found-at xs i k l e = list_any_at (λ x. x == i) xs k i l ((Decides-eqb (get_or xs k i) i).1 e)
 
 -- an even place is listed where half of it is in the list

@@ -10,7 +10,7 @@ use Rattle.mls_tree.proofs.Coordinates.{root-seen}
 use Rattle.mls_hash.specs.Strip.{tree_hash_at}
 
 module _ (H : List ℕ → List ℕ) (t : RatchetTree) (n : ℕ) (e : n ≡ leaf_count t.tree) where
-  whole-hash : tree_hash_at H t.tree (n - 1) ≡ tree_hash H 0 t.tree
+  pub whole-hash : tree_hash_at H t.tree (n - 1) ≡ tree_hash H 0 t.tree
   whole-hash =
       ap (λ p. option_and_then (λ (s : Subtree). tree_hash H s.first s.tree) (subtree_at 0 t.tree p)) (root-seen t n (sym e))
       ∙ ap (λ o. option_and_then (λ (s : Subtree). tree_hash H s.first s.tree) o) (subtree_at-root 0 t.tree)

@@ -15,3 +15,8 @@ pub mod Marking
 pub mod Placing
 pub mod Reaching
 pub mod Repeats
+pub mod Decided
+pub mod Chains
+pub mod Faulted
+pub mod RisingCodes
+pub mod OwnLeaves

@@ -207,7 +207,7 @@ module _ (H : List ℕ → List ℕ) (t : Tree) (node : ParentNode) (half other 
             subst (λ v. CarriesHash H t p side (Some v)) (sym (lone_once node.unmerged _ b link.place here lone.here lone.unlisted)) carries
 
 -- a link between equal parts
-coe_link : {H : List ℕ → List ℕ} {n : ℕ} (d : Subtree) (a : ParentNode) (half other : Subtree) {b : ParentNode} (x y : Subtree) → a ≡ b → half ≡ x → other ≡ y → Link H n a half other d → Link H n b x y d
+pub coe_link : {H : List ℕ → List ℕ} {n : ℕ} (d : Subtree) (a : ParentNode) (half other : Subtree) {b : ParentNode} (x y : Subtree) → a ≡ b → half ≡ x → other ≡ y → Link H n a half other d → Link H n b x y d
 coe_link {H} {n} d a half other x y e f g link = subst (λ v. v) (λ i. Link H n (e i) (f i) (g i) d) link
 
 -- ---- a set parent

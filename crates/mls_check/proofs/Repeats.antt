@@ -45,7 +45,7 @@ pub record Walked (t : Tree) (low : ℕ) (set : BTreeSet (Bor (List ℕ))) (firs
 same_bytes : (a b : List ℕ) → Decides (is_eq (slice_cmp nat_cmp a b)) (a ≡ b)
 same_bytes a b = Decides-at _ _ (sym (texts_ties a b)) (bytes_decides a b)
 
-no_key_above : (t : Tree) (n p : ℕ) → n + 1 ≡ 2 * leaf_count t → n ≤ p → key_at t p ≡ None
+pub no_key_above : (t : Tree) (n p : ℕ) → n + 1 ≡ 2 * leaf_count t → n ≤ p → key_at t p ≡ None
 no_key_above t n p e l = ap (λ o. option_map encryption_key (entry_of o)) (outside_above t p n e l)
 
 pub walked-start : (t : Tree) (n : ℕ) (set : BTreeSet (Bor (List ℕ))) → n + 1 ≡ 2 * leaf_count t → IsEmpty set → Walked t n set None

@@ -6,5 +6,6 @@ pub mod FirstFailure
 pub mod Marks
 pub mod Position
 pub mod Reached
+pub mod Rising
 pub mod Sound
 pub mod Valid

@@ -1,5 +1,5 @@
 -- Valid trees, and why a tree is not valid (RFC 9420, 7.9.2 and 12.4.3.1).
-use Rattle.std.specs.Prelude.{◌≡◌, ◌≢◌, ℕ, List, Some}
+use Rattle.std.specs.Prelude.{◌≡◌, ◌≢◌, ◌⊎◌, ℕ, List, Some}
 use Rattle.mls_tree.specs.Tree.{Tree}
 use Rattle.mls_tree.specs.TreeHash.{tree_hash}
 use Rattle.mls_check.specs.Distinct.{HasOwnKeyAt, IsDistinct}
@@ -52,3 +52,18 @@ IsFirstTreeFault H hash t (UnmergedUnsound p) = IsFirstUnplaced H hash t p
 IsFirstTreeFault H hash t (KeyRepeated p) = IsFirstRepeated H hash t p
 IsFirstTreeFault H hash t (ParentHashInvalid p) = IsFirstUnreached H hash t p
 IsFirstTreeFault H hash t OutOfMemory = Unit {0}
+
+-- a tree is valid, or some condition fails first at some place
+abbrev pub ValidOrFault : Type 0
+ValidOrFault = (H : List ℕ → List ℕ) (hash : List ℕ) (t : Tree)
+    → Valid H hash t ⊎ ((fault : TreeFault) × (fault ≢ OutOfMemory) × IsFirstTreeFault H hash t fault)
+
+-- not both
+abbrev pub NoFaultOfValid : Type 0
+NoFaultOfValid = (H : List ℕ → List ℕ) (hash : List ℕ) (t : Tree) (fault : TreeFault)
+    → fault ≢ OutOfMemory → IsFirstTreeFault H hash t fault → ¬ (Valid H hash t)
+
+-- only one condition, at one place
+abbrev pub OneTreeFault : Type 0
+OneTreeFault = (H : List ℕ → List ℕ) (hash : List ℕ) (t : Tree) (fault other : TreeFault)
+    → fault ≢ OutOfMemory → other ≢ OutOfMemory → IsFirstTreeFault H hash t fault → IsFirstTreeFault H hash t other → fault ≡ other

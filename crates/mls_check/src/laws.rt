@@ -1,6 +1,7 @@
 //! Laws about the definitions of this crate, which no call of a caller's needs to run.
 
 ghost use Rattle.mls_check.specs.Members.{MembersOrFault, NoFaultOfMembers, OneMemberFault};
+ghost use Rattle.mls_check.specs.Valid.{ValidOrFault, NoFaultOfValid, OneTreeFault};
 
 /// The set leaves of a tree may be the members of a group, or one rule fails first at one leaf: never both, and no other
 /// rule and no other leaf. So the answer to a tree is determined.
@@ -8,4 +9,12 @@ pub fn members_or_one_fault()
     ensures some { MembersOrFault }
     ensures apart { NoFaultOfMembers }
     ensures one { OneMemberFault }
+{}
+
+/// A tree is valid by a hash function and a tree hash, or one condition fails first at one place: never both, and no other
+/// condition and no other place. So the answer to a tree is determined.
+pub fn valid_or_one_fault()
+    ensures some { ValidOrFault }
+    ensures apart { NoFaultOfValid }
+    ensures one { OneTreeFault }
 {}

@@ -10,6 +10,7 @@ mod placed;
 mod position;
 mod reached;
 mod receipts;
+mod rising;
 mod signature_keys;
 mod signatures;
 mod sorted;

@@ -67,10 +67,10 @@ pub fn validate_members(
     ensures members { OnOk result (Members (meaning checker.now) suite group_id.now requirements.now tree.now.tree) }
     ensures fault { IfErr result (λ e. IsMemberFault (meaning checker.now) suite group_id.now requirements.now tree.now.tree e) }
 {
-    if let Some(leaf) = first_unlisted_extension(tree) {
+    if let Some(leaf) = first_unlisted_extension(alloc, tree)? {
         return Err(MemberFault::ExtensionUnlisted(leaf));
     }
-    if let Some(leaf) = first_unmet_requirement(tree, requirements) {
+    if let Some(leaf) = first_unmet_requirement(alloc, tree, requirements)? {
         return Err(MemberFault::RequirementUnmet(leaf));
     }
     if let Some(leaf) = first_unsupported_credential(tree) {
@@ -86,31 +86,35 @@ pub fn validate_members(
 }
 
 /// The smallest leaf with an extension that its capabilities don't list.
-fn first_unlisted_extension(tree: &PublicTree) -> Option<u32>
-    ensures { FindsFailing (λ _ x. supports_own_extensions x) tree.now.tree result }
+fn first_unlisted_extension(alloc: Global, tree: &PublicTree) -> Result<Option<u32>, OutOfMemory>
+    ensures { IfOk result (FindsFailing (λ _ x. supports_own_extensions x) tree.now.tree) }
 {
     for index in 0..tree.leaf_count() {
         if let Some(leaf) = tree.leaf(index) {
-            if !supports_own_extensions(leaf) {
-                return Some(index);
+            if !supports_own_extensions(alloc, leaf)? {
+                return Ok(Some(index));
             }
         }
     }
-    None
+    Ok(None)
 }
 
 /// The smallest leaf whose capabilities lack what the group requires.
-fn first_unmet_requirement(tree: &PublicTree, requirements: &RequiredCapabilities) -> Option<u32>
-    ensures { FindsFailing (λ _ x. supports_required requirements.now x) tree.now.tree result }
+fn first_unmet_requirement(
+    alloc: Global,
+    tree: &PublicTree,
+    requirements: &RequiredCapabilities,
+) -> Result<Option<u32>, OutOfMemory>
+    ensures { IfOk result (FindsFailing (λ _ x. supports_required requirements.now x) tree.now.tree) }
 {
     for index in 0..tree.leaf_count() {
         if let Some(leaf) = tree.leaf(index) {
-            if !supports_required(leaf, requirements) {
-                return Some(index);
+            if !supports_required(alloc, leaf, requirements)? {
+                return Ok(Some(index));
             }
         }
     }
-    None
+    Ok(None)
 }
 
 /// The smallest leaf whose signature isn't good.

@@ -9,13 +9,14 @@ ghost use Rattle.std.specs.List.Sorted.{IsStrictlyIncreasing};
 ghost use Rattle.mls_tree.specs.Tree.{leaf_count, subtree_at, node_at};
 ghost use Rattle.mls_hash.specs.Hashing.{hash_of};
 ghost use Rattle.mls_hash.specs.ParentHash.{parent_at};
+ghost use Rattle.mls_hash.specs.SubtreeHashes.{AreSubtreeHashes};
 ghost use Rattle.mls_check.specs.FirstFailure.{IsFirstFailureIn};
 ghost use Rattle.mls_check.specs.Sound.{IsSorted, IsPlaced};
 ghost use Rattle.mls_check.specs.Reached.{linked_hash, IsReachedAt};
 ghost use Rattle.mls_check.specs.Marks.{IsListed, IsLone, IsChainEnd, IsCandidateIn, CarriesHash, AreSound, AreKept, AreAllMarkedAt, AreAllMarkedUnder, IsMarkedAt, IsReachedHere};
 
 use crate::position::{Position, parent_at, place_count, position_at};
-use mls_hash::{HashFault, Side, Suite, parent_hash};
+use mls_hash::{HashFault, Side, SubtreeHashes, Suite};
 use mls_nodes::{LeafSource, Node};
 use mls_tree::{PublicTree, TreeError};
 use std::alloc::{AllocError, Global};
@@ -108,11 +109,14 @@ fn is_linked(
     alloc: Global,
     suite: Suite,
     tree: &PublicTree,
+    hashes: &SubtreeHashes,
     place: u32,
     side: Side,
     below: Option<u32>,
 ) -> Result<bool, AllocError>
-    requires { IsSome (parent_at tree.now.tree place) }
+    requires set { IsSome (parent_at tree.now.tree place) }
+    requires hashes { AreSubtreeHashes (hash_of suite) tree.now.tree hashes.now }
+    requires placed { IsPlaced tree.now.tree }
     ensures { IfOk result (λ b. IsTrue b ↔ CarriesHash (hash_of suite) tree.now.tree place side below) }
 {
     let Some(below) = below else {
@@ -121,7 +125,7 @@ fn is_linked(
     let Some(linked) = linked_hash(tree, below) else {
         return Ok(false);
     };
-    let expected = match parent_hash(alloc, suite, tree, place, side) {
+    let expected = match hashes.parent_hash(alloc, suite, tree, place, side) {
         Ok(hash) => hash,
         Err(HashFault::OutOfMemory) => return Err(AllocError),
         Err(_) => unreachable!(),
@@ -134,10 +138,12 @@ fn is_reached(
     alloc: Global,
     suite: Suite,
     tree: &PublicTree,
+    hashes: &SubtreeHashes,
     place: u32,
     reached: &[bool],
 ) -> Result<bool, AllocError>
     requires inside { IsSome (subtree_at 0 tree.now.tree place) }
+    requires hashes { AreSubtreeHashes (hash_of suite) tree.now.tree hashes.now }
     requires sorted { IsSorted tree.now.tree }
     requires placed { IsPlaced tree.now.tree }
     requires sound { AreSound (hash_of suite) tree.now.tree reached.now }
@@ -155,11 +161,11 @@ fn is_reached(
     };
     let list = parent.unmerged.as_slice();
     let from_left = candidate(alloc, tree, list, left, reached)?;
-    if is_linked(alloc, suite, tree, place, Side::Right, from_left)? {
+    if is_linked(alloc, suite, tree, hashes, place, Side::Right, from_left)? {
         return Ok(true);
     }
     let from_right = candidate(alloc, tree, list, right, reached)?;
-    is_linked(alloc, suite, tree, place, Side::Left, from_right)
+    is_linked(alloc, suite, tree, hashes, place, Side::Left, from_right)
 }
 
 /// Marks the parents of a subtree that are reached, halves first.
@@ -167,10 +173,12 @@ fn mark_reached(
     alloc: Global,
     suite: Suite,
     tree: &PublicTree,
+    hashes: &SubtreeHashes,
     place: u32,
     reached: &mut [bool],
 ) -> Result<(), AllocError>
     requires inside { IsSome (subtree_at 0 tree.now.tree place) }
+    requires hashes { AreSubtreeHashes (hash_of suite) tree.now.tree hashes.now }
     requires sorted { IsSorted tree.now.tree }
     requires placed { IsPlaced tree.now.tree }
     requires room { length reached.old + 1 ≡ 2 * leaf_count tree.now.tree }
@@ -182,9 +190,9 @@ fn mark_reached(
     let Position::Parent { left, right, .. } = position_at(tree, place) else {
         return Ok(());
     };
-    mark_reached(alloc, suite, tree, left, reached)?;
-    mark_reached(alloc, suite, tree, right, reached)?;
-    reached[place as usize] = is_reached(alloc, suite, tree, place, reached)?;
+    mark_reached(alloc, suite, tree, hashes, left, reached)?;
+    mark_reached(alloc, suite, tree, hashes, right, reached)?;
+    reached[place as usize] = is_reached(alloc, suite, tree, hashes, place, reached)?;
     Ok(())
 }
 
@@ -209,13 +217,15 @@ pub(crate) fn first_unreached(
     alloc: Global,
     suite: Suite,
     tree: &PublicTree,
+    hashes: &SubtreeHashes,
 ) -> Result<Option<u32>, AllocError>
+    requires hashes { AreSubtreeHashes (hash_of suite) tree.now.tree hashes.now }
     requires sorted { IsSorted tree.now.tree }
     requires placed { IsPlaced tree.now.tree }
     ensures { IfOk result (λ o. IsFirstFailureIn (IsReachedAt (hash_of suite) tree.now.tree) o) }
 {
     let mut reached = vec![in alloc; false; place_count(tree) as usize]?;
     let root = tree.leaf_count() - 1;
-    mark_reached(alloc, suite, tree, root, reached.as_mut_slice())?;
+    mark_reached(alloc, suite, tree, hashes, root, reached.as_mut_slice())?;
     Ok(first_unmarked(tree, reached.as_slice()))
 }

@@ -6,7 +6,7 @@ ghost use Rattle.mls_wire.specs.Reading.{seen};
 ghost use Rattle.mls_wire.specs.Writing.{Makes};
 
 use mls_wire::{CodecFault, Draft};
-use std::alloc::{AllocFailed, Global};
+use std::alloc::{AllocError, AllocFailed, Global};
 
 /// Says whether a signature is good. The arithmetic of the signature schemes is the checker's own.
 pub trait SignatureCheck: Drop {
@@ -48,6 +48,14 @@ impl<T: Drop> From<AllocFailed<T>> for OutOfMemory {
     ghost use Rattle.std.specs.Prelude.{◌≡◌};
 
     fn from(_failed: AllocFailed<T>) -> OutOfMemory {
+        OutOfMemory
+    }
+}
+
+impl From<AllocError> for OutOfMemory {
+    ghost use Rattle.std.specs.Prelude.{◌≡◌};
+
+    fn from(_error: AllocError) -> OutOfMemory {
         OutOfMemory
     }
 }

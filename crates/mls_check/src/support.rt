@@ -1,25 +1,31 @@
 //! What a leaf's capabilities support (RFC 9420, 7.2).
 
-ghost use Rattle.std.specs.Prelude.{◌≡◌, ℕ};
+ghost use Rattle.std.specs.Prelude.{◌≡◌, ◌||◌, IfOk};
 ghost use Rattle.std.specs.List.{list_all};
+ghost use Rattle.std.specs.List.Sorted.{IsStrictlyIncreasing};
 ghost use Rattle.mls_check.specs.Members.{is_default_extension, is_default_proposal, lists_code, supports_extension, supports_proposal, supports_credential, supports_own_extensions, supports_required};
 
+use crate::rising::{has_code, rising_codes};
+use crate::signatures::OutOfMemory;
 use mls_nodes::{LeafNode, RequiredCapabilities};
+use std::alloc::Global;
 
-/// Whether a leaf supports a type of extension. The types 1 to 5 need not be listed.
-fn supports_extension(leaf: &LeafNode, kind: u16) -> bool
-    ensures { result ≡ supports_extension leaf.now kind }
+/// Whether a type of extension is supported where these are listed. The types 1 to 5 need not be listed.
+fn supports_extension(listed: &[u16], kind: u16) -> bool
+    requires { IsStrictlyIncreasing listed.now }
+    ensures { result ≡ (is_default_extension kind || lists_code listed.now kind) }
 {
     let is_default = 0 < kind && kind <= 5;
-    is_default || leaf.capabilities.extensions.as_slice().contains(&kind)
+    is_default || has_code(listed, kind)
 }
 
-/// Whether a leaf supports a type of proposal. The types 1 to 7 need not be listed.
-fn supports_proposal(leaf: &LeafNode, kind: u16) -> bool
-    ensures { result ≡ supports_proposal leaf.now kind }
+/// Whether a type of proposal is supported where these are listed. The types 1 to 7 need not be listed.
+fn supports_proposal(listed: &[u16], kind: u16) -> bool
+    requires { IsStrictlyIncreasing listed.now }
+    ensures { result ≡ (is_default_proposal kind || lists_code listed.now kind) }
 {
     let is_default = 0 < kind && kind <= 7;
-    is_default || leaf.capabilities.proposals.as_slice().contains(&kind)
+    is_default || has_code(listed, kind)
 }
 
 /// Whether a leaf supports a type of credential.
@@ -31,42 +37,56 @@ pub(crate) fn supports_credential(leaf: &LeafNode, kind: u16) -> bool
 
 /// Whether a leaf supports the types of its own extensions.
 #[tactic(auto, unfolding(crate::specs::Members::supports_own_extensions))]
-pub(crate) fn supports_own_extensions(leaf: &LeafNode) -> bool
-    ensures { result ≡ supports_own_extensions leaf.now }
+pub(crate) fn supports_own_extensions(alloc: Global, leaf: &LeafNode) -> Result<bool, OutOfMemory>
+    ensures { IfOk result (λ all. all ≡ supports_own_extensions leaf.now) }
 {
-    leaf.extensions
-        .as_slice()
-        .iter()
-        .all(|extension| supports_extension(leaf, extension.kind))
+    let codes = rising_codes(alloc, leaf.capabilities.extensions.as_slice())?;
+    let listed = codes.as_slice();
+    let mut extensions = leaf.extensions.as_slice().iter();
+    Ok(extensions.all(|extension| supports_extension(listed, extension.kind)))
 }
 
 /// Whether a leaf supports these types of extensions.
-fn supports_extensions(leaf: &LeafNode, kinds: &[u16]) -> bool
-    ensures { result ≡ list_all (supports_extension leaf.now) kinds.now }
+fn supports_extensions(alloc: Global, leaf: &LeafNode, kinds: &[u16]) -> Result<bool, OutOfMemory>
+    ensures { IfOk result (λ all. all ≡ list_all (supports_extension leaf.now) kinds.now) }
 {
-    kinds.iter().all(|&kind| supports_extension(leaf, kind))
+    let codes = rising_codes(alloc, leaf.capabilities.extensions.as_slice())?;
+    let listed = codes.as_slice();
+    Ok(kinds.iter().all(|&kind| supports_extension(listed, kind)))
 }
 
 /// Whether a leaf supports these types of proposals.
-fn supports_proposals(leaf: &LeafNode, kinds: &[u16]) -> bool
-    ensures { result ≡ list_all (supports_proposal leaf.now) kinds.now }
+fn supports_proposals(alloc: Global, leaf: &LeafNode, kinds: &[u16]) -> Result<bool, OutOfMemory>
+    ensures { IfOk result (λ all. all ≡ list_all (supports_proposal leaf.now) kinds.now) }
 {
-    kinds.iter().all(|&kind| supports_proposal(leaf, kind))
+    let codes = rising_codes(alloc, leaf.capabilities.proposals.as_slice())?;
+    let listed = codes.as_slice();
+    Ok(kinds.iter().all(|&kind| supports_proposal(listed, kind)))
 }
 
 /// Whether a leaf supports these types of credentials.
-fn supports_credentials(leaf: &LeafNode, kinds: &[u16]) -> bool
-    ensures { result ≡ list_all (supports_credential leaf.now) kinds.now }
+fn supports_credentials(alloc: Global, leaf: &LeafNode, kinds: &[u16]) -> Result<bool, OutOfMemory>
+    ensures { IfOk result (λ all. all ≡ list_all (supports_credential leaf.now) kinds.now) }
 {
-    kinds.iter().all(|&kind| supports_credential(leaf, kind))
+    let codes = rising_codes(alloc, leaf.capabilities.credentials.as_slice())?;
+    let listed = codes.as_slice();
+    Ok(kinds.iter().all(|&kind| has_code(listed, kind)))
 }
 
 /// Whether a leaf supports what the group requires (RFC 9420, 11.1).
 #[tactic(auto, unfolding(crate::specs::Members::supports_required))]
-pub(crate) fn supports_required(leaf: &LeafNode, requirements: &RequiredCapabilities) -> bool
-    ensures { result ≡ supports_required requirements.now leaf.now }
+pub(crate) fn supports_required(
+    alloc: Global,
+    leaf: &LeafNode,
+    requirements: &RequiredCapabilities,
+) -> Result<bool, OutOfMemory>
+    ensures { IfOk result (λ all. all ≡ supports_required requirements.now leaf.now) }
 {
-    supports_extensions(leaf, requirements.extensions.as_slice())
-        && supports_proposals(leaf, requirements.proposals.as_slice())
-        && supports_credentials(leaf, requirements.credentials.as_slice())
+    if !supports_extensions(alloc, leaf, requirements.extensions.as_slice())? {
+        return Ok(false);
+    }
+    if !supports_proposals(alloc, leaf, requirements.proposals.as_slice())? {
+        return Ok(false);
+    }
+    supports_credentials(alloc, leaf, requirements.credentials.as_slice())
 }

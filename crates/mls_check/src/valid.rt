@@ -1,16 +1,17 @@
 //! Whether a ratchet tree is valid: the check that a joiner makes of a tree that it was sent (RFC 9420, 12.4.3.1), without the members'
 //! credentials and signatures.
 
-ghost use Rattle.std.specs.Prelude.{◌≡◌, ◌↔◌, IsTrue, IfOk, IfErr, OnOk, Some};
+ghost use Rattle.std.specs.Prelude.{◌≡◌, ◌↔◌, ℕ, List, IsTrue, IfErr, OnOk, Some};
 ghost use Rattle.mls_tree.specs.TreeHash.{tree_hash};
 ghost use Rattle.mls_hash.specs.Hashing.{hash_of};
+ghost use Rattle.mls_hash.specs.SubtreeHashes.{AreSubtreeHashes};
 ghost use Rattle.mls_check.specs.Valid.{Valid, IsFirstTreeFault};
 
 use crate::distinct::first_repeated;
 use crate::placed::first_unplaced;
 use crate::reached::first_unreached;
 use crate::sorted::first_unsorted;
-use mls_hash::{HashFault, Suite, tree_hash};
+use mls_hash::{SubtreeHashes, Suite};
 use mls_nodes::GroupContext;
 use mls_tree::PublicTree;
 use std::alloc::{AllocError, Global};
@@ -44,17 +45,15 @@ impl From<AllocError> for TreeFault {
     }
 }
 
-/// Whether the tree has the hash.
-fn has_hash(alloc: Global, suite: Suite, tree: &PublicTree, hash: &[u8]) -> Result<bool, AllocError>
-    ensures { IfOk result (λ b. IsTrue b ↔ (tree_hash (hash_of suite) 0 tree.now.tree ≡ Some hash.now)) }
+/// Whether the tree, whose subtrees have these hashes, has this hash itself.
+fn has_hash(tree: &PublicTree, hashes: &SubtreeHashes, hash: &[u8]) -> bool
+    ensures { (H : List ℕ → List ℕ) → AreSubtreeHashes H tree.now.tree hashes.now → (IsTrue result ↔ (tree_hash H 0 tree.now.tree ≡ Some hash.now)) }
 {
     let root = tree.leaf_count() - 1;
-    let own = match tree_hash(alloc, suite, tree, root) {
-        Ok(own) => own,
-        Err(HashFault::OutOfMemory) => return Err(AllocError),
-        Err(_) => unreachable!(),
-    };
-    Ok(own.as_slice() == hash)
+    match hashes.get(root) {
+        Some(own) => own.as_slice() == hash,
+        None => false,
+    }
 }
 
 /// Whether the tree is valid: its hash is the context's, every unmerged list is strictly increasing and sound, no two nodes have one
@@ -72,7 +71,8 @@ pub fn validate_tree(
     ensures valid { OnOk result (Valid (hash_of suite) context.now.tree_hash tree.now.tree) }
     ensures first_fault { IfErr result (λ e. IsFirstTreeFault (hash_of suite) context.now.tree_hash tree.now.tree e) }
 {
-    if !has_hash(alloc, suite, tree, context.tree_hash.as_slice())? {
+    let hashes = SubtreeHashes::new(alloc, suite, tree)?;
+    if !has_hash(tree, &hashes, context.tree_hash.as_slice()) {
         return Err(TreeFault::HashDiffers);
     }
     if let Some(place) = first_unsorted(tree) {
@@ -84,7 +84,7 @@ pub fn validate_tree(
     if let Some(place) = first_repeated(alloc, tree)? {
         return Err(TreeFault::KeyRepeated(place));
     }
-    if let Some(place) = first_unreached(alloc, suite, tree)? {
+    if let Some(place) = first_unreached(alloc, suite, tree, &hashes)? {
         return Err(TreeFault::ParentHashInvalid(place));
     }
     Ok(())

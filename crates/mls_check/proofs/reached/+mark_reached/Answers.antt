@@ -9,7 +9,7 @@ pub mark_reached-requires-2 : goal.mark_reached-requires-2
 mark_reached-requires-2 t c =
     let tree : RatchetTree = c.args.tree.now in
     let h = c.in-Parent.ensures in
-    (omega (arith, c.decreases, right_lower tree _ _ _ _ _ h), (right_inside tree.tree _ _ _ _ _ h, (c.requires.sorted, (c.requires.placed, (omega (arith, c.requires.room, c.mark_reached.auto.reached), c.in_ok-mark_reached.ensures.sound)))))
+    (omega (arith, c.decreases, right_lower tree _ _ _ _ _ h), (right_inside tree.tree _ _ _ _ _ h, (c.requires.hashes, (c.requires.sorted, (c.requires.placed, (omega (arith, c.requires.room, c.mark_reached.auto.reached), c.in_ok-mark_reached.ensures.sound))))))
 
 pub is_reached-requires-clause-marked : goal.is_reached-requires-clause-marked
 is_reached-requires-clause-marked t c =

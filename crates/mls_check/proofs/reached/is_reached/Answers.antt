@@ -31,12 +31,12 @@ returns c =
     (reached-through (hash_of c.args.suite) t c.args.place w.left w.right w.middle w.parent.now h c.requires.placed c.args.reached.now c.requires.marked c.in_ok-from_left.from_left k c.in_ok-from_right.from_right j r))
     c.is_linked-2.ensures
 
-pub is_linked-requires : goal.is_linked-requires
-is_linked-requires c =
+pub is_linked-requires-clause-set : goal.is_linked-requires-clause-set
+is_linked-requires-clause-set c =
     let w = c.in-Parent-Some-default-default-default in
     set_here c.args.tree.now.tree c.args.place w.left w.right w.middle w.parent.now (subst (λ o. HasHalves c.args.tree.now.tree c.args.place (option_copied o) w.left w.right w.middle) w.node-is w.ensures)
 
-pub is_linked-requires-2 : goal.is_linked-requires-2
-is_linked-requires-2 c =
+pub is_linked-requires-2-clause-set : goal.is_linked-requires-2-clause-set
+is_linked-requires-2-clause-set c =
     let w = c.in-Parent-Some-default-default-default in
     set_here c.args.tree.now.tree c.args.place w.left w.right w.middle w.parent.now (subst (λ o. HasHalves c.args.tree.now.tree c.args.place (option_copied o) w.left w.right w.middle) w.node-is w.ensures)

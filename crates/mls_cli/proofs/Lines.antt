@@ -61,14 +61,14 @@ IsOneLine-wire_kind_text kind.OddLength = IsOneLine-tested (codes "OddLength") r
 IsOneLine-wire_kind_text kind.Trailing = IsOneLine-tested (codes "Trailing") refl
 IsOneLine-wire_kind_text kind.TooLong = IsOneLine-tested (codes "TooLong") refl
 
-IsOneLine-wire_fault_text : (f : WireFault) → IsOneLine (wire_fault_text f)
-IsOneLine-wire_fault_text f =
+pub wire_fault_is_one_line : (f : WireFault) → IsOneLine (wire_fault_text f)
+wire_fault_is_one_line f =
     IsOneLine-append (wire_kind_text f.kind) (codes " " ++ decimal f.at) (IsOneLine-wire_kind_text f.kind) (IsOneLine-append (codes " ") (decimal f.at) (IsOneLine-tested (codes " ") refl) (IsOneLine-decimal f.at))
 
-pub IsOneLine-node_fault_text : (f : NodeFault) → IsOneLine (node_fault_text f)
-IsOneLine-node_fault_text (fault.Wire f) = IsOneLine-wire_fault_text f
-IsOneLine-node_fault_text (fault.WrongNodeKind place) = IsOneLine-append (codes "WrongNodeKind ") (decimal place) (IsOneLine-tested (codes "WrongNodeKind ") refl) (IsOneLine-decimal place)
-IsOneLine-node_fault_text fault.LastBlank = IsOneLine-tested (codes "LastBlank") refl
-IsOneLine-node_fault_text fault.EmptyTree = IsOneLine-tested (codes "EmptyTree") refl
-IsOneLine-node_fault_text fault.TooManyLeaves = IsOneLine-tested (codes "TooManyLeaves") refl
-IsOneLine-node_fault_text fault.OutOfMemory = IsOneLine-tested (codes "OutOfMemory") refl
+pub node_fault_is_one_line : (f : NodeFault) → IsOneLine (node_fault_text f)
+node_fault_is_one_line (fault.Wire f) = wire_fault_is_one_line f
+node_fault_is_one_line (fault.WrongNodeKind place) = IsOneLine-append (codes "WrongNodeKind ") (decimal place) (IsOneLine-tested (codes "WrongNodeKind ") refl) (IsOneLine-decimal place)
+node_fault_is_one_line fault.LastBlank = IsOneLine-tested (codes "LastBlank") refl
+node_fault_is_one_line fault.EmptyTree = IsOneLine-tested (codes "EmptyTree") refl
+node_fault_is_one_line fault.TooManyLeaves = IsOneLine-tested (codes "TooManyLeaves") refl
+node_fault_is_one_line fault.OutOfMemory = IsOneLine-tested (codes "OutOfMemory") refl

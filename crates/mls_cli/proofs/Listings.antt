@@ -1,6 +1,6 @@
 -- The entries that a ratchet tree is filled up to are the listing of a tree.
-use Rattle.std.proofs.Common.{◌≡◌, ◌≢◌, ℕ, zero, suc, ◌+◌, ◌*◌, ◌-◌, ◌%◌, ◌/◌, ◌^◌, ◌<◌, ◌≤◌, List, [], ◌∷◌, ◌++◌, length, map, replicate, Bool, true, false, ◌&&◌, Option, Some, None, refl, sym, ap, subst, ◌∙◌, inl, inr, arith, option_map}
-use Rattle.std.specs.Prelude.{slice_get, nat_eq, nat_le}
+use Rattle.std.proofs.Common.{◌≡◌, ℕ, zero, suc, ◌+◌, ◌*◌, ◌-◌, ◌%◌, ◌/◌, ◌^◌, ◌≤◌, List, [], ◌∷◌, ◌++◌, length, map, replicate, Bool, true, false, ◌&&◌, Option, Some, None, refl, sym, ap, subst, ◌∙◌, inl, inr, arith, option_map}
+use Rattle.std.specs.Prelude.{slice_get}
 use Rattle.std.proofs.lemmas.Bool.{cases_lt, eqb-true, leb-true}
 use Rattle.std.proofs.lemmas.List.{length-map}
 use Rattle.std.proofs.lemmas.Option.{slice_get-map}
@@ -10,12 +10,12 @@ use Rattle.mls_wire.specs.Spelling.{list, optional}
 use Rattle.mls_wire.specs.Steps.{allowed}
 use Rattle.mls_nodes.specs.declared.node.Node.{Node}
 use Rattle.mls_nodes.specs.declared.node.Node.TheVariants.{Leaf, Parent}
-use Rattle.mls_nodes.specs.Value.{NodeValue, leaf_node, parent_node, entry_value}
+use Rattle.mls_nodes.specs.Value.{NodeValue, entry_value}
 use Rattle.mls_nodes.specs.Layout.{node}
 use Rattle.mls_nodes.specs.RatchetTree.{ratchet_tree, filled, full_size, is_placed, ends_set, stand_from, stands_at}
 use Rattle.mls_nodes.specs.Filled.{filled-full, filled-least}
 use Rattle.mls_tree.specs.Tree.{Tree, leaf_count, listing, leaves_at}
-use Rattle.mls_tree.specs.Array.{IsNoLeaf, IsNoParent, FitsPlace, IsArrayOf, ratchet_tree_in}
+use Rattle.mls_tree.specs.Array.{FitsPlace, IsArrayOf, ratchet_tree_in}
 use Rattle.mls_tree.specs.Sizes.{IsListing}
 use Rattle.mls_tree.proofs.Arrays.{listing-array}
 use Rattle.mls_tree.proofs.Listings.{IsArrayOf-fits}
@@ -69,8 +69,10 @@ MayStand-fits p (Some (Some (Parent b))) h = record { even = λ z. let one : p %
 array : (entries : List (Option Node)) (d : ℕ) → stand_from 0 (map entry_value entries) ≡ true → length entries + 1 ≡ 2 * leaves_at d → IsArrayOf entries d
 array entries d stand long =
     IsArrayOf-fits entries entries d refl long
-    (λ p. MayStand-fits p (slice_get entries p) (subst (λ o. MayStand p o) (slice_get-map entry_value entries p)
-    (let here : 0 + p ≡ p = omega arith in subst (λ k. MayStand k (slice_get (map entry_value entries) p)) here (MayStand-at 0 (map entry_value entries) p stand))))
+    (λ p.
+    let at : MayStand p (slice_get (map entry_value entries) p) =
+    subst (λ k. MayStand k (slice_get (map entry_value entries) p)) (let e : 0 + p ≡ p = omega arith in e) (MayStand-at 0 (map entry_value entries) p stand) in
+    MayStand-fits p (slice_get entries p) (subst (λ o. MayStand p o) (slice_get-map entry_value entries p) at))
 
 -- a full tree of at most 2,097,151 entries has at most 20 levels of parents
 low_full : (d n : ℕ) → n ≡ 2 ^ (d + 1) - 1 → n ≤ 2097151 → d ≤ 20
@@ -94,9 +96,8 @@ filled_listing nodes bytes entries spelled fill =
     let low : full.0 ≤ 20 = low_full full.0 (length (filled nodes)) full.1 small in
     let count : length entries ≡ length (filled nodes) = sym (length-map entries entry_value) ∙ ap length fill in
     let some : 1 ≤ 2 ^ (full.0 + 1) = pow_mono {i = 0} {j = full.0 + 1} (omega arith) in
-    let next : full.0 + 1 ≡ suc full.0 = omega arith in
-    let twice : 2 ^ (full.0 + 1) ≡ 2 ^ suc full.0 = ap (λ k. 2 ^ k) next in
-    let long : length entries + 1 ≡ 2 * leaves_at full.0 = omega (arith, count, full.1, leaves_at-pow full.0, pow-suc 2 full.0, twice, some) in
+    let twice : 2 ^ (full.0 + 1) ≡ 2 ^ full.0 * 2 = ap (λ (n : ℕ). 2 ^ n) (omega arith) ∙ pow-suc 2 full.0 in
+    let long : length entries + 1 ≡ 2 * leaves_at full.0 = omega (arith, count, full.1, some, twice, leaves_at-pow full.0) in
     let ok = array entries full.0 (ap (stand_from 0) fill ∙ stand_from-more 0 nodes (full_size (length nodes) - length nodes) stand) long in
     (ratchet_tree_in entries full.0 low, sym (listing-array entries full.0 ok))
 

@@ -1,16 +1,37 @@
 -- The subcommands of the program and their arguments, as clap reads them.
-use Rattle.std.specs.Prelude.{true, codes}
+use Rattle.std.specs.Prelude.{true, codes, Some}
 use Rattle.clap.specs.Words.{App, Rule, Text, new_app, new_rule, with_rule, with_subcommand}
 use Rattle.clap.specs.Simple.{on_top}
+use Rattle.clap.specs.declared.builder.ArgAction.TheVariants.{SetTrue}
 
 -- an argument that is told by its place, and has to be there
 abbrev pub word_rule : Text → Rule
 word_rule name = record (new_rule name) { required = true }
 
+-- a file that an option of this name may name
+abbrev pub file_rule : Text → Rule
+file_rule name = record (new_rule name) { long = Some name }
+
+-- a file that an option of this name has to name
+abbrev pub needed_rule : Text → Rule
+needed_rule name = record (new_rule name) { long = Some name; required = true }
+
+-- an option without a value
+abbrev pub flag_rule : Text → Rule
+flag_rule name = record (new_rule name) { long = Some name; action = Some SetTrue }
+
 -- `show KIND FILE`
 abbrev pub show_app : App
 show_app = with_rule (with_rule (new_app (codes "show")) (word_rule (codes "KIND"))) (word_rule (codes "FILE"))
 
+-- `validate-tree --context FILE --tree FILE`, and one of `--trust` and `--receipts FILE`
+abbrev pub validate_tree_app : App
+validate_tree_app =
+    with_rule (with_rule (with_rule (with_rule (new_app (codes "validate-tree")) (needed_rule (codes "context"))) (needed_rule (codes "tree")))
+    (flag_rule (codes "trust"))) (file_rule (codes "receipts"))
+
 -- the program: one of its subcommands has to be given
 abbrev pub mlscheck_app : App
-mlscheck_app = with_subcommand (on_top (λ s. record s { subcommand_required = true }) (new_app (codes "mlscheck"))) show_app.top
+mlscheck_app =
+    with_subcommand (with_subcommand (on_top (λ s. record s { subcommand_required = true }) (new_app (codes "mlscheck"))) show_app.top)
+    validate_tree_app.top

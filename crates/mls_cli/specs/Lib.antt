@@ -1,5 +1,7 @@
 pub mod Commands
 pub mod FaultText
+pub mod InfoText
+pub mod MessageText
 pub mod Orders
 pub mod ReadAll
 pub mod Show
@@ -7,3 +9,5 @@ pub mod Status
 pub mod Texts
 pub mod TreeText
 pub mod Trees
+pub mod UnreadableReceipts
+pub mod ValidateTree

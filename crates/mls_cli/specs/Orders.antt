@@ -1,8 +1,10 @@
 -- The order that a command line gives.
-use Rattle.std.specs.Prelude.{List, [], ◌≡◌, ◌≢◌, Option, Some, codes}
+use Rattle.std.specs.Prelude.{List, [], ◌≡◌, ◌≢◌, Option, Some, None, codes}
 use Rattle.clap.specs.Words.{Text, Row, first_of, fault_of, subcommand_of, IsAmong}
 use Rattle.clap.specs.declared.error.kind.ErrorKind.TheVariants.{DisplayHelp}
 use Rattle.mls_cli.specs.Commands.{mlscheck_app}
+use Rattle.mls_cli.specs.declared.order.Checker.{Checker}
+use Rattle.mls_cli.specs.declared.order.Checker.TheVariants as checker
 use Rattle.mls_cli.specs.declared.order.Order.{Order}
 use Rattle.mls_cli.specs.declared.order.Order.TheVariants as order
 use Rattle.mls_cli.specs.declared.order.OrderFault.{OrderFault}
@@ -13,14 +15,28 @@ use Rattle.mls_cli.specs.declared.show.ShowKind.TheVariants as kind
 -- the word that names a kind on the command line
 abbrev pub kind_text : ShowKind → Text
 kind_text kind.Tree = codes "tree"
+kind_text kind.Info = codes "info"
+kind_text kind.Message = codes "message"
 
 -- the arguments KIND and FILE are these
 abbrev pub IsShow : List Row → ShowKind → Text → Type 0
 IsShow rows k file = (first_of (codes "KIND") rows ≡ Some (kind_text k)) × (first_of (codes "FILE") rows ≡ Some file)
 
+-- exactly one of `--trust` and `--receipts` is given, and this is who judges signatures
+abbrev pub IsChecker : Option Text → Option Text → Checker → Type 0
+IsChecker trust receipts checker.Trust = (trust ≡ Some (codes "true")) × (receipts ≡ None)
+IsChecker trust receipts (checker.Receipts file) = (trust ≢ Some (codes "true")) × (receipts ≡ Some file)
+
+-- the options of `validate-tree` are these
+abbrev pub IsValidateTree : List Row → Text → Text → Checker → Type 0
+IsValidateTree rows context tree c =
+    (first_of (codes "context") rows ≡ Some context) × (first_of (codes "tree") rows ≡ Some tree)
+    × IsChecker (first_of (codes "trust") rows) (first_of (codes "receipts") rows) c
+
 -- the order is what clap found: a subcommand's name, and the values of its arguments
 abbrev pub IsOrder : Option (Text × List Row) → Order → Type 0
 IsOrder found (order.Show k file) = (rows : List Row) × (found ≡ Some (codes "show", rows)) × IsShow rows k file
+IsOrder found (order.ValidateTree context tree c) = (rows : List Row) × (found ≡ Some (codes "validate-tree", rows)) × IsValidateTree rows context tree c
 
 -- clap refuses none of the words, and what it finds in them is the order
 pub record IsOrderOf (words : List Text) (o : Order) : Type 0 where

@@ -4,10 +4,15 @@ use Rattle.std.specs.Io.KnownBytes.{Appends}
 use Rattle.mls_wire.specs.Devices.{AppendsPrefix}
 use Rattle.mls_nodes.specs.Value.{NodeValue}
 use Rattle.mls_nodes.specs.RatchetTree.{filled}
+use Rattle.mls_msgs.specs.Message.{message}
+use Rattle.mls_msgs.specs.declared.message.Message.{Message}
+use Rattle.mls_msgs.specs.declared.message.Message.TheVariants as messages
+use Rattle.mls_cli.specs.InfoText.{info_text}
+use Rattle.mls_cli.specs.MessageText.{message_line}
 use Rattle.mls_cli.specs.ReadAll.{ReadsAll, input_limit}
 use Rattle.mls_cli.specs.Texts.{IsOneLine}
-use Rattle.mls_cli.specs.TreeText.{tree_text}
 use Rattle.mls_cli.specs.Trees.{IsTree, IsNoTree}
+use Rattle.mls_cli.specs.TreeText.{tree_text}
 use Rattle.mls_cli.specs.declared.outcome.Verdict.{Verdict}
 use Rattle.mls_cli.specs.declared.outcome.Verdict.TheVariants.{Yes, No}
 use Rattle.mls_cli.specs.declared.show.ShowKind.{ShowKind}
@@ -32,9 +37,39 @@ pub record IsNoTreeReport (bytes text : List ℕ) (verdict : Verdict) : Type 0 w
   pub no_tree : IsNoTree bytes
   pub unreadable : IsUnreadable text verdict
 
+-- the message is the one that the bytes of an input spell (RFC 9420, section 6)
+pub record IsMessage (bytes : List ℕ) (m : Message) : Type 0 where
+  pub spelled : message m ≡ Some bytes
+  pub bounded : length bytes ≤ input_limit
+
+-- the report of a message that can be read
+pub record IsMessageReport (bytes text : List ℕ) (verdict : Verdict) : Type 0 where
+  pub sent : Message
+  pub is_message : IsMessage bytes sent
+  pub text_is : text ≡ message_line sent
+  pub verdict_is : verdict ≡ Yes
+
+-- the report of a message where a group info (section 12.4.3) is wanted: its lines, or that it is none
+abbrev pub InfoReport : Message → List ℕ → Verdict → Type 0
+InfoReport (messages.GroupInfo info) text verdict = (text ≡ info_text info) × (verdict ≡ Yes)
+InfoReport other text verdict = (text ≡ codes "unreadable NotGroupInfo\n") × (verdict ≡ No)
+
+-- the report of a group info, or of another message
+pub record IsInfoReport (bytes text : List ℕ) (verdict : Verdict) : Type 0 where
+  pub sent : Message
+  pub is_message : IsMessage bytes sent
+  pub report : InfoReport sent text verdict
+
+-- the bytes are those of no message, and the report says so
+pub record IsNoMessageReport (bytes text : List ℕ) (verdict : Verdict) : Type 0 where
+  pub no_message : (m : Message) → IsMessage bytes m → ⊥
+  pub unreadable : IsUnreadable text verdict
+
 -- the report of bytes that are shown as a kind, and its verdict
 abbrev pub IsShowReport : ShowKind → List ℕ → List ℕ → Verdict → Type 0
 IsShowReport kind.Tree bytes text verdict = IsTreeReport bytes text verdict ⊎ IsNoTreeReport bytes text verdict
+IsShowReport kind.Info bytes text verdict = IsInfoReport bytes text verdict ⊎ IsNoMessageReport bytes text verdict
+IsShowReport kind.Message bytes text verdict = IsMessageReport bytes text verdict ⊎ IsNoMessageReport bytes text verdict
 
 -- the input was read to its end, and the report of its bytes was written whole
 pub record Shows (k : ShowKind) (left0 left1 written0 written1 : Option (List ℕ)) (verdict : Verdict) : Type 0 where

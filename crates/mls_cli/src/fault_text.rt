@@ -25,7 +25,7 @@ fn wire_kind_text(alloc: Global, kind: WireFaultKind) -> Result<String, AllocErr
 }
 
 /// What is wrong with bytes that can't be read, and where.
-fn wire_fault_text(alloc: Global, fault: WireFault) -> Result<String, AllocError>
+pub(crate) fn wire_fault_text(alloc: Global, fault: WireFault) -> Result<String, AllocError>
     ensures { IfOk result (λ text. string_bytes text ≡ texts.wire_fault_text fault) }
 {
     let kind = wire_kind_text(alloc, fault.kind)?;

@@ -4,19 +4,28 @@
 mod command;
 mod fault_text;
 mod file_name;
+mod info_text;
+mod message_text;
 mod order;
 mod outcome;
 mod read;
+mod receipts;
+mod report;
 mod show;
 #[cfg(test)]
 mod tests;
 mod text;
 mod tree_text;
 mod trees;
+mod validate_tree;
+#[cfg(test)]
+mod validate_tree_tests;
 mod write;
 
 pub use file_name::FileName;
-pub use order::{Order, OrderFault, order_of};
+pub use order::{Checker, Order, OrderFault, order_of};
 pub use outcome::{RunFault, Verdict, status_of};
 pub use read::read_all;
+pub use receipts::run_unreadable_receipts;
 pub use show::{ShowKind, run_show};
+pub use validate_tree::run_validate_tree;

@@ -1,9 +1,9 @@
 //! What a command line asks for.
 
-ghost use Rattle.std.specs.Prelude.{◌≡◌, ◌≢◌, IfOk, IfErr, codes, Some, option_map, map, string_bytes};
+ghost use Rattle.std.specs.Prelude.{◌≡◌, ◌≢◌, ◌↔◌, IsTrue, IfOk, IfErr, codes, Some, option_map, map, string_bytes};
 ghost use Rattle.clap.specs.Values.{kind_of};
 ghost use Rattle.clap.specs.Words.{first_of, rows_of, found_of, subcommand_rows_of};
-ghost use Rattle.mls_cli.specs.Orders.{IsOrder, IsOrderOf, IsHelp, AsksForHelp, Refuses, kind_text};
+ghost use Rattle.mls_cli.specs.Orders.{IsChecker, IsOrder, IsOrderOf, IsHelp, AsksForHelp, Refuses, kind_text};
 ghost use Rattle.mls_cli.specs.Status.{fault_status};
 
 use crate::command::mlscheck_command;
@@ -12,6 +12,15 @@ use crate::show::ShowKind;
 use clap::error::ErrorKind;
 use clap::{ArgMatches, Error};
 use std::alloc::{AllocError, Global};
+
+/// Who judges signatures.
+#[derive(Debug, Drop)]
+pub enum Checker {
+    /// `--trust`: every signature is good.
+    Trust,
+    /// `--receipts FILE`: those that the file lists are.
+    Receipts(FileName),
+}
 
 /// What the program is to do.
 #[derive(Debug, Drop)]
@@ -22,6 +31,15 @@ pub enum Order {
         kind: ShowKind,
         /// The file.
         file: FileName,
+    },
+    /// `validate-tree`: say whether a tree is that of a group context, and its leaves are members.
+    ValidateTree {
+        /// The file of the group context.
+        context: FileName,
+        /// The file of the ratchet tree.
+        tree: FileName,
+        /// Who judges signatures.
+        checker: Checker,
     },
 }
 
@@ -112,7 +130,9 @@ fn show_kind(alloc: Global, matches: &ArgMatches<'_>) -> Result<ShowKind, OrderF
 {
     match value(matches, "KIND") {
         Some("tree") => Ok(ShowKind::Tree),
-        _ => Err(usage(alloc, "usage: KIND is tree\n")),
+        Some("info") => Ok(ShowKind::Info),
+        Some("message") => Ok(ShowKind::Message),
+        _ => Err(usage(alloc, "usage: KIND is tree, info or message\n")),
     }
 }
 
@@ -127,6 +147,42 @@ fn show_order(alloc: Global, matches: &ArgMatches<'_>) -> Result<Order, OrderFau
     Ok(Order::Show { kind, file })
 }
 
+/// Whether `--trust` is given.
+fn is_trusted(matches: &ArgMatches<'_>) -> bool
+    ensures { IsTrue result ↔ (first_of (codes "trust") (rows_of (found_of matches.now)) ≡ Some (codes "true")) }
+{
+    value(matches, "trust") == Some("true")
+}
+
+/// Who judges signatures: exactly one of the two options is given.
+fn chosen_checker(alloc: Global, matches: &ArgMatches<'_>) -> Result<Checker, OrderFault>
+    ensures checker { IfOk result (IsChecker (first_of (codes "trust") (rows_of (found_of matches.now))) (first_of (codes "receipts") (rows_of (found_of matches.now)))) }
+    ensures refused { IfErr result (Refuses (IsChecker (first_of (codes "trust") (rows_of (found_of matches.now))) (first_of (codes "receipts") (rows_of (found_of matches.now))))) }
+    ensures own { IfErr result (λ e. IsHelp e → ⊥) }
+{
+    match (is_trusted(matches), value(matches, "receipts")) {
+        (true, None) => Ok(Checker::Trust),
+        (false, Some(file)) => Ok(Checker::Receipts(FileName::new(alloc, file)?)),
+        _ => Err(usage(alloc, "usage: give one of --trust and --receipts\n")),
+    }
+}
+
+/// The order of `validate-tree`.
+fn validate_tree_order(alloc: Global, matches: &ArgMatches<'_>) -> Result<Order, OrderFault>
+    ensures order { IfOk result (IsOrder (Some (codes "validate-tree", rows_of (found_of matches.now)))) }
+    ensures refused { IfErr result (Refuses (IsOrder (Some (codes "validate-tree", rows_of (found_of matches.now))))) }
+    ensures own { IfErr result (λ e. IsHelp e → ⊥) }
+{
+    let checker = chosen_checker(alloc, matches)?;
+    let context = file_of(alloc, matches, "context")?;
+    let tree = file_of(alloc, matches, "tree")?;
+    Ok(Order::ValidateTree {
+        context,
+        tree,
+        checker,
+    })
+}
+
 /// The order that clap's matches give.
 fn read_order(alloc: Global, matches: &ArgMatches<'_>) -> Result<Order, OrderFault>
     ensures order { IfOk result (IsOrder (subcommand_rows_of matches.now)) }
@@ -135,6 +191,7 @@ fn read_order(alloc: Global, matches: &ArgMatches<'_>) -> Result<Order, OrderFau
 {
     match matches.subcommand() {
         Some((name, inner)) if name == "show" => show_order(alloc, inner),
+        Some((name, inner)) if name == "validate-tree" => validate_tree_order(alloc, inner),
         Some(_) => Err(usage(alloc, "usage: no such command\n")),
         None => Err(usage(alloc, "usage: a command is missing\n")),
     }

@@ -1,16 +1,21 @@
 //! The report `show`: what an input holds, in lines of text.
 
-ghost use Rattle.std.specs.Prelude.{◌≡◌, ◌≢◌, ◌++◌, ◌↔◌, false, true, codes, IfOk, OnErr, IfErr, string_bytes};
-ghost use Rattle.mls_cli.specs.Show.{IsShowReport, IsUnreadable, Shows, ShowsPart};
+ghost use Rattle.std.specs.Prelude.{◌≡◌, ◌≢◌, ◌↔◌, false, true, [], Err, IfOk, OnErr, IfErr, string_bytes};
+ghost use Rattle.std.specs.Io.KnownBytes.{Appends};
+ghost use Rattle.mls_cli.specs.Show.{InfoReport, IsShowReport, IsUnreadable, Shows, ShowsPart};
 
-use crate::fault_text::node_fault_text;
+use crate::fault_text::{node_fault_text, wire_fault_text};
+use crate::info_text::info_text;
+use crate::message_text::message_line;
 use crate::outcome::{RunFault, Verdict};
 use crate::read::read_all;
+use crate::report::{Report, unreadable_report};
 use crate::tree_text::tree_text;
 use crate::trees::read_tree;
 use crate::write::write_text;
+use mls_msgs::{Message, decode_message};
 use mls_nodes::NodeFault;
-use mls_wire::{Sink, Source};
+use mls_wire::{CodecFault, Sink, Source};
 use std::alloc::{AllocError, Global};
 
 /// What an input is to be shown as.
@@ -18,23 +23,14 @@ use std::alloc::{AllocError, Global};
 pub enum ShowKind {
     /// A ratchet tree (RFC 9420, section 12.4.3.3).
     Tree,
-}
-
-/// A report that is made, and not written yet.
-#[derive(Drop)]
-struct Report {
-    text: String,
-    verdict: Verdict,
-}
-
-/// The line of an input that can't be read.
-fn unreadable_line(alloc: Global, fault: &str) -> Result<String, AllocError>
-    ensures { IfOk result (λ text. string_bytes text ≡ codes "unreadable " ++ (fault.now ++ codes "\n")) }
-{
-    format!(in alloc; "unreadable {fault}\n")
+    /// A group info (RFC 9420, section 12.4.3), as a message.
+    Info,
+    /// A message (RFC 9420, section 6).
+    Message,
 }
 
 /// The report of bytes that spell no tree.
+#[tactic(auto, using(crate::proofs::Lines::node_fault_is_one_line))]
 fn no_tree_report(alloc: Global, fault: NodeFault) -> Result<Report, RunFault>
     ensures report { IfOk result (λ r. (fault ≢ NodeFault.OutOfMemory) × IsUnreadable (string_bytes r.text) r.verdict) }
     ensures memory { IfErr result (λ e. e ≡ RunFault.Memory) }
@@ -43,11 +39,7 @@ fn no_tree_report(alloc: Global, fault: NodeFault) -> Result<Report, RunFault>
         NodeFault::OutOfMemory => Err(RunFault::Memory),
         _ => {
             let fault = node_fault_text(alloc, fault)?;
-            let text = unreadable_line(alloc, fault.as_str())?;
-            Ok(Report {
-                text,
-                verdict: Verdict::No,
-            })
+            Ok(unreadable_report(alloc, fault.as_str())?)
         }
     }
 }
@@ -66,6 +58,70 @@ fn tree_report(alloc: Global, bytes: &[u8]) -> Result<Report, RunFault>
     }
 }
 
+/// The report of bytes that spell no message.
+#[tactic(auto, using(crate::proofs::Lines::wire_fault_is_one_line))]
+fn no_message_report(alloc: Global, fault: CodecFault) -> Result<Report, RunFault>
+    ensures report { IfOk result (λ r. (fault ≢ CodecFault.OutOfMemory) × IsUnreadable (string_bytes r.text) r.verdict) }
+    ensures memory { IfErr result (λ e. e ≡ RunFault.Memory) }
+{
+    match fault {
+        CodecFault::OutOfMemory => Err(RunFault::Memory),
+        CodecFault::Wire(fault) => {
+            let fault = wire_fault_text(alloc, fault)?;
+            Ok(unreadable_report(alloc, fault.as_str())?)
+        }
+    }
+}
+
+/// The report of a message that is to be a group info.
+fn read_info_report(alloc: Global, message: &Message) -> Result<Report, AllocError>
+    ensures { IfOk result (λ r. InfoReport message.now (string_bytes r.text) r.verdict) }
+{
+    match message {
+        Message::GroupInfo(info) => Ok(Report {
+            text: info_text(alloc, info)?,
+            verdict: Verdict::Yes,
+        }),
+        _ => Ok(Report {
+            text: String::from_str(alloc, "unreadable NotGroupInfo\n")?,
+            verdict: Verdict::No,
+        }),
+    }
+}
+
+/// The report of the bytes of a group info.
+fn info_report(alloc: Global, bytes: &[u8]) -> Result<Report, RunFault>
+    ensures report { IfOk result (λ r. IsShowReport ShowKind.Info bytes.now (string_bytes r.text) r.verdict) }
+    ensures memory { IfErr result (λ e. e ≡ RunFault.Memory) }
+{
+    match decode_message(alloc, bytes) {
+        Ok(message) => {
+            let report = read_info_report(alloc, &message);
+            drop(message);
+            Ok(report?)
+        }
+        Err(fault) => no_message_report(alloc, fault),
+    }
+}
+
+/// The report of the bytes of a message.
+fn message_report(alloc: Global, bytes: &[u8]) -> Result<Report, RunFault>
+    ensures report { IfOk result (λ r. IsShowReport ShowKind.Message bytes.now (string_bytes r.text) r.verdict) }
+    ensures memory { IfErr result (λ e. e ≡ RunFault.Memory) }
+{
+    match decode_message(alloc, bytes) {
+        Ok(message) => {
+            let line = message_line(alloc, &message);
+            drop(message);
+            Ok(Report {
+                text: line?,
+                verdict: Verdict::Yes,
+            })
+        }
+        Err(fault) => no_message_report(alloc, fault),
+    }
+}
+
 /// The report of an input's bytes.
 fn show_report(alloc: Global, kind: ShowKind, bytes: &[u8]) -> Result<Report, RunFault>
     ensures report { IfOk result (λ r. IsShowReport kind bytes.now (string_bytes r.text) r.verdict) }
@@ -73,12 +129,15 @@ fn show_report(alloc: Global, kind: ShowKind, bytes: &[u8]) -> Result<Report, Ru
 {
     match kind {
         ShowKind::Tree => tree_report(alloc, bytes),
+        ShowKind::Info => info_report(alloc, bytes),
+        ShowKind::Message => message_report(alloc, bytes),
     }
 }
 
-/// Reads the input to its end, and then writes what it holds: for a tree a line for each node of the
-/// full tree and one with the counts of leaves and members, `Yes`; for an input that is none of its
-/// kind, or longer than 268,435,456 bytes, one line that begins with `unreadable`, `No`.
+/// Reads the input to its end, and then writes what it holds, `Yes`: for a tree a line for each node of
+/// the full tree and one with the counts of leaves and members; for a group info nine lines; for a
+/// message one. For an input that is none of its kind, or longer than 268,435,456 bytes, it writes one
+/// line that begins with `unreadable`, `No`.
 ///
 /// `Read` comes where the input fails, and `Write` where the output does; then a prefix of the report
 /// may be written already. Want of memory comes before anything is written.
@@ -92,6 +151,7 @@ pub fn run_show<S: Source, K: Sink>(
     requires out { K.is_failed out.old ≡ false }
     ensures shown { IfOk result (Shows kind (S.left input.old) (S.left input.new) (K.written out.old) (K.written out.new)) }
     ensures part { OnErr result (ShowsPart kind (S.left input.old) (S.left input.new) (K.written out.old) (K.written out.new)) }
+    ensures memory { result ≡ Err RunFault.Memory → Appends (K.written out.old) (K.written out.new) [] }
     ensures read { (result ≡ Err RunFault.Read) ↔ (S.is_failed input.new ≡ true) }
     ensures write { (result ≡ Err RunFault.Write) ↔ (K.is_failed out.new ≡ true) }
 {

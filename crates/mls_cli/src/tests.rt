@@ -15,6 +15,23 @@ const LEAF: [u8; 39] = [
 /// The lines of a tree of this one leaf.
 const ONE_LEAF: &str = "0 leaf 0 a0 b0 key_package 0 18446744073709551615\nleaves 1 members 1\n";
 
+/// A group info of one member: group `47`, epoch 0, with the tree as its only extension.
+const INFO: &str = "00010004000100010147000000000000000020e32ab6a0a711ec8a732c3fad9263ed5f\
+    a61caf53fdf9b9690dc57271d8f110d700002d00022a29010101a001b000010140020001020001000002000101\
+    0000000000000000ffffffffffffffff0001c001e00000000001c4";
+
+/// A proposal of member 0 to add a key package.
+const PROPOSAL: &str = "00010001014700000000000000000100000000000200010001000101f101a101b1000101\
+    410200010200010000020001010000000000000000ffffffffffffffff0001c10001c901c801c7";
+
+/// A commit by member 0 of that proposal, by its reference and without a path.
+const COMMIT: &str = "000100010147000000000000000001000000000003220220419afc0a88fe171b793b00410d\
+    11c8121fb96fdfde7b5ced43d5912144a3a9f90001c601e101c5";
+
+/// The key package alone.
+const KEY_PACKAGE: &str = "000100050001000101f101a101b1000101410200010200010000020001010000000000\
+    000000ffffffffffffffff0001c10001c9";
+
 /// An entry of a tree that is a leaf: [`LEAF`] with so much added to its keys, identity and signature.
 fn push_leaf(bytes: &mut Vec<u8>, more: u8) -> Result<(), Fail> {
     bytes.extend_from_slice(&[1, 1])?;
@@ -43,10 +60,15 @@ fn tree_of_leaves(alloc: Global, length: &[u8], leaves: u8) -> Result<Vec<u8>, F
 
 /// What `show tree` of the bytes writes, and its verdict.
 fn shown(alloc: Global, bytes: &[u8]) -> Result<(Verdict, String), Fail> {
+    shown_as(alloc, ShowKind::Tree, bytes)
+}
+
+/// What `show` of a kind writes of the bytes, and its verdict.
+fn shown_as(alloc: Global, kind: ShowKind, bytes: &[u8]) -> Result<(Verdict, String), Fail> {
     let mut input = StdSource::new(bytes);
     let mut text = Vec::new(alloc);
     let mut out = StdSink::new(&mut text);
-    let verdict = run_show(alloc, ShowKind::Tree, &mut input, &mut out)
+    let verdict = run_show(alloc, kind, &mut input, &mut out)
         .ok()
         .ok_or("a report")?;
     drop(out);
@@ -166,6 +188,71 @@ fn faults_are_told(rt: HostRuntime) -> Result<(), Fail> {
 }
 
 #[test]
+fn messages_are_shown(rt: HostRuntime) -> Result<(), Fail> {
+    let alloc = rt.alloc();
+    let info_lines = "suite 1\ngroup 47\nepoch 0\n\
+        tree e32ab6a0a711ec8a732c3fad9263ed5fa61caf53fdf9b9690dc57271d8f110d7\n\
+        confirmed -\nextensions -\ninfo-extensions 2\nconfirmation e0\nsigner 0\n";
+    for (kind, message, verdict, text) in [
+        (ShowKind::Info, INFO, Verdict::Yes, info_lines),
+        (
+            ShowKind::Info,
+            PROPOSAL,
+            Verdict::No,
+            "unreadable NotGroupInfo\n",
+        ),
+        (
+            ShowKind::Info,
+            "0001",
+            Verdict::No,
+            "unreadable Truncated 2\n",
+        ),
+        (
+            ShowKind::Message,
+            PROPOSAL,
+            Verdict::Yes,
+            "public member 0 epoch 0 proposal add\n",
+        ),
+        (
+            ShowKind::Message,
+            COMMIT,
+            Verdict::Yes,
+            "public member 0 epoch 0 commit 1 nopath\n",
+        ),
+        (
+            ShowKind::Message,
+            INFO,
+            Verdict::Yes,
+            "group_info epoch 0\n",
+        ),
+        (
+            ShowKind::Message,
+            KEY_PACKAGE,
+            Verdict::Yes,
+            "key_package a1\n",
+        ),
+        (
+            ShowKind::Message,
+            "00010002abcd",
+            Verdict::Yes,
+            "private 2\n",
+        ),
+        (ShowKind::Message, "00010003", Verdict::Yes, "welcome 0\n"),
+        (
+            ShowKind::Message,
+            "00010009",
+            Verdict::No,
+            "unreadable BadTag 9 2\n",
+        ),
+    ] {
+        let bytes = hex::decode(alloc, message).ok().ok_or("hexadecimal text")?;
+        let shown = shown_as(alloc, kind, bytes.as_slice())?;
+        assert_eq!(rt; (shown.0, shown.1.as_str()), (verdict, text));
+    }
+    Ok(())
+}
+
+#[test]
 fn devices_that_fail(rt: HostRuntime) -> Result<(), Fail> {
     let alloc = rt.alloc();
     let one = tree_of_leaves(alloc, &[0x29], 1)?;
@@ -202,9 +289,28 @@ fn orders_are_read(rt: HostRuntime) -> Result<(), Fail> {
             assert_eq!(rt; *kind, ShowKind::Tree);
             assert_eq!(rt; file.as_str(), "x");
         }
+        _ => return Err(Fail::from("an order to show")),
     }
     for (line, wanted) in [
-        ("show nope x", "usage: KIND is tree\n"),
+        ("show info x", ShowKind::Info),
+        ("show message x", ShowKind::Message),
+    ] {
+        match order(alloc, line)?.ok().ok_or("an order")? {
+            Order::Show { kind, .. } => assert_eq!(rt; kind, wanted),
+            _ => return Err(Fail::from("an order to show")),
+        }
+    }
+    for (line, wanted) in [
+        (
+            "validate-tree --context a --tree b",
+            "usage: give one of --trust and --receipts\n",
+        ),
+        (
+            "validate-tree --context a --tree b --trust --receipts c",
+            "usage: give one of --trust and --receipts\n",
+        ),
+        ("validate-tree --tree b --trust", "--context"),
+        ("show nope x", "usage: KIND is tree, info or message\n"),
         ("nope", "unrecognized subcommand 'nope'"),
         ("show tree", "<FILE>"),
         ("show tree x y", "unexpected argument 'y'"),
@@ -223,6 +329,33 @@ fn orders_are_read(rt: HostRuntime) -> Result<(), Fail> {
         match &help {
             OrderFault::Help(text) => assert!(rt; text.contains("Usage: mlscheck"), "{line}"),
             _ => return Err(Fail::from("help")),
+        }
+    }
+    Ok(())
+}
+
+#[test]
+fn orders_to_validate_trees_are_read(rt: HostRuntime) -> Result<(), Fail> {
+    let alloc = rt.alloc();
+    for (line, receipts) in [
+        ("validate-tree --context a --tree b --trust", None),
+        ("validate-tree --receipts c --tree b --context a", Some("c")),
+    ] {
+        let read = order(alloc, line)?.ok().ok_or("an order")?;
+        match &read {
+            Order::ValidateTree {
+                context,
+                tree,
+                checker,
+            } => {
+                assert_eq!(rt; (context.as_str(), tree.as_str()), ("a", "b"));
+                let file = match checker {
+                    Checker::Trust => None,
+                    Checker::Receipts(file) => Some(file.as_str()),
+                };
+                assert_eq!(rt; file, receipts);
+            }
+            _ => return Err(Fail::from("an order to validate a tree")),
         }
     }
     Ok(())

@@ -2,7 +2,11 @@
 //! with an exit status: 0 for yes and for help, 1 for no, 2 for a usage fault, 3 for a fault.
 #![tactic(auto)]
 
-use mls_cli::{Order, OrderFault, RunFault, ShowKind, Verdict, order_of, run_show, status_of};
+use mls_check::{Listed, ReceiptsFault, SignatureCheck, Trusting};
+use mls_cli::{
+    Checker, FileName, Order, OrderFault, RunFault, ShowKind, Verdict, order_of, read_all,
+    run_show, run_unreadable_receipts, run_validate_tree, status_of,
+};
 use mls_wire::{StdSink, StdSource};
 use std::process::ExitCode;
 use std::{env, fs, io};
@@ -17,10 +21,67 @@ fn show(rt: &HostRuntime, kind: ShowKind, name: &str) -> Result<Verdict, RunFaul
     run_show(rt.alloc(), kind, &mut input, &mut out)
 }
 
+/// Says whether a tree is that of a group context, and its leaves are members.
+fn validate_tree(
+    rt: &HostRuntime,
+    context: &FileName,
+    tree: &FileName,
+    checker: &dyn SignatureCheck,
+) -> Result<Verdict, RunFault> {
+    let Ok(context) = fs::open(rt, context.as_str()) else {
+        return Err(RunFault::Read);
+    };
+    let Ok(tree) = fs::open(rt, tree.as_str()) else {
+        return Err(RunFault::Read);
+    };
+    let mut context = StdSource::new(context);
+    let mut tree = StdSource::new(tree);
+    let mut out = StdSink::new(rt.stdout());
+    run_validate_tree(rt.alloc(), &mut context, &mut tree, checker, &mut out)
+}
+
+/// The bytes of a file.
+fn read_file(rt: &HostRuntime, file: &FileName) -> Result<Vec<u8>, RunFault> {
+    let Ok(file) = fs::open(rt, file.as_str()) else {
+        return Err(RunFault::Read);
+    };
+    read_all(rt.alloc(), &mut StdSource::new(file))
+}
+
+/// Says why a file of receipts can't be read.
+fn refuse_receipts(rt: &HostRuntime, fault: ReceiptsFault) -> Result<Verdict, RunFault> {
+    let mut out = StdSink::new(rt.stdout());
+    run_unreadable_receipts(rt.alloc(), fault, &mut out)
+}
+
+/// The same, by the receipts of a file, which is read before any other.
+fn validate_tree_by_receipts(
+    rt: &HostRuntime,
+    context: &FileName,
+    tree: &FileName,
+    receipts: &FileName,
+) -> Result<Verdict, RunFault> {
+    let bytes = read_file(rt, receipts)?;
+    match Listed::read(rt.alloc(), bytes.as_slice()) {
+        Ok(listed) => validate_tree(rt, context, tree, &listed),
+        Err(fault) => refuse_receipts(rt, fault),
+    }
+}
+
 /// Carries out an order.
 fn carry_out(rt: &HostRuntime, order: &Order) -> Result<Verdict, RunFault> {
     match order {
         Order::Show { kind, file } => show(rt, *kind, file.as_str()),
+        Order::ValidateTree {
+            context,
+            tree,
+            checker: Checker::Trust,
+        } => validate_tree(rt, context, tree, &Trusting),
+        Order::ValidateTree {
+            context,
+            tree,
+            checker: Checker::Receipts(receipts),
+        } => validate_tree_by_receipts(rt, context, tree, receipts),
     }
 }
 

@@ -1,0 +1,34 @@
+//! Reports that are made whole before they are written.
+
+ghost use Rattle.std.specs.Prelude.{◌≡◌, ◌++◌, codes, IfOk, string_bytes};
+ghost use Rattle.mls_cli.specs.Show.{IsUnreadable};
+ghost use Rattle.mls_cli.specs.Texts.{IsOneLine};
+
+use crate::outcome::Verdict;
+use std::alloc::{AllocError, Global};
+
+/// A report that is made, and not written yet.
+#[derive(Drop)]
+pub(crate) struct Report {
+    pub(crate) text: String,
+    pub(crate) verdict: Verdict,
+}
+
+/// The line of an input that can't be read.
+fn unreadable_line(alloc: Global, fault: &str) -> Result<String, AllocError>
+    ensures { IfOk result (λ text. string_bytes text ≡ codes "unreadable " ++ (fault.now ++ codes "\n")) }
+{
+    format!(in alloc; "unreadable {fault}\n")
+}
+
+/// The report of an input that can't be read.
+pub(crate) fn unreadable_report(alloc: Global, fault: &str) -> Result<Report, AllocError>
+    requires { IsOneLine fault.now }
+    ensures { IfOk result (λ r. IsUnreadable (string_bytes r.text) r.verdict) }
+{
+    let text = unreadable_line(alloc, fault)?;
+    Ok(Report {
+        text,
+        verdict: Verdict::No,
+    })
+}

@@ -4,7 +4,7 @@ use Rattle.std.specs.Prelude.{option_map, option_and_then, IfOk}
 use Rattle.std.specs.List.Sorted.{IsPermutation}
 use Rattle.mls_nodes.specs.declared.leaf.LeafNode.{LeafNode}
 use Rattle.mls_nodes.specs.declared.parent.ParentNode.{ParentNode}
-use Rattle.mls_tree.specs.Tree.{Tree, leaf, branch, height, leaf_count, Subtree, subtree_at}
+use Rattle.mls_tree.specs.Tree.{Tree, leaf, leaf_count, Subtree, subtree_at}
 use Rattle.mls_tree.specs.RatchetTree.{RatchetTree}
 use Rattle.mls_tree.specs.TreeHash.{leaf_hash_input, parent_hash_input, hash_of_parent, tree_hash}
 use Rattle.mls_tree.proofs.Trees.{subtree_at-perfect}

@@ -1,5 +1,5 @@
 -- A subtree that has none of the leaves of a list, and whose unmerged lists have its own leaves alone: without those leaves it is the same.
-use Rattle.std.proofs.Common.{◌≡◌, ℕ, suc, ◌+◌, ◌*◌, ◌-◌, ◌/◌, ◌<◌, ◌≤◌, Bool, false, cond, List, [], ◌∷◌, Option, Some, None, refl, sym, ap, subst, ◌∙◌, arith}
+use Rattle.std.proofs.Common.{◌≡◌, ℕ, suc, ◌+◌, ◌*◌, ◌<◌, ◌≤◌, false, cond, List, [], ◌∷◌, Option, Some, None, refl, sym, ap, ◌∙◌, arith}
 use Rattle.std.specs.Prelude.{option_map, option_and_then, not, All, slice_get}
 use Rattle.mls_nodes.specs.declared.parent.ParentNode.{ParentNode}
 use Rattle.mls_tree.specs.Tree.{Tree, leaf, branch, height, leaf_count, Subtree, subtree_at, root_place}
@@ -10,7 +10,7 @@ use Rattle.mls_tree.proofs.Coordinates.{root_place-perfect, leaf_count-low}
 use Rattle.mls_tree.proofs.Numbers.{leaves_at-low}
 use Rattle.mls_hash.specs.Parts.{HasChildren}
 use Rattle.mls_hash.specs.ParentHash.{root_parent}
-use Rattle.mls_hash.specs.Strip.{is_among, without, stripped_parent, strip, original_tree_hash, original_tree_hash_at, tree_hash_at}
+use Rattle.mls_hash.specs.Strip.{is_among, without, stripped_parent, strip, original_tree_hash, original_tree_hash_at}
 use Rattle.mls_hash.specs.SubtreeHashes.{AreSubtreeHashes, HoldsOwnLeaves, IsLeafOf, IsApartFrom}
 
 without-apart : (L xs : List ℕ) → All (λ i. is_among L i ≡ false) xs → without L xs ≡ xs

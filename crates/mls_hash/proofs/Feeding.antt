@@ -3,8 +3,8 @@ use Rattle.std.proofs.Common.{◌≡◌, ℕ, List, [], ◌++◌, length, Option
 use Rattle.std.specs.Prelude.{option_map}
 use Rattle.sha2.specs.declared.Sha256.{Sha256}
 use Rattle.sha2.specs.Hashers.{Holds256}
-use Rattle.mls_wire.specs.Spelling.{◌⊕◌, length_form, vector}
-use Rattle.mls_wire.specs.Joined.{join, no_left, no_right}
+use Rattle.mls_wire.specs.Spelling.{length_form, vector}
+use Rattle.mls_wire.specs.Joined.{join, no_left}
 use Rattle.mls_hash.specs.Hashing.{ref_hash_input}
 use Rattle.mls_hash.specs.Feeding.{HoldsMore}
 

@@ -1,5 +1,5 @@
 -- The inputs of hashes: each has a spelling, and what is written is hashed.
-use Rattle.std.proofs.Common.{◌≡◌, ℕ, zero, suc, ◌+◌, ◌*◌, ◌^◌, ◌<◌, ◌≤◌, Bool, true, false, cond, List, [], ◌∷◌, ◌++◌, length, take, get_or, Option, Some, None, Result, Ok, Err, refl, sym, ap, subst, ◌∙◌, inl, inr, append_assoc, length-append, arith}
+use Rattle.std.proofs.Common.{◌≡◌, ℕ, ◌+◌, ◌*◌, ◌^◌, ◌<◌, ◌≤◌, Bool, true, false, cond, List, [], ◌∷◌, ◌++◌, length, take, get_or, Option, Some, None, Result, Ok, Err, refl, sym, ap, subst, ◌∙◌, inl, inr, append_assoc, length-append, arith}
 use Rattle.std.specs.Prelude.{option_map, MatchOption, not}
 use Rattle.std.specs.List.{filter}
 use Rattle.std.specs.Int.{w8, w32}
@@ -9,7 +9,7 @@ use Rattle.std.proofs.lemmas.List.Elements.{filter_more}
 use Rattle.std.proofs.lemmas.List.Filters.{length-filter_both}
 use Rattle.mls_wire.specs.declared.fault.CodecFault.{CodecFault}
 use Rattle.mls_wire.specs.declared.fault.CodecFault.TheVariants as codec
-use Rattle.mls_wire.specs.Spelling.{◌⊕◌, number, length_form, vector, sized, items, list, optional}
+use Rattle.mls_wire.specs.Spelling.{◌⊕◌, number, length_form, vector, items, list, optional}
 use Rattle.mls_wire.specs.Writing.{after, WritesPiece}
 use Rattle.mls_wire.specs.Written.{after_then, after_is, after_nil, after_some, items_snoc, sized_makes}
 use Rattle.mls_wire.specs.Steps.{some_is, allowed}

@@ -6,3 +6,4 @@ pub mod Strips
 pub mod Answers
 pub mod Apart
 pub mod Filling
+pub mod Owned

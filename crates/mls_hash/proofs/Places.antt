@@ -1,11 +1,11 @@
 -- What stands at a place, from what the calls on places and nodes answer.
-use Rattle.std.proofs.Common.{◌≡◌, ℕ, zero, suc, ◌+◌, ◌/◌, ◌<◌, Option, Some, None, IsSome, refl, sym, ap, ◌∙◌, subst, arith}
+use Rattle.std.proofs.Common.{◌≡◌, ℕ, ◌/◌, ◌<◌, Option, Some, None, IsSome, refl, sym, ap, ◌∙◌, subst, arith}
 use Rattle.std.specs.Prelude.{option_map, option_and_then}
 use Rattle.std.proofs.lemmas.Option.{none-some, same_Some}
 use Rattle.mls_nodes.specs.declared.leaf.LeafNode.{LeafNode}
 use Rattle.mls_nodes.specs.declared.parent.ParentNode.{ParentNode}
-use Rattle.mls_nodes.specs.Value.{NodeValue, leaf_node, parent_node}
-use Rattle.mls_tree.specs.Tree.{Tree, leaf, branch, height, leaf_count, Subtree, subtree_at, leaf_at, node_at, parent_entry}
+use Rattle.mls_nodes.specs.Value.{NodeValue}
+use Rattle.mls_tree.specs.Tree.{Tree, leaf, branch, height, Subtree, subtree_at, leaf_at, node_at, parent_entry}
 use Rattle.mls_tree.specs.Places.{level_at, left_at, right_at, left_place, right_place}
 use Rattle.mls_tree.proofs.Halves.{split, leaf_here}
 use Rattle.mls_hash.specs.Parts.{HasChildren, parent_of}

@@ -1,7 +1,6 @@
 -- Membership in a sorted list, by binary search.
-use Rattle.std.proofs.Common.{◌≡◌, ℕ, zero, suc, ◌+◌, ◌<◌, ◌≤◌, Bool, true, false, List, [], ◌∷◌, length, get_or, eqb, Result, Ok, Err, refl, sym, ap, ◌∙◌, inl, inr, arith}
-use Rattle.std.specs.Prelude.{MatchResult, is_ok, ◌||◌, ◌↔◌, IsTrue, nat_le}
-use Rattle.std.specs.List.{list_any}
+use Rattle.std.proofs.Common.{◌≡◌, ℕ, suc, ◌<◌, ◌≤◌, true, false, List, [], ◌∷◌, length, get_or, eqb, Result, Ok, Err, refl, sym, ◌∙◌, inl, inr, arith}
+use Rattle.std.specs.Prelude.{MatchResult, is_ok, ◌↔◌, IsTrue, nat_le}
 use Rattle.std.proofs.lemmas.Bool.{cases_lt, ne_eqb, eq-eqb, le-leb, leb-true, false≢true}
 use Rattle.std.proofs.lemmas.List.Folds.{list_any_at}
 use Rattle.mls_hash.specs.Strip.{is_among}

@@ -1,13 +1,12 @@
 -- Trees without some of their leaves.
-use Rattle.std.proofs.Common.{◌≡◌, ℕ, ◌+◌, Bool, true, false, cond, List, [], ◌∷◌, Option, Some, None, refl, sym, ap, ◌∙◌}
+use Rattle.std.proofs.Common.{◌≡◌, ℕ, ◌+◌, Bool, cond, List, [], ◌∷◌, Option, Some, None, refl, sym, ap}
 use Rattle.std.specs.Prelude.{option_map, not, ◌==◌}
-use Rattle.std.specs.List.{filter, list_any}
+use Rattle.std.specs.List.{filter}
 use Rattle.std.specs.List.Sorted.{IsPermutation}
 use Rattle.std.proofs.lemmas.List.Sorted.{list_any-IsPermutation}
-use Rattle.mls_nodes.specs.declared.leaf.LeafNode.{LeafNode}
 use Rattle.mls_nodes.specs.declared.parent.ParentNode.{ParentNode}
 use Rattle.mls_tree.specs.Tree.{Tree, leaf, branch, leaf_count}
-use Rattle.mls_hash.specs.Strip.{is_among, without, stripped_leaf, stripped_parent, strip}
+use Rattle.mls_hash.specs.Strip.{is_among, without, stripped_parent, strip}
 
 -- as many leaves as before
 pub leaf_count-strip : (L : List ℕ) (first : ℕ) (t : Tree) → leaf_count (strip L first t) ≡ leaf_count t

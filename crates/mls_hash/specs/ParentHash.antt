@@ -2,7 +2,7 @@
 use Rattle.std.specs.Prelude.{ℕ, ◌+◌, List, Option, Some, None, option_map, option_and_then}
 use Rattle.mls_wire.specs.Spelling.{◌⊕◌, vector}
 use Rattle.mls_nodes.specs.declared.parent.ParentNode.{ParentNode}
-use Rattle.mls_tree.specs.Tree.{Tree, leaf, branch, leaf_count, Subtree, subtree_at}
+use Rattle.mls_tree.specs.Tree.{Tree, leaf, branch, leaf_count, subtree_at}
 use Rattle.mls_hash.specs.declared.side.Side.{Side}
 use Rattle.mls_hash.specs.declared.side.Side.TheVariants.{Left, Right}
 use Rattle.mls_hash.specs.Strip.{original_tree_hash}

@@ -2,7 +2,7 @@
 use Rattle.std.specs.Prelude.{◌≡◌, ℕ, ◌+◌, Option, Some, None, option_copied}
 use Rattle.mls_nodes.specs.declared.parent.ParentNode.{ParentNode}
 use Rattle.mls_nodes.specs.Value.{NodeValue, leaf_node, parent_node}
-use Rattle.mls_tree.specs.Tree.{Tree, leaf, branch, leaf_count, Subtree, subtree_at}
+use Rattle.mls_tree.specs.Tree.{Tree, leaf, branch, leaf_count, subtree_at}
 use Rattle.mls_hash.specs.declared.side.Side.{Side}
 use Rattle.mls_hash.specs.declared.side.Side.TheVariants as sides
 use Rattle.mls_hash.specs.declared.part.Part.{Part}

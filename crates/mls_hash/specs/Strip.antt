@@ -1,9 +1,9 @@
 -- A tree without some of its leaves (RFC 9420, section 7.9), by a list of their numbers.
-use Rattle.std.specs.Prelude.{ℕ, ◌+◌, ◌==◌, Bool, not, List, Option, Some, None, option_map, option_and_then, filter, if◌then◌else◌}
+use Rattle.std.specs.Prelude.{ℕ, ◌+◌, ◌==◌, Bool, not, List, Option, None, option_map, option_and_then, filter, if◌then◌else◌}
 use Rattle.std.specs.List.{list_any}
 use Rattle.mls_nodes.specs.declared.leaf.LeafNode.{LeafNode}
 use Rattle.mls_nodes.specs.declared.parent.ParentNode.{ParentNode}
-use Rattle.mls_tree.specs.Tree.{Tree, leaf, branch, leaf_count, Subtree, subtree_at}
+use Rattle.mls_tree.specs.Tree.{Tree, leaf, branch, leaf_count, subtree_at}
 use Rattle.mls_tree.specs.TreeHash.{tree_hash}
 
 -- whether a number is in the list

@@ -1,6 +1,7 @@
 //! Tests of what no contract says: the hashes themselves, which are expected as `sha2` gives them for the inputs of RFC 9420.
 
-ghost use Rattle.std.specs.Prelude.{◌<◌};
+ghost use Rattle.std.specs.Prelude.{◌≡◌, ◌<◌, IfOk};
+ghost use Rattle.mls_hash.specs.SubtreeHashes.{HoldsOwnLeaves};
 
 use super::*;
 use mls_nodes::{LeafNode, ParentNode, Unmerged, decode_leaf};
@@ -99,7 +100,9 @@ fn parent_with(
     key: u8,
     parent_hash: &[u8],
     unmerged: &[u32],
-) -> Result<Box<ParentNode>, Fail> {
+) -> Result<Box<ParentNode>, Fail>
+    ensures { IfOk result (λ p. p.value.unmerged ≡ unmerged.now) }
+{
     let unmerged = Unmerged::new(Vec::from_slice(alloc, unmerged)?)?;
     let node = ParentNode {
         encryption_key: Opaque::copy(alloc, &[key])?,
@@ -115,7 +118,9 @@ fn parent(alloc: Global, key: u8, parent_hash: &[u8]) -> Result<Box<ParentNode>,
 }
 
 /// A tree of four leaves, of which the last two are set, under a set root that has leaf 3 unmerged.
-fn tree_with_unmerged(alloc: Global) -> Result<PublicTree, Fail> {
+fn tree_with_unmerged(alloc: Global) -> Result<PublicTree, Fail>
+    ensures { IfOk result (λ t. HoldsOwnLeaves t.tree) }
+{
     let mut tree = PublicTree::blank(alloc, 4)?;
     tree.set_leaf(2, Some(leaf(alloc, 2)?))?;
     tree.set_leaf(3, Some(leaf(alloc, 3)?))?;
@@ -278,5 +283,34 @@ fn keeps_all_hashes(rt: HostRuntime) -> Result<(), Fail> {
         assert_eq!(rt; hashes.get(place), Some(expected));
     }
     assert_eq!(rt; hashes.get(7), None);
+    Ok(())
+}
+
+#[test]
+fn kept_hashes_give_parent_hashes(rt: HostRuntime) -> Result<(), Fail> {
+    let alloc = rt.alloc();
+    let suite = Suite::from_u16(1)?;
+    let tree = tree_with_unmerged(alloc)?;
+    let hashes = SubtreeHashes::new(alloc, suite, &tree)?;
+    for side in [Side::Left, Side::Right] {
+        let expected = parent_hash(alloc, suite, &tree, 3, side)?;
+        let found = hashes.parent_hash(alloc, suite, &tree, 3, side)?;
+        assert_eq!(rt; found, expected);
+    }
+
+    // without leaf 3
+    let third = sha256_of(alloc, &[&[1, 0, 0, 0, 2, 1], &leaf_bytes(2)])?;
+    let fourth = sha256_of(alloc, &[&[1, 0, 0, 0, 3, 0]])?;
+    let right = sha256_of(alloc, &[&[2, 0, 0x20], &third, &[0x20], &fourth])?;
+    let expected = sha256_of(alloc, &[&[1, 0xd3, 0, 0x20], &right])?;
+    let found = hashes.parent_hash(alloc, suite, &tree, 3, Side::Right)?;
+    assert_eq!(rt; found.as_slice(), expected.as_slice());
+
+    for place in [0, 1, 7] {
+        assert_eq!(rt;
+            hashes.parent_hash(alloc, suite, &tree, place, Side::Left),
+            Err(HashFault::NoSuchNode)
+        );
+    }
     Ok(())
 }

@@ -1,6 +1,4 @@
-use Rattle.std.proofs.Common.{◌≡◌, Bool, true, false, sym, ◌∙◌, arith, length}
-use Rattle.std.specs.Prelude.{not}
-use Rattle.mls_hash.specs.Strip.{is_among}
+use Rattle.std.proofs.Common.{sym, ◌∙◌, arith}
 use Rattle.mls_hash.proofs.Inputs.{count_less, count_more, counted_all}
 use Rattle.mls_hash.proofs.input.count_kept.Goals as goal
 use Rattle.mls_hash.proofs.input.count_kept.Goals.{then-not-contains, else-not-contains}

@@ -68,7 +68,8 @@ impl Writer {
         self.bytes.clear();
     }
 
-    /// Makes room for `more` bytes, so that they are written without taking memory.
+    /// Makes room for `more` bytes at once, so that the writer doesn't grow piece by piece. The bytes stay; room is no part of what
+    /// contracts see.
     pub fn reserve(&mut self, more: usize) -> Result<(), AllocError>
         ensures { self.new ≡ self.old }
     {

@@ -1,5 +1,5 @@
--- What is spelled at the front of an input, as functions that find it, or find nothing. The contracts of public calls
--- speak of spellings alone; these functions stand behind them, since proofs can compute with them.
+-- What is spelled at the front of an input, as functions that find it, or find nothing: for proofs, which can compute
+-- with them. Contracts speak of spellings; of public ones only `Decode::read`, which implementors prove, names these.
 use Rattle.std.specs.Prelude.{◌≡◌, ℕ, zero, suc, ◌-◌, List, [], ◌∷◌, length, take, Bool, true, false, ◌&&◌, Option, Some, None, Result, Ok, Err, nat_lt, nat_eq, if◌then◌else◌}
 use Rattle.std.specs.Int.{Width, byte_len, from_be_bytes, w8, w16, w32}
 use Rattle.mls_wire.specs.declared.fault.WireFault.{WireFault}

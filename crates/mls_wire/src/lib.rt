@@ -7,8 +7,9 @@
 //! - [`Opaque`] is the body of a vector, [`Items`] a list that fits into one, [`Sequence`] a list of any length.
 //! - A [`Source`] gives bytes and a [`Sink`] takes them, in pieces of any size; each over std or over memory.
 //!
-//! The contracts speak of spellings alone (`specs/Spelling.antt`): a read gives the value that is spelled at the front
-//! and is refused exactly where none is; a write adds exactly the spelling, or nothing.
+//! The contracts speak of spellings (`specs/Spelling.antt`): a read gives the value that is spelled at the front and is
+//! refused exactly where none is; a write adds exactly the spelling, or nothing. [`Decode::read`], which implementors
+//! prove, names the reading function too; no other public contract does.
 #![tactic(auto)]
 
 mod copy;

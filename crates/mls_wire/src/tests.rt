@@ -213,6 +213,23 @@ fn one_value_behind_another(rt: HostRuntime) -> Result<(), Fail> {
 }
 
 #[test]
+fn numbers_and_drafts(rt: HostRuntime) -> Result<(), Fail> {
+    let alloc = rt.alloc();
+    let number: u64 = read_input(alloc, &[0, 0, 0, 0, 0, 0, 1, 2])?;
+    assert_eq!(rt; number, 258);
+    assert_eq!(rt;
+        bytes_of(alloc, &number)?.as_slice(),
+        [0, 0, 0, 0, 0, 0, 1, 2].as_slice()
+    );
+    assert_eq!(rt; bytes_of(alloc, &7u8)?.as_slice(), [7].as_slice());
+    let mut draft = Draft::new(alloc);
+    draft.put_len(64)?;
+    draft.put_u8(7)?;
+    assert_eq!(rt; draft.finish().as_slice(), [0x40, 0x40, 7].as_slice());
+    Ok(())
+}
+
+#[test]
 fn faults_are_told(rt: HostRuntime) -> Result<(), Fail> {
     let alloc = rt.alloc();
     let fault = wire(WireFaultKind::BadTag(3), 2);

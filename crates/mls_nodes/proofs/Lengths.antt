@@ -1,16 +1,14 @@
 -- How many bytes the parts of nodes take.
-use Rattle.std.proofs.Common.{◌≡◌, ℕ, zero, suc, ◌+◌, ◌*◌, ◌^◌, ◌<◌, ◌≤◌, List, [], ◌∷◌, ◌++◌, length, take, get_or, Option, Some, None, refl, sym, ap, subst, ◌∙◌, inl, inr, arith}
+use Rattle.std.proofs.Common.{◌≡◌, ℕ, suc, ◌+◌, ◌*◌, ◌^◌, ◌<◌, ◌≤◌, List, [], ◌∷◌, length, take, get_or, Option, Some, None, refl, sym, ap, subst, ◌∙◌, inl, inr, arith}
 use Rattle.std.proofs.lemmas.Bool.{cases_lt, le-leb}
 use Rattle.std.specs.Prelude.{option_map, IsSome}
 use Rattle.std.specs.Int.{w8, w16, w32, w64}
 use Rattle.mls_wire.specs.Spelling.{◌⊕◌, number, length_form, vector, sized, items, list}
-use Rattle.mls_wire.specs.Numbers.{number_made, wide8, wide16, wide32, wide64}
+use Rattle.mls_wire.specs.Numbers.{wide8, wide16, wide32, wide64}
 use Rattle.mls_wire.specs.Lengths.{form_1, form_2, form_4}
 use Rattle.mls_wire.specs.Sizes.{some_size, number_size, size_push, fits_not, fits_none}
 use Rattle.mls_wire.specs.Written.{size_then, sized_makes}
-use Rattle.mls_nodes.specs.declared.credential.Credential.{Credential}
 use Rattle.mls_nodes.specs.declared.credential.Credential.TheVariants.{Basic, X509}
-use Rattle.mls_nodes.specs.declared.leaf_source.LeafSource.{LeafSource}
 use Rattle.mls_nodes.specs.declared.leaf_source.LeafSource.TheVariants.{KeyPackage, Update, Commit}
 use Rattle.mls_nodes.specs.declared.leaf_source.Lifetime.{Lifetime}
 use Rattle.mls_nodes.specs.declared.capabilities.Capabilities.{Capabilities}

@@ -7,7 +7,6 @@ use Rattle.mls_wire.specs.Input.{Input}
 use Rattle.mls_wire.specs.Parsing.{◌>>=◌, number_at, vector_at, list_at}
 use Rattle.mls_wire.specs.Reading.{Takes}
 use Rattle.mls_wire.specs.Exact.{IsExact, IsLong, Any, field_then, made_of, tag_is, known, never, spelled_as}
-use Rattle.mls_wire.specs.Laws.{one_value, no_prefix}
 use Rattle.mls_wire.specs.Steps.{bind_some, some_is, allowed}
 use Rattle.mls_wire.specs.Numbers.{wide8, wide16, wide32, wide64, number_exact, number_long}
 use Rattle.mls_wire.specs.Vectors.{vector_exact, vector_long}

@@ -1,4 +1,4 @@
--- Reading nodes from left to right: for proofs alone, no public contract speaks of it.
+-- Reading nodes from left to right: for proofs alone. Of contracts only that of `Decode::read` names it.
 use Rattle.std.specs.Prelude.{◌≡◌, ℕ, ◌%◌, List, length, ◌&&◌, Option, Some, None, Result, Ok, Err, nat_eq, nat_le, if◌then◌else◌}
 use Rattle.std.specs.Int.{w8, w16, w32, w64}
 use Rattle.mls_wire.specs.Input.{Input, at}

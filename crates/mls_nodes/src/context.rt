@@ -1,5 +1,7 @@
 //! Group contexts (RFC 9420, section 8.1).
 
+ghost use Rattle.std.specs.Prelude.{◌≡◌, ◌<◌, Err, length};
+ghost use Rattle.mls_wire.specs.Faults.{too_long_at};
 ghost use Rattle.mls_wire.specs.Reading.{Decodes, seen};
 ghost use Rattle.mls_wire.specs.Writing.{Makes, Writes};
 ghost use Rattle.mls_wire.specs.Reading.{DecodesInput};
@@ -103,7 +105,8 @@ pub fn read_context(alloc: Global, reader: &mut Reader<'_>) -> Result<GroupConte
 /// The group context that all of the bytes spell. More than 268,435,456 bytes are `TooLong` at 0; other
 /// bytes are refused for another cause than memory exactly where they spell none.
 pub fn decode_context(alloc: Global, bytes: &[u8]) -> Result<GroupContext, CodecFault>
-    ensures { DecodesInput group_context bytes.now result }
+    ensures spelled { DecodesInput group_context bytes.now result }
+    ensures long { 268435456 < length bytes.now → result ≡ Err (CodecFault.Wire (too_long_at 0)) }
 {
     read_input(alloc, bytes)
 }

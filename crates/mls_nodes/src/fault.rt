@@ -2,21 +2,28 @@
 
 use mls_wire::{CodecFault, WireFault};
 use std::alloc::{AllocError, AllocFailed};
+use thiserror::Error;
 
 /// Why a ratchet tree could not be read or written. Places count the entries of the tree from 0.
-#[derive(Clone, Copy, Debug, PartialEq, Eq)]
+#[derive(Clone, Copy, Debug, PartialEq, Eq, Error)]
 pub enum NodeFault {
     /// The bytes can't be read, or the tree is too long for one vector.
+    #[error(transparent)]
     Wire(WireFault),
     /// A leaf at an odd place or a parent at an even one: the first such place.
+    #[error("a node of the wrong kind at place {0}")]
     WrongNodeKind(usize),
     /// The last entry is blank, and another one is not.
+    #[error("the last entry is blank")]
     LastBlank,
     /// No entry is set.
+    #[error("no entry is set")]
     EmptyTree,
     /// More than 2,097,151 entries, those of 1,048,576 leaves.
+    #[error("a tree has at most 2,097,151 nodes")]
     TooManyLeaves,
     /// A growth was refused.
+    #[error("out of memory")]
     OutOfMemory,
 }
 

@@ -1,5 +1,7 @@
 use super::*;
-use mls_wire::{CodecFault, Decode, Opaque, Reader, TryClone, WireFault, WireFaultKind, Writer};
+use mls_wire::{
+    CodecFault, Decode, Opaque, Reader, TryClone, WireFault, WireFaultKind, Writer, bytes_of,
+};
 use std::alloc::Global;
 use std::test::*;
 
@@ -130,6 +132,43 @@ fn trees_that_are_refused(rt: HostRuntime) {
 }
 
 #[test]
+fn trees_of_too_many_entries(rt: HostRuntime) -> Result<(), Fail> {
+    let table = [
+        ([0x80, 0x1f, 0xff, 0xff], 2097155, NodeFault::EmptyTree),
+        ([0x80, 0x20, 0, 0], 2097156, NodeFault::TooManyLeaves),
+    ];
+    for (length, size, fault) in table {
+        let mut bytes = Vec::from_slice(rt.alloc(), &length)?;
+        bytes.resize(size, 0)?;
+        assert_eq!(rt;
+            fault_of_tree(rt.alloc(), &bytes),
+            Some(fault),
+            "{size} bytes"
+        );
+    }
+    Ok(())
+}
+
+#[test]
+fn inputs_over_the_limit(rt: HostRuntime) -> Result<(), Fail> {
+    let piece = vec![in rt.alloc(); 0u8; 1048576]?;
+    let mut bytes = Vec::from_slice(rt.alloc(), &[0])?;
+    for _ in 0..256 {
+        bytes.extend_from_slice(&piece)?;
+    }
+    let fault = wire(WireFaultKind::TooLong, 0);
+    assert_eq!(rt;
+        fault_of_tree(rt.alloc(), &bytes),
+        Some(NodeFault::Wire(fault))
+    );
+    assert_eq!(rt;
+        required_by(rt.alloc(), &bytes).err(),
+        Some(CodecFault::Wire(fault))
+    );
+    Ok(())
+}
+
+#[test]
 fn trees_with_a_byte_too_many(rt: HostRuntime) -> Result<(), Fail> {
     let trailing = NodeFault::Wire(wire(WireFaultKind::Trailing, 42));
     for (length, fault) in [(0x2a, NodeFault::LastBlank), (0x29, trailing)] {
@@ -191,9 +230,26 @@ fn is_read(alloc: Global, bytes: &[u8]) -> Result<bool, CodecFault> {
 #[test]
 fn leaves_are_read(rt: HostRuntime) -> Result<(), Fail> {
     assert!(rt; is_read(rt.alloc(), &LEAF)?);
-    let odd = joined(rt.alloc(), &[&LEAF[..8], &[1, 0], &LEAF[11..]])?;
-    let fault = CodecFault::Wire(wire(WireFaultKind::OddLength, 8));
-    assert_eq!(rt; decode_leaf(rt.alloc(), &odd).err(), Some(fault));
+    Ok(())
+}
+
+/// Why the bytes are no leaf node.
+fn fault_of_leaf(alloc: Global, bytes: &[u8]) -> Option<CodecFault> {
+    decode_leaf(alloc, bytes).err()
+}
+
+#[test]
+fn leaves_that_are_refused(rt: HostRuntime) -> Result<(), Fail> {
+    let table = [
+        (4, [1, 1].as_slice(), 6, WireFaultKind::BadTag(0x101)),
+        (8, &[1, 0], 11, WireFaultKind::OddLength),
+        (19, &[4], 20, WireFaultKind::BadTag(4)),
+    ];
+    for (place, item, rest, kind) in table {
+        let bytes = joined(rt.alloc(), &[&LEAF[..place], item, &LEAF[rest..]])?;
+        let fault = CodecFault::Wire(wire(kind, place));
+        assert_eq!(rt; fault_of_leaf(rt.alloc(), &bytes), Some(fault));
+    }
     Ok(())
 }
 
@@ -222,6 +278,41 @@ fn leaves_are_written(rt: HostRuntime) -> Result<(), Fail> {
     let answer = is_written(rt.alloc(), &leaf, &LEAF);
     drop(leaf);
     assert!(rt; answer?);
+    Ok(())
+}
+
+/// The bytes of a credential of the certificates d1d2 and d3.
+const CERTIFICATES: [u8; 8] = [0, 2, 5, 2, 0xd1, 0xd2, 1, 0xd3];
+
+/// Whether the credential is of the certificates d1d2 and d3.
+fn is_certified(credential: &Credential) -> bool {
+    let Credential::X509(chain) = credential else {
+        return false;
+    };
+    match chain.as_slice() {
+        [own, above] => {
+            is_same(own.as_slice(), &[0xd1, 0xd2]) && is_same(above.as_slice(), &[0xd3])
+        }
+        _ => false,
+    }
+}
+
+/// The credential of a leaf node.
+fn credential_of(alloc: Global, bytes: &[u8]) -> Result<Credential, CodecFault> {
+    let leaf = decode_leaf(alloc, bytes)?;
+    let credential = leaf.credential.try_clone(alloc);
+    drop(leaf);
+    credential
+}
+
+#[test]
+fn certificates_are_read_and_written(rt: HostRuntime) -> Result<(), Fail> {
+    let bytes = joined(rt.alloc(), &[&LEAF[..4], &CERTIFICATES, &LEAF[8..]])?;
+    let credential = credential_of(rt.alloc(), &bytes)?;
+    let is_read = is_certified(&credential);
+    let written = bytes_of(rt.alloc(), &credential);
+    drop(credential);
+    assert!(rt; is_read && is_same(&written?, &CERTIFICATES));
     Ok(())
 }
 
@@ -388,6 +479,29 @@ fn requirements_are_found(rt: HostRuntime) -> Result<(), Fail> {
     assert!(rt; needs(rt.alloc(), &CONTEXT, &[2])?);
     let none = joined(rt.alloc(), &[&CONTEXT[..17], &[0]])?;
     assert!(rt; needs(rt.alloc(), &none, &[])?);
+    Ok(())
+}
+
+/// A list of these codes.
+fn codes(alloc: Global, codes: &[u16]) -> Result<Codes, Fail> {
+    Ok(Codes::new(Vec::from_slice(alloc, codes)?).or(Err("the list fits"))?)
+}
+
+/// Requirements of these types of proposals alone.
+fn requiring(alloc: Global, proposals: &[u16]) -> Result<RequiredCapabilities, Fail> {
+    Ok(RequiredCapabilities {
+        extensions: codes(alloc, &[])?,
+        proposals: codes(alloc, proposals)?,
+        credentials: codes(alloc, &[])?,
+    })
+}
+
+#[test]
+fn requirements_are_written(rt: HostRuntime) -> Result<(), Fail> {
+    let required = requiring(rt.alloc(), &[2])?;
+    let bytes = bytes_of(rt.alloc(), &required);
+    drop(required);
+    assert!(rt; is_same(&bytes?, &[0, 2, 0, 2, 0]));
     Ok(())
 }
 

@@ -1,6 +1,7 @@
 //! Reading a ratchet tree, one entry after the other.
 
-ghost use Rattle.std.specs.Prelude.{◌≡◌, ◌≤◌, map, length, IfOk, IfErr};
+ghost use Rattle.std.specs.Prelude.{◌≡◌, ◌≤◌, ◌<◌, Err, map, length, IfOk, IfErr};
+ghost use Rattle.mls_wire.specs.Faults.{too_long_at};
 ghost use Rattle.mls_wire.specs.Parsing.{Gives, flag_at, body_at, items_at, optional_at};
 ghost use Rattle.mls_wire.specs.Reading.{seen};
 ghost use Rattle.mls_nodes.specs.Value.{node_value, entry_value};
@@ -141,7 +142,8 @@ fn fill(mut entries: Vec<Option<Node>>) -> Result<Vec<Option<Node>>, NodeFault>
 /// `WrongNodeKind` at a node's type, before its body is read), `EmptyTree` where no entry is set,
 /// `LastBlank`, and `Trailing` for bytes behind the vector.
 pub fn decode_ratchet_tree(alloc: Global, bytes: &[u8]) -> Result<Vec<Option<Node>>, NodeFault>
-    ensures { DecodesTree bytes.now (seen (λ v. map entry_value v.items) result) }
+    ensures spelled { DecodesTree bytes.now (seen (λ v. map entry_value v.items) result) }
+    ensures long { 268435456 < length bytes.now → result ≡ Err (faults.Wire (too_long_at 0)) }
 {
     if bytes.len() > MAX_INPUT {
         return Err(NodeFault::Wire(WireFault {

@@ -1,4 +1,4 @@
-use Rattle.std.proofs.Common.{arith, refl, sym, ◌∙◌}
+use Rattle.std.proofs.Common.{arith, sym, ◌∙◌}
 use Rattle.mls_wire.specs.Sizes.{no_size}
 use Rattle.mls_nodes.proofs.Lengths.{item_there, items_step}
 use Rattle.mls_nodes.proofs.length.length_of_items.Goals as goal

@@ -1,4 +1,4 @@
-use Rattle.std.proofs.Common.{refl, arith}
+use Rattle.std.proofs.Common.{refl}
 use Rattle.mls_nodes.proofs.Lengths.{unmerged_has}
 use Rattle.mls_nodes.proofs.length.length_of_unmerged.Goals as goal
 

@@ -16,7 +16,7 @@ use Rattle.mls_check.specs.declared.valid.TreeFault.{TreeFault}
 use Rattle.mls_check.specs.declared.valid.TreeFault.TheVariants.{HashDiffers, UnmergedUnsorted, UnmergedUnsound, KeyRepeated, ParentHashInvalid, OutOfMemory}
 use Rattle.mls_check.proofs.Chains.{decided-reached}
 use Rattle.mls_check.proofs.Decided.{Decided, decided-like, decided-and, decided-implies, decided-lt, decided-other, decided-agree, decided-all, found_below, first_or_all, not_all, failure-unique}
-use Rattle.mls_check.proofs.Descent.{outside_above}
+use Rattle.mls_check.proofs.Outside.{outside_above}
 use Rattle.mls_check.proofs.Placing.{placed_everywhere, sorted_everywhere}
 use Rattle.mls_check.proofs.Repeats.{no_key_above}
 

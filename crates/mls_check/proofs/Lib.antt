@@ -6,7 +6,7 @@ pub mod Used
 pub mod Keys
 pub mod Rules
 pub mod Judged
-pub mod Descent
+pub mod Outside
 pub mod Elements
 pub mod Hashed
 pub mod Lists

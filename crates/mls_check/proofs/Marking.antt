@@ -1,5 +1,5 @@
 -- Marks of reached parents, through a walk halves first.
-use Rattle.std.proofs.Common.{◌≡◌, ◌≢◌, ℕ, ◌+◌, ◌*◌, ◌-◌, ◌<◌, Bool, true, false, List, Option, Some, None, Result, Ok, Err, refl, sym, ap, ◌∙◌, subst, arith, inl, inr, ◌++◌, take, length, IsTrue, IsSome, is_some, IfOk, get_or, replicate}
+use Rattle.std.proofs.Common.{◌≡◌, ◌≢◌, ℕ, ◌+◌, ◌*◌, ◌<◌, Bool, true, false, List, Option, Some, None, Result, Ok, Err, refl, sym, ap, ◌∙◌, subst, arith, inl, inr, ◌++◌, take, length, IsTrue, is_some, IfOk, get_or, replicate}
 use Rattle.std.proofs.Math.Seq.{take-append_seam}
 use Rattle.std.specs.Prelude.{◌↔◌, slice_set}
 use Rattle.std.proofs.Common.{get_or-set_same, get_or-set_other}
@@ -7,40 +7,30 @@ use Rattle.std.proofs.lemmas.List.{get_or-replicate, get_or_past, length-replica
 use Rattle.std.proofs.lemmas.Option.{same_Some, none-some}
 use Rattle.std.proofs.lemmas.Bool.{cases_order, cases_lt, false≢true}
 use Rattle.mls_nodes.specs.declared.parent.ParentNode.{ParentNode}
-use Rattle.mls_tree.specs.RatchetTree.{RatchetTree}
 use Rattle.mls_tree.specs.Tree.{Tree, leaf, branch, leaf_count, Subtree, subtree_at, root_place, node_at, entry_of, root_entry}
-use Rattle.mls_tree.proofs.Trees.{subtree_at-stands, subtree_at-root, subtree_at-nested, subtree_at-in_left, subtree_at-in_right, root_place-below}
-use Rattle.mls_tree.proofs.Coordinates.{root-seen}
+use Rattle.mls_tree.proofs.Trees.{subtree_at-stands, subtree_at-root, subtree_at-nested, subtree_at-in_left, subtree_at-in_right}
 use Rattle.mls_check.specs.FirstFailure.{IsFirstFailureIn}
-use Rattle.mls_check.specs.Position.{HasHalves, parent_of}
+use Rattle.mls_tree.specs.Parts.{HasChildren, parent_of}
 use Rattle.mls_check.specs.Reached.{Reached, IsReachedAt, HasSetParent}
 use Rattle.mls_check.specs.Marks.{IsMarked, IsMarkedAt, AreSound, AreKept, AreAllMarkedAt, AreAllMarkedUnder, IsReachedHere}
-use Rattle.mls_check.proofs.Descent.{outside_above}
+use Rattle.mls_check.proofs.Outside.{outside_above}
 
 -- an answer that was true exactly where P holds
 pub IfOk-same : {E P Q : Type 0} (r : Result Bool E) → (P → Q) → (Q → P) → IfOk r (λ b. IsTrue b ↔ P) → IfOk r (λ b. IsTrue b ↔ Q)
 IfOk-same (Ok b) f g h = (λ t. f (h.0 t), λ q. h.1 (g q))
 IfOk-same (Err e) f g h = tt
 
-pub inside_bound : (t : Tree) (p : ℕ) → IsSome (subtree_at 0 t p) → p + 1 < 2 * leaf_count t
-inside_bound t p h = go (subtree_at 0 t p) refl h
-  where
-    go : (o : Option Subtree) → subtree_at 0 t p ≡ o → IsSome o → p + 1 < 2 * leaf_count t
-    go None e h = absurd (false≢true h)
-    go (Some s) e h = let st = subtree_at-stands 0 t p s e in omega (arith, st.place, st.to_right, root_place-below s.first s.tree)
-
 module _ (H : List ℕ → List ℕ) (t : Tree) (marks : List Bool) where
   -- what is marked in both halves is marked under the parent
-  pub under_from_halves : (p q u m : ℕ) (n : Option ParentNode) → HasHalves t p n q u m → AreAllMarkedAt H t marks q → AreAllMarkedAt H t marks u → AreAllMarkedUnder H t marks p
+  pub under_from_halves : (p q u m : ℕ) (n : Option ParentNode) → HasChildren t p q u m n → AreAllMarkedAt H t marks q → AreAllMarkedAt H t marks u → AreAllMarkedUnder H t marks p
   under_from_halves p q u m n h left right s e k v ne sub r =
       let st = subtree_at-stands 0 t p _ h.whole in
-      let in_top : subtree_at h.first (branch h.left_tree n h.right_tree) k ≡ Some v = subst (λ w. subtree_at w.first w.tree k ≡ Some v) (same_Some _ _ (sym e ∙ h.whole)) sub in
-      elim (cases_order (k + 1) (2 * (h.first + leaf_count h.left_tree))) [
+      let in_top : subtree_at h.first (branch h.left n h.right) k ≡ Some v = subst (λ w. subtree_at w.first w.tree k ≡ Some v) (same_Some _ _ (sym e ∙ h.whole)) sub in
+      elim (cases_order (k + 1) (2 * (h.first + leaf_count h.left))) [
         | inl at ↦ absurd (ne (omega (arith, st.place)))
-        | inr (inl lt) ↦ left _ h.left_half k v (sym (subtree_at-in_left h.first h.left_tree n h.right_tree k lt) ∙ in_top) r
+        | inr (inl lt) ↦ left _ h.left_child k v (sym (subtree_at-in_left h.first h.left n h.right k lt) ∙ in_top) r
         | inr (inr gt) ↦
-            right _ h.right_half k v
-            (ap (λ w. subtree_at w h.right_tree k) h.split ∙ sym (subtree_at-in_right h.first h.left_tree n h.right_tree k gt) ∙ in_top) r
+            right _ h.right_child k v (sym (subtree_at-in_right h.first h.left n h.right k gt) ∙ in_top) r
       ]
 
   pub kept-marked : (old : List Bool) (q : ℕ) → AreKept old marks → AreAllMarkedAt H t old q → AreAllMarkedAt H t marks q
@@ -78,9 +68,6 @@ none-marked H t marks n e q m = absurd (false≢true (sym (unmarked n q) ∙ sub
   where
     unmarked : (n q : ℕ) → get_or (replicate n false) q false ≡ false
     unmarked n q = elim (cases_lt q n) [ inl l ↦ get_or-replicate n q false false l | inr g ↦ get_or_past _ q false (omega (arith, length-replicate n false)) ]
-
-pub root_inside : (t : RatchetTree) (n : ℕ) → n ≡ leaf_count t.tree → IsSome (subtree_at 0 t.tree (n - 1))
-root_inside t n e = subst (λ p. IsSome (subtree_at 0 t.tree p)) (sym (root-seen t n (sym e))) (subst (λ o. IsSome o) (sym (subtree_at-root 0 t.tree)) refl)
 
 parent-set : (s : Subtree) → HasSetParent s.tree → is_some (parent_of (root_entry s.tree)) ≡ true
 parent-set s h = go s.tree h

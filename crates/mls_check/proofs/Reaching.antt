@@ -14,7 +14,7 @@ use Rattle.mls_hash.specs.ParentHash.{parent_hash, parent_hash_at, root_parent_h
 use Rattle.mls_hash.specs.declared.side.Side.{Side}
 use Rattle.mls_hash.specs.declared.side.Side.TheVariants.{Left, Right}
 use Rattle.mls_check.specs.Sound.{is_entered, is_placed, lists, IsPlaced}
-use Rattle.mls_check.specs.Position.{HasHalves}
+use Rattle.mls_tree.specs.Parts.{HasChildren}
 use Rattle.mls_check.specs.Reached.{linked_hash, AreHalves, IsUnmergedUnder, Link, Step, IsLeaf, Reached, from_leaf, from_parent}
 use Rattle.mls_check.specs.Marks.{IsLone, IsMarked, IsChainEnd, IsCandidateIn, CarriesHash, AreSound, AreAllMarkedUnder, IsReachedHere}
 use Rattle.mls_check.proofs.Lone.{lone_once}
@@ -212,43 +212,40 @@ coe_link {H} {n} d a half other x y e f g link = subst (λ v. v) (λ i. Link H n
 
 -- ---- a set parent
 
-module _ (H : List ℕ → List ℕ) (t : Tree) (p q u m : ℕ) (node : ParentNode) (h : HasHalves t p (Some node) q u m) (placed : IsPlaced t) (marks : List Bool) where
+module _ (H : List ℕ → List ℕ) (t : Tree) (p q u m : ℕ) (node : ParentNode) (h : HasChildren t p q u m (Some node)) (placed : IsPlaced t) (marks : List Bool) where
   top : Subtree
-  top = record { first = h.first; tree = branch h.left_tree (Some node) h.right_tree }
+  top = record { first = h.first; tree = branch h.left (Some node) h.right }
 
-  all-entered : (i : ℕ) → Contains node.unmerged i → IsTrue (is_entered i h.first (branch h.left_tree None h.right_tree))
-  all-entered i c = all-each (λ i. is_entered i h.first (branch h.left_tree None h.right_tree)) node.unmerged i (placed p _ h.whole) c
+  all-entered : (i : ℕ) → Contains node.unmerged i → IsTrue (is_entered i h.first (branch h.left None h.right))
+  all-entered i c = all-each (λ i. is_entered i h.first (branch h.left None h.right)) node.unmerged i (placed p _ h.whole) c
 
-  entered-left : (i : ℕ) → Contains node.unmerged i → h.first ≤ i → i < h.first + leaf_count h.left_tree → IsTrue (is_entered i h.first h.left_tree)
+  entered-left : (i : ℕ) → Contains node.unmerged i → h.first ≤ i → i < h.first + leaf_count h.left → IsTrue (is_entered i h.first h.left)
   entered-left i c lo hi =
-      sym (below i (h.first + leaf_count h.left_tree) (is_entered i h.first h.left_tree) (is_entered i (h.first + leaf_count h.left_tree) h.right_tree) hi) ∙ all-entered i c
+      sym (below i (h.first + leaf_count h.left) (is_entered i h.first h.left) (is_entered i (h.first + leaf_count h.left) h.right) hi) ∙ all-entered i c
 
-  entered-right : (i : ℕ) → Contains node.unmerged i → h.first + leaf_count h.left_tree ≤ i → i < h.first + leaf_count h.left_tree + leaf_count h.right_tree
-      → IsTrue (is_entered i (h.first + leaf_count h.left_tree) h.right_tree)
+  entered-right : (i : ℕ) → Contains node.unmerged i → h.first + leaf_count h.left ≤ i → i < h.first + leaf_count h.left + leaf_count h.right
+      → IsTrue (is_entered i (h.first + leaf_count h.left) h.right)
   entered-right i c lo hi =
-      sym (from i (h.first + leaf_count h.left_tree) (is_entered i h.first h.left_tree) (is_entered i (h.first + leaf_count h.left_tree) h.right_tree) lo) ∙ all-entered i c
+      sym (from i (h.first + leaf_count h.left) (is_entered i h.first h.left) (is_entered i (h.first + leaf_count h.left) h.right) lo) ∙ all-entered i c
 
-  right-at : subtree_at 0 t u ≡ Some (record { first = h.first + leaf_count h.left_tree; tree = h.right_tree })
-  right-at = h.right_half ∙ ap (λ v. Some (record { first = v; tree = h.right_tree })) h.split
-
-  hashed-right : parent_hash_at H t p Right ≡ parent_hash H node (h.first + leaf_count h.left_tree) h.right_tree
+  hashed-right : parent_hash_at H t p Right ≡ parent_hash H node (h.first + leaf_count h.left) h.right
   hashed-right = ap (λ o. option_and_then (λ (s : Subtree). root_parent_hash H Right s.first s.tree) o) h.whole
 
-  hashed-left : parent_hash_at H t p Left ≡ parent_hash H node h.first h.left_tree
+  hashed-left : parent_hash_at H t p Left ≡ parent_hash H node h.first h.left
   hashed-left = ap (λ o. option_and_then (λ (s : Subtree). root_parent_hash H Left s.first s.tree) o) h.whole
 
   -- a chain that comes through the left half
   pub reached-left : AreSound H t marks → (o : Option ℕ) → IsCandidateIn t node.unmerged q marks o → CarriesHash H t p Right o → IsReachedHere H t p
   reached-left sound o k c =
-      let l = linked-up H t node (record { first = h.first; tree = h.left_tree }) (record { first = h.first + leaf_count h.left_tree; tree = h.right_tree }) q h.left_half placed entered-left p Right hashed-right marks sound o k c in
-      let step : Step H (leaf_count t) l.0 (record { first = h.first; tree = branch h.left_tree (Some node) h.right_tree }) = record {
+      let l = linked-up H t node (record { first = h.first; tree = h.left }) (record { first = h.first + leaf_count h.left; tree = h.right }) q h.left_child placed entered-left p Right hashed-right marks sound o k c in
+      let step : Step H (leaf_count t) l.0 (record { first = h.first; tree = branch h.left (Some node) h.right }) = record {
         parent = node;
-        half = record { first = h.first; tree = h.left_tree };
-        other = record { first = h.first + leaf_count h.left_tree; tree = h.right_tree };
+        half = record { first = h.first; tree = h.left };
+        other = record { first = h.first + leaf_count h.left; tree = h.right };
         halves = (refl, inl (refl, refl));
         link = l.1;
       } in (
-        record { first = h.first; tree = branch h.left_tree (Some node) h.right_tree },
+        record { first = h.first; tree = branch h.left (Some node) h.right },
         h.whole,
         elim l.2 [ inl e ↦ from_leaf l.0 _ step e | inr r ↦ from_parent l.0 _ step r ],
       )
@@ -256,32 +253,32 @@ module _ (H : List ℕ → List ℕ) (t : Tree) (p q u m : ℕ) (node : ParentNo
   -- and one through the right half
   pub reached-right : AreSound H t marks → (o : Option ℕ) → IsCandidateIn t node.unmerged u marks o → CarriesHash H t p Left o → IsReachedHere H t p
   reached-right sound o k c =
-      let l = linked-up H t node (record { first = h.first + leaf_count h.left_tree; tree = h.right_tree }) (record { first = h.first; tree = h.left_tree }) u right-at placed entered-right p Left hashed-left marks sound o k c in
-      let step : Step H (leaf_count t) l.0 (record { first = h.first; tree = branch h.left_tree (Some node) h.right_tree }) = record {
+      let l = linked-up H t node (record { first = h.first + leaf_count h.left; tree = h.right }) (record { first = h.first; tree = h.left }) u h.right_child placed entered-right p Left hashed-left marks sound o k c in
+      let step : Step H (leaf_count t) l.0 (record { first = h.first; tree = branch h.left (Some node) h.right }) = record {
         parent = node;
-        half = record { first = h.first + leaf_count h.left_tree; tree = h.right_tree };
-        other = record { first = h.first; tree = h.left_tree };
+        half = record { first = h.first + leaf_count h.left; tree = h.right };
+        other = record { first = h.first; tree = h.left };
         halves = (refl, inr (refl, refl));
         link = l.1;
       } in (
-        record { first = h.first; tree = branch h.left_tree (Some node) h.right_tree },
+        record { first = h.first; tree = branch h.left (Some node) h.right },
         h.whole,
         elim l.2 [ inl e ↦ from_leaf l.0 _ step e | inr r ↦ from_parent l.0 _ step r ],
       )
 
-  left-marked : AreAllMarkedUnder H t marks p → (k : ℕ) (v : Subtree) → subtree_at h.first h.left_tree k ≡ Some v → Reached H (leaf_count t) v → IsMarked marks k
+  left-marked : AreAllMarkedUnder H t marks p → (k : ℕ) (v : Subtree) → subtree_at h.first h.left k ≡ Some v → Reached H (leaf_count t) v → IsMarked marks k
   left-marked under k v e r =
       let st = subtree_at-stands 0 t p _ h.whole in
-      let at = subtree_at-stands h.first h.left_tree k v e in
+      let at = subtree_at-stands h.first h.left k v e in
       under _ h.whole k v (λ d. omega (arith, st.place, at.place, at.to_right, root_place-below v.first v.tree))
-      (in_left h.first h.left_tree (Some node) h.right_tree k v e) r
+      (in_left h.first h.left (Some node) h.right k v e) r
 
-  right-marked : AreAllMarkedUnder H t marks p → (k : ℕ) (v : Subtree) → subtree_at (h.first + leaf_count h.left_tree) h.right_tree k ≡ Some v → Reached H (leaf_count t) v → IsMarked marks k
+  right-marked : AreAllMarkedUnder H t marks p → (k : ℕ) (v : Subtree) → subtree_at (h.first + leaf_count h.left) h.right k ≡ Some v → Reached H (leaf_count t) v → IsMarked marks k
   right-marked under k v e r =
       let st = subtree_at-stands 0 t p _ h.whole in
-      let at = subtree_at-stands (h.first + leaf_count h.left_tree) h.right_tree k v e in
-      under _ h.whole k v (λ d. omega (arith, st.place, at.place, at.from_left, root_place-above v.first v.tree, leaf_count-positive h.left_tree))
-      (in_right h.first h.left_tree (Some node) h.right_tree k v e) r
+      let at = subtree_at-stands (h.first + leaf_count h.left) h.right k v e in
+      under _ h.whole k v (λ d. omega (arith, st.place, at.place, at.from_left, root_place-above v.first v.tree, leaf_count-positive h.left))
+      (in_right h.first h.left (Some node) h.right k v e) r
 
   -- a chain to the parent comes through one of its halves
   pub reached-through : AreAllMarkedUnder H t marks p
@@ -289,16 +286,16 @@ module _ (H : List ℕ → List ℕ) (t : Tree) (p q u m : ℕ) (node : ParentNo
       → IsReachedHere H t p → CarriesHash H t p Right o ⊎ CarriesHash H t p Left o'
   reached-through under o k o' k' w =
       let same = same_Some _ _ (sym w.1 ∙ h.whole) in
-      let e = ends (record { first = h.first; tree = branch h.left_tree (Some node) h.right_tree }) (subst (λ s. Reached H (leaf_count t) s) same w.2) in
+      let e = ends (record { first = h.first; tree = branch h.left (Some node) h.right }) (subst (λ s. Reached H (leaf_count t) s) same w.2) in
       by e.0 e.1.parent e.1.half e.1.other e.1.halves e.1.link e.2
     where
-      by : (d : Subtree) (n : ParentNode) (half other : Subtree) → AreHalves h.first (branch h.left_tree (Some node) h.right_tree) n half other → Link H (leaf_count t) n half other d
+      by : (d : Subtree) (n : ParentNode) (half other : Subtree) → AreHalves h.first (branch h.left (Some node) h.right) n half other → Link H (leaf_count t) n half other d
           → (IsLeaf d.tree ⊎ Reached H (leaf_count t) d) → CarriesHash H t p Right o ⊎ CarriesHash H t p Left o'
       by d n half other (a, inl b) link e =
-          inl (linked-down H t node (record { first = h.first; tree = h.left_tree }) (record { first = h.first + leaf_count h.left_tree; tree = h.right_tree }) q h.left_half placed entered-left p Right hashed-right marks
+          inl (linked-down H t node (record { first = h.first; tree = h.left }) (record { first = h.first + leaf_count h.left; tree = h.right }) q h.left_child placed entered-left p Right hashed-right marks
           (left-marked under) o k d (coe_link d n half other _ _ (sym a) b.0 b.1 link) e)
       by d n half other (a, inr b) link e =
-          inr (linked-down H t node (record { first = h.first + leaf_count h.left_tree; tree = h.right_tree }) (record { first = h.first; tree = h.left_tree }) u right-at placed entered-right p Left hashed-left marks
+          inr (linked-down H t node (record { first = h.first + leaf_count h.left; tree = h.right }) (record { first = h.first; tree = h.left }) u h.right_child placed entered-right p Left hashed-left marks
           (right-marked under) o' k' d (coe_link d n half other _ _ (sym a) b.0 b.1 link) e)
 
 pub other_way : {P Q : Type 0} → ¬ P → P ⊎ Q → Q
@@ -306,5 +303,5 @@ other_way n (inl p) = absurd (n p)
 other_way n (inr q) = q
 
 -- a set parent stands where its halves are known
-pub set_here : (t : Tree) (p q u m : ℕ) (node : ParentNode) → HasHalves t p (Some node) q u m → IsSome (parent_at t p)
+pub set_here : (t : Tree) (p q u m : ℕ) (node : ParentNode) → HasChildren t p q u m (Some node) → IsSome (parent_at t p)
 set_here t p q u m node h = subst (λ o. IsSome (option_and_then (λ (s : Subtree). root_parent s.tree) o)) (sym h.whole) refl

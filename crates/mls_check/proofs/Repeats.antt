@@ -11,7 +11,7 @@ use Rattle.std.proofs.lemmas.Bool.Decides.{Decides-at, Decides-like, Decides-or}
 use Rattle.mls_tree.specs.Tree.{Tree, leaf_count, entry_of}
 use Rattle.mls_check.specs.Distinct.{key_at, HaveOneKey, HasOwnKeyAt, encryption_key}
 use Rattle.mls_check.specs.FirstFailure.{IsFirstFailureIn}
-use Rattle.mls_check.proofs.Descent.{outside_above}
+use Rattle.mls_check.proofs.Outside.{outside_above}
 
 -- the order of a set of slices
 abbrev pub by_bytes : Bor (List ℕ) → Bor (List ℕ) → Ordering

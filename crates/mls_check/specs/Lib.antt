@@ -4,8 +4,9 @@ pub mod Members
 pub mod Distinct
 pub mod FirstFailure
 pub mod Marks
-pub mod Position
+pub mod Entered
 pub mod Reached
+pub mod Requirements
 pub mod Rising
 pub mod Sound
 pub mod Valid

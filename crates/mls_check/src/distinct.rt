@@ -5,7 +5,7 @@ ghost use Rattle.std.specs.Option.{option_copied};
 ghost use Rattle.mls_check.specs.FirstFailure.{IsFirstFailureIn};
 ghost use Rattle.mls_check.specs.Distinct.{key_at, HasOwnKeyAt};
 
-use crate::position::place_count;
+use crate::places::place_count;
 use mls_nodes::Node;
 use mls_tree::PublicTree;
 use std::alloc::{AllocError, Global};

@@ -6,6 +6,7 @@ ghost use Rattle.mls_check.specs.Signatures.{Meaning};
 ghost use Rattle.mls_check.specs.Members.{Members, IsMemberFault, FindsFailing, supports_own_extensions, supports_required, is_leaf_signed};
 
 use crate::credentials::first_unsupported_credential;
+use crate::requirements::RisingRequirements;
 use crate::signature_keys::first_repeated_signature_key;
 use crate::signatures::{OutOfMemory, SignatureCheck, signed};
 use crate::support::{supports_own_extensions, supports_required};
@@ -13,25 +14,32 @@ use mls_nodes::{LeafNode, RequiredCapabilities, leaf_tbs};
 use mls_tree::PublicTree;
 use mls_wire::{CodecFault, Opaque};
 use std::alloc::Global;
+use thiserror::Error;
 
 /// The label under which members sign their leaf nodes (RFC 9420, 7.2).
 const LEAF_NODE_TBS: &str = "MLS 1.0 LeafNodeTBS";
 
 /// Why the leaves of a tree are no members: the first rule that fails at some leaf, and the smallest leaf at which it
 /// fails.
-#[derive(Clone, Copy, Debug, PartialEq, Eq)]
+#[derive(Clone, Copy, Debug, PartialEq, Eq, Error)]
 pub enum MemberFault {
     /// The leaf has an extension of a type that its capabilities don't list.
+    #[error("leaf {0} has an extension of a type that it does not list")]
     ExtensionUnlisted(u32),
     /// The leaf's capabilities lack a type of extension, proposal or credential that the group requires.
+    #[error("leaf {0} lacks a type that the group requires")]
     RequirementUnmet(u32),
     /// The leaf's capabilities lack the type of some member's credential.
+    #[error("leaf {0} lacks the type of a member's credential")]
     CredentialUnsupported(u32),
     /// Another leaf has the same signature key.
+    #[error("another leaf has the signature key of leaf {0}")]
     SignatureKeyRepeated(u32),
     /// The leaf's signature isn't good.
+    #[error("the signature of leaf {0} is not good")]
     LeafSignature(u32),
     /// Memory ran out.
+    #[error("out of memory")]
     OutOfMemory,
 }
 
@@ -107,9 +115,10 @@ fn first_unmet_requirement(
 ) -> Result<Option<u32>, OutOfMemory>
     ensures { IfOk result (FindsFailing (λ _ x. supports_required requirements.now x) tree.now.tree) }
 {
+    let rising = RisingRequirements::new(alloc, requirements)?;
     for index in 0..tree.leaf_count() {
         if let Some(leaf) = tree.leaf(index) {
-            if !supports_required(alloc, leaf, requirements)? {
+            if !supports_required(alloc, leaf, &rising)? {
                 return Ok(Some(index));
             }
         }

@@ -1,17 +1,17 @@
 //! Whether every entry of an unmerged list is a set leaf under the parent, and stands in the list of every set parent between.
 
-ghost use Rattle.std.specs.Prelude.{◌≡◌, ◌↔◌, IsTrue, IsSome, IfSome};
+ghost use Rattle.std.specs.Prelude.{◌≡◌, ◌↔◌, IsTrue, IfSome};
 ghost use Rattle.std.specs.Option.{option_copied};
 ghost use Rattle.std.specs.List.{list_all};
 ghost use Rattle.std.specs.List.Sorted.{IsStrictlyIncreasing};
 ghost use Rattle.mls_tree.specs.Tree.{subtree_at};
 ghost use Rattle.mls_check.specs.FirstFailure.{IsFirstFailureIn};
 ghost use Rattle.mls_check.specs.Sound.{IsSorted, IsPlacedAt, HasSortedEntries, lists, is_entered};
-ghost use Rattle.mls_check.specs.Position.{is_entered_at, is_entered_in};
+ghost use Rattle.mls_check.specs.Entered.{is_entered_at, is_entered_in};
 
-use crate::position::{Position, place_count, position_at};
+use crate::places::place_count;
 use mls_nodes::ParentNode;
-use mls_tree::PublicTree;
+use mls_tree::{Part, PublicTree};
 
 /// Whether a parent, if it is set, has a leaf in its list.
 fn lists(parent: Option<&ParentNode>, index: u32) -> bool
@@ -26,18 +26,20 @@ fn lists(parent: Option<&ParentNode>, index: u32) -> bool
 
 /// Whether a leaf is set and stands in the list of each set parent from a place down to it.
 fn is_entered(tree: &PublicTree, place: u32, index: u32) -> bool
-    requires inside { IsSome (subtree_at 0 tree.now.tree place) }
-    requires sorted { IsSorted tree.now.tree }
+    requires { IsSorted tree.now.tree }
     ensures { result ≡ is_entered_at (subtree_at 0 tree.now.tree place) index }
 {
-    match position_at(tree, place) {
-        Position::Leaf { index: here, node } => index == here && node.is_some(),
-        Position::Parent {
-            node,
-            left,
-            right,
-            middle,
-        } => {
+    match tree.part(place) {
+        None => false,
+        Some(Part::Leaf { number, node }) => index == number && node.is_some(),
+        Some(
+            Part::Parent {
+                node,
+                left,
+                right,
+                middle,
+            },
+        ) => {
             if !lists(node, index) {
                 return false;
             }
@@ -52,9 +54,7 @@ fn is_entered(tree: &PublicTree, place: u32, index: u32) -> bool
 
 /// Whether each number is entered under a parent with these halves.
 fn are_entered(tree: &PublicTree, numbers: &[u32], left: u32, right: u32, middle: u32) -> bool
-    requires left_inside { IsSome (subtree_at 0 tree.now.tree left) }
-    requires right_inside { IsSome (subtree_at 0 tree.now.tree right) }
-    requires sorted { IsSorted tree.now.tree }
+    requires { IsSorted tree.now.tree }
     ensures { result ≡ list_all (λ i. is_entered_in tree.now.tree left right middle i) numbers.now }
 {
     for &index in numbers {
@@ -68,19 +68,21 @@ fn are_entered(tree: &PublicTree, numbers: &[u32], left: u32, right: u32, middle
 
 /// Whether each entry of the set parent at a place, if there is one, is placed.
 fn is_placed_at(tree: &PublicTree, place: u32) -> bool
-    requires inside { IsSome (subtree_at 0 tree.now.tree place) }
-    requires sorted { IsSorted tree.now.tree }
+    requires { IsSorted tree.now.tree }
     ensures { IsTrue result ↔ IsPlacedAt tree.now.tree place }
 {
-    match position_at(tree, place) {
-        Position::Parent {
-            node: Some(parent),
-            left,
-            right,
-            middle,
-        } => are_entered(tree, parent.unmerged.as_slice(), left, right, middle),
-        Position::Parent { node: None, .. } => true,
-        Position::Leaf { .. } => true,
+    match tree.part(place) {
+        Some(
+            Part::Parent {
+                node: Some(parent),
+                left,
+                right,
+                middle,
+            },
+        ) => are_entered(tree, parent.unmerged.as_slice(), left, right, middle),
+        Some(Part::Parent { node: None, .. }) => true,
+        Some(Part::Leaf { .. }) => true,
+        None => true,
     }
 }
 

@@ -15,10 +15,10 @@ ghost use Rattle.mls_check.specs.Sound.{IsSorted, IsPlaced};
 ghost use Rattle.mls_check.specs.Reached.{linked_hash, IsReachedAt};
 ghost use Rattle.mls_check.specs.Marks.{IsListed, IsLone, IsChainEnd, IsCandidateIn, CarriesHash, AreSound, AreKept, AreAllMarkedAt, AreAllMarkedUnder, IsMarkedAt, IsReachedHere};
 
-use crate::position::{Position, parent_at, place_count, position_at};
+use crate::places::place_count;
 use mls_hash::{HashFault, Side, SubtreeHashes, Suite};
 use mls_nodes::{LeafSource, Node};
-use mls_tree::{PublicTree, TreeError};
+use mls_tree::{Part, PublicTree, TreeError};
 use std::alloc::{AllocError, Global};
 
 /// Whether a place is that of a leaf of the list.
@@ -142,7 +142,6 @@ fn is_reached(
     place: u32,
     reached: &[bool],
 ) -> Result<bool, AllocError>
-    requires inside { IsSome (subtree_at 0 tree.now.tree place) }
     requires hashes { AreSubtreeHashes (hash_of suite) tree.now.tree hashes.now }
     requires sorted { IsSorted tree.now.tree }
     requires placed { IsPlaced tree.now.tree }
@@ -150,12 +149,14 @@ fn is_reached(
     requires marked { AreAllMarkedUnder (hash_of suite) tree.now.tree reached.now place }
     ensures { IfOk result (λ b. IsTrue b ↔ IsReachedHere (hash_of suite) tree.now.tree place) }
 {
-    let Position::Parent {
-        node: Some(parent),
-        left,
-        right,
-        ..
-    } = position_at(tree, place)
+    let Some(
+        Part::Parent {
+            node: Some(parent),
+            left,
+            right,
+            ..
+        },
+    ) = tree.part(place)
     else {
         return Ok(false);
     };
@@ -177,7 +178,6 @@ fn mark_reached(
     place: u32,
     reached: &mut [bool],
 ) -> Result<(), AllocError>
-    requires inside { IsSome (subtree_at 0 tree.now.tree place) }
     requires hashes { AreSubtreeHashes (hash_of suite) tree.now.tree hashes.now }
     requires sorted { IsSorted tree.now.tree }
     requires placed { IsPlaced tree.now.tree }
@@ -187,7 +187,7 @@ fn mark_reached(
     ensures kept { OnOk result (AreKept reached.old reached.new) }
     ensures marked { OnOk result (AreAllMarkedAt (hash_of suite) tree.now.tree reached.new place) }
 {
-    let Position::Parent { left, right, .. } = position_at(tree, place) else {
+    let Some(Part::Parent { left, right, .. }) = tree.part(place) else {
         return Ok(());
     };
     mark_reached(alloc, suite, tree, hashes, left, reached)?;
@@ -202,7 +202,7 @@ fn first_unmarked(tree: &PublicTree, reached: &[bool]) -> Option<u32>
     ensures { IsFirstFailureIn (IsMarkedAt tree.now.tree reached.now) result }
 {
     for place in 0..place_count(tree) {
-        if parent_at(tree, place).is_none() {
+        if tree.parent(place).is_none() {
             continue;
         }
         if !reached[place as usize] {

@@ -12,22 +12,23 @@ ghost use Rattle.mls_check.specs.declared.receipts.ReceiptsFault.TheVariants.{Ba
 
 use crate::signatures::SignatureCheck;
 use hex::FromHex;
-use mls_wire::MAX_BODY;
+use mls_wire::{MAX_BODY, MAX_INPUT};
 use sha2::{Digest, Sha256};
 use std::alloc::{AllocFailed, Global};
 use std::marker::Model;
-
-/// The most bytes of a file of receipts.
-const MAX_INPUT: usize = 268435456;
+use thiserror::Error;
 
 /// Why a file of receipts isn't read.
-#[derive(Clone, Copy, Debug, PartialEq, Eq)]
+#[derive(Clone, Copy, Debug, PartialEq, Eq, Error)]
 pub enum ReceiptsFault {
     /// The first line that isn't 64 hexadecimal digits, counted from 1.
+    #[error("line {0} is not 64 hexadecimal digits")]
     BadLine(usize),
     /// The file has more than 268,435,456 bytes.
+    #[error("the file has more than 268,435,456 bytes")]
     TooLong,
     /// Memory ran out.
+    #[error("out of memory")]
     OutOfMemory,
 }
 

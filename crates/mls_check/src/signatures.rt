@@ -7,6 +7,7 @@ ghost use Rattle.mls_wire.specs.Writing.{Makes};
 
 use mls_wire::{CodecFault, Draft};
 use std::alloc::{AllocError, AllocFailed, Global};
+use thiserror::Error;
 
 /// Says whether a signature is good. The arithmetic of the signature schemes is the checker's own.
 pub trait SignatureCheck: Drop {
@@ -41,7 +42,8 @@ impl SignatureCheck for Box<dyn SignatureCheck> {
 }
 
 /// Memory ran out.
-#[derive(Clone, Copy, Debug, PartialEq, Eq)]
+#[derive(Clone, Copy, Debug, PartialEq, Eq, Error)]
+#[error("out of memory")]
 pub struct OutOfMemory;
 
 impl<T: Drop> From<AllocFailed<T>> for OutOfMemory {

@@ -5,7 +5,7 @@ ghost use Rattle.std.specs.List.Sorted.{IsStrictlyIncreasing};
 ghost use Rattle.mls_check.specs.FirstFailure.{IsFirstFailureIn};
 ghost use Rattle.mls_check.specs.Sound.{IsSortedAt};
 
-use crate::position::{parent_at, place_count};
+use crate::places::place_count;
 use mls_tree::PublicTree;
 
 /// Whether each number is below the next.
@@ -24,7 +24,7 @@ fn is_strictly_increasing(numbers: &[u32]) -> bool
 fn is_sorted_at(tree: &PublicTree, place: u32) -> bool
     ensures { IsTrue result ↔ IsSortedAt tree.now.tree place }
 {
-    match parent_at(tree, place) {
+    match tree.parent(place) {
         Some(parent) => is_strictly_increasing(parent.unmerged.as_slice()),
         None => true,
     }

@@ -4,10 +4,12 @@ ghost use Rattle.std.specs.Prelude.{◌≡◌, ◌||◌, IfOk};
 ghost use Rattle.std.specs.List.{list_all};
 ghost use Rattle.std.specs.List.Sorted.{IsStrictlyIncreasing};
 ghost use Rattle.mls_check.specs.Members.{is_default_extension, is_default_proposal, lists_code, supports_extension, supports_proposal, supports_credential, supports_own_extensions, supports_required};
+ghost use Rattle.mls_check.specs.Requirements.{requirements_of};
 
+use crate::requirements::RisingRequirements;
 use crate::rising::{has_code, rising_codes};
 use crate::signatures::OutOfMemory;
-use mls_nodes::{LeafNode, RequiredCapabilities};
+use mls_nodes::LeafNode;
 use std::alloc::Global;
 
 /// Whether a type of extension is supported where these are listed. The types 1 to 5 need not be listed.
@@ -78,9 +80,9 @@ fn supports_credentials(alloc: Global, leaf: &LeafNode, kinds: &[u16]) -> Result
 pub(crate) fn supports_required(
     alloc: Global,
     leaf: &LeafNode,
-    requirements: &RequiredCapabilities,
+    requirements: &RisingRequirements,
 ) -> Result<bool, OutOfMemory>
-    ensures { IfOk result (λ all. all ≡ supports_required requirements.now leaf.now) }
+    ensures { IfOk result (λ all. all ≡ supports_required (requirements_of requirements.now) leaf.now) }
 {
     if !supports_extensions(alloc, leaf, requirements.extensions.as_slice())? {
         return Ok(false);

@@ -34,7 +34,7 @@ fn tree_of(rt: &HostRuntime, leaves: &[&str]) -> Result<PublicTree, Fail> {
     Ok(PublicTree::from_nodes(nodes)?)
 }
 
-/// What a group requires, each list of at most one code.
+/// What a group requires.
 fn required(
     rt: &HostRuntime,
     extensions: &[u16],
@@ -175,6 +175,11 @@ fn leaves_under_requirements(rt: HostRuntime) -> Result<(), Fail> {
     let listing =
         "01a001b00001014002000102000102000900020001010000000000000000ffffffffffffffff0300090001c0";
     let unmet = Err(MemberFault::RequirementUnmet(0));
+    let ones = [1; 70];
+    let mut nine_last = [1; 71];
+    nine_last[70] = 9;
+    let mut eight_last = [1; 71];
+    eight_last[70] = 8;
     let table = [
         ([].as_slice(), [].as_slice(), [2].as_slice(), unmet),
         (&[], &[], &[1], Ok(())),
@@ -184,6 +189,15 @@ fn leaves_under_requirements(rt: HostRuntime) -> Result<(), Fail> {
         (&[0], &[], &[], unmet),
         (&[], &[8], &[], unmet),
         (&[], &[0], &[], unmet),
+        (&ones, &ones, &ones, Ok(())),
+        (
+            &nine_last,
+            &ones,
+            &[],
+            Err(MemberFault::RequirementUnmet(1)),
+        ),
+        (&eight_last, &ones, &[], unmet),
+        (&ones, &eight_last, &[], unmet),
     ];
     for (extensions, proposals, credentials, want) in table {
         let requirements = required(&rt, extensions, proposals, credentials)?;
@@ -209,5 +223,20 @@ fn leaves_and_their_signatures(rt: HostRuntime) -> Result<(), Fail> {
         let answer = judge(&rt, leaves, &requirements, checker)?;
         assert_eq!(rt; answer, want);
     }
+    Ok(())
+}
+
+#[test]
+fn faults_are_told(rt: HostRuntime) -> Result<(), Fail> {
+    let alloc = rt.alloc();
+    let unsorted = format!(in alloc; "{}", TreeFault::UnmergedUnsorted(3))?;
+    assert_eq!(rt;
+        unsorted.as_str(),
+        "the unmerged leaves of the parent at place 3 do not rise"
+    );
+    let unsigned = format!(in alloc; "{}", MemberFault::LeafSignature(2))?;
+    assert_eq!(rt; unsigned.as_str(), "the signature of leaf 2 is not good");
+    let bad_line = format!(in alloc; "{}", ReceiptsFault::BadLine(1))?;
+    assert_eq!(rt; bad_line.as_str(), "line 1 is not 64 hexadecimal digits");
     Ok(())
 }

@@ -1,6 +1,6 @@
 use super::*;
 use mls_hash::{HashValue, Suite, hash, tree_hash};
-use mls_nodes::{Extensions, GroupContext, LeafNode, ParentNode, Unmerged, decode_leaf};
+use mls_nodes::{Extensions, GroupContext, LeafNode, Node, ParentNode, Unmerged, decode_leaf};
 use mls_tree::{PublicTree, root};
 use mls_wire::Opaque;
 use std::test::*;
@@ -57,6 +57,14 @@ fn parent_node(
         unmerged: Unmerged::new(Vec::from_slice(rt.alloc(), unmerged)?)?,
     };
     Ok(Some(Box::new(rt.alloc(), parent)?))
+}
+
+/// The parent hash that the parent at a place carries; empty where it is blank.
+fn parent_hash_at(tree: &PublicTree, place: u32) -> &[u8] {
+    match tree.node(place) {
+        Some(Node::Parent(parent)) => parent.parent_hash.as_slice(),
+        _ => &[],
+    }
 }
 
 /// The parent hash of a parent with a key of one byte over a half with this hash.
@@ -159,7 +167,8 @@ fn a_changed_parent(rt: HostRuntime) -> Result<(), Fail> {
     ];
     for (place, key, unmerged, fault) in table {
         let mut tree = grown(&rt)?;
-        tree.put_parent(place, parent_node(&rt, key, &[], unmerged)?)?;
+        let parent = parent_node(&rt, key, parent_hash_at(&tree, place), unmerged)?;
+        tree.put_parent(place, parent)?;
         assert_eq!(rt; judged(&rt, &tree)?, Err(fault), "with {key:x}");
     }
     Ok(())

@@ -15,22 +15,29 @@ use mls_hash::{SubtreeHashes, Suite};
 use mls_nodes::GroupContext;
 use mls_tree::PublicTree;
 use std::alloc::{AllocError, Global};
+use thiserror::Error;
 
 /// Why a tree isn't valid: the first check that fails, with the smallest place at which it does.
-#[derive(Clone, Copy, Debug, PartialEq, Eq)]
+#[derive(Clone, Copy, Debug, PartialEq, Eq, Error)]
 pub enum TreeFault {
     /// The tree hash isn't that of the context (RFC 9420, 7.8).
+    #[error("the tree hash is not the context's")]
     HashDiffers,
     /// The unmerged list of the parent at the place isn't strictly increasing.
+    #[error("the unmerged leaves of the parent at place {0} do not rise")]
     UnmergedUnsorted(u32),
     /// An entry of the unmerged list of the parent at the place is no set leaf under it, or isn't in the list of a set parent between the
     /// two (RFC 9420, 7.1 and 12.4.3.1).
+    #[error("an unmerged leaf of the parent at place {0} is no set leaf under it, or a parent between does not list it")]
     UnmergedUnsound(u32),
     /// Another set node has the encryption key of the node at the place.
+    #[error("another node has the encryption key of the node at place {0}")]
     KeyRepeated(u32),
     /// No chain of parent hashes leads from a leaf to the parent at the place (RFC 9420, 7.9.2).
+    #[error("no chain of parent hashes leads to the parent at place {0}")]
     ParentHashInvalid(u32),
     /// An allocation was refused.
+    #[error("out of memory")]
     OutOfMemory,
 }
 

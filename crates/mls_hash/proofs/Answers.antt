@@ -1,22 +1,20 @@
 -- What the calls that hash a subtree answer.
-use Rattle.std.proofs.Common.{◌≡◌, ℕ, ◌+◌, ◌<◌, List, [], Option, Some, None, IsSome, Result, Ok, Err, refl, sym, ap, subst, ◌∙◌, arith}
+use Rattle.std.proofs.Common.{◌≡◌, ℕ, ◌+◌, List, [], Option, Some, None, IsSome, Result, Ok, Err, refl, sym, ap, subst, ◌∙◌}
 use Rattle.std.specs.Prelude.{option_map, option_and_then, IfOk}
 use Rattle.std.specs.List.Sorted.{IsPermutation}
 use Rattle.mls_nodes.specs.declared.leaf.LeafNode.{LeafNode}
 use Rattle.mls_nodes.specs.declared.parent.ParentNode.{ParentNode}
 use Rattle.mls_tree.specs.Tree.{Tree, leaf, leaf_count, Subtree, subtree_at}
-use Rattle.mls_tree.specs.RatchetTree.{RatchetTree}
 use Rattle.mls_tree.specs.TreeHash.{leaf_hash_input, parent_hash_input, hash_of_parent, tree_hash}
-use Rattle.mls_tree.proofs.Trees.{subtree_at-perfect}
 use Rattle.mls_hash.specs.declared.fault.HashFault.{HashFault}
 use Rattle.mls_hash.specs.declared.fault.HashFault.TheVariants as faults
 use Rattle.mls_hash.specs.Inputs.{HashesText, HashesSubtree}
-use Rattle.mls_hash.specs.Parts.{HasChildren, HasChildOn, child_on}
+use Rattle.mls_tree.specs.Parts.{HasChildren}
+use Rattle.mls_hash.specs.Parts.{HasChildOn, child_on}
 use Rattle.mls_hash.specs.Strip.{strip, stripped_leaf, stripped_parent, original_tree_hash, original_tree_hash_at, tree_hash_at}
 use Rattle.mls_hash.specs.declared.side.Side.{Side}
 use Rattle.mls_hash.specs.declared.side.Side.TheVariants as sides
 use Rattle.mls_hash.specs.ParentHash as parents
-use Rattle.mls_hash.proofs.Places.{depth}
 use Rattle.mls_hash.proofs.Strips.{leaf_count-strip, strip-none, strip-sorted}
 
 there : (o : Option Subtree) (s : Subtree) → o ≡ Some s → IsSome o
@@ -33,10 +31,7 @@ leaf_answer H L t p number x y (Err faults.NoSuchNode) e f a = absurd a
 leaf_answer H L t p number x y (Err faults.TooLong) e f a = a
 leaf_answer H L t p number x y (Err faults.OutOfMemory) e f a = there (subtree_at 0 t p) _ e
 
-module _ (t : Tree) (p q u : ℕ) (n : Option ParentNode) (c : HasChildren t p q u n) where
-  pub left_there : IsSome (subtree_at 0 t q)
-  left_there = there (subtree_at 0 t q) _ c.left_child
-
+module _ (t : Tree) (p q u m : ℕ) (n : Option ParentNode) (c : HasChildren t p q u m n) where
   -- the original hash of a parent, from those of its children
   whole_hash : (H : List ℕ → List ℕ) (L : List ℕ)
       → original_tree_hash_at H L t p ≡ hash_of_parent H (option_map (stripped_parent L) n) (original_tree_hash_at H L t q) (original_tree_hash_at H L t u)
@@ -71,16 +66,6 @@ module _ (t : Tree) (p q u : ℕ) (n : Option ParentNode) (c : HasChildren t p q
   right_fault hash whole faults.NoSuchNode a = let bad : ◌≡◌ {A = Option Subtree} None (Some (record { first = c.first + leaf_count c.left; tree = c.right })) = sym a ∙ c.right_child in absurd cc
   right_fault hash whole faults.TooLong a = a
   right_fault hash whole faults.OutOfMemory a = there (subtree_at 0 t p) _ c.whole
-
--- the children are nearer to the leaves
-module _ (t : RatchetTree) (p q u : ℕ) (n : Option ParentNode) (c : HasChildren t.tree p q u n) where
-  pub left_lower : depth (subtree_at 0 t.tree q) < depth (subtree_at 0 t.tree p)
-  left_lower = omega (arith, ap depth c.left_child, ap depth c.whole)
-
-  pub right_lower : depth (subtree_at 0 t.tree u) < depth (subtree_at 0 t.tree p)
-  right_lower =
-      let e = (subtree_at-perfect 0 t.tree p _ c.whole t.shape.perfect).0.0 in
-      omega (arith, ap depth c.right_child, ap depth c.whole)
 
 -- ---- the answers of the public calls
 

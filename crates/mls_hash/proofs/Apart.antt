@@ -1,5 +1,5 @@
 -- A subtree that has none of the leaves of a list, and whose unmerged lists have its own leaves alone: without those leaves it is the same.
-use Rattle.std.proofs.Common.{◌≡◌, ℕ, suc, ◌+◌, ◌*◌, ◌<◌, ◌≤◌, false, cond, List, [], ◌∷◌, Option, Some, None, refl, sym, ap, ◌∙◌, arith}
+use Rattle.std.proofs.Common.{◌≡◌, ℕ, suc, ◌+◌, ◌<◌, ◌≤◌, false, cond, List, [], ◌∷◌, Option, Some, None, refl, sym, ap, ◌∙◌, arith}
 use Rattle.std.specs.Prelude.{option_map, option_and_then, not, All, slice_get}
 use Rattle.mls_nodes.specs.declared.parent.ParentNode.{ParentNode}
 use Rattle.mls_tree.specs.Tree.{Tree, leaf, branch, height, leaf_count, Subtree, subtree_at, root_place}
@@ -8,7 +8,7 @@ use Rattle.mls_tree.specs.RatchetTree.{RatchetTree}
 use Rattle.mls_tree.proofs.Trees.{subtree_at-stands, subtree_at-root, subtree_at-nested, subtree_at-perfect, subtree_at-in_left, subtree_at-in_right, root_place-above, root_place-below, leaf_count-perfect, leaf_count-positive}
 use Rattle.mls_tree.proofs.Coordinates.{root_place-perfect, leaf_count-low}
 use Rattle.mls_tree.proofs.Numbers.{leaves_at-low}
-use Rattle.mls_hash.specs.Parts.{HasChildren}
+use Rattle.mls_tree.specs.Parts.{HasChildren}
 use Rattle.mls_hash.specs.ParentHash.{root_parent}
 use Rattle.mls_hash.specs.Strip.{is_among, without, stripped_parent, strip, original_tree_hash, original_tree_hash_at}
 use Rattle.mls_hash.specs.SubtreeHashes.{AreSubtreeHashes, HoldsOwnLeaves, IsLeafOf, IsApartFrom}
@@ -59,17 +59,17 @@ kept_hash H L t hashes p s first end h all own e a b apart g =
     ∙ sym (ap (option_and_then (λ (u : Subtree). tree_hash H u.first u.tree)) e) ∙ sym (all p) ∙ g
 
 -- where a parent and its children stand among the leaves
-pub record HasRange (p q u first count left : ℕ) : Type 0 where
-  pub middle : p + 1 ≡ 2 * (first + left)
+pub record HasRange (p q u m first count left : ℕ) : Type 0 where
+  pub middle : m ≡ first + left
   pub to_left : p ≡ q + left
   pub to_right : u + left ≡ p + count
   pub set_left : 0 < left
   pub set_right : left < count
   pub low : first + count ≤ 1048576
 
-pub range : (t : RatchetTree) (p q u : ℕ) (n : Option ParentNode) (c : HasChildren t.tree p q u n)
-    → HasRange p q u c.first (leaf_count c.left + leaf_count c.right) (leaf_count c.left)
-range t p q u n c =
+pub range : (t : RatchetTree) (p q u m : ℕ) (n : Option ParentNode) (c : HasChildren t.tree p q u m n)
+    → HasRange p q u m c.first (leaf_count c.left + leaf_count c.right) (leaf_count c.left)
+range t p q u m n c =
     let whole = subtree_at-stands 0 t.tree p _ c.whole in
     let left = subtree_at-stands 0 t.tree q _ c.left_child in
     let right = subtree_at-stands 0 t.tree u _ c.right_child in
@@ -82,7 +82,7 @@ range t p q u n c =
     let e = leaf_count-perfect c.right perfect.2 in
     let total = leaf_count-low t in
     record {
-      middle = omega (arith, whole.place);
+      middle = c.split;
       to_left = omega (arith, whole.place, left.place);
       to_right = omega (arith, whole.place, right.place);
       set_left = l;

@@ -17,13 +17,10 @@ use Rattle.mls_tree.proofs.Coordinates.{root-seen}
 use Rattle.mls_tree.proofs.Trees.{length-listing, subtree_at-stands, subtree_at-root, subtree_at-some, subtree_at-none, subtree_at-in_left, subtree_at-in_right, root_place-above, root_place-below}
 use Rattle.mls_hash.specs.declared.fault.HashFault.{HashFault}
 use Rattle.mls_hash.specs.Inputs.{HashesText, HashesSubtree}
-use Rattle.mls_hash.specs.Parts.{HasChildren}
+use Rattle.mls_tree.specs.Parts.{HasChildren}
 use Rattle.mls_hash.specs.Strip.{stripped_parent, tree_hash_at}
 use Rattle.mls_hash.specs.SubtreeHashes.{IsSubtreeHashAt, AreSubtreeHashes, AreHashesKept, AreHashesUnder}
 use Rattle.mls_hash.proofs.Answers.{leaf_answer, parent_answer, whole_tree}
-
-pub inside_bound : (t : Tree) (p : ℕ) (s : Subtree) → subtree_at 0 t p ≡ Some s → p + 1 < 2 * leaf_count t
-inside_bound t p s e = let st = subtree_at-stands 0 t p s e in omega (arith, st.place, st.to_right, root_place-below s.first s.tree)
 
 module _ (H : List ℕ → List ℕ) (t : Tree) where
   -- what a leaf's hash answers
@@ -32,13 +29,13 @@ module _ (H : List ℕ → List ℕ) (t : Tree) where
   leaf_hashed p number x r e a = subst (λ (o : Option (List ℕ)). HashesSubtree (subtree_at 0 t p) o r) (whole_tree H t p) (leaf_answer H [] t p number x x r e refl a)
 
   -- what a parent's hash answers, after its children
-  pub parent_hashed : (p q u : ℕ) (n : Option ParentNode) (c : HasChildren t p q u n) (L left right : List ℕ) (r : Result (List ℕ) HashFault) → L ≡ []
+  pub parent_hashed : (p q u m : ℕ) (n : Option ParentNode) (c : HasChildren t p q u m n) (L left right : List ℕ) (r : Result (List ℕ) HashFault) → L ≡ []
       → tree_hash_at H t q ≡ Some left → tree_hash_at H t u ≡ Some right
       → HashesText (option_map H (parent_hash_input (option_map (stripped_parent L) n) left right)) r
       → HashesSubtree (subtree_at 0 t p) (tree_hash_at H t p) r
-  parent_hashed p q u n c L left right r none a b h =
+  parent_hashed p q u m n c L left right r none a b h =
       subst (λ (o : Option (List ℕ)). HashesSubtree (subtree_at 0 t p) o r) (whole_tree H t p)
-      (parent_answer t p q u n c H [] left right r (whole_tree H t q ∙ a) (whole_tree H t u ∙ b)
+      (parent_answer t p q u m n c H [] left right r (whole_tree H t q ∙ a) (whole_tree H t u ∙ b)
       (subst (λ (M : List ℕ). HashesText (option_map H (parent_hash_input (option_map (stripped_parent M) n) left right)) r) none h))
 
   -- ---- one hash is put
@@ -68,8 +65,8 @@ module _ (H : List ℕ → List ℕ) (t : Tree) where
         subst (λ (k : ℕ). IsSubtreeHashAt H t new k) (sym at) put_here
 
     -- a parent has those of its halves besides
-    pub parent_put : (q u : ℕ) (n : Option ParentNode) → HasChildren t p q u n → AreHashesUnder H t old q → AreHashesUnder H t old u → AreHashesUnder H t new p
-    parent_put q u n c left after s f k v sub =
+    pub parent_put : (q u m : ℕ) (n : Option ParentNode) → HasChildren t p q u m n → AreHashesUnder H t old q → AreHashesUnder H t old u → AreHashesUnder H t new p
+    parent_put q u m n c left after s f k v sub =
         let place = (subtree_at-stands 0 t p _ c.whole).place in
         let inside : subtree_at c.first (branch c.left n c.right) k ≡ Some v = subst (λ (w : Subtree). subtree_at w.first w.tree k ≡ Some v) (same_Some _ _ (sym f ∙ c.whole)) sub in
         elim (cases_order (k + 1) (2 * (c.first + leaf_count c.left))) [

@@ -1,6 +1,5 @@
 pub mod Feeding
 pub mod Sets
-pub mod Places
 pub mod Inputs
 pub mod Strips
 pub mod Answers

@@ -8,12 +8,11 @@ ghost use Rattle.mls_hash.specs.Parts.{HasChildOn};
 use crate::fault::HashFault;
 use crate::input::hash_parent_fields;
 use crate::leaf_set::LeafSet;
-use crate::part::{Part, part_at};
 use crate::side::Side;
 use crate::subtree::hash_subtree;
 use crate::suite::Suite;
 use mls_nodes::ParentNode;
-use mls_tree::{HashValue, PublicTree};
+use mls_tree::{HashValue, Part, PublicTree};
 use mls_wire::Writer;
 use std::alloc::Global;
 
@@ -27,11 +26,12 @@ pub(crate) fn parent_and_child(
 {
     let Some(
         Part::Parent {
+            node: Some(parent),
             left,
             right,
-            node: Some(parent),
+            ..
         },
-    ) = part_at(tree, place)
+    ) = tree.part(place)
     else {
         return None;
     };

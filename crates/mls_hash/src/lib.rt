@@ -11,7 +11,6 @@ mod digest;
 mod fault;
 mod input;
 mod leaf_set;
-mod part;
 mod side;
 mod subtree;
 mod subtree_hashes;

@@ -9,10 +9,9 @@ ghost use Rattle.mls_hash.specs.Strip.{original_tree_hash_at, stripped_leaf, tre
 use crate::fault::HashFault;
 use crate::input::{hash_leaf, hash_parent};
 use crate::leaf_set::LeafSet;
-use crate::part::{Part, part_at};
 use crate::suite::Suite;
 use mls_nodes::LeafNode;
-use mls_tree::{HashValue, PublicTree};
+use mls_tree::{HashValue, Part, PublicTree};
 use mls_wire::Writer;
 use std::alloc::Global;
 
@@ -43,13 +42,20 @@ pub(crate) fn hash_subtree(
 ) -> Result<HashValue, HashFault>
     ensures { HashesSubtree (subtree_at 0 tree.now.tree place) (original_tree_hash_at (hash_of suite) left_out.now tree.now.tree place) result }
 {
-    match part_at(tree, place) {
+    match tree.part(place) {
         None => Err(HashFault::NoSuchNode),
         Some(Part::Leaf { number, node }) => {
             let node = kept_leaf(number, node, left_out);
             hash_leaf(alloc, suite, number, node, writer)
         }
-        Some(Part::Parent { left, right, node }) => {
+        Some(
+            Part::Parent {
+                node,
+                left,
+                right,
+                ..
+            },
+        ) => {
             let left = hash_subtree(alloc, suite, tree, left_out, left, writer)?;
             let right = hash_subtree(alloc, suite, tree, left_out, right, writer)?;
             hash_parent(suite, node, left_out, &left, &right, writer)
@@ -86,7 +92,7 @@ pub fn original_tree_hash(
     ensures no_such_node { (result ≡ Err HashFault.NoSuchNode) ↔ (subtree_at 0 tree.now.tree place ≡ None) }
     ensures else_memory { IfErr result (λ e. (e ≡ HashFault.NoSuchNode) ⊎ (e ≡ HashFault.OutOfMemory)) }
 {
-    if part_at(tree, place).is_none() {
+    if tree.part(place).is_none() {
         return Err(HashFault::NoSuchNode);
     }
     let left_out = LeafSet::new(alloc, leaves)?;

@@ -12,11 +12,10 @@ use crate::copath::parent_and_child;
 use crate::fault::HashFault;
 use crate::input::{hash_leaf, hash_parent, hash_parent_fields};
 use crate::leaf_set::LeafSet;
-use crate::part::{Part, part_at};
 use crate::side::Side;
 use crate::subtree::kept_leaf;
 use crate::suite::Suite;
-use mls_tree::{HashValue, PublicTree};
+use mls_tree::{HashValue, Part, PublicTree};
 use mls_wire::Writer;
 use std::alloc::{AllocError, Global};
 use std::marker::Model;
@@ -60,14 +59,21 @@ fn put_hashes(
     ensures kept { OnOk result (AreHashesKept (hash_of suite) tree.now.tree hashes.old hashes.new) }
     ensures put { OnOk result (AreHashesUnder (hash_of suite) tree.now.tree hashes.new place) }
 {
-    match part_at(tree, place) {
+    match tree.part(place) {
         None => Err(HashFault::NoSuchNode),
         Some(Part::Leaf { number, node }) => {
             let hash = hash_leaf(alloc, suite, number, node, writer)?;
             put(hashes, place, hash);
             Ok(hash)
         }
-        Some(Part::Parent { left, right, node }) => {
+        Some(
+            Part::Parent {
+                node,
+                left,
+                right,
+                ..
+            },
+        ) => {
             let left = put_hashes(alloc, suite, tree, left, hashes, writer)?;
             let right = put_hashes(alloc, suite, tree, right, hashes, writer)?;
             let hash = hash_parent(suite, node, &LeafSet::empty(alloc), &left, &right, writer)?;
@@ -126,7 +132,7 @@ impl SubtreeHashes {
         requires own_leaves { HoldsOwnLeaves tree.now.tree }
         ensures { HashesSubtree (subtree_at 0 tree.now.tree place) (original_tree_hash_at (hash_of suite) left_out.now tree.now.tree place) result }
     {
-        match part_at(tree, place) {
+        match tree.part(place) {
             None => Err(HashFault::NoSuchNode),
             Some(Part::Leaf { number, node }) => {
                 if let Some(hash) = self.unchanged(left_out, number, number + 1, place) {
@@ -135,9 +141,15 @@ impl SubtreeHashes {
                 let node = kept_leaf(number, node, left_out);
                 hash_leaf(alloc, suite, number, node, writer)
             }
-            Some(Part::Parent { left, right, node }) => {
-                // a parent stands just before the first leaf of its right half, and as far from each child as that has leaves
-                let middle = place / 2 + 1;
+            Some(
+                Part::Parent {
+                    node,
+                    left,
+                    right,
+                    middle,
+                },
+            ) => {
+                // a parent stands as far from each child as that has leaves
                 let first = middle - (place - left);
                 let end = middle + (right - place);
                 if let Some(hash) = self.unchanged(left_out, first, end, place) {

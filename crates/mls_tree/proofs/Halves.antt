@@ -1,4 +1,4 @@
--- What a crate above the tree knows of a place: it is that of a leaf, or of a parent with two halves whose places are known.
+-- A place is that of a leaf, or of a parent with two halves whose places are known.
 use Rattle.std.proofs.Common.{◌≡◌, ℕ, ◌+◌, ◌/◌, Option, Some, None, IsSome, refl, sym, ap, ◌∙◌, arith}
 use Rattle.std.specs.Prelude.{option_and_then}
 use Rattle.std.proofs.lemmas.Option.{none-some, same_Some, option_and_then_some}
@@ -69,13 +69,3 @@ leaf_of t p (Some s) e h a = leaf_from t p s.first s.tree e (sym (ap (λ o. opti
 
 pub leaf_here : (t : Tree) (p : ℕ) → IsSome (subtree_at 0 t p) → left_at t p ≡ None → LeafHere t p
 leaf_here t p h a = leaf_of t p (subtree_at 0 t p) refl h a
-
--- a place with a left half has a right one
-pub right_missing : (t : Tree) (p q : ℕ) → left_at t p ≡ Some q → right_at t p ≡ None → ⊥
-right_missing t p q a b =
-    option_and_then_some (λ (s : Subtree). left_place s.first s.tree) (subtree_at 0 t p) q a
-    (λ s e l. go s.first s.tree l (sym (ap (λ o. option_and_then (λ (s : Subtree). right_place s.first s.tree) o) e) ∙ b))
-  where
-    go : (first : ℕ) (v : Tree) → left_place first v ≡ Some q → right_place first v ≡ None → ⊥
-    go first (leaf _) c d = none-some q c
-    go first (branch l n r) c d = none-some (root_place (first + leaf_count l) r) (sym d)

@@ -9,6 +9,7 @@ pub mod SameListings
 pub mod Coordinates
 pub mod Walking
 pub mod Halves
+pub mod Parts
 pub mod Descent
 pub mod Kept
 pub mod Changing

@@ -1,6 +1,6 @@
 -- Zeros behind the bytes of a hash value.
-use Rattle.std.proofs.Common.{◌≡◌, ℕ, ◌≤◌, ◌-◌, List, ◌++◌, length, take, drop, replicate, refl, sym, ap, ◌∙◌, arith}
-use Rattle.std.proofs.lemmas.List.{take_at, length-append, drop-replicate}
+use Rattle.std.proofs.Common.{◌≡◌, ℕ, ◌≤◌, ◌-◌, List, ◌++◌, length, take, drop, replicate, sym, ap, ◌∙◌, arith}
+use Rattle.std.proofs.lemmas.List.{take_at, drop-replicate}
 use Rattle.mls_tree.specs.HashValue.{IsPadded, padded}
 
 pub padded-new : (bytes : List ℕ) (n : ℕ) → n ≡ length bytes → n ≤ 64 → (z : ℕ) → z ≡ 64 → IsPadded (bytes ++ drop n (replicate z 0)) n

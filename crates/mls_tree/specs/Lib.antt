@@ -1,6 +1,7 @@
 pub mod Tree
 pub mod RatchetTree
 pub mod Places
+pub mod Parts
 pub mod Paths
 pub mod Blanks
 pub mod Changes

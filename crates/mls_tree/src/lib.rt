@@ -10,6 +10,7 @@ mod entries;
 mod error;
 mod hash_value;
 pub mod laws;
+mod part;
 mod paths;
 mod places;
 mod public_tree;
@@ -19,6 +20,7 @@ mod unmerged;
 
 pub use error::TreeError;
 pub use hash_value::HashValue;
+pub use part::Part;
 pub use places::{left, level, parent, right, root, sibling};
 pub use public_tree::PublicTree;
 

@@ -71,6 +71,45 @@ fn arithmetic(rt: HostRuntime) {
 }
 
 #[test]
+fn parts(rt: HostRuntime) -> Result<(), Fail> {
+    let mut tree = tree_of(&rt, 4, &[1])?;
+    tree.put_parent(5, parent_node(&rt, &[3])?)?;
+    for number in 0..4 {
+        let Some(
+            Part::Leaf {
+                number: found,
+                node,
+            },
+        ) = tree.part(2 * number)
+        else {
+            return Err(Fail::from("no leaf"));
+        };
+        assert_eq!(rt; found, number);
+        assert_eq!(rt; node.is_some(), number == 1);
+        assert!(rt; tree.parent(2 * number).is_none());
+    }
+    for (place, children) in [(1, (0, 2, 1)), (3, (1, 5, 2)), (5, (4, 6, 3))] {
+        let Some(
+            Part::Parent {
+                node,
+                left,
+                right,
+                middle,
+            },
+        ) = tree.part(place)
+        else {
+            return Err(Fail::from("no parent"));
+        };
+        assert_eq!(rt; (left, right, middle), children);
+        assert_eq!(rt; node.is_some(), place == 5);
+        assert_eq!(rt; tree.parent(place).is_some(), place == 5);
+    }
+    assert!(rt; tree.part(7).is_none());
+    assert!(rt; tree.parent(7).is_none());
+    Ok(())
+}
+
+#[test]
 fn paths(rt: HostRuntime) -> Result<(), Fail> {
     let four = tree_of(&rt, 4, &[])?;
     assert_eq!(rt;

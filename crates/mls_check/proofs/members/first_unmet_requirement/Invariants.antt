@@ -1,6 +1,7 @@
 use Rattle.mls_check.specs.Members.{supports_required}
+use Rattle.mls_check.specs.Requirements.{requirements_of}
 use Rattle.mls_check.proofs.Leaves.{HoldsBelow}
 use Rattle.mls_check.proofs.members.first_unmet_requirement.Given as goal
 
 abbrev pub invariant-loop-index : goal.invariant-loop-index
-invariant-loop-index l = HoldsBelow (λ _ x. supports_required l.requirements x) l.tree.tree l.index
+invariant-loop-index l = HoldsBelow (λ _ x. supports_required (requirements_of l.rising) x) l.tree.tree l.index

@@ -1,5 +1,5 @@
 use Rattle.mls_tree.specs.Tree.{subtree_at}
-use Rattle.mls_check.proofs.Descent.{depth}
+use Rattle.mls_tree.proofs.Descent.{depth}
 use Rattle.mls_check.proofs.placed.+is_entered.Given as goal
 
 abbrev pub decreases-is_entered : goal.decreases-is_entered

@@ -1,6 +1,6 @@
 use Rattle.std.proofs.Common.{◌≡◌, true, take}
 use Rattle.std.specs.List.{list_all}
-use Rattle.mls_check.specs.Position.{is_entered_in}
+use Rattle.mls_check.specs.Entered.{is_entered_in}
 use Rattle.mls_check.proofs.placed.are_entered.Given as goal
 
 abbrev pub invariant-loop-index : goal.invariant-loop-index

@@ -1,5 +1,5 @@
 use Rattle.mls_tree.specs.Tree.{subtree_at}
-use Rattle.mls_check.proofs.Descent.{depth}
+use Rattle.mls_tree.proofs.Descent.{depth}
 use Rattle.mls_check.proofs.reached.+mark_reached.Given as goal
 
 abbrev pub decreases-mark_reached : goal.decreases-mark_reached

@@ -3,11 +3,8 @@ use Rattle.mls_hash.specs.Hashing.{hash_of}
 use Rattle.mls_tree.specs.RatchetTree.{RatchetTree}
 use Rattle.mls_tree.proofs.Coordinates.{root-seen}
 use Rattle.mls_check.specs.Marks.{AreSound, AreAllMarkedAt}
-use Rattle.mls_check.proofs.Marking.{root_inside, reached-marked, written_back}
+use Rattle.mls_check.proofs.Marking.{reached-marked, written_back}
 use Rattle.mls_check.proofs.reached.first_unreached.Goals as goal
-
-pub mark_reached-requires-clause-inside : goal.mark_reached-requires-clause-inside
-mark_reached-requires-clause-inside c = let tree : RatchetTree = c.args.tree.now in root_inside tree c.leaf_count-root.result c.leaf_count-root.ensures
 
 pub returns : goal.returns
 returns c =

@@ -2,7 +2,7 @@ use Rattle.std.proofs.Common.{refl, sym, ◌∙◌, subst}
 use Rattle.std.specs.Option.{option_copied}
 use Rattle.std.proofs.lemmas.Bool.{false≢true}
 use Rattle.mls_hash.specs.Hashing.{hash_of}
-use Rattle.mls_check.specs.Position.{HasHalves}
+use Rattle.mls_tree.specs.Parts.{HasChildren}
 use Rattle.mls_check.specs.Marks.{IsCandidateIn}
 use Rattle.mls_check.proofs.Marking.{IfOk-same}
 use Rattle.mls_check.proofs.Reaching.{reached-left, reached-right, reached-through, other_way, set_here}
@@ -10,33 +10,33 @@ use Rattle.mls_check.proofs.reached.is_reached.Goals as goal
 
 pub returns-then-branch : goal.returns-then-branch
 returns-then-branch c =
-    let w = c.in-Parent-Some-default-default-default in
+    let w = c.in-Some-Parent-Some-default-default-default in
     let t = c.args.tree.now.tree in
-    let h = subst (λ o. HasHalves t c.args.place (option_copied o) w.left w.right w.middle) w.node-is w.ensures in
+    let h = subst (λ o. HasChildren t c.args.place w.left w.right w.field-0-3 (option_copied o)) w.field-0-0-is (rw w.field-0-is at w.ensures) in
     let k = subst (λ xs. IsCandidateIn t xs w.left c.args.reached.now c.in_ok-from_left.from_left) c.as_slice-list.ensures.items c.in_ok-from_left.ensures in (
-      λ _. reached-left (hash_of c.args.suite) t c.args.place w.left w.right w.middle w.parent.now h c.requires.placed c.args.reached.now c.requires.sound c.in_ok-from_left.from_left k (c.in_ok-is_linked.ensures.0 c.if-branch.true),
+      λ _. reached-left (hash_of c.args.suite) t c.args.place w.left w.right w.field-0-3 w.parent.now h c.requires.placed c.args.reached.now c.requires.sound c.in_ok-from_left.from_left k (c.in_ok-is_linked.ensures.0 c.if-branch.true),
       λ _. refl,
     )
 
 pub returns : goal.returns
 returns c =
-    let w = c.in-Parent-Some-default-default-default in
+    let w = c.in-Some-Parent-Some-default-default-default in
     let t = c.args.tree.now.tree in
-    let h = subst (λ o. HasHalves t c.args.place (option_copied o) w.left w.right w.middle) w.node-is w.ensures in
+    let h = subst (λ o. HasChildren t c.args.place w.left w.right w.field-0-3 (option_copied o)) w.field-0-0-is (rw w.field-0-is at w.ensures) in
     let k = subst (λ xs. IsCandidateIn t xs w.left c.args.reached.now c.in_ok-from_left.from_left) c.as_slice-list.ensures.items c.in_ok-from_left.ensures in
     let j = subst (λ xs. IsCandidateIn t xs w.right c.args.reached.now c.in_ok-from_right.from_right) c.as_slice-list.ensures.items c.in_ok-from_right.ensures in
     IfOk-same c.is_linked-2.result
-    (reached-right (hash_of c.args.suite) t c.args.place w.left w.right w.middle w.parent.now h c.requires.placed c.args.reached.now c.requires.sound c.in_ok-from_right.from_right j)
+    (reached-right (hash_of c.args.suite) t c.args.place w.left w.right w.field-0-3 w.parent.now h c.requires.placed c.args.reached.now c.requires.sound c.in_ok-from_right.from_right j)
     (λ r. other_way (λ n. false≢true (sym c.if-branch.false ∙ c.in_ok-is_linked.ensures.1 n))
-    (reached-through (hash_of c.args.suite) t c.args.place w.left w.right w.middle w.parent.now h c.requires.placed c.args.reached.now c.requires.marked c.in_ok-from_left.from_left k c.in_ok-from_right.from_right j r))
+    (reached-through (hash_of c.args.suite) t c.args.place w.left w.right w.field-0-3 w.parent.now h c.requires.placed c.args.reached.now c.requires.marked c.in_ok-from_left.from_left k c.in_ok-from_right.from_right j r))
     c.is_linked-2.ensures
 
 pub is_linked-requires-clause-set : goal.is_linked-requires-clause-set
 is_linked-requires-clause-set c =
-    let w = c.in-Parent-Some-default-default-default in
-    set_here c.args.tree.now.tree c.args.place w.left w.right w.middle w.parent.now (subst (λ o. HasHalves c.args.tree.now.tree c.args.place (option_copied o) w.left w.right w.middle) w.node-is w.ensures)
+    let w = c.in-Some-Parent-Some-default-default-default in
+    set_here c.args.tree.now.tree c.args.place w.left w.right w.field-0-3 w.parent.now (subst (λ o. HasChildren c.args.tree.now.tree c.args.place w.left w.right w.field-0-3 (option_copied o)) w.field-0-0-is (rw w.field-0-is at w.ensures))
 
 pub is_linked-requires-2-clause-set : goal.is_linked-requires-2-clause-set
 is_linked-requires-2-clause-set c =
-    let w = c.in-Parent-Some-default-default-default in
-    set_here c.args.tree.now.tree c.args.place w.left w.right w.middle w.parent.now (subst (λ o. HasHalves c.args.tree.now.tree c.args.place (option_copied o) w.left w.right w.middle) w.node-is w.ensures)
+    let w = c.in-Some-Parent-Some-default-default-default in
+    set_here c.args.tree.now.tree c.args.place w.left w.right w.field-0-3 w.parent.now (subst (λ o. HasChildren c.args.tree.now.tree c.args.place w.left w.right w.field-0-3 (option_copied o)) w.field-0-0-is (rw w.field-0-is at w.ensures))

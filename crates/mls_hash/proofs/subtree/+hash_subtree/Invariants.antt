@@ -1,5 +1,5 @@
 use Rattle.mls_tree.specs.Tree.{subtree_at}
-use Rattle.mls_hash.proofs.Places.{depth}
+use Rattle.mls_tree.proofs.Descent.{depth}
 use Rattle.mls_hash.proofs.subtree.+hash_subtree.Given as goal
 
 abbrev pub decreases-hash_subtree : goal.decreases-hash_subtree

@@ -1,5 +1,5 @@
 use Rattle.mls_tree.specs.Tree.{subtree_at}
-use Rattle.mls_hash.proofs.Places.{depth}
+use Rattle.mls_tree.proofs.Descent.{depth}
 use Rattle.mls_hash.proofs.subtree_hashes.+put_hashes.Given as goal
 
 abbrev pub decreases-put_hashes : goal.decreases-put_hashes

@@ -1,0 +1,28 @@
+-- What stands at a place of a tree, and at which places its children stand.
+use Rattle.std.specs.Prelude.{◌≡◌, ℕ, ◌+◌, Option, Some, None, option_copied}
+use Rattle.mls_nodes.specs.declared.parent.ParentNode.{ParentNode}
+use Rattle.mls_nodes.specs.Value.{NodeValue, leaf_node, parent_node}
+use Rattle.mls_tree.specs.Tree.{Tree, leaf, branch, leaf_count, subtree_at}
+use Rattle.mls_tree.specs.declared.part.Part.{Part}
+use Rattle.mls_tree.specs.declared.part.Part.TheVariants.{Leaf, Parent}
+
+-- the parent node, where the node is one
+abbrev pub parent_of : Option NodeValue → Option ParentNode
+parent_of None = None
+parent_of (Some (leaf_node _)) = None
+parent_of (Some (parent_node p)) = Some p
+
+-- a parent stands at place p, and its children at q and u; the first leaf of its right half has the number `middle`
+pub record HasChildren (t : Tree) (p q u middle : ℕ) (node : Option ParentNode) : Type 0 where
+  pub first : ℕ
+  pub left : Tree
+  pub right : Tree
+  pub whole : subtree_at 0 t p ≡ Some (record { first = first; tree = branch left node right })
+  pub left_child : subtree_at 0 t q ≡ Some (record { first = first; tree = left })
+  pub right_child : subtree_at 0 t u ≡ Some (record { first = first + leaf_count left; tree = right })
+  pub split : middle ≡ first + leaf_count left
+
+-- the part stands at the place
+abbrev pub IsPartAt : Tree → ℕ → Part → Type 0
+IsPartAt t place (Leaf number node) = subtree_at 0 t place ≡ Some (record { first = number; tree = leaf (option_copied node) })
+IsPartAt t place (Parent node left right middle) = HasChildren t place left right middle (option_copied node)

@@ -1,4 +1,4 @@
--- Reading framed contents with their authentication: for proofs alone, no public contract speaks of it.
+-- Reading framed contents with their authentication: for proofs alone. Of contracts only that of `Decode::read` names it.
 use Rattle.std.specs.Prelude.{ℕ, List, Bool, Option, Some, None, if◌then◌else◌}
 use Rattle.std.specs.Int.{w16}
 use Rattle.mls_wire.specs.Input.{Input}

@@ -72,7 +72,7 @@ unfoldable pub framed_content : FramedContent → Option (List ℕ)
 framed_content f =
     vector f.group_id ⊕ number w64 f.epoch ⊕ sender f.sender ⊕ vector f.authenticated ⊕ content f.content
 
--- a GroupInfo (12.4.3.1)
+-- a GroupInfo (12.4.3)
 unfoldable pub group_info : GroupInfo → Option (List ℕ)
 group_info g =
     group_context g.context ⊕ list extension g.extensions ⊕ vector g.confirmation_tag ⊕ number w32 g.signer

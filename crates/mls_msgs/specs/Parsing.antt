@@ -1,4 +1,4 @@
--- Reading messages from left to right: for proofs alone, no public contract speaks of it.
+-- Reading messages from left to right: for proofs alone. Of contracts only that of `Decode::read` names it.
 use Rattle.std.specs.Prelude.{Option, Some, None, nat_eq, if◌then◌else◌}
 use Rattle.std.specs.Int.{w8, w16, w32, w64}
 use Rattle.mls_wire.specs.Input.{Input}

@@ -1,6 +1,6 @@
--- What is signed and what is hashed of a message. These are the contents alone: the label that a signature adds stands
--- elsewhere.
-use Rattle.std.specs.Prelude.{ℕ, List, [], Option, Some, None}
+-- What is signed and what is hashed of a message. A signature is over a label and a content, each as a vector, and so is
+-- a reference's hash (RFC 9420, 5.1.2 and 5.2).
+use Rattle.std.specs.Prelude.{ℕ, List, [], Option, Some, None, codes}
 use Rattle.std.specs.Int.{w16, w32}
 use Rattle.mls_wire.specs.Spelling.{◌⊕◌, number, vector, list}
 use Rattle.mls_nodes.specs.Extension.{extension}
@@ -10,6 +10,22 @@ use Rattle.mls_msgs.specs.Layout.{framed_content}
 use Rattle.mls_msgs.specs.declared.key_package.KeyPackage.{KeyPackage}
 use Rattle.mls_msgs.specs.declared.group_info.GroupInfo.{GroupInfo}
 use Rattle.mls_msgs.specs.declared.authenticated.AuthenticatedParts.{AuthenticatedParts}
+
+-- the label under which a framed content is signed (5.1.2 and 6.1)
+abbrev pub content_label : List ℕ
+content_label = codes "MLS 1.0 FramedContentTBS"
+
+-- the label under which a key package is signed (5.1.2 and 10)
+abbrev pub package_label : List ℕ
+package_label = codes "MLS 1.0 KeyPackageTBS"
+
+-- the label under which a group info is signed (5.1.2 and 12.4.3)
+abbrev pub info_label : List ℕ
+info_label = codes "MLS 1.0 GroupInfoTBS"
+
+-- the label of a proposal's reference, which is to the authenticated content that the proposal came in (5.2)
+abbrev pub reference_label : List ℕ
+reference_label = codes "MLS 1.0 Proposal Reference"
 
 -- the group context where one is handed in, and nothing where none is
 unfoldable pub given_context : Option GroupContext → Option (List ℕ)
@@ -27,7 +43,7 @@ package_tbs k =
     number w16 k.version ⊕ number w16 k.cipher_suite ⊕ vector k.init_key ⊕ leaf k.leaf_node
     ⊕ list extension k.extensions
 
--- a GroupInfoTBS: the group info without its signature (12.4.3.1)
+-- a GroupInfoTBS: the group info without its signature (12.4.3)
 unfoldable pub info_tbs : GroupInfo → Option (List ℕ)
 info_tbs g =
     group_context g.context ⊕ list extension g.extensions ⊕ vector g.confirmation_tag ⊕ number w32 g.signer

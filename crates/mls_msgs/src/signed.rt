@@ -82,7 +82,7 @@ pub fn package_tbs(alloc: Global, key_package: &KeyPackage) -> Result<Vec<u8>, C
     Ok(draft.finish())
 }
 
-/// What a group info's signature covers (RFC 9420, section 12.4.3.1: GroupInfoTBS): all fields before it. Refused for
+/// What a group info's signature covers (RFC 9420, section 12.4.3: GroupInfoTBS): all fields before it. Refused for
 /// another cause than memory only where they have no spelling.
 #[tactic(auto, using(crate::proofs::PartLemmas::drafted))]
 pub fn info_tbs(alloc: Global, info: &GroupInfo) -> Result<Vec<u8>, CodecFault>

@@ -452,9 +452,22 @@ fn refusal(alloc: Global, bytes: &[u8]) -> Option<CodecFault> {
 }
 
 #[test]
+fn proposals_of_other_types_are_refused(rt: HostRuntime) -> Result<(), Fail> {
+    for kind in [0, 4, 5, 6, 7, 8] {
+        let mut bytes = PROPOSAL;
+        bytes[22] = kind;
+        let wanted = fault(WireFaultKind::BadTag(u16::from(kind)), 21);
+        let answer = refusal(rt.alloc(), &bytes);
+        assert!(rt;
+            matches!(&answer, Some(answered) if *answered == wanted),
+            "{answer:?} for {wanted:?}"
+        );
+    }
+    Ok(())
+}
+
+#[test]
 fn messages_that_are_refused(rt: HostRuntime) -> Result<(), Fail> {
-    let mut type_4 = PROPOSAL;
-    type_4[22] = 4;
     let mut content_4 = PROPOSAL;
     content_4[20] = 4;
     let mut sender_5 = PROPOSAL;
@@ -464,7 +477,6 @@ fn messages_that_are_refused(rt: HostRuntime) -> Result<(), Fail> {
     let trailing = joined(rt.alloc(), &[&PROPOSAL, &[0]])?;
     let table = [
         (&PROPOSAL[..74], fault(WireFaultKind::Truncated, 73)),
-        (&type_4, fault(WireFaultKind::BadTag(4), 21)),
         (&content_4, fault(WireFaultKind::BadTag(4), 20)),
         (&sender_5, fault(WireFaultKind::BadTag(5), 14)),
         (&entry_3, fault(WireFaultKind::BadTag(3), 22)),

@@ -12,6 +12,7 @@ use crate::show::ShowKind;
 use clap::error::ErrorKind;
 use clap::{ArgMatches, Error};
 use std::alloc::{AllocError, Global};
+use thiserror::Error;
 
 /// Who judges signatures.
 #[derive(Debug, Drop)]
@@ -44,13 +45,16 @@ pub enum Order {
 }
 
 /// Why a command line gives no order.
-#[derive(Debug, Drop)]
+#[derive(Debug, Drop, Error)]
 pub enum OrderFault {
     /// It asks for help, which is this text.
+    #[error("{0}")]
     Help(String),
     /// It is none of the forms that the program knows. The text says why.
+    #[error("{0}")]
     Usage(String),
     /// There was not enough memory.
+    #[error("memory")]
     Memory,
 }
 

@@ -4,7 +4,7 @@ ghost use Rattle.std.specs.Prelude.{◌≡◌};
 ghost use Rattle.mls_cli.specs.Status.{status};
 
 use std::alloc::AllocError;
-use std::fmt;
+use thiserror::Error;
 
 /// What a report says of its inputs, once it is written whole.
 #[derive(Clone, Copy, Debug, PartialEq, Eq)]
@@ -16,24 +16,17 @@ pub enum Verdict {
 }
 
 /// Why a report was not written whole.
-#[derive(Clone, Copy, Debug, PartialEq, Eq)]
+#[derive(Clone, Copy, Debug, PartialEq, Eq, Error)]
 pub enum RunFault {
     /// A source failed, or a file can't be opened.
+    #[error("read")]
     Read,
     /// The sink failed.
+    #[error("write")]
     Write,
     /// There was not enough memory.
+    #[error("memory")]
     Memory,
-}
-
-impl fmt::Display for RunFault {
-    fn fmt<W: fmt::Write>(&self, f: &mut fmt::Formatter<W>) -> fmt::Result {
-        match self {
-            RunFault::Read => write!(f, "read"),
-            RunFault::Write => write!(f, "write"),
-            RunFault::Memory => write!(f, "memory"),
-        }
-    }
 }
 
 impl From<AllocError> for RunFault {

@@ -2,20 +2,21 @@
 # Times `mlscheck validate-tree --trust` on a valid tree of 100,000 members under 131,072 leaves, and
 # beside it how long reading and hashing the tree alone take: with a context of another tree hash the
 # check ends after the hash. The tree is made by so many commits (the first argument, or 1,000) of
-# members that are spread evenly over it, and 100 members who were added since, who are unmerged.
-# With 50,000 commits nearly every parent is set.
+# members that are spread evenly over it, and so many members (the second argument, or 100) who were
+# added since, who are unmerged. With 50,000 commits nearly every parent is set.
 set -e
 here=$(dirname -- "$(readlink -f -- "$0")")
 folder=$(mktemp -d)
 trap 'rm -rf -- "$folder"' EXIT
 
-python3 - "$folder" "${1:-1000}" <<'PYTHON'
+python3 - "$folder" "${1:-1000}" "${2:-100}" <<'PYTHON'
 import hashlib
 import sys
 
 MEMBERS = 100_000
 DEPTH = 17
-ADDED = range(501, MEMBERS, 1_000)
+STEP = MEMBERS // int(sys.argv[3])
+ADDED = range(STEP // 2 | 1, MEMBERS, STEP)
 
 
 def number(value, size):
@@ -84,6 +85,12 @@ def hash_path_again(index):
         hash_again(level, index >> level)
 
 
+def hash_all_again():
+    for level in range(DEPTH + 1):
+        for at in range(len(levels[level])):
+            hash_again(level, at)
+
+
 def commit(index, count):
     """The member renews its leaf and the parents of its filtered direct path, from the root down."""
     parent_hash = b""
@@ -107,22 +114,20 @@ def add(index):
         node = levels[level][index >> level]
         if node:
             node[2].append(index)
-    hash_path_again(index)
 
 
 folder, commits = sys.argv[1], int(sys.argv[2])
 for index in range(MEMBERS):
     if index not in ADDED:
         levels[0][index] = leaf(index)
-for level in range(DEPTH + 1):
-    for at in range(len(levels[level])):
-        hash_again(level, at)
+hash_all_again()
 for count in range(commits):
     index = count * MEMBERS // commits
     if index not in ADDED:
         commit(index, count)
 for index in ADDED:
     add(index)
+hash_all_again()
 
 entries = []
 for place in range(2 * MEMBERS - 1):

@@ -24,5 +24,5 @@ pub record HasChildren (t : Tree) (p q u middle : ℕ) (node : Option ParentNode
 
 -- the part stands at the place
 abbrev pub IsPartAt : Tree → ℕ → Part → Type 0
-IsPartAt t place (Leaf number node) = subtree_at 0 t place ≡ Some (record { first = number; tree = leaf (option_copied node) })
+IsPartAt t place (Leaf index node) = subtree_at 0 t place ≡ Some (record { first = index; tree = leaf (option_copied node) })
 IsPartAt t place (Parent node left right middle) = HasChildren t place left right middle (option_copied node)

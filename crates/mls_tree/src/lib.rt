@@ -16,6 +16,7 @@ mod places;
 mod public_tree;
 mod resolution;
 mod sizes;
+mod split;
 mod unmerged;
 
 pub use error::TreeError;
@@ -23,6 +24,7 @@ pub use hash_value::HashValue;
 pub use part::Part;
 pub use places::{left, level, parent, right, root, sibling};
 pub use public_tree::PublicTree;
+pub use split::split_leaves;
 
 #[cfg(test)]
 mod tests;

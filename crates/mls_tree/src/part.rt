@@ -11,12 +11,12 @@ use mls_nodes::{LeafNode, Node, ParentNode};
 /// A leaf or a parent of a tree.
 #[derive(Clone, Copy, Debug)]
 pub enum Part<'a> {
-    /// A leaf, with its number, and with its node where it is set.
+    /// A leaf, with its index among the leaves, and with its node where it is set.
     Leaf {
-        number: u32,
+        index: u32,
         node: Option<&'a LeafNode>,
     },
-    /// A parent, with its node where it is set, with the places of its children, and with the number of the first leaf of its right half.
+    /// A parent, with its node where it is set, with the places of its children, and with the index of the first leaf of its right half.
     Parent {
         node: Option<&'a ParentNode>,
         left: u32,
@@ -43,10 +43,10 @@ impl PublicTree {
     {
         let leaves = self.leaf_count();
         if level(place, leaves)? == 0 {
-            let number = place / 2;
+            let index = place / 2;
             return Some(Part::Leaf {
-                number,
-                node: self.leaf(number),
+                index,
+                node: self.leaf(index),
             });
         }
         let left = left(place, leaves)?;

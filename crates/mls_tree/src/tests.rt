@@ -71,20 +71,32 @@ fn arithmetic(rt: HostRuntime) {
 }
 
 #[test]
+fn leaves_are_split(rt: HostRuntime) -> Result<(), Fail> {
+    let lists: [(&[u32], usize); 6] = [
+        (&[], 0),
+        (&[3], 0),
+        (&[2], 1),
+        (&[0, 2, 3, 7], 2),
+        (&[1, 2], 2),
+        (&[4, 1], 0),
+    ];
+    for (leaves, count) in lists {
+        let (left, right) = split_leaves(leaves, 3);
+        assert_eq!(rt; left, &leaves[..count]);
+        assert_eq!(rt; right, &leaves[count..]);
+    }
+    Ok(())
+}
+
+#[test]
 fn parts(rt: HostRuntime) -> Result<(), Fail> {
     let mut tree = tree_of(&rt, 4, &[1])?;
     tree.put_parent(5, parent_node(&rt, &[3])?)?;
     for number in 0..4 {
-        let Some(
-            Part::Leaf {
-                number: found,
-                node,
-            },
-        ) = tree.part(2 * number)
-        else {
+        let Some(Part::Leaf { index, node }) = tree.part(2 * number) else {
             return Err(Fail::from("no leaf"));
         };
-        assert_eq!(rt; found, number);
+        assert_eq!(rt; index, number);
         assert_eq!(rt; node.is_some(), number == 1);
         assert!(rt; tree.parent(2 * number).is_none());
     }

@@ -2,7 +2,7 @@
 //! before the first is put in place.
 //!
 //! Each walk is over a subtree given by its height `level` and the number of its first leaf `first`, and goes at most 20 halves deep.
-ghost use Rattle.std.specs.Prelude.{◌≡◌, ℕ, ◌≤◌, ◌<◌, ◌+◌, ◌*◌, ◌-◌, ◌++◌, Some, false, length, insert, OnOk, IsOk, IfOk, IfErr, IsTrue};
+ghost use Rattle.std.specs.Prelude.{◌≡◌, ℕ, ◌≤◌, ◌<◌, ◌+◌, ◌*◌, ◌-◌, ◌++◌, Some, false, length, take, drop, insert, All, slice_get, OnOk, IsOk, IfOk, IfErr, IfSome, IsTrue};
 ghost use Rattle.mls_tree.specs.Tree.{leaves_at};
 ghost use Rattle.mls_tree.specs.Array.{tree_in, ChangesWithin, parent_part, IsNoLeaf};
 ghost use Rattle.mls_tree.specs.Changes.{change_above, insert_before, insert_number, with_unmerged, is_overfilled_above};
@@ -15,10 +15,12 @@ use mls_nodes::{MAX_UNMERGED, Node, Unmerged};
 use std::alloc::Global;
 use std::mem;
 
-// How many entries of an ordered part are less than a number: where it goes.
-fn insertion_point(items: &[u32], number: u32) -> usize
+// How many entries at the front of a list are less than a number: where it goes.
+pub(crate) fn insertion_point(items: &[u32], number: u32) -> usize
     ensures inside { result ≤ length items.now }
     ensures place { insert_before number items.now ≡ insert items.now result number }
+    ensures front { All (λ x. x < number) (take result items.now) }
+    ensures rest { IfSome (slice_get (drop result items.now) 0) (λ x. number ≤ x) }
 {
     for (index, item) in items.iter().enumerate() {
         if *item >= number {

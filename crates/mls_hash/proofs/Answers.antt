@@ -88,7 +88,7 @@ sorted_tree H L M h t p = go (subtree_at 0 t p)
     go (Some s) = ap (tree_hash H s.first) (strip-sorted L M h s.first s.tree)
 
 -- the parent hash of a set parent, by the original hash of its child on a side
-module _ (H : List ℕ → List ℕ) (t : Tree) (p : ℕ) (side : Side) (child : ℕ) (parent : ParentNode) (c : HasChildOn t p side child parent) where
+module _ (H : List ℕ → List ℕ) (t : Tree) (p : ℕ) (side : Side) (child m : ℕ) (parent : ParentNode) (c : HasChildOn t p side child m parent) where
   side_hash : (s : Side) (original : List ℕ) → original_tree_hash_at H parent.unmerged t (child_on s c.left c.right) ≡ Some original
       → parents.parent_hash_at H t p s ≡ option_map H (parents.parent_hash_input parent original)
   side_hash sides.Left original e =

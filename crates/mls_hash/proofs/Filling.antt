@@ -98,5 +98,5 @@ pub root_there : (t : RatchetTree) (n : ℕ) → n ≡ leaf_count t.tree → IsS
 root_there t n e = subst (λ (p : ℕ). IsSome (subtree_at 0 t.tree p)) (sym (root-seen t n (sym e))) (subst (λ (o : Option Subtree). IsSome o) (sym (subtree_at-root 0 t.tree)) refl)
 
 -- a vector after its whole slice was written
-pub written_back : (new rest : List (List ℕ)) (n : ℕ) → n ≡ length new → take n (new ++ rest) ≡ new
+pub written_back : {X : Type 0} (new rest : List X) (n : ℕ) → n ≡ length new → take n (new ++ rest) ≡ new
 written_back new rest n e = ap (λ (k : ℕ). take k (new ++ rest)) e ∙ take-append_seam new rest

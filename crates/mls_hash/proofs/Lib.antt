@@ -3,6 +3,6 @@ pub mod Sets
 pub mod Inputs
 pub mod Strips
 pub mod Answers
-pub mod Apart
+pub mod Alike
 pub mod Filling
 pub mod Owned

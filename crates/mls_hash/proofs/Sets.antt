@@ -1,10 +1,13 @@
--- Membership in a sorted list, by binary search.
-use Rattle.std.proofs.Common.{◌≡◌, ℕ, suc, ◌<◌, ◌≤◌, true, false, List, [], ◌∷◌, length, get_or, eqb, Result, Ok, Err, refl, sym, ◌∙◌, inl, inr, arith}
-use Rattle.std.specs.Prelude.{MatchResult, is_ok, ◌↔◌, IsTrue, nat_le}
-use Rattle.std.proofs.lemmas.Bool.{cases_lt, ne_eqb, eq-eqb, le-leb, leb-true, false≢true}
-use Rattle.std.proofs.lemmas.List.Folds.{list_any_at}
+-- Membership in a sorted list, by binary search, and in its parts.
+use Rattle.std.proofs.Common.{◌≡◌, ℕ, suc, ◌+◌, ◌<◌, ◌≤◌, ◌||◌, false, List, [], ◌∷◌, ◌++◌, length, get_or, eqb, Result, Ok, Err, refl, sym, ap, subst, ◌∙◌, inl, inr, length-append, arith}
+use Rattle.std.specs.Prelude.{All, IfSome, MatchResult, is_ok, slice_get}
+use Rattle.std.specs.List.Sorted.{IsNonDecreasing}
+use Rattle.std.proofs.lemmas.Bool.{cases_lt, ne_eqb, eq-eqb}
+use Rattle.std.proofs.Math.Bool.{or-false}
+use Rattle.std.proofs.Math.ListN.{get_or-append}
+use Rattle.std.proofs.lemmas.List.{get_or-append-add}
+use Rattle.std.proofs.lemmas.List.Folds.{list_any_at, list_any-append}
 use Rattle.mls_hash.specs.Strip.{is_among}
-use Rattle.mls_hash.specs.SubtreeHashes.{IsApartFrom}
 
 none_equal : (xs : List ℕ) (x : ℕ) → ((k : ℕ) → k < length xs → get_or xs k 0 ≡ x → ⊥) → is_among xs x ≡ false
 none_equal [] x h = refl
@@ -20,30 +23,41 @@ found xs x (Ok i) s = sym (list_any_at (λ y. eqb y x) xs i 0 s.0 (eq-eqb (get_o
 found xs x (Err i) s =
     sym (none_equal xs x (λ k lt e. elim (cases_lt k i) [ inl before ↦ (let a = s.1 k before in omega arith) | inr after ↦ (let a = s.2 k after lt in omega arith) ]))
 
-among_at : (xs : List ℕ) (k x : ℕ) → k < length xs → get_or xs k 0 ≡ x → is_among xs x ≡ true
-among_at xs k x lt e = list_any_at (λ y. eqb y x) xs k 0 lt (eq-eqb (get_or xs k 0) x e)
+-- the rest of a list that doesn't fall
+pub rest_rises : (front rest xs : List ℕ) → xs ≡ front ++ rest → IsNonDecreasing xs → IsNonDecreasing rest
+rest_rises front rest xs e up i j d le lt =
+    let at : (k : ℕ) → get_or xs (length front + k) d ≡ get_or rest k d = λ k. ap (λ (ys : List ℕ). get_or ys (length front + k) d) e ∙ get_or-append-add front rest k d in
+    let long : length xs ≡ length front + length rest = ap length e ∙ length-append front rest in
+    omega (arith, up (length front + i) (length front + j) d (omega arith) (omega (arith, long)), at i, at j)
 
--- what a search for the first number of a range says of the range
-module _ (xs : List ℕ) (first end : ℕ) where
-  pub apart_found : (i : ℕ) → i < length xs → get_or xs i 0 ≡ first → IsTrue (nat_le end first) ↔ IsApartFrom xs first end
-  apart_found i lt e = (
-    λ t j a b. absurd (let le = leb-true end first t in omega arith),
-    λ h. elim (cases_lt first end) [ inl more ↦ absurd (false≢true (sym (h first (omega arith) more) ∙ among_at xs i first lt e)) | inr less ↦ le-leb end first less ],
-  )
+-- it has no number under its first
+pub rest_from : (xs : List ℕ) (m : ℕ) → IsNonDecreasing xs → IfSome (slice_get xs 0) (λ i. m ≤ i) → All (λ i. m ≤ i) xs
+rest_from [] m up first k d lt = absurd (omega arith)
+rest_from (x ∷ xs) m up first k d lt = omega (arith, first, up 0 k d (omega arith) lt)
 
-  module _ (next : ℕ) (before : (k : ℕ) → k < next → get_or xs k 0 < first) where
-    pub apart_next : ((i j : ℕ) → i ≤ j → j < length xs → get_or xs i 0 ≤ get_or xs j 0) → ((k : ℕ) → next ≤ k → k < length xs → first < get_or xs k 0)
-        → (x : ℕ) → next < length xs → get_or xs next 0 ≡ x → IsTrue (nat_le end x) ↔ IsApartFrom xs first end
-    apart_next sorted after x lt is = (
-      λ t j a b.
-          none_equal xs j (λ k under same.
-          let le = leb-true end x t in
-          elim (cases_lt k next) [ inl low ↦ (let s = before k low in omega arith) | inr high ↦ (let s = sorted next k high under in omega arith) ]),
-      λ h. elim (cases_lt x end) [
-        | inl less ↦ absurd (false≢true (sym (h x (let s = after next (omega arith) lt in omega arith) less) ∙ among_at xs next x lt is))
-        | inr more ↦ le-leb end x more
-      ],
-    )
+-- ---- parts of a list
 
-    pub apart_past : length xs ≤ next → IsApartFrom xs first end
-    apart_past le j a b = none_equal xs j (λ k under same. let s = before k (omega arith) in omega arith)
+pub front_has : (P : ℕ → Type 0) (xs front rest : List ℕ) → xs ≡ front ++ rest → All P xs → All P front
+front_has P xs front rest e all k d lt =
+    let here = all k d (omega (arith, ap length e, length-append front rest)) in
+    subst P (ap (λ (ys : List ℕ). get_or ys k d) e ∙ get_or-append front rest d k lt) here
+
+pub rest_has : (P : ℕ → Type 0) (xs front rest : List ℕ) → xs ≡ front ++ rest → All P xs → All P rest
+rest_has P xs front rest e all k d lt =
+    let here = all (length front + k) d (omega (arith, ap length e, length-append front rest)) in
+    subst P (ap (λ (ys : List ℕ). get_or ys (length front + k) d) e ∙ get_or-append-add front rest k d) here
+
+-- a number that no entry of a part equals is in the list just where it is in the other part
+module _ (xs front rest : List ℕ) (e : xs ≡ front ++ rest) (i : ℕ) where
+  parts : is_among xs i ≡ (is_among front i || is_among rest i)
+  parts = ap (λ (ys : List ℕ). is_among ys i) e ∙ list_any-append (λ x. eqb x i) front rest
+
+  pub among_front : All (λ x. i < x) rest → is_among xs i ≡ is_among front i
+  among_front above =
+      let none : is_among rest i ≡ false = none_equal rest i (λ k lt same. let a = above k 0 lt in omega arith) in
+      parts ∙ ap (λ b. is_among front i || b) none ∙ or-false (is_among front i)
+
+  pub among_rest : All (λ x. x < i) front → is_among xs i ≡ is_among rest i
+  among_rest below =
+      let none : is_among front i ≡ false = none_equal front i (λ k lt same. let a = below k 0 lt in omega arith) in
+      parts ∙ ap (λ b. b || is_among rest i) none

@@ -1,7 +1,6 @@
 -- Trees without some of their leaves.
-use Rattle.std.proofs.Common.{◌≡◌, ℕ, ◌+◌, Bool, cond, List, [], ◌∷◌, Option, Some, None, refl, sym, ap}
-use Rattle.std.specs.Prelude.{option_map, not, ◌==◌}
-use Rattle.std.specs.List.{filter}
+use Rattle.std.proofs.Common.{◌≡◌, ℕ, suc, ◌+◌, cond, List, [], ◌∷◌, get_or, Option, Some, None, refl, sym, ap, arith}
+use Rattle.std.specs.Prelude.{All, option_map, not, ◌==◌}
 use Rattle.std.specs.List.Sorted.{IsPermutation}
 use Rattle.std.proofs.lemmas.List.Sorted.{list_any-IsPermutation}
 use Rattle.mls_nodes.specs.declared.parent.ParentNode.{ParentNode}
@@ -13,22 +12,27 @@ pub leaf_count-strip : (L : List ℕ) (first : ℕ) (t : Tree) → leaf_count (s
 leaf_count-strip L first (leaf x) = refl
 leaf_count-strip L first (branch l p r) = λ i. leaf_count-strip L first l i + leaf_count-strip L (first + leaf_count l) r i
 
-filter-same : (p q : ℕ → Bool) → ((i : ℕ) → p i ≡ q i) → (xs : List ℕ) → filter p xs ≡ filter q xs
-filter-same p q h [] = refl
-filter-same p q h (x ∷ xs) = λ i. cond (h x i) (x ∷ filter-same p q h xs i) (filter-same p q h xs i)
+-- both lists have the number, or neither has
+abbrev pub HaveAlike : List ℕ → List ℕ → ℕ → Type 0
+HaveAlike L M i = is_among L i ≡ is_among M i
 
--- lists with the same members
-module _ (L M : List ℕ) (same : (i : ℕ) → is_among L i ≡ is_among M i) where
-  without-same : (xs : List ℕ) → without L xs ≡ without M xs
-  without-same xs = filter-same (λ i. not (is_among L i)) (λ i. not (is_among M i)) (λ i. ap not (same i)) xs
+module _ (L M : List ℕ) where
+  without-alike : (xs : List ℕ) → All (HaveAlike L M) xs → without L xs ≡ without M xs
+  without-alike [] h = refl
+  without-alike (x ∷ xs) h =
+      let rest = without-alike xs (λ k d lt. h (suc k) d (omega arith)) in
+      let here : HaveAlike L M x = h 0 0 (omega arith) in
+      λ i. cond (not (here i)) (x ∷ rest i) (rest i)
 
-  parent-same : (p : Option ParentNode) → option_map (stripped_parent L) p ≡ option_map (stripped_parent M) p
-  parent-same None = refl
-  parent-same (Some p) = λ i. Some (record p { unmerged = without-same p.unmerged i })
+  pub parent-alike : (n : Option ParentNode) → ((q : ParentNode) → n ≡ Some q → All (HaveAlike L M) q.unmerged) → option_map (stripped_parent L) n ≡ option_map (stripped_parent M) n
+  parent-alike None h = refl
+  parent-alike (Some q) h = λ i. Some (record q { unmerged = without-alike q.unmerged (h q refl) i })
 
-  pub strip-same : (first : ℕ) (t : Tree) → strip L first t ≡ strip M first t
-  strip-same first (leaf x) = λ i. leaf (cond (same first i) None x)
-  strip-same first (branch l p r) = λ i. branch (strip-same first l i) (parent-same p i) (strip-same (first + leaf_count l) r i)
+  -- lists with the same members
+  pub strip-same : ((i : ℕ) → HaveAlike L M i) → (first : ℕ) (t : Tree) → strip L first t ≡ strip M first t
+  strip-same same first (leaf x) = λ i. leaf (cond (same first i) None x)
+  strip-same same first (branch l p r) =
+      λ i. branch (strip-same same first l i) (parent-alike p (λ q e k d lt. same (get_or q.unmerged k d)) i) (strip-same same (first + leaf_count l) r i)
 
 pub strip-sorted : (L M : List ℕ) → IsPermutation L M → (first : ℕ) (t : Tree) → strip M first t ≡ strip L first t
 strip-sorted L M h = strip-same M L (λ i. sym (list_any-IsPermutation (λ x. x == i) L M h))

@@ -1,9 +1,9 @@
 -- The tree hashes of all subtrees of a tree, each at the place of its subtree (RFC 9420, section 7.8).
-use Rattle.std.specs.Prelude.{◌≡◌, ℕ, ◌+◌, ◌≤◌, ◌<◌, false, List, Some, All, slice_get}
+use Rattle.std.specs.Prelude.{◌≡◌, ℕ, ◌+◌, ◌≤◌, ◌<◌, List, Some, All, slice_get}
 use Rattle.mls_nodes.specs.declared.parent.ParentNode.{ParentNode}
 use Rattle.mls_tree.specs.Tree.{Tree, leaf_count, Subtree, subtree_at}
 use Rattle.mls_hash.specs.ParentHash.{root_parent}
-use Rattle.mls_hash.specs.Strip.{is_among, tree_hash_at}
+use Rattle.mls_hash.specs.Strip.{tree_hash_at}
 
 -- the list has at place p the tree hash of the subtree there, and nothing where there is no subtree
 abbrev pub IsSubtreeHashAt : (List ℕ → List ℕ) → Tree → List (List ℕ) → ℕ → Type 0
@@ -27,9 +27,9 @@ HoldsOwnLeaves t = (p : ℕ) → HoldsOwnLeavesAt t p
 
 -- ---- for the code alone
 
--- no number from `first` up to `end` is in the list
-abbrev pub IsApartFrom : List ℕ → ℕ → ℕ → Type 0
-IsApartFrom leaves first end = (i : ℕ) → first ≤ i → i < end → is_among leaves i ≡ false
+-- each number in the list is that of a leaf under place p, if the tree has such a place
+abbrev pub AreLeavesUnder : Tree → ℕ → List ℕ → Type 0
+AreLeavesUnder t p leaves = (s : Subtree) → subtree_at 0 t p ≡ Some s → All (IsLeafOf s) leaves
 
 -- what was a hash in the old list is one in the new
 abbrev pub AreHashesKept : (List ℕ → List ℕ) → Tree → List (List ℕ) → List (List ℕ) → Type 0

@@ -7,7 +7,7 @@ ghost use Rattle.mls_hash.specs.Parts.{HasChildOn};
 
 use crate::fault::HashFault;
 use crate::input::hash_parent_fields;
-use crate::leaf_set::LeafSet;
+use crate::leaf_set::{LeafSet, sorted};
 use crate::side::Side;
 use crate::subtree::hash_subtree;
 use crate::suite::Suite;
@@ -16,28 +16,29 @@ use mls_tree::{HashValue, Part, PublicTree};
 use mls_wire::Writer;
 use std::alloc::Global;
 
-/// The parent that is set at a place, and the place of its child on a side. `None` where no set parent stands there.
+/// The parent that is set at a place, the place of its child on a side, and the index of the first leaf under its right child. `None`
+/// where no set parent stands there.
 pub(crate) fn parent_and_child(
     tree: &PublicTree,
     place: u32,
     side: Side,
-) -> Option<(&ParentNode, u32)>
-    ensures { MatchOption result (parent_at tree.now.tree place ≡ None) (λ r. HasChildOn tree.now.tree place side r.1 r.0.now) }
+) -> Option<(&ParentNode, u32, u32)>
+    ensures { MatchOption result (parent_at tree.now.tree place ≡ None) (λ r. HasChildOn tree.now.tree place side r.1 r.2 r.0.now) }
 {
     let Some(
         Part::Parent {
             node: Some(parent),
             left,
             right,
-            ..
+            middle,
         },
     ) = tree.part(place)
     else {
         return None;
     };
     match side {
-        Side::Left => Some((parent, left)),
-        Side::Right => Some((parent, right)),
+        Side::Left => Some((parent, left, middle)),
+        Side::Right => Some((parent, right, middle)),
     }
 }
 
@@ -55,10 +56,11 @@ pub fn parent_hash(
     ensures no_such_node { (result ≡ Err HashFault.NoSuchNode) ↔ (parent_at tree.now.tree place ≡ None) }
     ensures else_memory { IfErr result (λ e. (e ≡ HashFault.NoSuchNode) ⊎ (e ≡ HashFault.OutOfMemory)) }
 {
-    let Some((parent, child)) = parent_and_child(tree, place, side) else {
+    let Some((parent, child, _)) = parent_and_child(tree, place, side) else {
         return Err(HashFault::NoSuchNode);
     };
-    let left_out = LeafSet::new(alloc, parent.unmerged.as_slice())?;
+    let leaves = sorted(alloc, parent.unmerged.as_slice())?;
+    let left_out = LeafSet::new(&leaves);
     let mut writer = Writer::new(alloc);
     let original = hash_subtree(alloc, suite, tree, &left_out, child, &mut writer)?;
     hash_parent_fields(suite, parent, &original, &mut writer)

@@ -65,7 +65,7 @@ fn write_number(number: u32, writer: &mut Writer) -> Result<(), AllocError>
 }
 
 /// How many of the numbers are not in the set.
-fn count_kept(numbers: &[u32], left_out: &LeafSet) -> usize
+fn count_kept(numbers: &[u32], left_out: &LeafSet<'_>) -> usize
     ensures { result ≡ length (without left_out.now numbers.now) }
 {
     let mut kept = 0;
@@ -78,7 +78,11 @@ fn count_kept(numbers: &[u32], left_out: &LeafSet) -> usize
 }
 
 /// Writes the numbers that are not in the set, one after the other.
-fn write_kept(numbers: &[u32], left_out: &LeafSet, writer: &mut Writer) -> Result<(), AllocError>
+fn write_kept(
+    numbers: &[u32],
+    left_out: &LeafSet<'_>,
+    writer: &mut Writer,
+) -> Result<(), AllocError>
     ensures { OnOk result (after writer.old (spell.items (spell.number w32) (without left_out.now numbers.now)) ≡ Some writer.new) }
 {
     for number in numbers {
@@ -92,7 +96,7 @@ fn write_kept(numbers: &[u32], left_out: &LeafSet, writer: &mut Writer) -> Resul
 /// Writes a list of unmerged leaves without those of the set.
 fn write_unmerged(
     numbers: &[u32],
-    left_out: &LeafSet,
+    left_out: &LeafSet<'_>,
     writer: &mut Writer,
 ) -> Result<(), CodecFault>
     requires { length numbers.now ≤ 1048576 }
@@ -108,7 +112,7 @@ fn write_unmerged(
 #[tactic(auto, using(mls_wire::specs::Written::written), unfolding(mls_nodes::specs::Layout::parent))]
 fn write_stripped_parent(
     node: &ParentNode,
-    left_out: &LeafSet,
+    left_out: &LeafSet<'_>,
     writer: &mut Writer,
 ) -> Result<(), CodecFault>
     ensures { WritesText (layout.parent (stripped_parent left_out.now node.now)) writer.old writer.new result }
@@ -122,7 +126,7 @@ fn write_stripped_parent(
 #[tactic(auto, using(mls_wire::specs::Written::written), unfolding(mls_wire::specs::Spelling::optional, mls_wire::specs::Spelling::flag))]
 fn write_optional_parent(
     node: Option<&ParentNode>,
-    left_out: &LeafSet,
+    left_out: &LeafSet<'_>,
     writer: &mut Writer,
 ) -> Result<(), CodecFault>
     ensures { WritesText (spell.optional layout.parent (option_map (stripped_parent left_out.now) (option_copied node.entry))) writer.old writer.new result }
@@ -140,7 +144,7 @@ fn write_optional_parent(
 #[tactic(auto, using(mls_wire::specs::Written::written))]
 fn write_parent_input(
     node: Option<&ParentNode>,
-    left_out: &LeafSet,
+    left_out: &LeafSet<'_>,
     left: &HashValue,
     right: &HashValue,
     writer: &mut Writer,
@@ -226,7 +230,7 @@ pub(crate) fn hash_leaf(
 pub(crate) fn hash_parent(
     suite: Suite,
     node: Option<&ParentNode>,
-    left_out: &LeafSet,
+    left_out: &LeafSet<'_>,
     left: &HashValue,
     right: &HashValue,
     writer: &mut Writer,

@@ -1,47 +1,61 @@
 //! Sets of leaves.
 
-ghost use Rattle.std.specs.Prelude.{◌≡◌, ◌↔◌, [], IfOk, IsTrue};
-ghost use Rattle.std.specs.List.Sorted.{IsPermutation};
+ghost use Rattle.std.specs.Prelude.{◌≡◌, ◌≤◌, ◌<◌, ◌++◌, ◌↔◌, [], All, IfOk, IsTrue};
+ghost use Rattle.std.specs.List.Sorted.{IsNonDecreasing, IsPermutation};
 ghost use Rattle.mls_hash.specs.Strip.{is_among};
-ghost use Rattle.mls_hash.specs.SubtreeHashes.{IsApartFrom};
 
+use mls_tree::split_leaves;
 use std::alloc::{AllocError, Global};
 use std::marker::Model;
 
-/// The numbers of some leaves, sorted.
+/// The numbers of some leaves, which don't fall.
 #[derive(Drop)]
-pub(crate) struct LeafSet {
-    leaves: Vec<u32>,
+pub(crate) struct LeafSet<'a> {
+    leaves: &'a [u32],
 }
 
-impl Model for LeafSet {
+impl<'a> Model for LeafSet<'a> {
     ghost use Rattle.std.specs.Prelude.{ℕ, List};
     ghost use Rattle.std.specs.List.Sorted.{IsNonDecreasing};
 
     ghost Value = { List ℕ };
 
-    ghost view = { λ s. s.leaves.items };
+    ghost view = { λ s. s.leaves.now };
 
-    ghost invariant = { λ s. IsNonDecreasing s.leaves.items };
+    ghost invariant = { λ s. IsNonDecreasing s.leaves.now };
 }
 
-impl LeafSet {
-    /// No leaves. It takes no memory.
-    pub(crate) fn empty(alloc: Global) -> LeafSet
+/// These leaves, sorted.
+pub(crate) fn sorted(alloc: Global, leaves: &[u32]) -> Result<Vec<u32>, AllocError>
+    ensures same { IfOk result (λ s. IsPermutation leaves.now s.items) }
+    ensures sorted { IfOk result (λ s. IsNonDecreasing s.items) }
+{
+    let mut leaves = leaves.to_vec(alloc)?;
+    leaves.sort_unstable();
+    Ok(leaves)
+}
+
+impl<'a> LeafSet<'a> {
+    /// No leaves.
+    pub(crate) fn empty() -> LeafSet<'a>
         ensures { result ≡ [] }
     {
-        LeafSet {
-            leaves: Vec::new(alloc),
-        }
+        LeafSet { leaves: &[] }
     }
 
-    /// The set of these leaves.
-    pub(crate) fn new(alloc: Global, leaves: &[u32]) -> Result<LeafSet, AllocError>
-        ensures { IfOk result (λ s. IsPermutation leaves.now s) }
+    /// The set of these leaves, which are sorted.
+    pub(crate) fn new(leaves: &'a [u32]) -> LeafSet<'a>
+        requires { IsNonDecreasing leaves.now }
+        ensures { result ≡ leaves.now }
     {
-        let mut leaves = leaves.to_vec(alloc)?;
-        leaves.sort_unstable();
-        Ok(LeafSet { leaves })
+        LeafSet { leaves }
+    }
+
+    /// Whether no leaf is in the set.
+    pub(crate) fn is_empty(&self) -> bool
+        ensures { IsTrue result ↔ (self.now ≡ []) }
+    {
+        self.leaves.is_empty()
     }
 
     /// Whether a leaf is in the set, by binary search.
@@ -51,16 +65,13 @@ impl LeafSet {
         self.leaves.binary_search(&leaf).is_ok()
     }
 
-    /// Whether no leaf from number `first` up to `end` is in the set, by binary search.
-    pub(crate) fn is_apart_from(&self, first: u32, end: u32) -> bool
-        ensures { IsTrue result ↔ IsApartFrom self.now first end }
+    /// Those left of the leaf `middle`, and the rest.
+    pub(crate) fn split(&self, middle: u32) -> (LeafSet<'a>, LeafSet<'a>)
+        ensures whole { self.now ≡ result.0 ++ result.1 }
+        ensures front { All (λ i. i < middle) result.0 }
+        ensures rest { All (λ i. middle ≤ i) result.1 }
     {
-        match self.leaves.binary_search(&first) {
-            Ok(_) => end <= first,
-            Err(next) => match self.leaves.get(next) {
-                Some(leaf) => end <= *leaf,
-                None => true,
-            },
-        }
+        let (front, rest) = split_leaves(self.leaves, middle);
+        (LeafSet { leaves: front }, LeafSet { leaves: rest })
     }
 }

@@ -8,7 +8,7 @@ ghost use Rattle.mls_hash.specs.Strip.{original_tree_hash_at, stripped_leaf, tre
 
 use crate::fault::HashFault;
 use crate::input::{hash_leaf, hash_parent};
-use crate::leaf_set::LeafSet;
+use crate::leaf_set::{LeafSet, sorted};
 use crate::suite::Suite;
 use mls_nodes::LeafNode;
 use mls_tree::{HashValue, Part, PublicTree};
@@ -17,17 +17,13 @@ use std::alloc::Global;
 
 /// The node of a leaf. `None` where it is blank or in the set.
 pub(crate) fn kept_leaf<'a>(
-    number: u32,
+    index: u32,
     node: Option<&'a LeafNode>,
-    left_out: &LeafSet,
+    left_out: &LeafSet<'_>,
 ) -> Option<&'a LeafNode>
-    ensures { option_copied result ≡ stripped_leaf left_out.now number (option_copied node.entry) }
+    ensures { option_copied result ≡ stripped_leaf left_out.now index (option_copied node.entry) }
 {
-    if left_out.contains(number) {
-        None
-    } else {
-        node
-    }
+    if left_out.contains(index) { None } else { node }
 }
 
 /// The tree hash of the subtree at a place without the leaves of the set: one hash for each of its nodes, each written into the same
@@ -36,7 +32,7 @@ pub(crate) fn hash_subtree(
     alloc: Global,
     suite: Suite,
     tree: &PublicTree,
-    left_out: &LeafSet,
+    left_out: &LeafSet<'_>,
     place: u32,
     writer: &mut Writer,
 ) -> Result<HashValue, HashFault>
@@ -44,9 +40,9 @@ pub(crate) fn hash_subtree(
 {
     match tree.part(place) {
         None => Err(HashFault::NoSuchNode),
-        Some(Part::Leaf { number, node }) => {
-            let node = kept_leaf(number, node, left_out);
-            hash_leaf(alloc, suite, number, node, writer)
+        Some(Part::Leaf { index, node }) => {
+            let node = kept_leaf(index, node, left_out);
+            hash_leaf(alloc, suite, index, node, writer)
         }
         Some(
             Part::Parent {
@@ -74,7 +70,7 @@ pub fn tree_hash(
     ensures no_such_node { (result ≡ Err HashFault.NoSuchNode) ↔ (subtree_at 0 tree.now.tree place ≡ None) }
     ensures else_memory { IfErr result (λ e. (e ≡ HashFault.NoSuchNode) ⊎ (e ≡ HashFault.OutOfMemory)) }
 {
-    let left_out = LeafSet::empty(alloc);
+    let left_out = LeafSet::empty();
     let mut writer = Writer::new(alloc);
     hash_subtree(alloc, suite, tree, &left_out, place, &mut writer)
 }
@@ -95,7 +91,8 @@ pub fn original_tree_hash(
     if tree.part(place).is_none() {
         return Err(HashFault::NoSuchNode);
     }
-    let left_out = LeafSet::new(alloc, leaves)?;
+    let leaves = sorted(alloc, leaves)?;
+    let left_out = LeafSet::new(&leaves);
     let mut writer = Writer::new(alloc);
     hash_subtree(alloc, suite, tree, &left_out, place, &mut writer)
 }

@@ -1,17 +1,17 @@
 //! The tree hashes of all subtrees of a tree, each computed once (RFC 9420, section 7.8), and parent hashes by them (section 7.9).
 
-ghost use Rattle.std.specs.Prelude.{◌≡◌, ◌↔◌, ◌⊎◌, ◌+◌, ◌*◌, ◌<◌, None, Some, Err, IfOk, IfErr, IfSome, OnOk, length, slice_get, slice_set};
+ghost use Rattle.std.specs.Prelude.{◌≡◌, ◌↔◌, ◌⊎◌, ◌+◌, ◌*◌, ◌<◌, [], None, Some, Err, IfOk, IfErr, IfSome, OnOk, length, slice_get, slice_set};
 ghost use Rattle.mls_tree.specs.Tree.{leaf_count, subtree_at};
 ghost use Rattle.mls_hash.specs.Hashing.{hash_of};
 ghost use Rattle.mls_hash.specs.Inputs.{HashesSubtree};
 ghost use Rattle.mls_hash.specs.ParentHash.{parent_at, parent_hash_at};
 ghost use Rattle.mls_hash.specs.Strip.{original_tree_hash_at, tree_hash_at};
-ghost use Rattle.mls_hash.specs.SubtreeHashes.{AreHashesKept, AreHashesUnder, AreSubtreeHashes, HoldsOwnLeaves, IsApartFrom};
+ghost use Rattle.mls_hash.specs.SubtreeHashes.{AreHashesKept, AreHashesUnder, AreLeavesUnder, AreSubtreeHashes, HoldsOwnLeaves};
 
 use crate::copath::parent_and_child;
 use crate::fault::HashFault;
 use crate::input::{hash_leaf, hash_parent, hash_parent_fields};
-use crate::leaf_set::LeafSet;
+use crate::leaf_set::{LeafSet, sorted};
 use crate::side::Side;
 use crate::subtree::kept_leaf;
 use crate::suite::Suite;
@@ -61,8 +61,8 @@ fn put_hashes(
 {
     match tree.part(place) {
         None => Err(HashFault::NoSuchNode),
-        Some(Part::Leaf { number, node }) => {
-            let hash = hash_leaf(alloc, suite, number, node, writer)?;
+        Some(Part::Leaf { index, node }) => {
+            let hash = hash_leaf(alloc, suite, index, node, writer)?;
             put(hashes, place, hash);
             Ok(hash)
         }
@@ -76,7 +76,7 @@ fn put_hashes(
         ) => {
             let left = put_hashes(alloc, suite, tree, left, hashes, writer)?;
             let right = put_hashes(alloc, suite, tree, right, hashes, writer)?;
-            let hash = hash_parent(suite, node, &LeafSet::empty(alloc), &left, &right, writer)?;
+            let hash = hash_parent(suite, node, &LeafSet::empty(), &left, &right, writer)?;
             put(hashes, place, hash);
             Ok(hash)
         }
@@ -106,40 +106,41 @@ impl SubtreeHashes {
         self.hashes.get(place as usize).copied()
     }
 
-    /// The hash that is kept for a place, where no leaf from number `first` up to `end` is in the set.
-    fn unchanged(&self, left_out: &LeafSet, first: u32, end: u32, place: u32) -> Option<HashValue>
-        ensures { IfSome result (λ h. IsApartFrom left_out.now first end × (slice_get self.now place ≡ Some h)) }
+    /// The hash that is kept for a place, where no leaf is left out.
+    fn unchanged(&self, left_out: &LeafSet<'_>, place: u32) -> Option<HashValue>
+        ensures { IfSome result (λ h. (left_out.now ≡ []) × (slice_get self.now place ≡ Some h)) }
     {
-        if left_out.is_apart_from(first, end) {
+        if left_out.is_empty() {
             self.get(place)
         } else {
             None
         }
     }
 
-    /// The original tree hash of the subtree at a place: that of the subtree without the leaves of the set. A part of it that has none of
-    /// these leaves isn't hashed again.
+    /// The original tree hash of the subtree at a place: that of the subtree without the leaves of the set, all of which lie under it. A
+    /// part of it that has none of these leaves isn't hashed again.
     fn original_hash(
         &self,
         alloc: Global,
         suite: Suite,
         tree: &PublicTree,
-        left_out: &LeafSet,
+        left_out: &LeafSet<'_>,
         place: u32,
         writer: &mut Writer,
     ) -> Result<HashValue, HashFault>
         requires hashes { AreSubtreeHashes (hash_of suite) tree.now.tree self.now }
         requires own_leaves { HoldsOwnLeaves tree.now.tree }
+        requires under { AreLeavesUnder tree.now.tree place left_out.now }
         ensures { HashesSubtree (subtree_at 0 tree.now.tree place) (original_tree_hash_at (hash_of suite) left_out.now tree.now.tree place) result }
     {
+        if let Some(hash) = self.unchanged(left_out, place) {
+            return Ok(hash);
+        }
         match tree.part(place) {
             None => Err(HashFault::NoSuchNode),
-            Some(Part::Leaf { number, node }) => {
-                if let Some(hash) = self.unchanged(left_out, number, number + 1, place) {
-                    return Ok(hash);
-                }
-                let node = kept_leaf(number, node, left_out);
-                hash_leaf(alloc, suite, number, node, writer)
+            Some(Part::Leaf { index, node }) => {
+                let node = kept_leaf(index, node, left_out);
+                hash_leaf(alloc, suite, index, node, writer)
             }
             Some(
                 Part::Parent {
@@ -149,14 +150,9 @@ impl SubtreeHashes {
                     middle,
                 },
             ) => {
-                // a parent stands as far from each child as that has leaves
-                let first = middle - (place - left);
-                let end = middle + (right - place);
-                if let Some(hash) = self.unchanged(left_out, first, end, place) {
-                    return Ok(hash);
-                }
-                let left = self.original_hash(alloc, suite, tree, left_out, left, writer)?;
-                let right = self.original_hash(alloc, suite, tree, left_out, right, writer)?;
+                let (before, after) = left_out.split(middle);
+                let left = self.original_hash(alloc, suite, tree, &before, left, writer)?;
+                let right = self.original_hash(alloc, suite, tree, &after, right, writer)?;
                 hash_parent(suite, node, left_out, &left, &right, writer)
             }
         }
@@ -179,10 +175,15 @@ impl SubtreeHashes {
         ensures no_such_node { (result ≡ Err HashFault.NoSuchNode) ↔ (parent_at tree.now.tree place ≡ None) }
         ensures else_memory { IfErr result (λ e. (e ≡ HashFault.NoSuchNode) ⊎ (e ≡ HashFault.OutOfMemory)) }
     {
-        let Some((parent, child)) = parent_and_child(tree, place, side) else {
+        let Some((parent, child, middle)) = parent_and_child(tree, place, side) else {
             return Err(HashFault::NoSuchNode);
         };
-        let left_out = LeafSet::new(alloc, parent.unmerged.as_slice())?;
+        let leaves = sorted(alloc, parent.unmerged.as_slice())?;
+        let (before, after) = LeafSet::new(&leaves).split(middle);
+        let left_out = match side {
+            Side::Left => before,
+            Side::Right => after,
+        };
         let mut writer = Writer::new(alloc);
         let original = self.original_hash(alloc, suite, tree, &left_out, child, &mut writer)?;
         hash_parent_fields(suite, parent, &original, &mut writer)

@@ -26,51 +26,23 @@ fn sha256_of(alloc: Global, parts: &[&[u8]]) -> Result<[u8; 32], AllocError> {
     Ok(Sha256::digest(bytes.as_slice()))
 }
 
-/// The 39 bytes of the member `i`'s leaf, as its key package has it.
+/// The bytes of member 0's leaf, as its key package has it.
+const LEAF: [u8; 39] = [
+    0x01, 0xa0, 0x01, 0xb0, 0x00, 0x01, 0x01, 0x40, 0x02, 0x00, 0x01, 0x02, 0x00, 0x01, 0x00, 0x00,
+    0x02, 0x00, 0x01, 0x01, 0x00, 0x00, 0x00, 0x00, 0x00, 0x00, 0x00, 0x00, 0xff, 0xff, 0xff, 0xff,
+    0xff, 0xff, 0xff, 0xff, 0x00, 0x01, 0xc0,
+];
+
+/// The bytes of the member `i`'s leaf, as its key package has it.
 fn leaf_bytes(i: u8) -> [u8; 39]
     requires { i < 16 }
 {
-    [
-        1,
-        0xa0 + i,
-        1,
-        0xb0 + i,
-        0,
-        1,
-        1,
-        0x40 + i,
-        2,
-        0,
-        1,
-        2,
-        0,
-        1,
-        0,
-        0,
-        2,
-        0,
-        1,
-        1,
-        0,
-        0,
-        0,
-        0,
-        0,
-        0,
-        0,
-        0,
-        0xff,
-        0xff,
-        0xff,
-        0xff,
-        0xff,
-        0xff,
-        0xff,
-        0xff,
-        0,
-        1,
-        0xc0 + i,
-    ]
+    let mut bytes = LEAF;
+    bytes[1] = 0xa0 + i;
+    bytes[3] = 0xb0 + i;
+    bytes[7] = 0x40 + i;
+    bytes[38] = 0xc0 + i;
+    bytes
 }
 
 /// The member `i`'s leaf.
@@ -156,10 +128,10 @@ fn refuses_other_suites(rt: HostRuntime) {
 }
 
 #[test]
-fn hashes_small_trees(rt: HostRuntime) -> Result<(), Fail> {
+fn hashes_blank_leaves(rt: HostRuntime) -> Result<(), Fail> {
     let alloc = rt.alloc();
     let suite = Suite::from_u16(2)?;
-    let mut tree = PublicTree::blank(alloc, 2)?;
+    let tree = PublicTree::blank(alloc, 2)?;
     let blank = sha256_of(alloc, &[&[1, 0, 0, 0, 0, 0]])?;
     assert_eq!(rt;
         tree_hash(alloc, suite, &tree, 0)?.as_slice(),
@@ -170,9 +142,16 @@ fn hashes_small_trees(rt: HostRuntime) -> Result<(), Fail> {
         tree_hash(alloc, suite, &tree, 2)?.as_slice(),
         blank.as_slice()
     );
+    Ok(())
+}
 
-    assert!(rt; tree.set_leaf(0, Some(leaf(alloc, 0)?)).is_ok());
-    assert!(rt; tree.set_leaf(1, Some(leaf(alloc, 1)?)).is_ok());
+#[test]
+fn hashes_two_leaves(rt: HostRuntime) -> Result<(), Fail> {
+    let alloc = rt.alloc();
+    let suite = Suite::from_u16(2)?;
+    let mut tree = PublicTree::blank(alloc, 2)?;
+    tree.set_leaf(0, Some(leaf(alloc, 0)?))?;
+    tree.set_leaf(1, Some(leaf(alloc, 1)?))?;
     let first = sha256_of(alloc, &[&[1, 0, 0, 0, 0, 1], &leaf_bytes(0)])?;
     let second = sha256_of(alloc, &[&[1, 0, 0, 0, 1, 1], &leaf_bytes(1)])?;
     assert_eq!(rt;
@@ -184,6 +163,14 @@ fn hashes_small_trees(rt: HostRuntime) -> Result<(), Fail> {
         tree_hash(alloc, suite, &tree, 1)?.as_slice(),
         root.as_slice()
     );
+    Ok(())
+}
+
+#[test]
+fn refuses_places_without_nodes(rt: HostRuntime) -> Result<(), Fail> {
+    let alloc = rt.alloc();
+    let suite = Suite::from_u16(2)?;
+    let tree = PublicTree::blank(alloc, 2)?;
     assert_eq!(rt;
         tree_hash(alloc, suite, &tree, 3),
         Err(HashFault::NoSuchNode)
@@ -199,76 +186,86 @@ fn hashes_small_trees(rt: HostRuntime) -> Result<(), Fail> {
     Ok(())
 }
 
+/// The hash of node 5 of a tree of four leaves, of which leaf 2 is set and leaf 3 blank.
+fn right_hash(alloc: Global) -> Result<[u8; 32], AllocError> {
+    let third = sha256_of(alloc, &[&[1, 0, 0, 0, 2, 1], &leaf_bytes(2)])?;
+    let fourth = sha256_of(alloc, &[&[1, 0, 0, 0, 3, 0]])?;
+    sha256_of(alloc, &[&[2, 0, 0x20], &third, &[0x20], &fourth])
+}
+
+/// The hash of the root of that tree, whose nodes 1 and 3 are those of a path, by the hashes of leaf 0 and of node 5.
+fn root_hash(
+    alloc: Global,
+    first: &[u8],
+    upper: &[u8],
+    right: &[u8],
+) -> Result<[u8; 32], AllocError> {
+    let second = sha256_of(alloc, &[&[1, 0, 0, 0, 1, 1], &leaf_bytes(1)])?;
+    let lower = [0x02, 0x01, 0x01, 0xd1, 0x20];
+    let left = sha256_of(alloc, &[&lower, upper, &[0, 0x20], first, &[0x20], &second])?;
+    let above = [0x02, 0x01, 0x01, 0xd3, 0x00, 0x00, 0x20];
+    sha256_of(alloc, &[&above, &left, &[0x20], right])
+}
+
+/// Four leaves, of which the last is blank, and the nodes 1 and 3 of a path, of which node 1 carries a parent hash.
+fn tree_with_path(alloc: Global, upper: &[u8]) -> Result<PublicTree, Fail> {
+    let mut tree = PublicTree::blank(alloc, 4)?;
+    for i in 0..3 {
+        tree.set_leaf(i, Some(leaf(alloc, i as u8)?))?;
+    }
+    tree.put_parent(1, Some(parent(alloc, 0xd1, upper)?))?;
+    tree.put_parent(3, Some(parent(alloc, 0xd3, b"")?))?;
+    Ok(tree)
+}
+
+/// Leaf 0 commits: its path is of the nodes 1 and 3.
 #[test]
 fn hashes_a_path(rt: HostRuntime) -> Result<(), Fail> {
     let alloc = rt.alloc();
     let suite = Suite::from_u16(3)?;
-    let mut tree = PublicTree::blank(alloc, 4)?;
-    for i in 0..3 {
-        assert!(rt; tree.set_leaf(i, Some(leaf(alloc, i as u8)?)).is_ok());
-    }
-
-    // leaf 0 commits: its path is of the nodes 1 and 3
-    let second = sha256_of(alloc, &[&[1, 0, 0, 0, 1, 1], &leaf_bytes(1)])?;
-    let third = sha256_of(alloc, &[&[1, 0, 0, 0, 2, 1], &leaf_bytes(2)])?;
-    let fourth = sha256_of(alloc, &[&[1, 0, 0, 0, 3, 0]])?;
-    let right = sha256_of(alloc, &[&[2, 0, 0x20], &third, &[0x20], &fourth])?;
-    assert_eq!(rt;
-        tree_hash(alloc, suite, &tree, 5)?.as_slice(),
-        right.as_slice()
-    );
-    assert!(rt; tree.put_parent(3, Some(parent(alloc, 0xd3, b"")?)).is_ok());
+    let right = right_hash(alloc)?;
     let upper = sha256_of(alloc, &[&[1, 0xd3, 0, 0x20], &right])?;
-    assert_eq!(rt;
-        parent_hash(alloc, suite, &tree, 3, Side::Right)?.as_slice(),
-        upper.as_slice()
-    );
-    assert!(rt;
-        tree.put_parent(1, Some(parent(alloc, 0xd1, &upper)?))
-            .is_ok()
-    );
+    let second = sha256_of(alloc, &[&[1, 0, 0, 0, 1, 1], &leaf_bytes(1)])?;
     let lower = sha256_of(alloc, &[&[1, 0xd1, 0x20], &upper, &[0x20], &second])?;
-    assert_eq!(rt;
-        parent_hash(alloc, suite, &tree, 1, Side::Right)?.as_slice(),
-        lower.as_slice()
-    );
     let commit = commit_leaf_bytes(alloc, &lower)?;
-    let node = Box::new(alloc, decode_leaf(alloc, commit.as_slice())?)?;
-    assert!(rt; tree.set_leaf(0, Some(node)).is_ok());
     let first = sha256_of(alloc, &[&[1, 0, 0, 0, 0, 1], commit.as_slice()])?;
-    let left = sha256_of(
-        alloc,
-        &[
-            &[2, 1, 1, 0xd1, 0x20],
-            &upper,
-            &[0, 0x20],
-            &first,
-            &[0x20],
-            &second,
-        ],
-    )?;
-    let root = sha256_of(
-        alloc,
-        &[&[2, 1, 1, 0xd3, 0, 0, 0x20], &left, &[0x20], &right],
-    )?;
-    assert_eq!(rt;
-        tree_hash(alloc, suite, &tree, 3)?.as_slice(),
-        root.as_slice()
-    );
+    let root = root_hash(alloc, &first, &upper, &right)?;
 
-    // then leaf 3 is added
-    assert!(rt; tree.set_leaf(3, Some(leaf(alloc, 3)?)).is_ok());
+    let mut tree = tree_with_path(alloc, &upper)?;
+    let node = Box::new(alloc, decode_leaf(alloc, commit.as_slice())?)?;
+    tree.set_leaf(0, Some(node))?;
+    for (place, expected) in [(5, right), (3, root)] {
+        let found = tree_hash(alloc, suite, &tree, place)?;
+        assert_eq!(rt; found.as_slice(), expected.as_slice());
+    }
+    for (place, expected) in [(3, upper), (1, lower)] {
+        let found = parent_hash(alloc, suite, &tree, place, Side::Right)?;
+        assert_eq!(rt; found.as_slice(), expected.as_slice());
+    }
+    Ok(())
+}
+
+/// A leaf that is added changes the hashes of the path's nodes, and no original hash.
+#[test]
+fn leaves_an_added_leaf_out(rt: HostRuntime) -> Result<(), Fail> {
+    let alloc = rt.alloc();
+    let suite = Suite::from_u16(3)?;
+    let right = right_hash(alloc)?;
+    let upper = sha256_of(alloc, &[&[1, 0xd3, 0, 0x20], &right])?;
+    let first = sha256_of(alloc, &[&[1, 0, 0, 0, 0, 1], &leaf_bytes(0)])?;
+    let root = root_hash(alloc, &first, &upper, &right)?;
+
+    let mut tree = tree_with_path(alloc, &upper)?;
+    tree.set_leaf(3, Some(leaf(alloc, 3)?))?;
     tree.add_unmerged(alloc, 3)?;
-    let found = tree_hash(alloc, suite, &tree, 5)?;
-    assert!(rt; found.as_slice() != right.as_slice());
-    let original = original_tree_hash(alloc, suite, &tree, 5, &[3])?;
-    assert_eq!(rt; original.as_slice(), right.as_slice());
-    let whole = original_tree_hash(alloc, suite, &tree, 3, &[3])?;
-    assert_eq!(rt; whole.as_slice(), root.as_slice());
-    assert_eq!(rt;
-        parent_hash(alloc, suite, &tree, 3, Side::Right)?.as_slice(),
-        upper.as_slice()
-    );
+    for (place, expected) in [(5, right), (3, root)] {
+        let whole = tree_hash(alloc, suite, &tree, place)?;
+        assert!(rt; whole.as_slice() != expected.as_slice());
+        let original = original_tree_hash(alloc, suite, &tree, place, &[3])?;
+        assert_eq!(rt; original.as_slice(), expected.as_slice());
+    }
+    let found = parent_hash(alloc, suite, &tree, 3, Side::Right)?;
+    assert_eq!(rt; found.as_slice(), upper.as_slice());
     Ok(())
 }
 
@@ -299,9 +296,7 @@ fn kept_hashes_give_parent_hashes(rt: HostRuntime) -> Result<(), Fail> {
     }
 
     // without leaf 3
-    let third = sha256_of(alloc, &[&[1, 0, 0, 0, 2, 1], &leaf_bytes(2)])?;
-    let fourth = sha256_of(alloc, &[&[1, 0, 0, 0, 3, 0]])?;
-    let right = sha256_of(alloc, &[&[2, 0, 0x20], &third, &[0x20], &fourth])?;
+    let right = right_hash(alloc)?;
     let expected = sha256_of(alloc, &[&[1, 0xd3, 0, 0x20], &right])?;
     let found = hashes.parent_hash(alloc, suite, &tree, 3, Side::Right)?;
     assert_eq!(rt; found.as_slice(), expected.as_slice());

@@ -1,0 +1,106 @@
+-- A subtree whose unmerged lists have its own leaves alone: without the leaves of a list it is the same as without those of the list that lie under it.
+use Rattle.std.proofs.Common.{◌≡◌, ℕ, ◌+◌, ◌<◌, ◌≤◌, cond, List, [], ◌++◌, Option, Some, None, sym, ap, subst, ◌∙◌, get_or, arith}
+use Rattle.std.specs.Prelude.{option_and_then, All, slice_get}
+use Rattle.std.specs.List.Sorted.{IsPermutation}
+use Rattle.std.proofs.lemmas.List.Sorted.{All-permutation}
+use Rattle.std.proofs.lemmas.Option.{same_Some}
+use Rattle.mls_nodes.specs.declared.parent.ParentNode.{ParentNode}
+use Rattle.mls_tree.specs.Tree.{Tree, leaf, branch, leaf_count, Subtree, subtree_at, root_place}
+use Rattle.mls_tree.specs.TreeHash.{tree_hash}
+use Rattle.mls_tree.proofs.Trees.{subtree_at-stands, subtree_at-root, subtree_at-nested, subtree_at-in_left, subtree_at-in_right, root_place-above, root_place-below}
+use Rattle.mls_tree.specs.Parts.{HasChildren}
+use Rattle.mls_hash.specs.declared.side.Side.{Side}
+use Rattle.mls_hash.specs.declared.side.Side.TheVariants as sides
+use Rattle.mls_hash.specs.ParentHash.{root_parent}
+use Rattle.mls_hash.specs.Parts.{HasChildOn, child_on}
+use Rattle.mls_hash.specs.Strip.{strip, original_tree_hash, original_tree_hash_at}
+use Rattle.mls_hash.specs.SubtreeHashes.{AreLeavesUnder, AreSubtreeHashes, HoldsOwnLeaves, IsLeafOf}
+use Rattle.mls_hash.proofs.Strips.{HaveAlike, parent-alike}
+use Rattle.mls_hash.proofs.Answers.{whole_tree}
+use Rattle.mls_hash.proofs.Sets.{front_has, rest_has, among_front, among_rest}
+
+-- the unmerged lists of a tree whose first leaf is numbered `first` have leaves under their parents alone
+abbrev OwnLeaves : ℕ → Tree → Type 0
+OwnLeaves first t = (p : ℕ) (s : Subtree) (q : ParentNode) → subtree_at first t p ≡ Some s → root_parent s.tree ≡ Some q → All (IsLeafOf s) q.unmerged
+
+module _ (L M : List ℕ) where
+  strip-alike : (first : ℕ) (t : Tree) → ((i : ℕ) → first ≤ i → i < first + leaf_count t → HaveAlike L M i) → OwnLeaves first t → strip L first t ≡ strip M first t
+  strip-alike first (leaf x) alike own = let e = alike first (omega arith) (omega arith) in λ i. leaf (cond (e i) None x)
+  strip-alike first (branch l n r) alike own =
+      let left =
+      strip-alike first l (λ i a b. alike i a (omega arith))
+      (λ p s q e h.
+      let at = subtree_at-stands first l p s e in
+      own p s q (subtree_at-in_left first l n r p (omega (arith, at.place, at.to_right, root_place-below s.first s.tree)) ∙ e) h) in
+      let right =
+      strip-alike (first + leaf_count l) r (λ i a b. alike i (omega arith) (omega arith))
+      (λ p s q e h.
+      let at = subtree_at-stands (first + leaf_count l) r p s e in
+      own p s q (subtree_at-in_right first l n r p (omega (arith, at.place, at.from_left, root_place-above s.first s.tree)) ∙ e) h) in
+      let here =
+      parent-alike L M n
+      (λ q e k d lt.
+      let range = own (root_place first (branch l n r)) _ q (subtree_at-root first (branch l n r)) e k d lt in
+      alike _ range.0 range.1) in
+      λ i. branch (left i) (here i) (right i)
+
+module _ (H : List ℕ → List ℕ) (t : Tree) where
+  -- the hash of the subtree at a place is the same without the leaves of either list
+  hash-alike : (L M : List ℕ) (p : ℕ) (s : Subtree) → HoldsOwnLeaves t → subtree_at 0 t p ≡ Some s → ((i : ℕ) → IsLeafOf s i → HaveAlike L M i)
+      → original_tree_hash_at H L t p ≡ original_tree_hash_at H M t p
+  hash-alike L M p s own e alike =
+      let same = strip-alike L M s.first s.tree (λ i low high. alike i (low, high)) (λ q u n f m. own q u n (subtree_at-nested 0 t p s e q u f) m) in
+      ap (option_and_then (λ (u : Subtree). original_tree_hash H L u.first u.tree)) e ∙ ap (tree_hash H s.first) same
+      ∙ sym (ap (option_and_then (λ (u : Subtree). original_tree_hash H M u.first u.tree)) e)
+
+  -- with no leaf left out it is the hash that is kept
+  pub kept_hash : (L : List ℕ) (hashes : List (List ℕ)) (p : ℕ) (h : List ℕ) → AreSubtreeHashes H t hashes → L ≡ [] → slice_get hashes p ≡ Some h → original_tree_hash_at H L t p ≡ Some h
+  kept_hash L hashes p h all none g = ap (λ (M : List ℕ). original_tree_hash_at H M t p) none ∙ whole_tree H t p ∙ sym (all p) ∙ g
+
+-- ---- at a parent the list is split in two, at the first leaf of the right half
+
+module _ (t : Tree) (p q u m : ℕ) (n : Option ParentNode) (c : HasChildren t p q u m n) (L before after : List ℕ) (e : L ≡ before ++ after)
+    (low : All (λ i. i < m) before) (high : All (λ i. m ≤ i) after) where
+  pub left_alike : (H : List ℕ → List ℕ) → HoldsOwnLeaves t → original_tree_hash_at H L t q ≡ original_tree_hash_at H before t q
+  left_alike H own = hash-alike H t L before q _ own c.left_child (λ i r. among_front L before after e i (λ k d lt. let a = high k d lt in omega (arith, c.split)))
+
+  pub right_alike : (H : List ℕ → List ℕ) → HoldsOwnLeaves t → original_tree_hash_at H L t u ≡ original_tree_hash_at H after t u
+  right_alike H own = hash-alike H t L after u _ own c.right_child (λ i r. among_rest L before after e i (λ k d lt. let a = low k d lt in omega (arith, c.split)))
+
+  pub left_under : AreLeavesUnder t p L → AreLeavesUnder t q before
+  left_under under s f k d lt =
+      let a = front_has (IsLeafOf (record { first = c.first; tree = branch c.left n c.right })) L before after e (under _ c.whole) k d lt in
+      let b = low k d lt in
+      subst (λ (v : Subtree). IsLeafOf v (get_or before k d)) (same_Some _ _ (sym c.left_child ∙ f)) (a.0, omega (arith, c.split))
+
+  pub right_under : AreLeavesUnder t p L → AreLeavesUnder t u after
+  right_under under s f k d lt =
+      let a = rest_has (IsLeafOf (record { first = c.first; tree = branch c.left n c.right })) L before after e (under _ c.whole) k d lt in
+      let b = high k d lt in
+      subst (λ (v : Subtree). IsLeafOf v (get_or after k d)) (same_Some _ _ (sym c.right_child ∙ f)) (omega (arith, c.split), omega (arith, a.1))
+
+-- ---- the part of a parent's own unmerged leaves that lies under its child on a side
+
+-- the part of a list, split in two, that lies under the child on the side
+abbrev pub part_on : Side → List ℕ → List ℕ → List ℕ
+part_on sides.Left before after = before
+part_on sides.Right before after = after
+
+module _ (t : Tree) (p : ℕ) (side : Side) (child m : ℕ) (parent : ParentNode) (c : HasChildOn t p side child m parent) (own : HoldsOwnLeaves t)
+    (L before after : List ℕ) (e : L ≡ before ++ after) (low : All (λ i. i < m) before) (high : All (λ i. m ≤ i) after) where
+  child_alike : (H : List ℕ → List ℕ) (s : Side) → original_tree_hash_at H L t (child_on s c.left c.right) ≡ original_tree_hash_at H (part_on s before after) t (child_on s c.left c.right)
+  child_alike H sides.Left = left_alike t p c.left c.right m (Some parent) c.children L before after e low high H own
+  child_alike H sides.Right = right_alike t p c.left c.right m (Some parent) c.children L before after e low high H own
+
+  child_under : (s : Side) → AreLeavesUnder t p L → AreLeavesUnder t (child_on s c.left c.right) (part_on s before after)
+  child_under sides.Left = left_under t p c.left c.right m (Some parent) c.children L before after e low high
+  child_under sides.Right = right_under t p c.left c.right m (Some parent) c.children L before after e low high
+
+  own_under : IsPermutation parent.unmerged L → AreLeavesUnder t p L
+  own_under perm s f = All-permutation (IsLeafOf s) parent.unmerged L perm (own p s parent f (ap (λ (o : Option Subtree). option_and_then (λ (v : Subtree). root_parent v.tree) o) (sym f ∙ c.children.whole)))
+
+  pub part_alike : (H : List ℕ → List ℕ) → original_tree_hash_at H L t child ≡ original_tree_hash_at H (part_on side before after) t child
+  part_alike H = subst (λ (k : ℕ). original_tree_hash_at H L t k ≡ original_tree_hash_at H (part_on side before after) t k) (sym c.here) (child_alike H side)
+
+  pub part_under : IsPermutation parent.unmerged L → AreLeavesUnder t child (part_on side before after)
+  part_under perm = subst (λ (k : ℕ). AreLeavesUnder t k (part_on side before after)) (sym c.here) (child_under side (own_under perm))

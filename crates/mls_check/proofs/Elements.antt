@@ -44,10 +44,10 @@ and-right false b e = absurd (false≢true e)
 pub contains-found : (xs : List ℕ) (i : ℕ) → list_any (λ x. x == i) xs ≡ true → Contains xs i
 contains-found xs i h = Contains-from_any {eq = λ a b. b == a} (λ x y e. sym (eqb-true y x e)) i xs h
 
-kept-below : (n x : ℕ) (xs : List ℕ) → x < n → unmerged_places n (x ∷ xs) ≡ (2 * x) ∷ unmerged_places n xs
+pub kept-below : (n x : ℕ) (xs : List ℕ) → x < n → unmerged_places n (x ∷ xs) ≡ (2 * x) ∷ unmerged_places n xs
 kept-below n x xs l = ap (λ ys. map (λ i. 2 * i) ys) (below x n (x ∷ filter (λ i. nat_lt i n) xs) (filter (λ i. nat_lt i n) xs) l)
 
-left_out : (n x : ℕ) (xs : List ℕ) → n ≤ x → unmerged_places n (x ∷ xs) ≡ unmerged_places n xs
+pub left_out : (n x : ℕ) (xs : List ℕ) → n ≤ x → unmerged_places n (x ∷ xs) ≡ unmerged_places n xs
 left_out n x xs l = ap (λ ys. map (λ i. 2 * i) ys) (from x n (x ∷ filter (λ i. nat_lt i n) xs) (filter (λ i. nat_lt i n) xs) l)
 
 -- the places of a parent's unmerged leaves are those of the numbers in its list

@@ -20,3 +20,5 @@ pub mod Chains
 pub mod Faulted
 pub mod RisingCodes
 pub mod OwnLeaves
+pub mod Walks
+pub mod Resolutions

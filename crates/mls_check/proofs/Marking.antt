@@ -1,6 +1,5 @@
 -- Marks of reached parents, through a walk halves first.
-use Rattle.std.proofs.Common.{◌≡◌, ◌≢◌, ℕ, ◌+◌, ◌*◌, ◌<◌, Bool, true, false, List, Option, Some, None, Result, Ok, Err, refl, sym, ap, ◌∙◌, subst, arith, inl, inr, ◌++◌, take, length, IsTrue, is_some, IfOk, get_or, replicate}
-use Rattle.std.proofs.Math.Seq.{take-append_seam}
+use Rattle.std.proofs.Common.{◌≡◌, ◌≢◌, ℕ, ◌+◌, ◌*◌, ◌<◌, Bool, true, false, List, Option, Some, None, Result, Ok, Err, refl, sym, ap, ◌∙◌, subst, arith, inl, inr, length, IsTrue, is_some, IfOk, get_or, replicate}
 use Rattle.std.specs.Prelude.{◌↔◌, slice_set}
 use Rattle.std.proofs.Common.{get_or-set_same, get_or-set_other}
 use Rattle.std.proofs.lemmas.List.{get_or-replicate, get_or_past, length-replicate}
@@ -84,7 +83,3 @@ unset-marked t marks p n s e h = absurd (false≢true (sym n ∙ ap (λ o. is_so
 pub marked_everywhere : (t : Tree) (marks : List Bool) (n : ℕ) → n + 1 ≡ 2 * leaf_count t → ((p : ℕ) → p < n → IsMarkedAt t marks p) → (p : ℕ) → IsMarkedAt t marks p
 marked_everywhere t marks n e h p s a =
     elim (cases_lt p n) [ inl l ↦ h p l s a | inr g ↦ absurd (none-some s (sym (outside_above t p n e g) ∙ a)) ]
-
--- a vector after its whole slice was written
-pub written_back : (new rest : List Bool) (n : ℕ) → n ≡ length new → take n (new ++ rest) ≡ new
-written_back new rest n e = ap (λ k. take k (new ++ rest)) e ∙ take-append_seam new rest

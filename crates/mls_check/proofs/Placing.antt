@@ -1,25 +1,106 @@
 -- Entries that are placed, by the halves of their parent.
-use Rattle.std.proofs.Common.{◌≡◌, ℕ, ◌+◌, ◌*◌, ◌<◌, Bool, Some, sym, ◌∙◌, subst, inl, inr, IsTrue}
-use Rattle.std.specs.Prelude.{nat_lt, if◌then◌else◌}
-use Rattle.std.specs.List.{list_all}
+use Rattle.std.proofs.Common.{◌≡◌, ◌≢◌, ℕ, ◌+◌, ◌*◌, ◌<◌, ◌≤◌, Bool, true, false, List, [], ◌∷◌, ◌++◌, Option, Some, None, is_some, refl, sym, ap, ◌∙◌, subst, inl, inr, arith, length, get_or, IsTrue}
+use Rattle.std.specs.Prelude.{nat_lt, ◌==◌, ◌&&◌, if◌then◌else◌, All}
+use Rattle.std.specs.List.{Contains, list_all}
+use Rattle.std.specs.List.Sorted.{IsStrictlyIncreasing}
 use Rattle.std.proofs.lemmas.Option.{same_Some, none-some}
-use Rattle.std.proofs.lemmas.Bool.{cases_lt}
+use Rattle.std.proofs.lemmas.Bool.{cases_lt, cases_Bool, false≢true, eqb-true}
+use Rattle.std.proofs.lemmas.Bool.Decides.{Decides-eqb}
+use Rattle.std.proofs.lemmas.List.Elements.{All-weaker, Contains-get_or}
+use Rattle.std.proofs.lemmas.List.Folds.{list_all-append}
+use Rattle.mls_nodes.specs.declared.leaf.LeafNode.{LeafNode}
 use Rattle.mls_nodes.specs.declared.parent.ParentNode.{ParentNode}
-use Rattle.mls_tree.specs.Tree.{Tree, branch, leaf_count, entry_of}
+use Rattle.mls_tree.specs.Tree.{Tree, leaf, branch, leaf_count, subtree_at, entry_of}
 use Rattle.mls_tree.specs.Parts.{HasChildren}
-use Rattle.mls_check.specs.Entered.{is_entered_at, is_entered_in}
-use Rattle.mls_check.specs.Sound.{is_entered, is_placed, IsPlacedAt, IsSortedAt, HasSortedList}
+use Rattle.mls_tree.proofs.Choices.{below, from}
+use Rattle.mls_tree.proofs.Descent.{depth}
+use Rattle.mls_check.specs.Entered.{is_entered_at}
+use Rattle.mls_check.specs.Sound.{lists, is_entered, is_placed, IsPlacedAt, IsSortedAt, HasSortedList}
+use Rattle.mls_check.proofs.Elements.{contains-head, contains-tail, all-each, and-left}
 use Rattle.mls_check.proofs.Outside.{outside_above}
+use Rattle.mls_check.proofs.Walks.{one-fails, list_all-and, list_all-same, contained}
+
+eqb-same : (n : ℕ) → (n == n) ≡ true
+eqb-same n = (Decides-eqb n n).1 refl
+
+and-true : (b : Bool) → (b && true) ≡ b
+and-true true = refl
+and-true false = refl
+
+-- where there is no subtree, no leaf is entered
+pub none-entered : (t : Tree) (p : ℕ) (leaves : List ℕ) → 0 < length leaves → subtree_at 0 t p ≡ None → false ≡ list_all (λ i. is_entered_at (subtree_at 0 t p) i) leaves
+none-entered t p leaves l e =
+    one-fails (λ i. is_entered_at (subtree_at 0 t p) i) leaves 0 l (λ h. false≢true (sym (ap (λ s. is_entered_at s (get_or leaves 0 0)) e) ∙ h))
+
+-- under a leaf, that leaf alone is
+module _ (t : Tree) (p index : ℕ) (x : Option LeafNode) (at : subtree_at 0 t p ≡ Some (record { first = index; tree = leaf x })) (leaves : List ℕ) where
+  entered-here : list_all (λ i. is_entered_at (subtree_at 0 t p) i) leaves ≡ list_all (λ i. (i == index) && is_some x) leaves
+  entered-here j = list_all (λ i. is_entered_at (at j) i) leaves
+
+  pub leaf-entered : leaves ≡ index ∷ [] → is_some x ≡ list_all (λ i. is_entered_at (subtree_at 0 t p) i) leaves
+  leaf-entered e = sym (entered-here ∙ ap (λ xs. list_all (λ i. (i == index) && is_some x) xs) e ∙ only (is_some x))
+    where
+      only : (b : Bool) → (((index == index) && b) && true) ≡ b
+      only b = ap (λ a. (a && b) && true) (eqb-same index) ∙ and-true b
+
+  pub others-entered : 0 < length leaves → IsStrictlyIncreasing leaves → leaves ≢ index ∷ [] → false ≡ list_all (λ i. is_entered_at (subtree_at 0 t p) i) leaves
+  others-entered l rising n = go leaves l rising n ∙ sym entered-here
+    where
+      same : (xs : List ℕ) → list_all (λ i. (i == index) && is_some x) xs ≡ true → (k : ℕ) → k < length xs → get_or xs k 0 ≡ index
+      same xs h k l = eqb-true (get_or xs k 0) index (and-left (get_or xs k 0 == index) (is_some x) (all-each (λ i. (i == index) && is_some x) xs (get_or xs k 0) h (Contains-get_or xs k 0 l)))
+
+      all : (xs : List ℕ) → 0 < length xs → IsStrictlyIncreasing xs → xs ≢ index ∷ [] → list_all (λ i. (i == index) && is_some x) xs ≡ true → ⊥
+      all [] l r n h = omega (arith, l)
+      all (y ∷ []) l r n h = n (ap (λ k. k ∷ []) (same (y ∷ []) h 0 l))
+      all (y ∷ z ∷ zs) l r n h = (let a = same (y ∷ z ∷ zs) h 0 l in let b = same (y ∷ z ∷ zs) h 1 (omega arith) in let c = r 0 (omega arith) in omega (arith, a, b, c))
+
+      go : (xs : List ℕ) → 0 < length xs → IsStrictlyIncreasing xs → xs ≢ index ∷ [] → false ≡ list_all (λ i. (i == index) && is_some x) xs
+      go xs l r n = elim (cases_Bool (list_all (λ i. (i == index) && is_some x) xs)) [ inl e ↦ absurd (all xs l r n e) | inr e ↦ sym e ]
+
+-- the left child of a parent is nearer to the leaves
+pub left_lower : (t : Tree) (p q u m : ℕ) (n : Option ParentNode) (h : HasChildren t p q u m n) → depth (subtree_at 0 t q) < depth (subtree_at 0 t p)
+left_lower t p q u m n h = omega (arith, ap depth h.left_child, ap depth h.whole)
+
+-- under a parent, those that it lists and that are entered in the half that they lie in
+module _ (t : Tree) (p q u m : ℕ) (n : Option ParentNode) (h : HasChildren t p q u m n) where
+  abbrev pub in_half : ℕ → Bool
+  in_half i = if nat_lt i (h.first + leaf_count h.left) then is_entered i h.first h.left else is_entered i (h.first + leaf_count h.left) h.right
+
+  pub parent-entered : (leaves : List ℕ) → list_all (λ i. is_entered_at (subtree_at 0 t p) i) leaves ≡ (list_all (λ i. lists n i) leaves && list_all in_half leaves)
+  parent-entered leaves = (λ j. list_all (λ i. is_entered_at (h.whole j) i) leaves) ∙ list_all-and (λ i. lists n i) in_half leaves
+
+  pub halves-entered : (leaves before after : List ℕ) → leaves ≡ before ++ after → All (λ i. i < m) before → All (λ i. m ≤ i) after
+      → list_all in_half leaves ≡ (list_all (λ i. is_entered_at (subtree_at 0 t q) i) before && list_all (λ i. is_entered_at (subtree_at 0 t u) i) after)
+  halves-entered leaves before after e low high =
+      ap (λ xs. list_all in_half xs) e
+      ∙ list_all-append in_half before after
+      ∙ ap (λ a. a && list_all in_half after)
+      (list_all-same in_half (λ i. is_entered_at (subtree_at 0 t q) i) before
+      (All-weaker (λ i. i < m) (λ i. in_half i ≡ is_entered_at (subtree_at 0 t q) i)
+      (λ i l. below i (h.first + leaf_count h.left) (is_entered i h.first h.left) (is_entered i (h.first + leaf_count h.left) h.right) (let s = h.split in omega (arith, l, s)) ∙ sym (ap (λ s. is_entered_at s i) h.left_child)) before low))
+      ∙ ap (λ a. list_all (λ i. is_entered_at (subtree_at 0 t q) i) before && a)
+      (list_all-same in_half (λ i. is_entered_at (subtree_at 0 t u) i) after
+      (All-weaker (λ i. m ≤ i) (λ i. in_half i ≡ is_entered_at (subtree_at 0 t u) i)
+      (λ i l. from i (h.first + leaf_count h.left) (is_entered i h.first h.left) (is_entered i (h.first + leaf_count h.left) h.right) (let s = h.split in omega (arith, l, s)) ∙ sym (ap (λ s. is_entered_at s i) h.right_child)) after high))
+
+  pub apart-entered : (leaves before after : List ℕ) → leaves ≡ before ++ after → All (λ i. i < m) before → All (λ i. m ≤ i) after → list_all (λ i. lists n i) leaves ≡ true
+      → list_all (λ i. is_entered_at (subtree_at 0 t p) i) leaves
+      ≡ (list_all (λ i. is_entered_at (subtree_at 0 t q) i) before && list_all (λ i. is_entered_at (subtree_at 0 t u) i) after)
+  apart-entered leaves before after e low high listed =
+      parent-entered leaves ∙ ap (λ a. a && list_all in_half leaves) listed ∙ halves-entered leaves before after e low high
+
+-- a parent lists each of its own leaves
+own-listed : (n : ParentNode) (xs : List ℕ) → ((i : ℕ) → Contains xs i → Contains n.unmerged i) → list_all (λ i. lists (Some n) i) xs ≡ true
+own-listed n [] h = refl
+own-listed n (x ∷ xs) h = ap (λ a. a && list_all (λ i. lists (Some n) i) xs) (contained n.unmerged x (h x (contains-head x xs))) ∙ own-listed n xs (λ i c. h i (contains-tail x xs i c))
 
 module _ (t : Tree) (p q u m : ℕ) where
   pub placed-parent : (n : ParentNode) → (h : HasChildren t p q u m (Some n))
-      → list_all (λ i. is_entered_in t q u m i) n.unmerged ≡ is_placed h.first (branch h.left (Some n) h.right)
-  placed-parent n h =
-      (λ j. list_all (λ i. if nat_lt i m then is_entered_at (h.left_child j) i else is_entered_at (h.right_child j) i) n.unmerged)
-      ∙ (λ j. list_all (λ i. if nat_lt i (h.split j) then is_entered i h.first h.left else is_entered i (h.first + leaf_count h.left) h.right) n.unmerged)
+      → list_all (λ i. is_entered_at (subtree_at 0 t p) i) n.unmerged ≡ is_placed h.first (branch h.left (Some n) h.right)
+  placed-parent n h = parent-entered t p q u m (Some n) h n.unmerged ∙ ap (λ a. a && list_all (in_half t p q u m (Some n) h) n.unmerged) (own-listed n n.unmerged (λ i c. c))
 
   -- what the entries of the parent were found to be
-  pub placed_here : (n : ParentNode) → HasChildren t p q u m (Some n) → (r : Bool) → r ≡ list_all (λ i. is_entered_in t q u m i) n.unmerged
+  pub placed_here : (n : ParentNode) → HasChildren t p q u m (Some n) → (r : Bool) → r ≡ list_all (λ i. is_entered_at (subtree_at 0 t p) i) n.unmerged
       → (IsTrue r → IsPlacedAt t p) × (IsPlacedAt t p → IsTrue r)
   placed_here n h r e =
       let f = e ∙ placed-parent n h in (

@@ -1,5 +1,5 @@
 -- Marks of the parents that are known to be reached, one for each place.
-use Rattle.std.specs.Prelude.{◌≡◌, ◌≢◌, ◌⊎◌, ℕ, ◌*◌, ◌%◌, Bool, true, false, List, Option, Some, None, MatchOption, slice_index_or}
+use Rattle.std.specs.Prelude.{◌≡◌, ◌≢◌, ◌⊎◌, ℕ, ◌*◌, ◌%◌, ◌<◌, Bool, true, false, List, [], ◌∷◌, Option, Some, None, MatchOption, slice_index_or}
 use Rattle.std.specs.List.{Contains}
 use Rattle.mls_tree.specs.Tree.{Tree, leaf_count, Subtree, subtree_at, node_at}
 use Rattle.mls_tree.specs.Paths.{resolution_at}
@@ -16,6 +16,11 @@ pub record IsLone (list places : List ℕ) (p : ℕ) : Type 0 where
   pub here : Contains places p
   pub unlisted : ¬ IsListed list p
   pub others : (u : ℕ) → Contains places u → u ≢ p → IsListed list u
+
+-- the places of leaves rise along a list of places
+abbrev pub RisesInLeaves : List ℕ → Type 0
+RisesInLeaves [] = Unit {0}
+RisesInLeaves (p ∷ ps) = (p % 2 ≡ 0 → (u : ℕ) → Contains ps u → u % 2 ≡ 0 → p < u) × RisesInLeaves ps
 
 -- the node at place q is marked
 abbrev pub IsMarked : List Bool → ℕ → Type 0

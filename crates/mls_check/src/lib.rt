@@ -5,6 +5,7 @@
 mod credentials;
 mod distinct;
 pub mod laws;
+mod leaf_lists;
 mod members;
 mod placed;
 mod places;

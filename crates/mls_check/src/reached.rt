@@ -13,31 +13,29 @@ ghost use Rattle.mls_hash.specs.SubtreeHashes.{AreSubtreeHashes};
 ghost use Rattle.mls_check.specs.FirstFailure.{IsFirstFailureIn};
 ghost use Rattle.mls_check.specs.Sound.{IsSorted, IsPlaced};
 ghost use Rattle.mls_check.specs.Reached.{linked_hash, IsReachedAt};
-ghost use Rattle.mls_check.specs.Marks.{IsListed, IsLone, IsChainEnd, IsCandidateIn, CarriesHash, AreSound, AreKept, AreAllMarkedAt, AreAllMarkedUnder, IsMarkedAt, IsReachedHere};
+ghost use Rattle.mls_check.specs.Marks.{RisesInLeaves, IsLone, IsChainEnd, IsCandidateIn, CarriesHash, AreSound, AreKept, AreAllMarkedAt, AreAllMarkedUnder, IsMarkedAt, IsReachedHere};
 
+use crate::leaf_lists::starts_with;
 use crate::places::place_count;
 use mls_hash::{HashFault, Side, SubtreeHashes, Suite};
 use mls_nodes::{LeafSource, Node};
-use mls_tree::{Part, PublicTree, TreeError};
+use mls_tree::{Part, PublicTree, TreeError, split_leaves};
 use std::alloc::{AllocError, Global};
 
-/// Whether a place is that of a leaf of the list.
-fn is_listed(list: &[u32], place: u32) -> bool
-    requires { IsStrictlyIncreasing list.now }
-    ensures { IsTrue result ↔ IsListed list.now place }
-{
-    place % 2 == 0 && list.binary_search(&(place / 2)).is_ok()
-}
-
-/// The one of the places that isn't that of a leaf of the list.
+/// The one of the places that isn't that of a leaf of the list. The list rises, and so do the places of leaves: both are walked together.
 fn lone_place(places: &[u32], list: &[u32]) -> Option<u32>
-    requires { IsStrictlyIncreasing list.now }
+    requires list { IsStrictlyIncreasing list.now }
+    requires places { RisesInLeaves places.now }
     ensures { MatchOption result ((p : ℕ) → ¬ IsLone list.now places.now p) (λ p. IsLone list.now places.now p) }
 {
     let mut lone = None;
+    let mut rest = list;
     for &place in places {
-        if is_listed(list, place) {
-            continue;
+        if place % 2 == 0 {
+            rest = split_leaves(rest, place / 2).1;
+            if starts_with(rest, place / 2) {
+                continue;
+            }
         }
         if lone == Some(place) {
             continue;
@@ -72,7 +70,9 @@ fn candidate(
     reached: &[bool],
 ) -> Result<Option<u32>, AllocError>
     requires inside { IsSome (subtree_at 0 tree.now.tree half) }
-    requires sorted { IsStrictlyIncreasing list.now }
+    requires list { IsStrictlyIncreasing list.now }
+    requires sorted { IsSorted tree.now.tree }
+    requires placed { IsPlaced tree.now.tree }
     ensures { IfOk result (λ o. IsCandidateIn tree.now.tree list.now half reached.now o) }
 {
     let places = match tree.resolution(alloc, half) {

@@ -174,6 +174,42 @@ fn a_changed_parent(rt: HostRuntime) -> Result<(), Fail> {
     Ok(())
 }
 
+/// Eight leaves, of which the last is blank, and four parents, of which the one at a place has these unmerged leaves.
+fn listing(rt: &HostRuntime, changed: u32, unmerged: &[u32]) -> Result<PublicTree, Fail> {
+    let mut tree = PublicTree::blank(rt.alloc(), 8)?;
+    for leaf in 0..7 {
+        tree.set_leaf(leaf, joined(rt, leaf as u8)?)?;
+    }
+    let lists: [(u32, &[u32]); 4] = [(3, &[1, 2]), (5, &[2]), (7, &[1, 2, 6]), (11, &[6])];
+    for (place, list) in lists {
+        let list = if place == changed { unmerged } else { list };
+        let key = 0xd0 | place as u8;
+        tree.put_parent(place, parent_node(rt, key, &[], list)?)?;
+    }
+    Ok(tree)
+}
+
+/// Where all lists are sound, no chain leads to the first parent.
+#[test]
+fn entries_in_the_lists_between(rt: HostRuntime) -> Result<(), Fail> {
+    let table: [(u32, &[u32], TreeFault); 9] = [
+        (3, &[1, 2], TreeFault::ParentHashInvalid(3)),
+        (3, &[1], TreeFault::UnmergedUnsound(7)),
+        (3, &[2], TreeFault::UnmergedUnsound(7)),
+        (3, &[1, 2, 4], TreeFault::UnmergedUnsound(3)),
+        (5, &[], TreeFault::UnmergedUnsound(3)),
+        (5, &[2, 4], TreeFault::UnmergedUnsound(5)),
+        (7, &[1, 2, 3, 6], TreeFault::UnmergedUnsound(7)),
+        (11, &[], TreeFault::UnmergedUnsound(7)),
+        (11, &[6, 7], TreeFault::UnmergedUnsound(11)),
+    ];
+    for (place, unmerged, fault) in table {
+        let tree = listing(&rt, place, unmerged)?;
+        assert_eq!(rt; judged(&rt, &tree)?, Err(fault), "with {place}");
+    }
+    Ok(())
+}
+
 #[test]
 fn a_blank_unmerged_leaf(rt: HostRuntime) -> Result<(), Fail> {
     let mut tree = grown(&rt)?;

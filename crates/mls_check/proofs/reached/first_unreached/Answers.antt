@@ -3,7 +3,8 @@ use Rattle.mls_hash.specs.Hashing.{hash_of}
 use Rattle.mls_tree.specs.RatchetTree.{RatchetTree}
 use Rattle.mls_tree.proofs.Coordinates.{root-seen}
 use Rattle.mls_check.specs.Marks.{AreSound, AreAllMarkedAt}
-use Rattle.mls_check.proofs.Marking.{reached-marked, written_back}
+use Rattle.mls_hash.proofs.Filling.{written_back}
+use Rattle.mls_check.proofs.Marking.{reached-marked}
 use Rattle.mls_check.proofs.reached.first_unreached.Goals as goal
 
 pub returns : goal.returns

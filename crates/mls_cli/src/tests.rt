@@ -187,64 +187,69 @@ fn faults_are_told(rt: HostRuntime) -> Result<(), Fail> {
     Ok(())
 }
 
+/// What is shown of a group info.
+const INFO_LINES: &str = "suite 1\ngroup 47\nepoch 0\n\
+    tree e32ab6a0a711ec8a732c3fad9263ed5fa61caf53fdf9b9690dc57271d8f110d7\n\
+    confirmed -\nextensions -\ninfo-extensions 2\nconfirmation e0\nsigner 0\n";
+
+/// What is shown of messages, and with which verdict.
+const SHOWN: [(ShowKind, &str, Verdict, &str); 10] = [
+    (ShowKind::Info, INFO, Verdict::Yes, INFO_LINES),
+    (
+        ShowKind::Info,
+        PROPOSAL,
+        Verdict::No,
+        "unreadable NotGroupInfo\n",
+    ),
+    (
+        ShowKind::Info,
+        "0001",
+        Verdict::No,
+        "unreadable Truncated 2\n",
+    ),
+    (
+        ShowKind::Message,
+        PROPOSAL,
+        Verdict::Yes,
+        "public member 0 epoch 0 proposal add\n",
+    ),
+    (
+        ShowKind::Message,
+        COMMIT,
+        Verdict::Yes,
+        "public member 0 epoch 0 commit 1 nopath\n",
+    ),
+    (
+        ShowKind::Message,
+        INFO,
+        Verdict::Yes,
+        "group_info epoch 0\n",
+    ),
+    (
+        ShowKind::Message,
+        KEY_PACKAGE,
+        Verdict::Yes,
+        "key_package a1\n",
+    ),
+    (
+        ShowKind::Message,
+        "00010002abcd",
+        Verdict::Yes,
+        "private 2\n",
+    ),
+    (ShowKind::Message, "00010003", Verdict::Yes, "welcome 0\n"),
+    (
+        ShowKind::Message,
+        "00010009",
+        Verdict::No,
+        "unreadable BadTag 9 2\n",
+    ),
+];
+
 #[test]
 fn messages_are_shown(rt: HostRuntime) -> Result<(), Fail> {
     let alloc = rt.alloc();
-    let info_lines = "suite 1\ngroup 47\nepoch 0\n\
-        tree e32ab6a0a711ec8a732c3fad9263ed5fa61caf53fdf9b9690dc57271d8f110d7\n\
-        confirmed -\nextensions -\ninfo-extensions 2\nconfirmation e0\nsigner 0\n";
-    for (kind, message, verdict, text) in [
-        (ShowKind::Info, INFO, Verdict::Yes, info_lines),
-        (
-            ShowKind::Info,
-            PROPOSAL,
-            Verdict::No,
-            "unreadable NotGroupInfo\n",
-        ),
-        (
-            ShowKind::Info,
-            "0001",
-            Verdict::No,
-            "unreadable Truncated 2\n",
-        ),
-        (
-            ShowKind::Message,
-            PROPOSAL,
-            Verdict::Yes,
-            "public member 0 epoch 0 proposal add\n",
-        ),
-        (
-            ShowKind::Message,
-            COMMIT,
-            Verdict::Yes,
-            "public member 0 epoch 0 commit 1 nopath\n",
-        ),
-        (
-            ShowKind::Message,
-            INFO,
-            Verdict::Yes,
-            "group_info epoch 0\n",
-        ),
-        (
-            ShowKind::Message,
-            KEY_PACKAGE,
-            Verdict::Yes,
-            "key_package a1\n",
-        ),
-        (
-            ShowKind::Message,
-            "00010002abcd",
-            Verdict::Yes,
-            "private 2\n",
-        ),
-        (ShowKind::Message, "00010003", Verdict::Yes, "welcome 0\n"),
-        (
-            ShowKind::Message,
-            "00010009",
-            Verdict::No,
-            "unreadable BadTag 9 2\n",
-        ),
-    ] {
+    for (kind, message, verdict, text) in SHOWN {
         let bytes = hex::decode(alloc, message).ok().ok_or("hexadecimal text")?;
         let shown = shown_as(alloc, kind, bytes.as_slice())?;
         assert_eq!(rt; (shown.0, shown.1.as_str()), (verdict, text));
@@ -281,25 +286,25 @@ fn order(alloc: Global, line: &str) -> Result<Result<Order, OrderFault>, Fail> {
 }
 
 #[test]
-fn orders_are_read(rt: HostRuntime) -> Result<(), Fail> {
-    let alloc = rt.alloc();
-    let order_of_show = order(alloc, "show tree x")?.ok().ok_or("an order")?;
-    match &order_of_show {
-        Order::Show { kind, file } => {
-            assert_eq!(rt; *kind, ShowKind::Tree);
-            assert_eq!(rt; file.as_str(), "x");
-        }
-        _ => return Err(Fail::from("an order to show")),
-    }
+fn orders_to_show_are_read(rt: HostRuntime) -> Result<(), Fail> {
     for (line, wanted) in [
+        ("show tree x", ShowKind::Tree),
         ("show info x", ShowKind::Info),
         ("show message x", ShowKind::Message),
     ] {
-        match order(alloc, line)?.ok().ok_or("an order")? {
-            Order::Show { kind, .. } => assert_eq!(rt; kind, wanted),
+        match order(rt.alloc(), line)?.ok().ok_or("an order")? {
+            Order::Show { kind, file } => {
+                assert_eq!(rt; kind, wanted);
+                assert_eq!(rt; file.as_str(), "x");
+            }
             _ => return Err(Fail::from("an order to show")),
         }
     }
+    Ok(())
+}
+
+#[test]
+fn other_orders_are_refused(rt: HostRuntime) -> Result<(), Fail> {
     for (line, wanted) in [
         (
             "validate-tree --context a --tree b",
@@ -316,15 +321,20 @@ fn orders_are_read(rt: HostRuntime) -> Result<(), Fail> {
         ("show tree x y", "unexpected argument 'y'"),
         ("", "requires a subcommand"),
     ] {
-        let refused = order(alloc, line)?.err().ok_or("a refusal")?;
+        let refused = order(rt.alloc(), line)?.err().ok_or("a refusal")?;
         assert_eq!(rt; refused.status(), 2);
         match &refused {
             OrderFault::Usage(text) => assert!(rt; text.contains(wanted), "{line}"),
             _ => return Err(Fail::from("usage")),
         }
     }
+    Ok(())
+}
+
+#[test]
+fn help_is_given(rt: HostRuntime) -> Result<(), Fail> {
     for line in ["--help", "show --help", "help show"] {
-        let help = order(alloc, line)?.err().ok_or("help")?;
+        let help = order(rt.alloc(), line)?.err().ok_or("help")?;
         assert_eq!(rt; help.status(), 0);
         match &help {
             OrderFault::Help(text) => assert!(rt; text.contains("Usage: mlscheck"), "{line}"),

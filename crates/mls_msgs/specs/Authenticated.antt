@@ -1,4 +1,4 @@
--- A framed content together with its authentication, and how it is spelled (RFC 9420, sections 6 and 6.1).
+-- A framed content together with its authentication, and how it is spelled (RFC 9420, 6 and 6.1).
 use Rattle.std.specs.Prelude.{ℕ, List, [], Bool, true, false, Option, Some, None, nat_eq, ◌&&◌, ◌||◌, if◌then◌else◌}
 use Rattle.std.specs.Int.{w16}
 use Rattle.mls_wire.specs.Spelling.{◌⊕◌, number, vector}

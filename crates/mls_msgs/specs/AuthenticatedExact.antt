@@ -28,9 +28,9 @@ module _ {A : Type 0} (P : A → Type 0) (s t : A → Option (List ℕ)) (f : In
     takes = λ i r j e.
         let a = exact.takes i r j e in
         (tt, (a.1.0, sym (same r a.0) ∙ a.1.1, a.1.2, a.1.3));
-    again = λ r front rest place p e.
+    again = λ r front rest offset p e.
         let b = holds r front e in
-        exact.again r front rest place b (same r b ∙ e);
+        exact.again r front rest offset b (same r b ∙ e);
   }
 
 -- ---- wire formats and tags

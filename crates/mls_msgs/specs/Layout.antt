@@ -1,5 +1,5 @@
--- How key packages, proposals, commits, framed contents and group infos are spelled: their fields in order.
--- A value that is out of its limits has no spelling.
+-- How key packages, proposals, commits, framed contents and group infos are spelled: their fields in order (RFC 9420,
+-- 6, 7.6, 10 and 12). A value that is out of its limits has no spelling.
 use Rattle.std.specs.Prelude.{ℕ, List, Option, Bool, true, false}
 use Rattle.std.specs.Int.{w8, w16, w32, w64}
 use Rattle.mls_wire.specs.Spelling.{◌⊕◌, number, vector, list, optional}
@@ -21,7 +21,7 @@ use Rattle.mls_msgs.specs.declared.frame.Content.TheVariants as contents
 use Rattle.mls_msgs.specs.declared.frame.FramedContent.{FramedContent}
 use Rattle.mls_msgs.specs.declared.group_info.GroupInfo.{GroupInfo}
 
--- a KeyPackage (RFC 9420, section 10)
+-- a KeyPackage (RFC 9420, 10)
 unfoldable pub key_package : KeyPackage → Option (List ℕ)
 key_package k =
     number w16 k.version ⊕ number w16 k.cipher_suite ⊕ vector k.init_key ⊕ leaf k.leaf_node

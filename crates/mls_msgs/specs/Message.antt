@@ -1,4 +1,4 @@
--- Messages as they are sent, and how they are spelled (RFC 9420, section 6).
+-- Messages as they are sent, and how they are spelled (RFC 9420, 6).
 use Rattle.std.specs.Prelude.{ℕ, List, Bool, ◌||◌, Option, Some, None, nat_eq, if◌then◌else◌}
 use Rattle.std.specs.Int.{w16}
 use Rattle.mls_wire.specs.Spelling.{◌⊕◌, number}

@@ -52,7 +52,7 @@ group_info_long g front h = long_left (group_context g.context) _ front (group_c
 holding : {A : Type 0} (P : A → Type 0) (s : A → Option (List ℕ)) (f : Input → Option (A × Input)) → ((a : A) → P a) → IsExact s f → Exact P s f
 holding P s f holds exact = record {
   takes = λ i r j e. (holds r, (exact.takes i r j e).1);
-  again = λ r front rest place p e. exact.again r front rest place tt e;
+  again = λ r front rest offset p e. exact.again r front rest offset tt e;
 }
 
 behind_version : (version : ℕ) → Exact (λ (n : ℕ). Unit {0} × (1 ≡ version)) (number w16) (λ j. cond (nat_eq version 1) (number_at w16 j) None)
@@ -77,10 +77,10 @@ module _ {A : Type 0} (s : A → Option (List ℕ)) (f : Input → Option (A × 
       let all : i.left ≡ t.0 = t.2 ∙ ap (λ (r : List ℕ). t.0 ++ r) none ∙ append-nil t.0 in
       ap s (sym (some_is a.0.0 x b.1)) ∙ t.1 ∙ ap (λ (r : List ℕ). Some r) (sym all)
 
-  rest_again : (x : A) (text : List ℕ) (place : ℕ) → s x ≡ Some text → rest_at f (at place text) ≡ Some x
-  rest_again x text place e =
-      let a = exact.again x text [] place tt e in
-      let b : f (at place text) ≡ Some (x, at (place + length text) []) = ap (λ (r : List ℕ). f (at place r)) (sym (append-nil text)) ∙ a in
+  rest_again : (x : A) (text : List ℕ) (offset : ℕ) → s x ≡ Some text → rest_at f (at offset text) ≡ Some x
+  rest_again x text offset e =
+      let a = exact.again x text [] offset tt e in
+      let b : f (at offset text) ≡ Some (x, at (offset + length text) []) = ap (λ (r : List ℕ). f (at offset r)) (sym (append-nil text)) ∙ a in
       rw b refl
 
 -- ---- messages
@@ -146,14 +146,14 @@ unread_again n i e = elim (either_holds (nat_eq n 2) (nat_eq n 3) e) [
   | inr three ↦ let is : n ≡ 3 = eqb-true n 3 three in rw is refl
 ]
 
-body_again : (x : Message) (text : List ℕ) (place : ℕ) → message_body x ≡ Some text → message_body_at (format_of x) (at place text) ≡ Some x
+body_again : (x : Message) (text : List ℕ) (offset : ℕ) → message_body x ≡ Some text → message_body_at (format_of x) (at offset text) ≡ Some x
 unfolding message_body_at
-body_again (messages.Public m) text place e = let a = rest_again public_message public_message_at public_message_exact m text place e in rw a refl
-body_again (messages.Unread n body) text place e =
+body_again (messages.Public m) text offset e = let a = rest_again public_message public_message_at public_message_exact m text offset e in rw a refl
+body_again (messages.Unread n body) text offset e =
     let a = allowed (is_unread n) (Some body) text e in
-    unread_again n (at place text) a.0 ∙ ap (λ (b : List ℕ). Some (messages.Unread n b)) (sym (some_is body text a.1))
-body_again (messages.GroupInfo g) text place e = let a = rest_again group_info group_info_at group_info_exact g text place e in rw a refl
-body_again (messages.KeyPackage k) text place e = let a = rest_again key_package key_package_at key_package_exact k text place e in rw a refl
+    unread_again n (at offset text) a.0 ∙ ap (λ (b : List ℕ). Some (messages.Unread n b)) (sym (some_is body text a.1))
+body_again (messages.GroupInfo g) text offset e = let a = rest_again group_info group_info_at group_info_exact g text offset e in rw a refl
+body_again (messages.KeyPackage k) text offset e = let a = rest_again key_package key_package_at key_package_exact k text offset e in rw a refl
 
 pub message_takes : (bytes : List ℕ) (x : Message) → message_at bytes ≡ Some x → message x ≡ Some bytes
 unfolding message_at

@@ -1,4 +1,4 @@
--- A message in the open, and how it is spelled (RFC 9420, section 6.2).
+-- A message in the open, and how it is spelled (RFC 9420, 6.2).
 use Rattle.std.specs.Prelude.{ℕ, List, Bool, Option, None, nat_eq, ◌&&◌, if◌then◌else◌}
 use Rattle.mls_wire.specs.Spelling.{◌⊕◌}
 use Rattle.mls_msgs.specs.Layout.{is_member}

@@ -33,7 +33,7 @@ given_context None = Some []
 given_context (Some context) = group_context context
 
 -- a FramedContentTBS: the version 1, the wire format, the framed content and the group context that is handed in
--- (RFC 9420, section 6.1)
+-- (RFC 9420, 6.1)
 unfoldable pub content_tbs : AuthenticatedParts → Option GroupContext → Option (List ℕ)
 content_tbs a context = number w16 1 ⊕ number w16 a.wire_format ⊕ framed_content a.content ⊕ given_context context
 

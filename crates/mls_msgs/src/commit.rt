@@ -5,40 +5,48 @@ use mls_nodes::LeafNode;
 use mls_wire::{CodecFault, Decode, Draft, Encode, Opaque, Reader, Sequence};
 use std::alloc::Global;
 
-/// A path secret, encrypted to one node of the copath's resolution (RFC 9420, section 7.6).
+/// A path secret, encrypted to one node of the copath's resolution (RFC 9420, 7.6).
 #[derive(Debug, Drop)]
 pub struct Ciphertext {
+    /// What the node's private key opens to the key of the encryption.
     pub kem_output: Opaque,
+    /// The path secret under that key.
     pub ciphertext: Opaque,
 }
 
 /// One ciphertext per node of a resolution.
 pub type Ciphertexts = Sequence<Ciphertext>;
 
-/// A node's new key, and its path secret for those under the node's copath child (RFC 9420, section 7.6).
+/// A node's new key, and its path secret for those under the node's copath child (RFC 9420, 7.6).
 #[derive(Debug, Drop)]
 pub struct PathNode {
+    /// The node's new public key.
     pub encryption_key: Opaque,
+    /// The node's path secret, encrypted to each node of the copath child's resolution in its order.
     pub ciphertexts: Ciphertexts,
 }
 
 /// One node per node of the committer's filtered direct path, from the lowest to the root.
 pub type PathNodes = Sequence<PathNode>;
 
-/// The committer's new leaf, and the new nodes above it (RFC 9420, section 7.6).
+/// The committer's new leaf, and the new nodes above it (RFC 9420, 7.6).
 #[derive(Debug, Drop)]
 pub struct UpdatePath {
+    /// The committer's new leaf node.
     pub leaf_node: LeafNode,
+    /// The new nodes above it, one for each parent of the filtered direct path, from the lowest to the root.
     pub nodes: PathNodes,
 }
 
 /// The proposals of a commit in their order.
 pub type Proposals = Sequence<ProposalOrRef>;
 
-/// What begins a new epoch: the proposals that are applied, and perhaps an update path (RFC 9420, section 12.4).
+/// What begins a new epoch: the proposals that are applied, and perhaps an update path (RFC 9420, 12.4).
 #[derive(Debug, Drop)]
 pub struct Commit {
+    /// The proposals that it covers, each itself or by its reference, in the order of the list.
     pub proposals: Proposals,
+    /// The committer's new leaf and path, where it has one.
     pub path: Option<UpdatePath>,
 }
 

@@ -6,7 +6,7 @@ ghost use Rattle.mls_wire.specs.declared.fault.WireFaultKind.TheVariants.{BadTag
 
 use mls_wire::{CodecFault, WireFault, WireFaultKind};
 
-/// A tag that begins at this place and has none of its values.
+/// A tag that begins at this offset and has none of its values.
 pub(crate) fn bad_tag(tag: u16, at: usize) -> CodecFault
     ensures { result ≡ Wire (record { kind = BadTag tag; at = at }) }
 {

@@ -6,7 +6,7 @@ use crate::proposal::Proposal;
 use mls_wire::{CodecFault, Decode, Draft, Encode, Opaque, Reader};
 use std::alloc::Global;
 
-/// Who sent a message (RFC 9420, section 6).
+/// Who sent a message (RFC 9420, 6).
 #[derive(Clone, Copy, Debug, PartialEq, Eq)]
 pub enum Sender {
     /// The member at this leaf.
@@ -19,24 +19,43 @@ pub enum Sender {
     NewMemberCommit,
 }
 
-/// What is sent (RFC 9420, section 6).
+/// What is sent (RFC 9420, 6).
 #[derive(Debug, Drop)]
 pub enum Content {
     /// An application's data.
     Application(Opaque),
+    /// A change that is proposed.
     Proposal(Proposal),
+    /// The beginning of a new epoch.
     Commit(Commit),
 }
 
-/// What is sent, with its sender and the group and epoch that it belongs to (RFC 9420, section 6).
-#[derive(Debug, Drop)]
+/// What is sent, with its sender and the group and epoch that it belongs to (RFC 9420, 6).
+#[derive(Debug)]
 pub struct FramedContent {
+    /// The id of the group.
     pub group_id: Opaque,
+    /// The epoch in which it was sent.
     pub epoch: u64,
+    /// Who sent it.
     pub sender: Sender,
     /// Data that the sender's signature covers and nothing else reads.
     pub authenticated: Opaque,
+    /// What is sent.
     pub content: Content,
+}
+
+// By hand, so that a drop is one call in the proofs of those who hold one.
+impl Drop for FramedContent {
+    fn drop(self) {
+        let FramedContent {
+            group_id: _,
+            epoch: _,
+            sender: _,
+            authenticated: _,
+            content: _,
+        } = self;
+    }
 }
 
 impl Sender {
@@ -86,7 +105,7 @@ impl Decode for Sender {
             2 => Sender::External(u32::read(alloc, &mut ahead)?),
             3 => Sender::NewMemberProposal,
             4 => Sender::NewMemberCommit,
-            kind => return Err(bad_tag(u16::from(kind), reader.place())),
+            kind => return Err(bad_tag(u16::from(kind), reader.offset())),
         };
         *reader = ahead;
         Ok(sender)
@@ -131,7 +150,7 @@ impl Decode for Content {
             1 => Content::Application(Opaque::read(alloc, &mut ahead)?),
             2 => Content::Proposal(Proposal::read(alloc, &mut ahead)?),
             3 => Content::Commit(Commit::read(alloc, &mut ahead)?),
-            kind => return Err(bad_tag(u16::from(kind), reader.place())),
+            kind => return Err(bad_tag(u16::from(kind), reader.offset())),
         };
         *reader = ahead;
         Ok(content)

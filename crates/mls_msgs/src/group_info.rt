@@ -4,7 +4,7 @@ use mls_nodes::{Extensions, GroupContext};
 use mls_wire::{CodecFault, Decode, Draft, Encode, Opaque, Reader};
 use std::alloc::Global;
 
-/// What a client that joins learns of a group's state (RFC 9420, section 12.4.3).
+/// What a client that joins learns of a group's state (RFC 9420, 12.4.3).
 #[derive(Debug, Drop)]
 pub struct GroupInfo {
     /// The group's context.

@@ -4,15 +4,21 @@ use mls_nodes::{Extensions, LeafNode};
 use mls_wire::{CodecFault, Decode, Draft, Encode, Opaque, Reader, TryClone};
 use std::alloc::Global;
 
-/// What a client publishes so that others can add it to a group (RFC 9420, section 10). The version and the cipher
+/// What a client publishes so that others can add it to a group (RFC 9420, 10). The version and the cipher
 /// suite are kept as they are, whichever they are.
 #[derive(Debug, Drop)]
 pub struct KeyPackage {
+    /// The protocol version.
     pub version: u16,
+    /// The cipher suite that it may be used with.
     pub cipher_suite: u16,
+    /// The public key to which a welcome is encrypted.
     pub init_key: Opaque,
+    /// The leaf node that is added to the tree.
     pub leaf_node: LeafNode,
+    /// Extensions of the key package itself.
     pub extensions: Extensions,
+    /// The client's signature over the fields above.
     pub signature: Opaque,
 }
 

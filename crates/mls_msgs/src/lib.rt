@@ -24,7 +24,7 @@ pub use key_package::KeyPackage;
 pub use message::{Message, decode_message, encode_message};
 pub use proposal::{Proposal, ProposalOrRef, decode_proposal, encode_proposal};
 pub use public_message::{PublicMessage, PublicParts};
-pub use signed::{confirmed_input, content_tbs, info_tbs, package_tbs};
-
-#[cfg(test)]
-mod tests;
+pub use signed::{
+    CONTENT_LABEL, GROUP_INFO_LABEL, KEY_PACKAGE_LABEL, PROPOSAL_REFERENCE_LABEL, confirmed_input,
+    content_tbs, info_tbs, package_tbs,
+};

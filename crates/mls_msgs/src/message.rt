@@ -22,13 +22,18 @@ const FORMAT_AT: usize = 2;
 /// Where a message's body begins.
 const BODY_AT: usize = 4;
 
-/// A message as it is sent (RFC 9420, section 6: MLSMessage), of protocol version 1.
+/// A message as it is sent (RFC 9420, 6: MLSMessage), of protocol version 1.
 #[derive(Debug, Drop)]
 pub enum Message {
     /// Wire format 1.
     Public(PublicMessage),
     /// A PrivateMessage, 2, or a Welcome, 3, whose body is kept as it is.
-    Unread { wire_format: u16, body: Opaque },
+    Unread {
+        /// 2 or 3; another one has no spelling.
+        wire_format: u16,
+        /// All bytes behind the wire format.
+        body: Opaque,
+    },
     /// Wire format 4.
     GroupInfo(GroupInfo),
     /// Wire format 5.
@@ -50,7 +55,7 @@ fn read_header(alloc: Global, reader: &mut Reader<'_>) -> Result<u16, CodecFault
     let mut ahead = reader.fork();
     let version = u16::read(alloc, &mut ahead)?;
     if version != 1 {
-        return Err(bad_tag(version, reader.place()));
+        return Err(bad_tag(version, reader.offset()));
     }
     let wire_format = u16::read(alloc, &mut ahead)?;
     *reader = ahead;
@@ -145,8 +150,8 @@ fn put_message(alloc: Global, value: &Message, draft: &mut Draft) -> Result<(), 
     }
 }
 
-/// The bytes that spell the message. `BadTag` at 2 where an unread one has another wire format than 2 and 3; `TooLong`
-/// where one of its vectors is over the limit.
+/// The bytes that spell the message. `BadTag` at 2 where an unread one has another wire format than 2 and 3;
+/// `TooLong` where one of its vectors is over the limit.
 #[tactic(auto, using(crate::proofs::PartLemmas::drafted))]
 pub fn encode_message(alloc: Global, value: &Message) -> Result<Vec<u8>, CodecFault>
     ensures encoded { Makes (message value.now) (seen (λ bytes. bytes.items) result) }

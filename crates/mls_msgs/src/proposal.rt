@@ -13,23 +13,23 @@ use mls_wire::{
 };
 use std::alloc::Global;
 
-/// A change to a group that a member proposes (RFC 9420, section 12.1). Proposals of other types are not read.
+/// A change to a group that a member proposes (RFC 9420, 12.1). Proposals of other types are not read.
 #[derive(Debug, Drop)]
 pub enum Proposal {
-    /// The client of this key package is to become a member (12.1.1).
+    /// The client of this key package is to become a member (RFC 9420, 12.1.1).
     Add(KeyPackage),
-    /// The sender's leaf is to be replaced by this one (12.1.2).
+    /// The sender's leaf is to be replaced by this one (RFC 9420, 12.1.2).
     Update(LeafNode),
-    /// The member at this leaf is to be removed (12.1.3).
+    /// The member at this leaf is to be removed (RFC 9420, 12.1.3).
     Remove(u32),
 }
 
-/// An entry of a commit's list of proposals (RFC 9420, section 12.4).
+/// An entry of a commit's list of proposals (RFC 9420, 12.4).
 #[derive(Debug, Drop)]
 pub enum ProposalOrRef {
     /// A proposal of the committer's own.
     Proposal(Proposal),
-    /// The reference of a proposal that was sent before (5.2).
+    /// The reference of a proposal that was sent before (RFC 9420, 5.2).
     Reference(Opaque),
 }
 
@@ -49,7 +49,7 @@ impl Decode for Proposal {
             1 => Proposal::Add(KeyPackage::read(alloc, &mut ahead)?),
             2 => Proposal::Update(LeafNode::read(alloc, &mut ahead)?),
             3 => Proposal::Remove(u32::read(alloc, &mut ahead)?),
-            kind => return Err(bad_tag(kind, reader.place())),
+            kind => return Err(bad_tag(kind, reader.offset())),
         };
         *reader = ahead;
         Ok(proposal)
@@ -95,7 +95,7 @@ impl Decode for ProposalOrRef {
         let entry = match u8::read(alloc, &mut ahead)? {
             1 => ProposalOrRef::Proposal(Proposal::read(alloc, &mut ahead)?),
             2 => ProposalOrRef::Reference(Opaque::read(alloc, &mut ahead)?),
-            kind => return Err(bad_tag(u16::from(kind), reader.place())),
+            kind => return Err(bad_tag(u16::from(kind), reader.offset())),
         };
         *reader = ahead;
         Ok(entry)

@@ -12,11 +12,13 @@ use std::marker::Model;
 /// The parts of a [`PublicMessage`], which may or may not fit together.
 #[derive(Debug, Drop)]
 pub struct PublicParts {
+    /// What is sent, with its sender's authentication.
     pub auth: Authenticated,
+    /// The tag by which a member shows that it knows the group's secrets.
     pub membership_tag: Option<Opaque>,
 }
 
-/// A message in the open (RFC 9420, section 6.2). Its wire format is 1, and there is a membership tag exactly where a
+/// A message in the open (RFC 9420, 6.2). Its wire format is 1, and there is a membership tag exactly where a
 /// member sent it.
 #[derive(Debug, Drop)]
 pub struct PublicMessage {

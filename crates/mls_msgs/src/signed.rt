@@ -12,6 +12,18 @@ use mls_nodes::GroupContext;
 use mls_wire::{CodecFault, Draft, Encode};
 use std::alloc::Global;
 
+/// The label under which a framed content is signed (RFC 9420, 5.1.2 and 6.1).
+pub const CONTENT_LABEL: &str = "MLS 1.0 FramedContentTBS";
+
+/// The label under which a key package is signed (RFC 9420, 5.1.2 and 10).
+pub const KEY_PACKAGE_LABEL: &str = "MLS 1.0 KeyPackageTBS";
+
+/// The label under which a group info is signed (RFC 9420, 5.1.2 and 12.4.3).
+pub const GROUP_INFO_LABEL: &str = "MLS 1.0 GroupInfoTBS";
+
+/// The label of a proposal's reference (RFC 9420, 5.2).
+pub const PROPOSAL_REFERENCE_LABEL: &str = "MLS 1.0 Proposal Reference";
+
 /// Adds a group context where one is handed in.
 #[tactic(auto, unfolding(crate::specs::Signed::given_context))]
 fn put_context(
@@ -19,7 +31,9 @@ fn put_context(
     context: Option<&GroupContext>,
     draft: &mut Draft,
 ) -> Result<(), CodecFault>
-    ensures { Puts (given_context (option_map (λ c. c.now) context.entry)) draft.old draft.new result }
+    ensures { Puts
+        (given_context (option_map (λ c. c.now) context.entry))
+        draft.old draft.new result }
 {
     match context {
         Some(context) => context.put(alloc, draft),
@@ -34,7 +48,9 @@ fn put_content_tbs(
     context: Option<&GroupContext>,
     draft: &mut Draft,
 ) -> Result<(), CodecFault>
-    ensures { Puts (content_tbs auth.now (option_map (λ c. c.now) context.entry)) draft.old draft.new result }
+    ensures { Puts
+        (content_tbs auth.now (option_map (λ c. c.now) context.entry))
+        draft.old draft.new result }
 {
     draft.put_u16(1)?;
     draft.put_u16(auth.wire_format())?;
@@ -55,23 +71,25 @@ fn put_confirmed_input(
     auth.signature().put(alloc, draft)
 }
 
-/// What a message's signature covers (RFC 9420, section 6.1: FramedContentTBS): the version, the wire format and the
-/// framed content, and then the group context exactly where one is handed in. By the standard that is for a member and
-/// for a new member's commit. Refused for another cause than memory only where there is no such spelling.
+/// What a message's signature covers (RFC 9420, 6.1: FramedContentTBS): the version, the wire format and the framed
+/// content, and then the group context exactly where one is handed in. By the standard that is for a member and for a
+/// new member's commit. Refused for another cause than memory only where there is no such spelling.
 #[tactic(auto, using(crate::proofs::PartLemmas::drafted))]
 pub fn content_tbs(
     alloc: Global,
     auth: &Authenticated,
     context: Option<&GroupContext>,
 ) -> Result<Vec<u8>, CodecFault>
-    ensures made { Makes (content_tbs auth.now (option_map (λ c. c.now) context.entry)) (seen (λ bytes. bytes.items) result) }
+    ensures made { Makes
+        (content_tbs auth.now (option_map (λ c. c.now) context.entry))
+        (seen (λ bytes. bytes.items) result) }
 {
     let mut draft = Draft::new(alloc);
     put_content_tbs(alloc, auth, context, &mut draft)?;
     Ok(draft.finish())
 }
 
-/// What a key package's signature covers (RFC 9420, section 10: KeyPackageTBS): all fields before it. Refused for
+/// What a key package's signature covers (RFC 9420, 10: KeyPackageTBS): all fields before it. Refused for
 /// another cause than memory only where they have no spelling.
 #[tactic(auto, using(crate::proofs::PartLemmas::drafted))]
 pub fn package_tbs(alloc: Global, key_package: &KeyPackage) -> Result<Vec<u8>, CodecFault>
@@ -82,7 +100,7 @@ pub fn package_tbs(alloc: Global, key_package: &KeyPackage) -> Result<Vec<u8>, C
     Ok(draft.finish())
 }
 
-/// What a group info's signature covers (RFC 9420, section 12.4.3: GroupInfoTBS): all fields before it. Refused for
+/// What a group info's signature covers (RFC 9420, 12.4.3: GroupInfoTBS): all fields before it. Refused for
 /// another cause than memory only where they have no spelling.
 #[tactic(auto, using(crate::proofs::PartLemmas::drafted))]
 pub fn info_tbs(alloc: Global, info: &GroupInfo) -> Result<Vec<u8>, CodecFault>
@@ -93,7 +111,7 @@ pub fn info_tbs(alloc: Global, info: &GroupInfo) -> Result<Vec<u8>, CodecFault>
     Ok(draft.finish())
 }
 
-/// What of a commit goes into the confirmed transcript hash (RFC 9420, section 8.2: ConfirmedTranscriptHashInput): the
+/// What of a commit goes into the confirmed transcript hash (RFC 9420, 8.2: ConfirmedTranscriptHashInput): the
 /// wire format, the framed content and its signature. Refused for another cause than memory only where they have no
 /// spelling.
 #[tactic(auto, using(crate::proofs::PartLemmas::drafted))]

@@ -176,11 +176,6 @@ entry_fault nodes.LastBlank place i new xs total some p h e = entry_refused i xs
 entry_fault nodes.EmptyTree place i new xs total some p h e = entry_refused i xs total some (subst (λ (n : ℕ). optional_at (node_in n) i ≡ None) p h) e
 entry_fault nodes.TooManyLeaves place i new xs total some p h e = entry_refused i xs total some (subst (λ (n : ℕ). optional_at (node_in n) i ≡ None) p h) e
 
-pub last_value : (es : List (Option Node)) (x : Option (Option Node)) → x ≡ slice_get es (length es - 1) → is_set (option_map entry_value x) ≡ ends_set (map entry_value es)
-last_value es x e =
-    ap (λ (y : Option (Option Node)). is_set (option_map entry_value y)) e
-    ∙ ap is_set (sym (slice_get-map entry_value es (length es - 1)) ∙ ap (λ (n : ℕ). slice_get (map entry_value es) (n - 1)) (sym (length-map es entry_value)))
-
 -- ---- whole trees
 
 placed_is : (o : Option (List (Option NodeValue))) (ns : List (Option NodeValue)) → placed o ≡ Some ns → (o ≡ Some ns) × ((stand_from 0 ns && nat_le (length ns) 2097151) ≡ true)
@@ -261,11 +256,6 @@ blank_more xs ys size k whole pushed lt e =
     ∙ append_assoc (map entry_value xs) (None ∷ []) (replicate n None)
     ∙ ap (λ (m : ℕ). map entry_value xs ++ replicate m None) (sym more)
     ∙ e
-
-pub full_of : (xs : List (Option Node)) (size k : ℕ) (whole : List (Option NodeValue)) → size ≤ k → map entry_value xs ++ replicate (size - k) None ≡ whole → map entry_value xs ≡ whole
-full_of xs size k whole le e =
-    let none : size - k ≡ 0 = omega arith in
-    sym (append-nil (map entry_value xs)) ∙ ap (λ (m : ℕ). map entry_value xs ++ replicate m None) (sym none) ∙ e
 
 pub is_filled : (bytes : List ℕ) (xs : List (Option Node)) (r : Result (Vec (Option Node) Global) NodeFault) → tree_at bytes ≡ Some (map entry_value xs) → length bytes ≤ 268435456
     → IfOk r (λ v. map entry_value v.items ≡ filled (map entry_value xs)) → IfErr r (λ e. e ≡ nodes.OutOfMemory) → DecodesTree bytes (seen (λ v. map entry_value v.items) r)

@@ -2,3 +2,4 @@ pub mod Entries
 pub mod Limits
 pub mod Trimming
 pub mod Lengths
+pub mod RequiredOnce

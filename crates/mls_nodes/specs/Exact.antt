@@ -13,6 +13,7 @@ use Rattle.mls_wire.specs.Vectors.{vector_exact, vector_long}
 use Rattle.mls_wire.specs.Lists.{list_exact, list_long}
 use Rattle.mls_wire.specs.Joined.{long_left}
 use Rattle.mls_wire.specs.Spelling.{IsUnambiguous}
+use Rattle.mls_nodes.specs.Limits.{leaf_limit}
 use Rattle.mls_nodes.specs.Extension.{extension}
 use Rattle.mls_nodes.specs.Layout.{credential, codes, capabilities, lifetime, source, leaf, unsigned_leaf, unmerged, parent, node, required_capabilities, group_context}
 use Rattle.mls_nodes.specs.Parsing.{extension_at, credential_at, codes_at, capabilities_at, lifetime_at, source_at, leaf_at, unmerged_at, parent_at, node_at, required_capabilities_at, group_context_at}
@@ -55,9 +56,9 @@ module _ {A : Type 0} (test : A → Bool) (s : A → Option (List ℕ)) (f : Inp
         let b = allowed (test a.0.0) (Some (a.0.0, a.0.1)) (x, j) a.2 in
         let one = (exact.takes i a.0.0 a.0.1 a.1).1 in
         subst (λ (y : A × Input). Any y.0 × Takes (λ z. cond (test z) (s z) None) y.0 i y.1) (some_is (a.0.0, a.0.1) (x, j) b.1) (tt, (one.0, rw b.0 one.1, one.2, one.3));
-    again = λ x front rest place p e.
+    again = λ x front rest offset p e.
         let a = allowed (test x) (s x) front e in
-        let one = exact.again x front rest place tt a.1 in
+        let one = exact.again x front rest offset tt a.1 in
         rw (one, a.0) refl;
   }
 
@@ -66,15 +67,15 @@ leaves_exact = list_exact (number w32) (number_at w32) (number_exact w32 wide32)
 
 pub unmerged_exact : IsExact unmerged unmerged_at
 unfolding unmerged unmerged_at
-unmerged_exact = tested_exact (λ xs. nat_le (length xs) 1048576) (list (number w32)) (list_at (number_at w32)) leaves_exact
+unmerged_exact = tested_exact (λ xs. nat_le (length xs) leaf_limit) (list (number w32)) (list_at (number_at w32)) leaves_exact
 
-pub unmerged_is : (xs : List ℕ) → length xs ≤ 1048576 → unmerged xs ≡ list (number w32) xs
+pub unmerged_is : (xs : List ℕ) → length xs ≤ leaf_limit → unmerged xs ≡ list (number w32) xs
 unfolding unmerged
-unmerged_is xs le = rw (le-leb (length xs) 1048576 le) refl
+unmerged_is xs le = rw (le-leb (length xs) leaf_limit le) refl
 
 pub unmerged_long : IsLong unmerged
 unfolding unmerged
-unmerged_long xs front h = list_long (number w32) xs front (allowed (nat_le (length xs) 1048576) (list (number w32) xs) front h).1
+unmerged_long xs front h = list_long (number w32) xs front (allowed (nat_le (length xs) leaf_limit) (list (number w32) xs) front h).1
 
 pub extensions_exact : IsExact (list extension) (list_at extension_at)
 extensions_exact = list_exact extension extension_at extension_exact extension_long
@@ -177,12 +178,6 @@ source_exact = spelled_as Any source _ source_at source_parts
 
 pub codes_long : IsLong codes
 codes_long = list_long (number w16)
-
-pub chain_long : IsLong (list vector)
-chain_long = list_long vector
-
-pub extensions_long : IsLong (list extension)
-extensions_long = list_long extension
 
 pub credential_long : IsLong credential
 unfolding credential

@@ -4,6 +4,6 @@ use Rattle.std.specs.Int.{w16}
 use Rattle.mls_wire.specs.Spelling.{◌⊕◌, number, vector}
 use Rattle.mls_nodes.specs.declared.extension.Extension.{Extension}
 
--- its type and its data (RFC 9420, section 7.2)
+-- its type and its data (RFC 9420, 7.2)
 unfoldable pub extension : Extension → Option (List ℕ)
 extension e = number w16 e.kind ⊕ vector e.body

@@ -2,6 +2,7 @@
 use Rattle.std.specs.Prelude.{◌≡◌, ◌≤◌, None, ℕ, List, length, Option, Some, Result, Ok, Err}
 use Rattle.mls_wire.specs.declared.fault.CodecFault.{CodecFault}
 use Rattle.mls_wire.specs.declared.fault.CodecFault.TheVariants as codec
+use Rattle.mls_wire.specs.Limits.{input_limit}
 use Rattle.mls_nodes.specs.declared.fault.NodeFault.{NodeFault}
 use Rattle.mls_nodes.specs.declared.fault.NodeFault.TheVariants as faults
 use Rattle.mls_nodes.specs.Value.{NodeValue}
@@ -22,6 +23,6 @@ EncodesTree nodes (Err e) = ratchet_tree (trimmed nodes) ≡ None
 -- What a call that reads a ratchet tree answered: the tree that all of the bytes spell, filled up;
 -- a fault other than want of memory only where they spell none within the limit of an input.
 abbrev pub DecodesTree : List ℕ → Result (List (Option NodeValue)) NodeFault → Type 0
-DecodesTree bytes (Ok entries) = (nodes : List (Option NodeValue)) × (ratchet_tree nodes ≡ Some bytes) × (length bytes ≤ 268435456) × (entries ≡ filled nodes)
+DecodesTree bytes (Ok entries) = (nodes : List (Option NodeValue)) × (ratchet_tree nodes ≡ Some bytes) × (length bytes ≤ input_limit) × (entries ≡ filled nodes)
 DecodesTree bytes (Err faults.OutOfMemory) = Unit {0}
-DecodesTree bytes (Err e) = (nodes : List (Option NodeValue)) → ratchet_tree nodes ≡ Some bytes → length bytes ≤ 268435456 → ⊥
+DecodesTree bytes (Err e) = (nodes : List (Option NodeValue)) → ratchet_tree nodes ≡ Some bytes → length bytes ≤ input_limit → ⊥

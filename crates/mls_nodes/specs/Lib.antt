@@ -1,3 +1,4 @@
+pub mod Limits
 pub mod Extension
 pub mod Value
 pub mod Layout

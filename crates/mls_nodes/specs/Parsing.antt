@@ -3,6 +3,7 @@ use Rattle.std.specs.Prelude.{◌≡◌, ℕ, ◌%◌, List, length, ◌&&◌, O
 use Rattle.std.specs.Int.{w8, w16, w32, w64}
 use Rattle.mls_wire.specs.Input.{Input, at}
 use Rattle.mls_wire.specs.Parsing.{◌>>=◌, number_at, vector_at, list_at, body_at, items_at, optional_at}
+use Rattle.mls_nodes.specs.Limits.{leaf_limit}
 use Rattle.mls_nodes.specs.Value.{NodeValue, leaf_node, parent_node}
 use Rattle.mls_nodes.specs.RatchetTree.{is_placed, ends_set}
 use Rattle.mls_nodes.specs.declared.credential.Credential.{Credential}
@@ -91,7 +92,7 @@ leaf_at i = do
 unfoldable pub unmerged_at : Input → Option (List ℕ × Input)
 unmerged_at i = do
   leaves ← list_at (number_at w32) i
-  if nat_le (length leaves.0) 1048576 then Some (leaves.0, leaves.1) else None
+  if nat_le (length leaves.0) leaf_limit then Some (leaves.0, leaves.1) else None
 
 -- a parent node
 unfoldable pub parent_at : Input → Option (ParentNode × Input)

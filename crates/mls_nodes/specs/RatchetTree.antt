@@ -1,6 +1,7 @@
--- How a ratchet tree is spelled (RFC 9420, section 12.4.3.3), and how it is filled up to a full tree.
+-- How a ratchet tree is spelled (RFC 9420, 12.4.3.3), and how it is filled up to a full tree.
 use Rattle.std.specs.Prelude.{◌≡◌, ℕ, take, zero, suc, ◌+◌, ◌-◌, ◌*◌, ◌%◌, List, [], ◌∷◌, ◌++◌, length, replicate, Bool, true, false, ◌&&◌, Option, Some, None, nat_eq, nat_le, slice_get, if◌then◌else◌}
 use Rattle.mls_wire.specs.Spelling.{list, optional}
+use Rattle.mls_nodes.specs.Limits.{entry_limit}
 use Rattle.mls_nodes.specs.Value.{NodeValue, leaf_node, parent_node}
 use Rattle.mls_nodes.specs.Layout.{node}
 
@@ -21,16 +22,16 @@ is_set (Some (Some n)) = true
 is_set (Some None) = false
 is_set None = false
 
--- whether there is a last entry, and it is not blank (section 12.4.3.3)
+-- whether there is a last entry, and it is not blank (12.4.3.3)
 abbrev pub ends_set : List (Option NodeValue) → Bool
 ends_set nodes = is_set (slice_get nodes (length nodes - 1))
 
 -- whether each entry may stand at its place, and there are no more than a tree of 1,048,576 leaves has
 abbrev pub is_placed : List (Option NodeValue) → Bool
-is_placed nodes = stand_from 0 nodes && nat_le (length nodes) 2097151
+is_placed nodes = stand_from 0 nodes && nat_le (length nodes) entry_limit
 
 -- the entries of a ratchet tree up to the last that is set: not empty, each at a place of its kind
--- (section 12.4.3.3)
+-- (12.4.3.3)
 unfoldable pub ratchet_tree : List (Option NodeValue) → Option (List ℕ)
 ratchet_tree nodes = if is_placed nodes && ends_set nodes then list (optional node) nodes else None
 
@@ -59,6 +60,6 @@ full_from (suc steps) size count = if nat_le count size then size else full_from
 unfoldable pub full_size : ℕ → ℕ
 full_size count = full_from count 1 count
 
--- the entries with blanks behind them, as many as a full tree has (Appendix C and section 12.4.3.3)
+-- the entries with blanks behind them, as many as a full tree has (Appendix C and 12.4.3.3)
 abbrev pub filled : List (Option NodeValue) → List (Option NodeValue)
 filled nodes = nodes ++ replicate (full_size (length nodes) - length nodes) None

@@ -1,7 +1,8 @@
--- What a group requires of its members' clients (RFC 9420, section 11.1).
+-- What a group requires of its members' clients (RFC 9420, 11.1).
 use Rattle.std.specs.Prelude.{◌≡◌, ℕ, List, [], ◌∷◌, Option, Some, None, Result, Ok, Err, nat_eq, if◌then◌else◌}
 use Rattle.mls_wire.specs.declared.fault.CodecFault.{CodecFault}
 use Rattle.mls_wire.specs.Reading.{DecodesAll}
+use Rattle.mls_nodes.specs.declared.context.GroupContext.{GroupContext}
 use Rattle.mls_nodes.specs.declared.extension.Extension.{Extension}
 use Rattle.mls_nodes.specs.declared.required_capabilities.RequiredCapabilities.{RequiredCapabilities}
 use Rattle.mls_nodes.specs.Layout.{required_capabilities}
@@ -17,3 +18,11 @@ abbrev pub FindsRequirements : Option (List ℕ) → Result RequiredCapabilities
 FindsRequirements None (Ok r) = (r.extensions ≡ []) × (r.proposals ≡ []) × (r.credentials ≡ [])
 FindsRequirements None (Err e) = ⊥
 FindsRequirements (Some body) result = DecodesAll required_capabilities body result
+
+-- what the group requires
+abbrev pub Requires : GroupContext → RequiredCapabilities → Type 0
+Requires context required = FindsRequirements (extension_of 3 context.extensions) (Ok required)
+
+-- the group's requirements can't be read
+abbrev pub HasNoRequirements : GroupContext → Type 0
+HasNoRequirements context = (required : RequiredCapabilities) → Requires context required → ⊥

@@ -1,4 +1,4 @@
--- What is signed of a leaf node (RFC 9420, section 7.2).
+-- What is signed of a leaf node (RFC 9420, 7.2).
 use Rattle.std.specs.Prelude.{ℕ, List, [], Option, Some}
 use Rattle.std.specs.Int.{w32}
 use Rattle.mls_wire.specs.Spelling.{◌⊕◌, number, vector}

@@ -5,7 +5,7 @@ use Rattle.mls_nodes.specs.declared.parent.ParentNode.{ParentNode}
 use Rattle.mls_nodes.specs.declared.node.Node.{Node}
 use Rattle.mls_nodes.specs.declared.node.Node.TheVariants.{Leaf, Parent}
 
--- a node that is not blank: a leaf node or a parent node (RFC 9420, sections 7.1 and 7.2)
+-- a node that is not blank: a leaf node or a parent node (RFC 9420, 7.1 and 7.2)
 pub data NodeValue : Type 0 where
   leaf_node : LeafNode → NodeValue
   parent_node : ParentNode → NodeValue
@@ -15,7 +15,7 @@ abbrev pub node_value : Node → NodeValue
 node_value (Leaf b) = leaf_node b.value
 node_value (Parent b) = parent_node b.value
 
--- one entry of a tree's array: blank, or a node (Appendix C)
+-- one entry of a tree's array: blank, or a node (RFC 9420, Appendix C)
 abbrev pub entry_value : Option Node → Option NodeValue
 entry_value None = None
 entry_value (Some n) = Some (node_value n)

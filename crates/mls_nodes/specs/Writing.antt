@@ -3,6 +3,7 @@ use Rattle.std.specs.Prelude.{◌≡◌, ◌≢◌, ◌<◌, ℕ, List, [], leng
 use Rattle.mls_wire.specs.Spelling.{list, optional}
 use Rattle.mls_nodes.specs.declared.fault.NodeFault.{NodeFault}
 use Rattle.mls_nodes.specs.declared.fault.NodeFault.TheVariants as faults
+use Rattle.mls_nodes.specs.Limits.{entry_limit}
 use Rattle.mls_nodes.specs.Value.{NodeValue}
 use Rattle.mls_nodes.specs.Layout.{node}
 use Rattle.mls_nodes.specs.RatchetTree.{is_placed, IsFirstMisplaced}
@@ -11,7 +12,7 @@ use Rattle.mls_nodes.specs.RatchetTree.{is_placed, IsFirstMisplaced}
 abbrev pub FitsPlaces : {A : Type 0} → List (Option NodeValue) → Result A NodeFault → Type 0
 FitsPlaces nodes (Ok x) = is_placed nodes ≡ true
 FitsPlaces nodes (Err (faults.WrongNodeKind place)) = IsFirstMisplaced nodes place
-FitsPlaces nodes (Err faults.TooManyLeaves) = 2097151 < length nodes
+FitsPlaces nodes (Err faults.TooManyLeaves) = entry_limit < length nodes
 FitsPlaces nodes (Err e) = ⊥
 
 -- What a call that writes entries without blanks at their end answered, fault by fault.
@@ -20,6 +21,6 @@ WritesTree nodes (Ok bytes) = (nodes ≢ []) × (is_placed nodes ≡ true) × (l
 WritesTree nodes (Err faults.OutOfMemory) = nodes ≢ []
 WritesTree nodes (Err faults.EmptyTree) = nodes ≡ []
 WritesTree nodes (Err (faults.WrongNodeKind place)) = (nodes ≢ []) × IsFirstMisplaced nodes place
-WritesTree nodes (Err faults.TooManyLeaves) = (nodes ≢ []) × (2097151 < length nodes)
+WritesTree nodes (Err faults.TooManyLeaves) = (nodes ≢ []) × (entry_limit < length nodes)
 WritesTree nodes (Err (faults.Wire f)) = (nodes ≢ []) × (list (optional node) nodes ≡ None)
 WritesTree nodes (Err faults.LastBlank) = ⊥

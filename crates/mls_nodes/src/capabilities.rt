@@ -1,11 +1,11 @@
-//! What a member's client can do (RFC 9420, section 7.2).
+//! What a member's client can do (RFC 9420, 7.2).
 
 use crate::lists::Codes;
 use mls_wire::{CodecFault, Decode, Draft, Encode, Reader, TryClone};
 use std::alloc::Global;
 
 /// What a client supports: five lists of codes, in this order.
-#[derive(Debug, Drop)]
+#[derive(Debug)]
 pub struct Capabilities {
     /// Protocol versions.
     pub versions: Codes,
@@ -17,6 +17,19 @@ pub struct Capabilities {
     pub proposals: Codes,
     /// Types of credentials.
     pub credentials: Codes,
+}
+
+// By hand, so that a drop is one call in the proofs of those who hold one.
+impl Drop for Capabilities {
+    fn drop(self) {
+        let Capabilities {
+            versions: _,
+            cipher_suites: _,
+            extensions: _,
+            proposals: _,
+            credentials: _,
+        } = self;
+    }
 }
 
 impl Decode for Capabilities {

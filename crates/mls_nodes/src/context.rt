@@ -1,10 +1,10 @@
-//! Group contexts (RFC 9420, section 8.1).
+//! Group contexts (RFC 9420, 8.1).
 
 ghost use Rattle.std.specs.Prelude.{◌≡◌, ◌<◌, Err, length};
 ghost use Rattle.mls_wire.specs.Faults.{too_long_at};
-ghost use Rattle.mls_wire.specs.Reading.{Decodes, seen};
+ghost use Rattle.mls_wire.specs.Limits.{input_limit};
+ghost use Rattle.mls_wire.specs.Reading.{Decodes, DecodesInput, seen};
 ghost use Rattle.mls_wire.specs.Writing.{Makes, Writes};
-ghost use Rattle.mls_wire.specs.Reading.{DecodesInput};
 ghost use Rattle.mls_nodes.specs.Layout.{group_context};
 
 use crate::lists::Extensions;
@@ -15,7 +15,7 @@ use mls_wire::{
 use std::alloc::Global;
 
 /// What the members of a group agree on in an epoch. Every version and cipher suite is kept, known or not.
-#[derive(Debug, Drop)]
+#[derive(Debug)]
 pub struct GroupContext {
     /// The protocol version.
     pub version: u16,
@@ -31,6 +31,21 @@ pub struct GroupContext {
     pub confirmed: Opaque,
     /// The group's extensions.
     pub extensions: Extensions,
+}
+
+// By hand, so that a drop is one call in the proofs of those who hold one.
+impl Drop for GroupContext {
+    fn drop(self) {
+        let GroupContext {
+            version: _,
+            cipher_suite: _,
+            group_id: _,
+            epoch: _,
+            tree_hash: _,
+            confirmed: _,
+            extensions: _,
+        } = self;
+    }
 }
 
 impl Decode for GroupContext {
@@ -102,11 +117,11 @@ pub fn read_context(alloc: Global, reader: &mut Reader<'_>) -> Result<GroupConte
     read_value(alloc, reader)
 }
 
-/// The group context that all of the bytes spell. More than 268,435,456 bytes are `TooLong` at 0; other
-/// bytes are refused for another cause than memory exactly where they spell none.
+/// The group context that all of the bytes spell. More than [`MAX_INPUT`](mls_wire::MAX_INPUT) bytes are `TooLong` at
+/// 0; other bytes are refused for another cause than memory exactly where they spell none.
 pub fn decode_context(alloc: Global, bytes: &[u8]) -> Result<GroupContext, CodecFault>
     ensures spelled { DecodesInput group_context bytes.now result }
-    ensures long { 268435456 < length bytes.now → result ≡ Err (CodecFault.Wire (too_long_at 0)) }
+    ensures long { input_limit < length bytes.now → result ≡ Err (CodecFault.Wire (too_long_at 0)) }
 {
     read_input(alloc, bytes)
 }

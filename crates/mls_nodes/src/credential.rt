@@ -1,4 +1,4 @@
-//! Credentials (RFC 9420, section 5.3).
+//! Credentials (RFC 9420, 5.3).
 
 use crate::lists::CertChain;
 use mls_wire::{
@@ -8,12 +8,22 @@ use std::alloc::Global;
 
 /// Who a leaf says that its member is: type 1 or 2, a `u16`, and the body of that type. A credential
 /// of another type is `BadTag` where it begins, since its body can't be skipped.
-#[derive(Debug, Drop)]
+#[derive(Debug)]
 pub enum Credential {
     /// An identity, as bytes that the application knows.
     Basic(Opaque),
     /// X.509 certificates.
     X509(CertChain),
+}
+
+// By hand, so that a drop is one call in the proofs of those who hold one.
+impl Drop for Credential {
+    fn drop(self) {
+        match self {
+            Credential::Basic(_) => {}
+            Credential::X509(_) => {}
+        }
+    }
 }
 
 impl Decode for Credential {
@@ -34,7 +44,7 @@ impl Decode for Credential {
             kind => {
                 return Err(CodecFault::Wire(WireFault {
                     kind: WireFaultKind::BadTag(kind),
-                    at: reader.place(),
+                    at: reader.offset(),
                 }));
             }
         };

@@ -1,4 +1,4 @@
-//! Extensions of leaves and groups (RFC 9420, sections 7.2 and 13).
+//! Extensions of leaves and groups (RFC 9420, 7.2 and 13).
 
 ghost use Rattle.mls_wire.specs.Spelling.{list};
 ghost use Rattle.mls_wire.specs.Reading.{Decodes};

@@ -30,10 +30,16 @@ pub fn unambiguous()
 /// Filling up gives a tree's entries at the front, blanks behind them, and the least number
 /// 2^(d+1) - 1 of entries that is not below theirs; leaving out the blanks at the end takes it back.
 pub fn filling()
-    ensures full { (nodes : List (Option NodeValue)) → (d : ℕ) × (length (filled nodes) ≡ 2 ^ (d + 1) - 1) }
+    ensures full { (nodes : List (Option NodeValue))
+        → (d : ℕ) × (length (filled nodes) ≡ 2 ^ (d + 1) - 1) }
     ensures room { (nodes : List (Option NodeValue)) → length nodes ≤ length (filled nodes) }
-    ensures least { (nodes : List (Option NodeValue)) (d : ℕ) → length nodes ≤ 2 ^ (d + 1) - 1 → length (filled nodes) ≤ 2 ^ (d + 1) - 1 }
+    ensures least { (nodes : List (Option NodeValue)) (d : ℕ)
+        → length nodes ≤ 2 ^ (d + 1) - 1
+        → length (filled nodes) ≤ 2 ^ (d + 1) - 1 }
     ensures front { (nodes : List (Option NodeValue)) → take (length nodes) (filled nodes) ≡ nodes }
-    ensures back { (nodes : List (Option NodeValue)) → All (λ x. x ≡ None) (drop (length nodes) (filled nodes)) }
-    ensures again { (nodes : List (Option NodeValue)) (bytes : List ℕ) → ratchet_tree nodes ≡ Some bytes → trimmed (filled nodes) ≡ nodes }
+    ensures back { (nodes : List (Option NodeValue))
+        → All (λ x. x ≡ None) (drop (length nodes) (filled nodes)) }
+    ensures again { (nodes : List (Option NodeValue)) (bytes : List ℕ)
+        → ratchet_tree nodes ≡ Some bytes
+        → trimmed (filled nodes) ≡ nodes }
 {}

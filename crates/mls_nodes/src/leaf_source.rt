@@ -1,4 +1,4 @@
-//! How a leaf came into the tree (RFC 9420, section 7.2).
+//! How a leaf came into the tree (RFC 9420, 7.2).
 
 use mls_wire::{
     CodecFault, Decode, Draft, Encode, Opaque, Reader, TryClone, WireFault, WireFaultKind,
@@ -15,7 +15,7 @@ pub struct Lifetime {
 }
 
 /// How a leaf came into the tree: source 1, 2 or 3, a byte. Another source is `BadTag` where it begins.
-#[derive(Debug, Drop)]
+#[derive(Debug)]
 pub enum LeafSource {
     /// By a key package that was added.
     KeyPackage(Lifetime),
@@ -26,6 +26,17 @@ pub enum LeafSource {
         /// The parent hash of the leaf's parent, empty where it has none.
         parent_hash: Opaque,
     },
+}
+
+// By hand, so that a drop is one call in the proofs of those who hold one.
+impl Drop for LeafSource {
+    fn drop(self) {
+        match self {
+            LeafSource::KeyPackage(_) => {}
+            LeafSource::Update => {}
+            LeafSource::Commit { parent_hash: _ } => {}
+        }
+    }
 }
 
 impl Decode for Lifetime {
@@ -75,7 +86,7 @@ impl Decode for LeafSource {
             kind => {
                 return Err(CodecFault::Wire(WireFault {
                     kind: WireFaultKind::BadTag(u16::from(kind)),
-                    at: reader.place(),
+                    at: reader.offset(),
                 }));
             }
         };

@@ -1,7 +1,9 @@
 //! How many bytes nodes take. Each node has a spelling, since its parts are within their limits.
 
-ghost use Rattle.std.specs.Prelude.{◌≡◌, ◌≤◌, ◌^◌, Some, length, option_map};
+ghost use Rattle.std.specs.Prelude.{◌≡◌, ◌≤◌, ◌+◌, ◌*◌, ◌^◌, Some, length, option_map};
+ghost use Rattle.mls_wire.specs.Limits.{vector_limit};
 ghost use Rattle.mls_wire.specs.Spelling.{length_form, items, list, vector};
+ghost use Rattle.mls_nodes.specs.Limits.{leaf_limit};
 ghost use Rattle.mls_nodes.specs.Layout.{capabilities, credential, leaf, parent, source, unmerged};
 
 use crate::capabilities::Capabilities;
@@ -13,7 +15,7 @@ use mls_wire::{Items, Measure, Opaque};
 
 /// How many bytes the length of a vector takes.
 fn length_of_prefix(body: u64) -> u64
-    requires { body ≤ 1073741823 }
+    requires { body ≤ vector_limit }
     ensures length { option_map length (length_form body) ≡ Some result }
     ensures small { result ≤ 4 }
 {
@@ -29,7 +31,7 @@ fn length_of_prefix(body: u64) -> u64
 /// How many bytes a vector takes, with its length.
 fn length_of_vector(bytes: &Opaque) -> u64
     ensures length { option_map length (vector bytes.now) ≡ Some result }
-    ensures small { result ≤ 1073741827 }
+    ensures small { result ≤ vector_limit + 4 }
 {
     let body = bytes.as_slice().len() as u64;
     length_of_prefix(body) + body
@@ -38,7 +40,7 @@ fn length_of_vector(bytes: &Opaque) -> u64
 /// How many bytes the items of a list take.
 fn length_of_items<T: Measure>(values: &Items<T>) -> u64
     ensures length { option_map length (items T.spelling values.now) ≡ Some result }
-    ensures small { result ≤ 1073741823 }
+    ensures small { result ≤ vector_limit }
 {
     let mut total = 0;
     for value in values.as_slice() {
@@ -50,7 +52,7 @@ fn length_of_items<T: Measure>(values: &Items<T>) -> u64
 /// How many bytes a list takes, with its length.
 fn length_of_list<T: Measure>(values: &Items<T>) -> u64
     ensures length { option_map length (list T.spelling values.now) ≡ Some result }
-    ensures small { result ≤ 1073741827 }
+    ensures small { result ≤ vector_limit + 4 }
 {
     let body = length_of_items(values);
     length_of_prefix(body) + body
@@ -58,9 +60,9 @@ fn length_of_list<T: Measure>(values: &Items<T>) -> u64
 
 /// How many bytes a list of unmerged leaves takes.
 fn length_of_unmerged(leaves: &[u32]) -> u64
-    requires { length leaves.now ≤ 1048576 }
+    requires { length leaves.now ≤ leaf_limit }
     ensures length { option_map length (unmerged leaves.now) ≡ Some result }
-    ensures small { result ≤ 4194308 }
+    ensures small { result ≤ 4 * leaf_limit + 4 }
 {
     let body = 4 * leaves.len() as u64;
     length_of_prefix(body) + body
@@ -69,7 +71,7 @@ fn length_of_unmerged(leaves: &[u32]) -> u64
 /// How many bytes a credential takes.
 fn length_of_credential(value: &Credential) -> u64
     ensures length { option_map length (credential value.now) ≡ Some result }
-    ensures small { result ≤ 1073741829 }
+    ensures small { result ≤ vector_limit + 6 }
 {
     match value {
         Credential::Basic(identity) => 2 + length_of_vector(identity),
@@ -80,7 +82,7 @@ fn length_of_credential(value: &Credential) -> u64
 /// How many bytes the capabilities of a client take.
 fn length_of_capabilities(value: &Capabilities) -> u64
     ensures length { option_map length (capabilities value.now) ≡ Some result }
-    ensures small { result ≤ 5368709135 }
+    ensures small { result ≤ 5 * (vector_limit + 4) }
 {
     let versions = length_of_list(&value.versions);
     let cipher_suites = length_of_list(&value.cipher_suites);
@@ -93,7 +95,7 @@ fn length_of_capabilities(value: &Capabilities) -> u64
 /// How many bytes the source of a leaf takes, with what belongs to it.
 fn length_of_source(value: &LeafSource) -> u64
     ensures length { option_map length (source value.now) ≡ Some result }
-    ensures small { result ≤ 1073741828 }
+    ensures small { result ≤ vector_limit + 5 }
 {
     match value {
         LeafSource::KeyPackage(lifetime) => {

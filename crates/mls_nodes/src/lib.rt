@@ -1,4 +1,4 @@
-//! The nodes of MLS ratchet trees (RFC 9420, sections 5.3 and 7) as values and as bytes: credentials,
+//! The nodes of MLS ratchet trees (RFC 9420, 5.3 and 7) as values and as bytes: credentials,
 //! leaf nodes, parent nodes and the ratchet tree that a group's members hand out.
 //!
 //! Contracts speak of spellings: how a value is written in bytes stands in `specs/`, once for each type.
@@ -35,6 +35,3 @@ pub use ratchet_tree::{decode_ratchet_tree, encode_ratchet_tree};
 pub use required_capabilities::{RequiredCapabilities, find_extension, requirements};
 pub use signed::leaf_tbs;
 pub use unmerged::{MAX_UNMERGED, Unmerged};
-
-#[cfg(test)]
-mod tests;

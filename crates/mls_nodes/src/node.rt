@@ -1,4 +1,4 @@
-//! Nodes of a ratchet tree (RFC 9420, sections 7.8 and 12.4.3.3).
+//! Nodes of a ratchet tree (RFC 9420, 7.8 and 12.4.3.3).
 
 ghost use Rattle.std.specs.Prelude.{◌≡◌, IfOk, IfErr};
 ghost use Rattle.mls_wire.specs.declared.fault.CodecFault.TheVariants as codec;

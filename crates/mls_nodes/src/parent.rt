@@ -1,4 +1,4 @@
-//! Parent nodes (RFC 9420, section 7.1).
+//! Parent nodes (RFC 9420, 7.1).
 
 ghost use Rattle.mls_wire.specs.Writing.{Writes};
 ghost use Rattle.mls_nodes.specs.Layout.{parent};

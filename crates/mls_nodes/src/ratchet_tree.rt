@@ -1,4 +1,4 @@
-//! The ratchet tree as members hand it out (RFC 9420, section 12.4.3.3): the entries of the tree's
+//! The ratchet tree as members hand it out (RFC 9420, 12.4.3.3): the entries of the tree's
 //! array up to the last that is set, each blank or a node.
 
 mod decode;

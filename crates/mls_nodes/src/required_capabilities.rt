@@ -1,4 +1,4 @@
-//! What a group requires of its members' clients (RFC 9420, section 11.1).
+//! What a group requires of its members' clients (RFC 9420, 11.1).
 
 ghost use Rattle.std.specs.Prelude.{◌≡◌, [], None, Some, MatchOption};
 ghost use Rattle.mls_nodes.specs.Requirements.{extension_of, FindsRequirements};
@@ -13,7 +13,7 @@ use std::alloc::Global;
 const REQUIRED_CAPABILITIES: u16 = 3;
 
 /// What each member of a group has to support.
-#[derive(Debug, Drop)]
+#[derive(Debug)]
 pub struct RequiredCapabilities {
     /// Types of extensions.
     pub extensions: Codes,
@@ -21,6 +21,17 @@ pub struct RequiredCapabilities {
     pub proposals: Codes,
     /// Types of credentials.
     pub credentials: Codes,
+}
+
+// By hand, so that a drop is one call in the proofs of those who hold one.
+impl Drop for RequiredCapabilities {
+    fn drop(self) {
+        let RequiredCapabilities {
+            extensions: _,
+            proposals: _,
+            credentials: _,
+        } = self;
+    }
 }
 
 impl Decode for RequiredCapabilities {
@@ -72,7 +83,9 @@ impl TryClone for RequiredCapabilities {
 
 /// The data of the first extension of a type.
 pub fn find_extension(extensions: &[Extension], kind: u16) -> Option<&Opaque>
-    ensures { MatchOption result (extension_of kind extensions.now ≡ None) (λ body. extension_of kind extensions.now ≡ Some body.now) }
+    ensures { MatchOption result
+        (extension_of kind extensions.now ≡ None)
+        (λ body. extension_of kind extensions.now ≡ Some body.now) }
 {
     for extension in extensions {
         if extension.kind == kind {

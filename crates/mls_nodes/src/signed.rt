@@ -1,4 +1,4 @@
-//! What is signed of a leaf node (RFC 9420, section 7.2).
+//! What is signed of a leaf node (RFC 9420, 7.2).
 
 ghost use Rattle.mls_wire.specs.Reading.{seen};
 ghost use Rattle.mls_wire.specs.Writing.{Makes, Puts};

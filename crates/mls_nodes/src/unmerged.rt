@@ -1,6 +1,7 @@
-//! Lists of unmerged leaves (RFC 9420, sections 4.1.1 and 7.1).
+//! Lists of unmerged leaves (RFC 9420, 4.1.1 and 7.1).
 
 ghost use Rattle.std.specs.Prelude.{◌≡◌, ◌≤◌, ◌<◌, length, MatchResult};
+ghost use Rattle.mls_nodes.specs.Limits.{leaf_limit};
 
 use mls_wire::{
     CodecFault, Decode, Draft, Encode, Items, Reader, TryClone, WireFault, WireFaultKind,
@@ -11,7 +12,7 @@ use std::marker::Model;
 /// The most entries that a list of unmerged leaves has, as many as a tree has leaves.
 pub const MAX_UNMERGED: usize = 1048576;
 
-/// The indices of the leaves under a parent whose members don't know its secret, at most 1,048,576.
+/// The indices of the leaves under a parent whose members don't know its secret, at most [`MAX_UNMERGED`].
 #[derive(Debug, Drop)]
 pub struct Unmerged {
     leaves: Items<u32>,
@@ -19,18 +20,21 @@ pub struct Unmerged {
 
 impl Model for Unmerged {
     ghost use Rattle.std.specs.Prelude.{ℕ, ◌≤◌, List, length};
+    ghost use Rattle.mls_nodes.specs.Limits.{leaf_limit};
 
     ghost Value = { List ℕ };
 
     ghost view = { λ a. a.leaves };
 
-    ghost invariant = { λ a. length a.leaves ≤ 1048576 };
+    ghost invariant = { λ a. length a.leaves ≤ leaf_limit };
 }
 
 impl Unmerged {
     /// The list of these leaves. A list over the limit is handed back.
     pub fn new(leaves: Vec<u32>) -> Result<Unmerged, Vec<u32>>
-        ensures { MatchResult result (λ o. o ≡ leaves.items) (λ back. (back ≡ leaves) × (1048576 < length leaves.items)) }
+        ensures { MatchResult result
+            (λ made. made ≡ leaves.items)
+            (λ back. (back ≡ leaves) × (leaf_limit < length leaves.items)) }
     {
         if leaves.len() > MAX_UNMERGED {
             return Err(leaves);
@@ -43,7 +47,7 @@ impl Unmerged {
     /// The leaves in their order.
     pub fn as_slice(&self) -> &[u32]
         ensures items { result.now ≡ self.now }
-        ensures limit { length self.now ≤ 1048576 }
+        ensures limit { length self.now ≤ leaf_limit }
     {
         self.leaves.as_slice()
     }
@@ -58,7 +62,7 @@ impl Decode for Unmerged {
 
     ghost reading = { unmerged_at };
 
-    /// The list at the front. A list over the limit is `TooLong` at its place.
+    /// The list at the front. A list over the limit is `TooLong` at its offset.
     #[tactic(auto, unfolding(crate::specs::Parsing::unmerged_at))]
     fn read(alloc: Global, reader: &mut Reader<'_>) -> Result<Unmerged, CodecFault> {
         let mut ahead = reader.fork();
@@ -66,7 +70,7 @@ impl Decode for Unmerged {
         if leaves.as_slice().len() > MAX_UNMERGED {
             return Err(CodecFault::Wire(WireFault {
                 kind: WireFaultKind::TooLong,
-                at: reader.place(),
+                at: reader.offset(),
             }));
         }
         *reader = ahead;

@@ -4,16 +4,6 @@ use Rattle.std.specs.Prelude.{Option}
 use Rattle.std.specs.Io.KnownBytes.{Appends, Consumes}
 use Rattle.mls_wire.specs.Devices.{AppendsPrefix}
 
--- no bytes are appended
-pub Appends-nil : (a : Option (List ℕ)) → Appends a a []
-Appends-nil None = tt
-Appends-nil (Some x) = sym (append-nil x)
-
--- no bytes are consumed
-pub Consumes-nil : (a : Option (List ℕ)) → Consumes a a []
-Consumes-nil None = tt
-Consumes-nil (Some x) = refl
-
 -- bytes, and then others
 pub Appends-trans : (a b c : Option (List ℕ)) (bs cs : List ℕ) → Appends a b bs → Appends b c cs → Appends a c (bs ++ cs)
 Appends-trans None b c bs cs p q = tt
@@ -27,8 +17,3 @@ Consumes-trans None b c bs cs p q = tt
 Consumes-trans (Some x) None c bs cs p q = absurd p
 Consumes-trans (Some x) (Some y) None bs cs p q = absurd q
 Consumes-trans (Some x) (Some y) (Some z) bs cs p q = p ∙ ap (λ l. bs ++ l) q ∙ sym (append_assoc bs cs z)
-
--- a part of what follows is a part of the whole
-pub AppendsPrefix-after : (a b c : Option (List ℕ)) (bs text : List ℕ) → Appends a b bs → AppendsPrefix b c text → AppendsPrefix a c (bs ++ text)
-AppendsPrefix-after a b c bs text p q =
-    (bs ++ q.0, q.1, ap (λ l. bs ++ l) q.2 ∙ sym (append_assoc bs q.0 q.1), Appends-trans a b c bs q.0 p q.3)

@@ -59,9 +59,3 @@ pub piece_longer : {A : Type 0} (text : Option (List ℕ)) (k : ℕ) (old new : 
 piece_longer text k old new (Ok x) le h = let s = after_is old text new h in omega (arith, ap length s.2, length-append old s.0)
 piece_longer text k old new (Err (faults.Wire f)) le h = rw h.1 le
 piece_longer text k old new (Err faults.OutOfMemory) le h = rw h.0 le
-
--- a piece is a text
-pub Puts-piece : {A : Type 0} (text : Option (List ℕ)) (old new : Added) (r : Result A CodecFault) → PutsPiece text old new r → Puts text old new r
-Puts-piece text old new (Ok x) h = h
-Puts-piece text old new (Err (faults.Wire f)) h = (h.0, h.1)
-Puts-piece text old new (Err faults.OutOfMemory) h = h.0

@@ -17,8 +17,8 @@ use Rattle.mls_wire.specs.Lists.{list_exact}
 
 nothing : {A : Type 0} (s : A → Option (List ℕ)) (f : Input → Option (A × Input)) → IsExact s f → (i : Input) → f i ≡ None → Nothing s i
 nothing s f exact i none x front rest p e =
-    let a = exact.again x front rest i.place tt p in
-    let b : f i ≡ f (at i.place (front ++ rest)) = ap (λ (t : List ℕ). f (at i.place t)) e in
+    let a = exact.again x front rest i.offset tt p in
+    let b : f i ≡ f (at i.offset (front ++ rest)) = ap (λ (t : List ℕ). f (at i.offset t)) e in
     let bad = sym none ∙ (b ∙ a) in absurd cc
 
 -- reading by an exact function meets the spelling
@@ -34,17 +34,17 @@ ReadsBody-exact old new (Err e) h = (nothing vector vector_at vector_exact old (
 -- what is met by a spelling is what an exact function gives
 pub Gives-reads : {A : Type 0} (s : A → Option (List ℕ)) (f : Input → Option (A × Input)) → IsExact s f → (old new : Input) (r : Result A WireFault) → Reads s old new r → Gives f old new r
 Gives-reads s f exact old new (Ok x) h =
-    let again = exact.again x h.0 new.left old.place tt h.1 in
-    ap (λ (t : List ℕ). f (at old.place t)) h.2 ∙ again ∙ ap (λ (n : ℕ). Some (x, at n new.left)) (sym h.3)
+    let again = exact.again x h.0 new.left old.offset tt h.1 in
+    ap (λ (t : List ℕ). f (at old.offset t)) h.2 ∙ again ∙ ap (λ (n : ℕ). Some (x, at n new.left)) (sym h.3)
 Gives-reads s f exact old new (Err e) h = (none_of (f old) (λ y p. let t = (exact.takes old y.0 y.1 p).1 in h.0 y.0 t.0 y.1.left t.1 t.2), h.1)
 
 -- the same of the body of a vector
 pub Gives-body : (old new : Input) (r : Result Input WireFault) → ReadsBody old new r → Gives body_at old new r
 Gives-body old new (Ok body) h =
-    let again = body_again body.left h.0.0 new.left old.place h.0.1 in
-    let there : body_at old ≡ Some (at again.0 body.left, new) = ap (λ (t : List ℕ). body_at (at old.place t)) h.0.2 ∙ again.1 ∙ ap (λ (n : ℕ). Some (at again.0 body.left, at n new.left)) (sym h.0.3) in
+    let again = body_again body.left h.0.0 new.left old.offset h.0.1 in
+    let there : body_at old ≡ Some (at again.0 body.left, new) = ap (λ (t : List ℕ). body_at (at old.offset t)) h.0.2 ∙ again.1 ∙ ap (λ (n : ℕ). Some (at again.0 body.left, at n new.left)) (sym h.0.3) in
     let ends = (body_takes old (at again.0 body.left) new there).1 in
-    let start : again.0 ≡ body.place = omega (arith, ends, h.1) in
+    let start : again.0 ≡ body.offset = omega (arith, ends, h.1) in
     there ∙ ap (λ (n : ℕ). Some (at n body.left, new)) start
 Gives-body old new (Err e) h = (none_of (body_at old) (λ y p. let t = (body_takes old y.0 y.1 p).0 in h.0 y.0.left t.0 y.1.left t.1 t.2), h.1)
 

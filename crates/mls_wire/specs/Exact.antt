@@ -13,7 +13,7 @@ use Rattle.mls_wire.specs.Joined.{joined, join}
 -- what is read is spelled and has P, and what is spelled and has P is read again, behind and before any bytes
 pub record Exact {A : Type 0} (P : A → Type 0) (spelling : A → Option (List ℕ)) (read : Input → Option (A × Input)) : Type 0 where
   pub takes : (i : Input) (x : A) (j : Input) → read i ≡ Some (x, j) → P x × Takes spelling x i j
-  pub again : (x : A) (front rest : List ℕ) (place : ℕ) → P x → spelling x ≡ Some front → read (at place (front ++ rest)) ≡ Some (x, at (place + length front) rest)
+  pub again : (x : A) (front rest : List ℕ) (offset : ℕ) → P x → spelling x ≡ Some front → read (at offset (front ++ rest)) ≡ Some (x, at (offset + length front) rest)
 
 -- no demand on the value
 abbrev pub Any : {A : Type 0} → A → Type 0
@@ -37,13 +37,13 @@ module _ {A R : Type 0} (P : R → Type 0) (field : R → A) (s : A → Option (
         let two = (others b.0.0).takes b.0.1 r j b.2 in
         let spelled : s (field r) ≡ Some one.0 = rw two.0.1 one.1 in
         (two.0.0, (one.0 ++ two.1.0, join _ _ _ _ spelled two.1.1, one.2 ∙ ap (λ (x : List ℕ). one.0 ++ x) two.1.2 ∙ sym (append_assoc one.0 two.1.0 j.left), omega (arith, one.3, two.1.3, length-append one.0 two.1.0)));
-    again = λ r front rest place p e.
+    again = λ r front rest offset p e.
         let b = joined (s (field r)) (t r) front e in
-        let one = first.again (field r) b.0 (b.1 ++ rest) place tt b.2 in
-        let two = (others (field r)).again r b.1 rest (place + length b.0) (p, refl) b.3 in
+        let one = first.again (field r) b.0 (b.1 ++ rest) offset tt b.2 in
+        let two = (others (field r)).again r b.1 rest (offset + length b.0) (p, refl) b.3 in
         let text : front ++ rest ≡ b.0 ++ (b.1 ++ rest) = ap (λ (x : List ℕ). x ++ rest) b.4 ∙ append_assoc b.0 b.1 rest in
-        let end : (place + length b.0) + length b.1 ≡ place + length front = omega (arith, length-append b.0 b.1, ap length b.4) in
-        ap (λ (x : List ℕ). f (at place x) >>= k) text ∙ rw one two ∙ ap (λ (n : ℕ). Some (r, at n rest)) end;
+        let end : (offset + length b.0) + length b.1 ≡ offset + length front = omega (arith, length-append b.0 b.1, ap length b.4) in
+        ap (λ (x : List ℕ). f (at offset x) >>= k) text ∙ rw one two ∙ ap (λ (n : ℕ). Some (r, at n rest)) end;
   }
 
 module _ {A R : Type 0} (P : R → Type 0) (make : A → R) (s : A → Option (List ℕ)) (t : R → Option (List ℕ)) (f : Input → Option (A × Input)) where
@@ -54,11 +54,11 @@ module _ {A R : Type 0} (P : R → Type 0) (make : A → R) (s : A → Option (L
         let b = bind_some (f i) (λ a. Some (make a.0, a.1)) (r, j) e in
         let one = (part.takes i b.0.0 b.0.1 b.1).1 in
         subst (λ (x : R × Input). P x.0 × Takes t x.0 i x.1) (some_is (make b.0.0, b.0.1) (r, j) b.2) (holds b.0.0, (one.0, spelled b.0.0 ∙ one.1, one.2, one.3));
-    again = λ r front rest place p e.
+    again = λ r front rest offset p e.
         let a = all r p in
         let there : s a.0 ≡ Some front = sym (spelled a.0) ∙ (ap t a.1 ∙ e) in
-        let one = part.again a.0 front rest place tt there in
-        rw one (ap (λ (x : R). Some (x, at (place + length front) rest)) a.1);
+        let one = part.again a.0 front rest offset tt there in
+        rw one (ap (λ (x : R). Some (x, at (offset + length front) rest)) a.1);
   }
 
 module _ {R : Type 0} (P : R → Type 0) (t : R → Option (List ℕ)) where
@@ -67,14 +67,14 @@ module _ {R : Type 0} (P : R → Type 0) (t : R → Option (List ℕ)) where
   chosen f g false when_true when_false = when_false refl
 
   pub never : ((r : R) → P r → ⊥) → Exact P t (λ i. None)
-  never none = record { takes = λ i r j e. absurd cc; again = λ r front rest place p e. absurd (none r p) }
+  never none = record { takes = λ i r j e. absurd cc; again = λ r front rest offset p e. absurd (none r p) }
 
   -- nothing is left to be read
   pub known : (x : R) → P x → t x ≡ Some [] → ((r : R) → P r → x ≡ r) → Exact P t (λ i. Some (x, i))
   known x holds spelled one = record {
     takes = λ i r j e.
         subst (λ (y : R × Input). P y.0 × Takes t y.0 i y.1) (some_is (x, i) (r, j) e) (holds, ([], spelled, refl, omega arith));
-    again = λ r front rest place p e.
+    again = λ r front rest offset p e.
         let none : [] ≡ front = some_is _ _ (sym spelled ∙ (ap t (one r p) ∙ e)) in
         rw (← none, one r p) (ap (λ (n : ℕ). Some (r, at n rest)) (omega arith));
   }
@@ -82,7 +82,7 @@ module _ {R : Type 0} (P : R → Type 0) (t : R → Option (List ℕ)) where
   pub spelled_as : (s : R → Option (List ℕ)) (f : Input → Option (R × Input)) → ((r : R) → s r ≡ t r) → Exact P s f → Exact P t f
   spelled_as s f same h = record {
     takes = λ i r j e. let b = h.takes i r j e in (b.0, (b.1.0, sym (same r) ∙ b.1.1, b.1.2, b.1.3));
-    again = λ r front rest place p e. h.again r front rest place p (same r ∙ e);
+    again = λ r front rest offset p e. h.again r front rest offset p (same r ∙ e);
   }
 
 module _ {R : Type 0} (tag : R → ℕ) (t : R → Option (List ℕ)) (f g : Input → Option (R × Input)) where

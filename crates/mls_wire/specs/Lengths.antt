@@ -73,9 +73,9 @@ length_takes i n j e =
     let a = bind_some (number_at w8 i) (λ first. cond (ltb first.0 64) (Some first) (cond (ltb first.0 128) (longer w16 16448 16384 i) (cond (ltb first.0 192) (longer w32 2147500032 2147483648 i) None))) (n, j) e in
     length_forms i a.0.0 a.0.1 n j a.1 (ltb a.0.0 64) (ltb a.0.0 128) (ltb a.0.0 192) refl refl refl a.2
 
-longer_again : (w : Width) (wide : IsWide w) (low by m : ℕ) (rest : List ℕ) (place : ℕ) → m < 2 ^ bits w → low ≤ m → longer w low by (at place (to_be_bytes w m ++ rest)) ≡ Some (m - by, at (place + byte_len w) rest)
-longer_again w wide low by m rest place lt le =
-    let one = (number_exact w wide).again m (to_be_bytes w m) rest place tt (number_made w m lt) in
+longer_again : (w : Width) (wide : IsWide w) (low by m : ℕ) (rest : List ℕ) (offset : ℕ) → m < 2 ^ bits w → low ≤ m → longer w low by (at offset (to_be_bytes w m ++ rest)) ≡ Some (m - by, at (offset + byte_len w) rest)
+longer_again w wide low by m rest offset lt le =
+    let one = (number_exact w wide).again m (to_be_bytes w m) rest offset tt (number_made w m lt) in
     rw (one, le-ltb m low le, wide.len m) refl
 
 no_form : (n : ℕ) (front : List ℕ) → 1073741824 ≤ n → length_form n ≡ Some front → ⊥
@@ -89,28 +89,28 @@ pub no_length : (n : ℕ) → 1073741824 ≤ n → length_form n ≡ None
 unfolding length_form
 no_length n le = rw (le-ltb n 64 (omega arith), le-ltb n 16384 (omega arith), le-ltb n 1073741824 le) refl
 
-again_1 : (n : ℕ) (rest : List ℕ) (place : ℕ) → n < 64 → length_at (at place (n ∷ rest)) ≡ Some (n, at (place + 1) rest)
+again_1 : (n : ℕ) (rest : List ℕ) (offset : ℕ) → n < 64 → length_at (at offset (n ∷ rest)) ≡ Some (n, at (offset + 1) rest)
 unfolding length_at
-again_1 n rest place lt = let read = byte_again n rest place (omega arith) in rw (read, lt-ltb n 64 lt) refl
+again_1 n rest offset lt = let read = byte_again n rest offset (omega arith) in rw (read, lt-ltb n 64 lt) refl
 
-again_2 : (n : ℕ) (rest : List ℕ) (place : ℕ) → 64 ≤ n → n < 16384 → length_at (at place (to_be_bytes w16 (n + 16384) ++ rest)) ≡ Some (n, at (place + 2) rest)
+again_2 : (n : ℕ) (rest : List ℕ) (offset : ℕ) → 64 ≤ n → n < 16384 → length_at (at offset (to_be_bytes w16 (n + 16384) ++ rest)) ≡ Some (n, at (offset + 2) rest)
 unfolding length_at
-again_2 n rest place le lt =
+again_2 n rest offset le lt =
     let m = n + 16384 in
     let b = m / 256 % 256 in
-    let read : number_at w8 (at place (to_be_bytes w16 m ++ rest)) ≡ Some (b, at (place + 1) (m % 256 ∷ rest)) = byte_again b (m % 256 ∷ rest) place (omega arith) in
-    let whole = longer_again w16 wide16 16448 16384 m rest place (omega arith) (omega arith) in
+    let read : number_at w8 (at offset (to_be_bytes w16 m ++ rest)) ≡ Some (b, at (offset + 1) (m % 256 ∷ rest)) = byte_again b (m % 256 ∷ rest) offset (omega arith) in
+    let whole = longer_again w16 wide16 16448 16384 m rest offset (omega arith) (omega arith) in
     let back : m - 16384 ≡ n = omega arith in
     rw (read, le-ltb b 64 (omega arith), lt-ltb b 128 (omega arith), whole, back) refl
 
-again_4 : (n : ℕ) (rest : List ℕ) (place : ℕ) → 16384 ≤ n → n < 1073741824 → length_at (at place (to_be_bytes w32 (n + 2147483648) ++ rest)) ≡ Some (n, at (place + 4) rest)
+again_4 : (n : ℕ) (rest : List ℕ) (offset : ℕ) → 16384 ≤ n → n < 1073741824 → length_at (at offset (to_be_bytes w32 (n + 2147483648) ++ rest)) ≡ Some (n, at (offset + 4) rest)
 unfolding length_at
-again_4 n rest place le lt =
+again_4 n rest offset le lt =
     let m = n + 2147483648 in
     let b = m / 16777216 % 256 in
     let after = m / 65536 % 256 ∷ m / 256 % 256 ∷ m % 256 ∷ rest in
-    let read : number_at w8 (at place (to_be_bytes w32 m ++ rest)) ≡ Some (b, at (place + 1) after) = byte_again b after place (omega arith) in
-    let whole = longer_again w32 wide32 2147500032 2147483648 m rest place (omega arith) (omega arith) in
+    let read : number_at w8 (at offset (to_be_bytes w32 m ++ rest)) ≡ Some (b, at (offset + 1) after) = byte_again b after offset (omega arith) in
+    let whole = longer_again w32 wide32 2147500032 2147483648 m rest offset (omega arith) (omega arith) in
     let back : m - 2147483648 ≡ n = omega arith in
     rw (read, le-ltb b 64 (omega arith), le-ltb b 128 (omega arith), lt-ltb b 192 (omega arith), whole, back) refl
 
@@ -133,11 +133,11 @@ length_cases n front e =
 pub length_exact : IsExact length_form length_at
 length_exact = record {
   takes = λ i n j e. (tt, length_takes i n j e);
-  again = λ n front rest place p e.
+  again = λ n front rest offset p e.
       elim (length_cases n front e) [
-        | inl h ↦ subst (λ (f : List ℕ). length_at (at place (f ++ rest)) ≡ Some (n, at (place + length f) rest)) h.1 (again_1 n rest place h.0)
-        | inr (inl h) ↦ subst (λ (f : List ℕ). length_at (at place (f ++ rest)) ≡ Some (n, at (place + length f) rest)) h.2 (again_2 n rest place h.0 h.1)
-        | inr (inr h) ↦ subst (λ (f : List ℕ). length_at (at place (f ++ rest)) ≡ Some (n, at (place + length f) rest)) h.2 (again_4 n rest place h.0 h.1)
+        | inl h ↦ subst (λ (f : List ℕ). length_at (at offset (f ++ rest)) ≡ Some (n, at (offset + length f) rest)) h.1 (again_1 n rest offset h.0)
+        | inr (inl h) ↦ subst (λ (f : List ℕ). length_at (at offset (f ++ rest)) ≡ Some (n, at (offset + length f) rest)) h.2 (again_2 n rest offset h.0 h.1)
+        | inr (inr h) ↦ subst (λ (f : List ℕ). length_at (at offset (f ++ rest)) ≡ Some (n, at (offset + length f) rest)) h.2 (again_4 n rest offset h.0 h.1)
       ];
 }
 

@@ -1,3 +1,4 @@
+pub mod Limits
 pub mod Input
 pub mod Faults
 pub mod Spelling

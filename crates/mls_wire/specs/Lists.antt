@@ -53,18 +53,18 @@ module _ {A : Type 0} (s : A → Option (List ℕ)) (f : Input → Option (A × 
             subst (λ (x : List A). items s x ≡ Some i.left) (some_is (b.0.0 ∷ c.0) xs c.2) (join _ _ _ _ t.1 others ∙ ap (λ (x : List ℕ). Some x) (sym t.2))
       ]
 
-  pub items_again : IsLong s → (xs : List A) (n : ℕ) (place : ℕ) (text : List ℕ) → length text ≤ n → items s xs ≡ Some text → items_at f n (at place text) ≡ Some xs
+  pub items_again : IsLong s → (xs : List A) (n : ℕ) (offset : ℕ) (text : List ℕ) → length text ≤ n → items s xs ≡ Some text → items_at f n (at offset text) ≡ Some xs
   unfolding items_at items
-  items_again long [] zero place text le e = let none = some_is _ _ e in rw (← none) refl
-  items_again long [] (suc n) place text le e = let none = some_is _ _ e in rw (← none) refl
-  items_again long (x ∷ xs) zero place text le e =
+  items_again long [] zero offset text le e = let none = some_is _ _ e in rw (← none) refl
+  items_again long [] (suc n) offset text le e = let none = some_is _ _ e in rw (← none) refl
+  items_again long (x ∷ xs) zero offset text le e =
       let a = joined (s x) (items s xs) text e in
       absurd (omega (arith, long x a.0 a.2, ap length a.4, length-append a.0 a.1))
-  items_again long (x ∷ xs) (suc n) place text le e =
+  items_again long (x ∷ xs) (suc n) offset text le e =
       let a = joined (s x) (items s xs) text e in
       let first = long x a.0 a.2 in
-      let one = exact.again x a.0 a.1 place tt a.2 in
-      let others = items_again long xs n (place + length a.0) a.1 (omega (arith, first, ap length a.4, length-append a.0 a.1)) a.3 in
+      let one = exact.again x a.0 a.1 offset tt a.2 in
+      let others = items_again long xs n (offset + length a.0) a.1 (omega (arith, first, ap length a.4, length-append a.0 a.1)) a.3 in
       let some : eqb (length (a.0 ++ a.1)) 0 ≡ false = not_nil _ (omega (arith, first, length-append a.0 a.1)) in
       rw (a.4, some, one, others) refl
 
@@ -77,9 +77,9 @@ module _ {A : Type 0} (s : A → Option (List ℕ)) (f : Input → Option (A × 
         let t = (body_takes i a.0.0 a.0.1 a.1).0 in
         let whole : sized (items s b.0) ≡ Some t.0 = sized_of _ _ (items_take (length a.0.0.left) a.0.0 b.0 b.1) ∙ t.1 in
         (tt, subst (λ (x : List A × Input). Takes (list s) x.0 i x.1) (some_is (b.0, a.0.1) (xs, j) b.2) (t.0, whole, t.2, t.3));
-    again = λ xs front rest place p e.
+    again = λ xs front rest offset p e.
         let a = sized_parts (items s xs) front e in
-        let b = body_again a.0 front rest place a.2 in
+        let b = body_again a.0 front rest offset a.2 in
         let c = items_again long xs (length a.0) b.0 a.0 (omega arith) a.1 in
         rw (b.1, c) refl;
   }

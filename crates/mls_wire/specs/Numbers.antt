@@ -95,13 +95,6 @@ wide64 = record {
   below = λ bytes fits. omega (arith, fits 0, fits 1, fits 2, fits 3, fits 4, fits 5, fits 6, fits 7);
 }
 
-IsBytes-take : (n : ℕ) (bytes : List ℕ) → IsBytes bytes → IsBytes (take n bytes)
-IsBytes-take n bytes h i =
-    elim (cases_lt i n) [
-      | inl lt ↦ rw (get_or-take n bytes i 0 lt) (h i)
-      | inr le ↦ rw (get_or_past (take n bytes) i 0 (omega (arith, length-take n bytes))) (omega arith)
-    ]
-
 -- what is read from bytes
 pub number_read : (w : Width) (i : Input) → IsBytes (take (byte_len w) i.left) → byte_len w ≤ length i.left → number_at w i ≡ Some (from_be_bytes w (take (byte_len w) i.left), skip (byte_len w) i)
 unfolding number_at
@@ -129,9 +122,9 @@ number_made w n lt = rw (lt-ltb n (2 ^ bits w) lt) refl
 pub byte_made : (n : ℕ) → n < 256 → number w8 n ≡ Some (n ∷ [])
 byte_made n lt = number_made w8 n (omega arith) ∙ ap (λ (x : ℕ). Some (x ∷ [])) (omega arith)
 
-byte_read : (w : Width) → byte_len w ≡ 1 → (b : ℕ) (rest : List ℕ) (place : ℕ) → ltb (length (b ∷ rest)) 1 ≡ false → all_bytes (b ∷ []) ≡ true → number_at w8 (at place (b ∷ rest)) ≡ Some (b, at (place + 1) rest)
+byte_read : (w : Width) → byte_len w ≡ 1 → (b : ℕ) (rest : List ℕ) (offset : ℕ) → ltb (length (b ∷ rest)) 1 ≡ false → all_bytes (b ∷ []) ≡ true → number_at w8 (at offset (b ∷ rest)) ≡ Some (b, at (offset + 1) rest)
 unfolding number_at
-byte_read w one b rest place long good = rw (long, good) refl
+byte_read w one b rest offset long good = rw (long, good) refl
 
 -- a number takes a byte at least
 pub number_long : (w : Width) → IsWide w → (n : ℕ) (front : List ℕ) → number w n ≡ Some front → 0 < length front
@@ -154,33 +147,33 @@ number_exact w wide = record {
       let lt : ltb (from_be_bytes w front) (2 ^ bits w) ≡ true = lt-ltb _ _ (wide.below front fits) in
       subst (λ (x : ℕ × Input). Any x.0 × Takes (number w) x.0 i x.1) (some_is (from_be_bytes w front, skip (byte_len w) i) (n, j) b.1)
       (tt, (front, rw (lt, same) refl, sym (take-append-drop (byte_len w) i.left), omega arith));
-  again = λ n front rest place p e.
+  again = λ n front rest offset p e.
       let a = allowed (ltb n (2 ^ bits w)) _ front e in
       let made : to_be_bytes w n ≡ front = some_is _ _ a.1 in
       let len = wide.len n in
       let long : ltb (length (to_be_bytes w n ++ rest)) (byte_len w) ≡ false = le-ltb _ _ (omega (arith, length-append (to_be_bytes w n) rest)) in
       let good = are_all_bytes (to_be_bytes w n) (wide.bytes n) in
       let back = wide.again n (ltb-true _ _ a.0) in
-      let one : number_at w (at place (to_be_bytes w n ++ rest)) ≡ Some (n, at (place + byte_len w) rest) =
+      let one : number_at w (at offset (to_be_bytes w n ++ rest)) ≡ Some (n, at (offset + byte_len w) rest) =
       rw (long, take_at (to_be_bytes w n) rest (byte_len w) len, good, drop_at (to_be_bytes w n) rest (byte_len w) len, back) refl in
-      let end : place + byte_len w ≡ place + length front = omega (arith, len, ap length made) in
-      ap (λ (x : List ℕ). number_at w (at place (x ++ rest))) (sym made) ∙ one ∙ ap (λ (x : ℕ). Some (n, at x rest)) end;
+      let end : offset + byte_len w ≡ offset + length front = omega (arith, len, ap length made) in
+      ap (λ (x : List ℕ). number_at w (at offset (x ++ rest))) (sym made) ∙ one ∙ ap (λ (x : ℕ). Some (n, at x rest)) end;
 }
 
 -- a byte is read again
-pub byte_again : (b : ℕ) (rest : List ℕ) (place : ℕ) → b < 256 → number_at w8 (at place (b ∷ rest)) ≡ Some (b, at (place + 1) rest)
-byte_again b rest place lt =
+pub byte_again : (b : ℕ) (rest : List ℕ) (offset : ℕ) → b < 256 → number_at w8 (at offset (b ∷ rest)) ≡ Some (b, at (offset + 1) rest)
+byte_again b rest offset lt =
     let long : 1 ≤ length (b ∷ rest) = omega arith in
     let good : all_bytes (b ∷ []) ≡ true = and_from _ _ (lt-ltb b 256 lt) refl in
-    byte_read w8 refl b rest place (le-ltb _ _ long) good
+    byte_read w8 refl b rest offset (le-ltb _ _ long) good
 
 -- what is read as a byte is one
-pub byte_takes : (i : Input) (b : ℕ) (j : Input) → number_at w8 i ≡ Some (b, j) → (i.left ≡ b ∷ j.left) × (b < 256) × (j.place ≡ i.place + 1)
+pub byte_takes : (i : Input) (b : ℕ) (j : Input) → number_at w8 i ≡ Some (b, j) → (i.left ≡ b ∷ j.left) × (b < 256) × (j.offset ≡ i.offset + 1)
 byte_takes i b j e =
     let t = ((number_exact w8 wide8).takes i b j e).1 in
     let lt = number_below w8 b t.0 t.1 in
     let one : t.0 ≡ b ∷ [] = sym lt.1 ∙ ap (λ (x : ℕ). x ∷ []) (omega (arith, lt.0)) in
-    (t.2 ∙ ap (λ (x : List ℕ). x ++ j.left) one, lt.0, t.3 ∙ ap (λ (x : List ℕ). i.place + length x) one)
+    (t.2 ∙ ap (λ (x : List ℕ). x ++ j.left) one, lt.0, t.3 ∙ ap (λ (x : List ℕ). i.offset + length x) one)
 
 -- so many numbers take so many bytes
 pub items_width : (w : Width) (wide : IsWide w) (k : ℕ) → byte_len w ≡ k → (xs : List ℕ) (t : List ℕ) → items (number w) xs ≡ Some t → length t ≡ length xs * k

@@ -40,20 +40,20 @@ abbrev pub all_bytes : List ℕ → Bool
 all_bytes [] = true
 all_bytes (b ∷ bs) = nat_lt b 256 && all_bytes bs
 
--- an unsigned integer, the highest byte first (RFC 8446, section 3.3)
+-- an unsigned integer, the highest byte first (RFC 8446, 3.3)
 unfoldable pub number_at : Width → Input → Option (ℕ × Input)
 number_at w i =
     if nat_lt (length i.left) (byte_len w) then None
     else if all_bytes (take (byte_len w) i.left) then Some (from_be_bytes w (take (byte_len w) i.left), skip (byte_len w) i)
     else None
 
--- a longer form of a length: a number from low on, which is the length and by (RFC 9420, section 2.1.2)
+-- a longer form of a length: a number from low on, which is the length and by (RFC 9420, 2.1.2)
 abbrev pub longer : Width → ℕ → ℕ → Input → Option (ℕ × Input)
 longer w low by i = do
   n ← number_at w i
   if nat_lt n.0 low then None else Some (n.0 - by, n.1)
 
--- a length, in the form that its first byte tells (RFC 9420, section 2.1.2)
+-- a length, in the form that its first byte tells (RFC 9420, 2.1.2)
 unfoldable pub length_at : Input → Option (ℕ × Input)
 length_at i = do
   first ← number_at w8 i
@@ -64,25 +64,25 @@ length_at i = do
 
 -- ---- vectors, optional values, lists
 
--- the body of a vector, at its place (RFC 9420, section 2.1.2)
+-- the body of a vector, at its offset (RFC 9420, 2.1.2)
 unfoldable pub body_at : Input → Option (Input × Input)
 body_at i = do
   n ← length_at i
-  if nat_lt (length n.1.left) n.0 then None else Some (at n.1.place (take n.0 n.1.left), skip n.0 n.1)
+  if nat_lt (length n.1.left) n.0 then None else Some (at n.1.offset (take n.0 n.1.left), skip n.0 n.1)
 
--- the bytes of a vector's body (RFC 9420, section 2.1.2)
+-- the bytes of a vector's body (RFC 9420, 2.1.2)
 unfoldable pub vector_at : Input → Option (List ℕ × Input)
 vector_at i = do
   body ← body_at i
   Some (body.0.left, body.1)
 
--- the byte before an optional value (RFC 9420, section 2.1.1)
+-- the byte before an optional value (RFC 9420, 2.1.1)
 unfoldable pub flag_at : Input → Option (Bool × Input)
 flag_at i = do
   b ← number_at w8 i
   if nat_eq b.0 0 then Some (false, b.1) else if nat_eq b.0 1 then Some (true, b.1) else None
 
--- an optional value (RFC 9420, section 2.1.1)
+-- an optional value (RFC 9420, 2.1.1)
 unfoldable pub optional_at : {A : Type 0} → (Input → Option (A × Input)) → Input → Option (Option A × Input)
 optional_at item_at i = do
   there ← flag_at i
@@ -98,7 +98,7 @@ items_at item_at (suc n) i =
       xs ← items_at item_at n x.1
       Some (x.0 ∷ xs))
 
--- a list: a vector whose body is items up to its end (RFC 9420, section 2.1.2)
+-- a list: a vector whose body is items up to its end (RFC 9420, 2.1.2)
 unfoldable pub list_at : {A : Type 0} → (Input → Option (A × Input)) → Input → Option (List A × Input)
 list_at item_at i = do
   body ← body_at i

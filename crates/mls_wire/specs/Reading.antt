@@ -5,10 +5,11 @@ use Rattle.mls_wire.specs.declared.fault.CodecFault.{CodecFault}
 use Rattle.mls_wire.specs.declared.fault.CodecFault.TheVariants as faults
 use Rattle.mls_wire.specs.Spelling.{vector, items}
 use Rattle.mls_wire.specs.Input.{Input}
+use Rattle.mls_wire.specs.Limits.{input_limit}
 
 -- x is spelled between i and j
 abbrev pub Takes : {A : Type 0} → (A → Option (List ℕ)) → A → Input → Input → Type 0
-Takes spelling x i j = (front : List ℕ) × (spelling x ≡ Some front) × (i.left ≡ front ++ j.left) × (j.place ≡ i.place + length front)
+Takes spelling x i j = (front : List ℕ) × (spelling x ≡ Some front) × (i.left ≡ front ++ j.left) × (j.offset ≡ i.offset + length front)
 
 -- no value is spelled at the front of i
 abbrev pub Nothing : {A : Type 0} → (A → Option (List ℕ)) → Input → Type 0
@@ -32,15 +33,15 @@ DecodesAll spelling bytes (Ok x) = spelling x ≡ Some bytes
 DecodesAll {A} spelling bytes (Err (faults.Wire f)) = (x : A) → spelling x ≡ Some bytes → ⊥
 DecodesAll spelling bytes (Err faults.OutOfMemory) = Unit {0}
 
--- the same of an input, which has at most 268,435,456 bytes
+-- the same of an input, which is within its limit
 abbrev pub DecodesInput : {A : Type 0} → (A → Option (List ℕ)) → List ℕ → Result A CodecFault → Type 0
-DecodesInput spelling bytes (Ok x) = (spelling x ≡ Some bytes) × (length bytes ≤ 268435456)
-DecodesInput {A} spelling bytes (Err (faults.Wire f)) = (x : A) → spelling x ≡ Some bytes → length bytes ≤ 268435456 → ⊥
+DecodesInput spelling bytes (Ok x) = (spelling x ≡ Some bytes) × (length bytes ≤ input_limit)
+DecodesInput {A} spelling bytes (Err (faults.Wire f)) = (x : A) → spelling x ≡ Some bytes → length bytes ≤ input_limit → ⊥
 DecodesInput spelling bytes (Err faults.OutOfMemory) = Unit {0}
 
 -- a vector's body, which ends where the input goes on
 abbrev pub ReadsBody : Input → Input → Result Input WireFault → Type 0
-ReadsBody old new (Ok body) = Takes vector body.left old new × (body.place + length body.left ≡ new.place)
+ReadsBody old new (Ok body) = Takes vector body.left old new × (body.offset + length body.left ≡ new.offset)
 ReadsBody old new (Err f) = Nothing vector old × (new ≡ old)
 
 -- no list of values takes so many bytes

@@ -5,12 +5,13 @@ use Rattle.std.specs.Int.{Width, byte_len}
 use mir.Val.{bits}
 use Rattle.std.proofs.lemmas.Bool.{cases_lt}
 use Rattle.std.proofs.lemmas.List.{take_more, take-append-drop, take_all}
+use Rattle.mls_wire.specs.Limits.{vector_limit}
 use Rattle.mls_wire.specs.Spelling.{◌⊕◌, number, length_form, vector, sized, items, list}
 use Rattle.mls_wire.specs.Steps.{some_is}
 use Rattle.mls_wire.specs.Joined.{no_right, joined, join}
 use Rattle.mls_wire.specs.Lengths.{length_short, form_1, form_2, form_4}
 use Rattle.mls_wire.specs.Numbers.{IsWide, number_made}
-use Rattle.mls_wire.specs.Vectors.{vector_limit}
+use Rattle.mls_wire.specs.Vectors.{vector_within}
 use Rattle.mls_wire.specs.Lists.{sized_parts, sized_of}
 use Rattle.mls_wire.specs.Written.{items_snoc, items_refused}
 
@@ -42,7 +43,7 @@ is_some_has None h = absurd cc
 is_some_has (Some t) h = (t, refl)
 
 -- a body within the limit has a spelling as a vector
-pub vector_some : (s : List ℕ) → length s ≤ 1073741823 → IsSome (vector s)
+pub vector_some : (s : List ℕ) → length s ≤ vector_limit → IsSome (vector s)
 unfolding vector
 vector_some s le =
     elim (cases_lt (length s) 64) [
@@ -73,14 +74,14 @@ module _ {A : Type 0} (s : A → Option (List ℕ)) where
       let b = items_split xs ys a.1 a.3 in
       (a.0 ++ b.0, b.1, join _ _ _ _ a.2 b.2, a.4 ∙ ap (λ (r : List ℕ). a.0 ++ r) b.3 ∙ sym (append_assoc a.0 b.0 b.1))
 
-  list_some : (xs : List A) → IsSome (list s xs) → (t : List ℕ) × (items s xs ≡ Some t) × (length t ≤ 1073741823)
+  list_some : (xs : List A) → IsSome (list s xs) → (t : List ℕ) × (items s xs ≡ Some t) × (length t ≤ vector_limit)
   unfolding list
   list_some xs h =
       let f = is_some_has (sized (items s xs)) h in
       let a = sized_parts (items s xs) f.0 f.1 in
-      (a.0, a.1, vector_limit a.0 f.0 a.2)
+      (a.0, a.1, vector_within a.0 f.0 a.2)
 
-  pub fits_not : (xs : List A) (i n : ℕ) → option_map length (items s (take i xs)) ≡ Some n → 1073741823 < n → IsSome (list s xs) → ⊥
+  pub fits_not : (xs : List A) (i n : ℕ) → option_map length (items s (take i xs)) ≡ Some n → vector_limit < n → IsSome (list s xs) → ⊥
   fits_not xs i n e lt h =
       let a = list_some xs h in
       let b = items_split (take i xs) (drop i xs) a.0 (ap (items s) (take-append-drop i xs) ∙ a.1) in
@@ -94,7 +95,7 @@ module _ {A : Type 0} (s : A → Option (List ℕ)) where
       let b = items_refused s xs i x lt is (none_size (s x) e) in
       let bad = sym b ∙ a.1 in absurd cc
 
-  pub fits_all : (xs : List A) (i n : ℕ) → length xs ≤ i → option_map length (items s (take i xs)) ≡ Some n → n ≤ 1073741823 → IsSome (list s xs)
+  pub fits_all : (xs : List A) (i n : ℕ) → length xs ≤ i → option_map length (items s (take i xs)) ≡ Some n → n ≤ vector_limit → IsSome (list s xs)
   unfolding list
   fits_all xs i n le e lt =
       let a = some_size (items s (take i xs)) n e in
@@ -120,4 +121,4 @@ vector_below s n e =
     let t = some_size (vector s) n (sym e) in
     let a = joined (length_form (length s)) (Some s) t.0 t.1 in
     let same : s ≡ a.1 = some_is _ _ a.3 in
-    omega (arith, length_short (length s) a.0 a.2, vector_limit s t.0 t.1, ap length a.4, length-append a.0 a.1, t.2, ap length same)
+    omega (arith, length_short (length s) a.0 a.2, vector_within s t.0 t.1, ap length a.4, length-append a.0 a.1, t.2, ap length same)

@@ -1,4 +1,4 @@
--- How values are spelled in bytes (RFC 9420, section 2.1). A value that is over a limit has no spelling.
+-- How values are spelled in bytes (RFC 9420, 2.1). A value that is over a limit has no spelling.
 use Rattle.std.specs.Prelude.{◌≡◌, ℕ, ◌+◌, ◌^◌, List, [], ◌∷◌, ◌++◌, length, Bool, true, false, Option, Some, None, nat_lt, if◌then◌else◌}
 use Rattle.std.specs.Int.{Width, to_be_bytes, w16, w32}
 use mir.Val.{bits}
@@ -10,11 +10,11 @@ None ⊕ b = None
 (Some a) ⊕ None = None
 (Some a) ⊕ (Some b) = Some (a ++ b)
 
--- an unsigned integer within its width, the highest byte first (RFC 8446, section 3.3)
+-- an unsigned integer within its width, the highest byte first (RFC 8446, 3.3)
 unfoldable pub number : Width → ℕ → Option (List ℕ)
 number w n = if nat_lt n (2 ^ bits w) then Some (to_be_bytes w n) else None
 
--- a length, in the shortest of three forms, which the two highest bits tell apart (RFC 9420, section 2.1.2)
+-- a length, in the shortest of three forms, which the two highest bits tell apart (RFC 9420, 2.1.2)
 unfoldable pub length_form : ℕ → Option (List ℕ)
 length_form n =
     if nat_lt n 64 then Some (n ∷ [])
@@ -22,7 +22,7 @@ length_form n =
     else if nat_lt n 1073741824 then Some (to_be_bytes w32 (n + 2147483648))
     else None
 
--- a variable-size vector: the length of its body, and the body (RFC 9420, section 2.1.2)
+-- a variable-size vector: the length of its body, and the body (RFC 9420, 2.1.2)
 unfoldable pub vector : List ℕ → Option (List ℕ)
 vector body = length_form (length body) ⊕ Some body
 
@@ -36,16 +36,16 @@ unfoldable pub items : {A : Type 0} → (A → Option (List ℕ)) → List A →
 items item [] = Some []
 items item (x ∷ xs) = item x ⊕ items item xs
 
--- a list: the length of its items in bytes, and the items (RFC 9420, section 2.1.2)
+-- a list: the length of its items in bytes, and the items (RFC 9420, 2.1.2)
 unfoldable pub list : {A : Type 0} → (A → Option (List ℕ)) → List A → Option (List ℕ)
 list item xs = sized (items item xs)
 
--- the byte before an optional value: 1 where the value follows, 0 where there is none (RFC 9420, section 2.1.1)
+-- the byte before an optional value: 1 where the value follows, 0 where there is none (RFC 9420, 2.1.1)
 unfoldable pub flag : Bool → Option (List ℕ)
 flag false = Some (0 ∷ [])
 flag true = Some (1 ∷ [])
 
--- an optional value: that byte, and the value where there is one (RFC 9420, section 2.1.1)
+-- an optional value: that byte, and the value where there is one (RFC 9420, 2.1.1)
 unfoldable pub optional : {A : Type 0} → (A → Option (List ℕ)) → Option A → Option (List ℕ)
 optional item None = Some (0 ∷ [])
 optional item (Some x) = Some (1 ∷ []) ⊕ item x

@@ -2,6 +2,7 @@
 use Rattle.std.proofs.Common.{◌≡◌, ℕ, ◌+◌, ◌<◌, ◌≤◌, false, cond, ltb, List, ◌++◌, length, take, drop, Some, None, refl, sym, ap, subst, ◌∙◌, append_assoc, arith}
 use Rattle.std.proofs.lemmas.Bool.{ltb-false, le-ltb}
 use Rattle.std.proofs.lemmas.List.{take_at, drop_at, take-append-drop, length-append, length-take}
+use Rattle.mls_wire.specs.Limits.{vector_limit}
 use Rattle.mls_wire.specs.Input.{Input, at, skip}
 use Rattle.mls_wire.specs.Spelling.{length_form, vector}
 use Rattle.mls_wire.specs.Reading.{Takes}
@@ -12,32 +13,32 @@ use Rattle.mls_wire.specs.Exact.{IsExact}
 use Rattle.mls_wire.specs.Lengths.{length_takes, length_exact, length_below}
 
 -- what is read as a body is spelled as a vector
-pub body_takes : (i b j : Input) → body_at i ≡ Some (b, j) → Takes vector b.left i j × (b.place + length b.left ≡ j.place)
+pub body_takes : (i b j : Input) → body_at i ≡ Some (b, j) → Takes vector b.left i j × (b.offset + length b.left ≡ j.offset)
 unfolding body_at vector
 body_takes i b j e =
-    let a = bind_some (length_at i) (λ n. cond (ltb (length n.1.left) n.0) None (Some (at n.1.place (take n.0 n.1.left), skip n.0 n.1))) (b, j) e in
+    let a = bind_some (length_at i) (λ n. cond (ltb (length n.1.left) n.0) None (Some (at n.1.offset (take n.0 n.1.left), skip n.0 n.1))) (b, j) e in
     let n = a.0.0 in
     let k = a.0.1 in
-    let c = guarded (ltb (length k.left) n) (Some (at k.place (take n k.left), skip n k)) (b, j) a.2 in
+    let c = guarded (ltb (length k.left) n) (Some (at k.offset (take n k.left), skip n k)) (b, j) a.2 in
     let t = length_takes i n k a.1 in
     let le : n ≤ length k.left = ltb-false _ _ c.0 in
     let len : length (take n k.left) ≡ n = omega (arith, length-take n k.left) in
     let text : i.left ≡ (t.0 ++ take n k.left) ++ drop n k.left = t.2 ∙ ap (λ (x : List ℕ). t.0 ++ x) (sym (take-append-drop n k.left)) ∙ sym (append_assoc t.0 (take n k.left) (drop n k.left)) in
-    subst (λ (x : Input × Input). Takes vector x.0.left i x.1 × (x.0.place + length x.0.left ≡ x.1.place)) (some_is (at k.place (take n k.left), skip n k) (b, j) c.1)
+    subst (λ (x : Input × Input). Takes vector x.0.left i x.1 × (x.0.offset + length x.0.left ≡ x.1.offset)) (some_is (at k.offset (take n k.left), skip n k) (b, j) c.1)
     ((t.0 ++ take n k.left, join _ _ t.0 (take n k.left) (rw len t.1) refl, text, omega (arith, t.3, len, length-append t.0 (take n k.left))), omega (arith, len))
 
 -- what is spelled as a vector is read as a body
-pub body_again : (s front rest : List ℕ) (place : ℕ) → vector s ≡ Some front → (start : ℕ) × (body_at (at place (front ++ rest)) ≡ Some (at start s, at (place + length front) rest))
+pub body_again : (s front rest : List ℕ) (offset : ℕ) → vector s ≡ Some front → (start : ℕ) × (body_at (at offset (front ++ rest)) ≡ Some (at start s, at (offset + length front) rest))
 unfolding body_at vector
-body_again s front rest place e =
+body_again s front rest offset e =
     let a = joined (length_form (length s)) (Some s) front e in
     let same : s ≡ a.1 = some_is _ _ a.3 in
-    let one = length_exact.again (length s) a.0 (s ++ rest) place tt a.2 in
+    let one = length_exact.again (length s) a.0 (s ++ rest) offset tt a.2 in
     let text : front ≡ a.0 ++ s = a.4 ∙ ap (λ (x : List ℕ). a.0 ++ x) (sym same) in
     let regrouped : front ++ rest ≡ a.0 ++ (s ++ rest) = ap (λ (x : List ℕ). x ++ rest) text ∙ append_assoc a.0 s rest in
     let long : ltb (length (s ++ rest)) (length s) ≡ false = le-ltb _ _ (omega (arith, length-append s rest)) in
-    let end : (place + length a.0) + length s ≡ place + length front = omega (arith, length-append a.0 s, ap length text) in
-    (place + length a.0, ap (λ (x : List ℕ). body_at (at place x)) regrouped ∙ rw (one, long, take_at s rest (length s) refl, drop_at s rest (length s) refl) (ap (λ (x : ℕ). Some (at (place + length a.0) s, at x rest)) end))
+    let end : (offset + length a.0) + length s ≡ offset + length front = omega (arith, length-append a.0 s, ap length text) in
+    (offset + length a.0, ap (λ (x : List ℕ). body_at (at offset x)) regrouped ∙ rw (one, long, take_at s rest (length s) refl, drop_at s rest (length s) refl) (ap (λ (x : ℕ). Some (at (offset + length a.0) s, at x rest)) end))
 
 -- reading a vector is exact
 pub vector_exact : IsExact vector vector_at
@@ -47,13 +48,13 @@ vector_exact = record {
       let a = bind_some (body_at i) (λ body. Some (body.0.left, body.1)) (s, j) e in
       let t = body_takes i a.0.0 a.0.1 a.1 in
       (tt, subst (λ (x : List ℕ × Input). Takes vector x.0 i x.1) (some_is (a.0.0.left, a.0.1) (s, j) a.2) t.0);
-  again = λ s front rest place p e. let b = body_again s front rest place e in rw b.1 refl;
+  again = λ s front rest offset p e. let b = body_again s front rest offset e in rw b.1 refl;
 }
 
 -- a body that has a spelling as a vector is within the limit
-pub vector_limit : (s front : List ℕ) → vector s ≡ Some front → length s ≤ 1073741823
+pub vector_within : (s front : List ℕ) → vector s ≡ Some front → length s ≤ vector_limit
 unfolding vector
-vector_limit s front e =
+vector_within s front e =
     let a = joined (length_form (length s)) (Some s) front e in
     let b = length_below (length s) a.0 a.2 in
     omega arith

@@ -47,12 +47,6 @@ unfolding after
 after_nil None new e = absurd cc
 after_nil (Some s) new e = e
 
--- a piece, and what is then put
-pub Puts-then : {A : Type 0} (a b : Option (List ℕ)) (old mid new : Added) (r : Result A CodecFault) → after old.more a ≡ Some mid.more → mid.kept ≡ old.kept → Puts b mid new r → Puts (a ⊕ b) old new r
-Puts-then a b old mid new (Ok x) e k h = (after_then old.more a b mid.more e ∙ h.0, h.1 ∙ k)
-Puts-then a b old mid new (Err (faults.Wire f)) e k h = (none_second a b h.0, h.1 ∙ k)
-Puts-then a b old mid new (Err faults.OutOfMemory) e k h = h ∙ k
-
 -- what is appended behind what was kept
 pub grown : (k : ℕ) (old s new : List ℕ) → k ≤ length old → new ≡ old ++ s → (after (drop k old) (Some s) ≡ Some (drop k new)) × (take k new ≡ take k old)
 grown k old s new le e =

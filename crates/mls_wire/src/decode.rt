@@ -3,6 +3,7 @@
 ghost use Rattle.std.specs.Prelude.{◌≡◌, ◌<◌, ℕ, List, Option, Some, Err, length, IfOk, IsSome, IsTrue};
 ghost use Rattle.mls_wire.specs.Faults.{too_long_at};
 ghost use Rattle.mls_wire.specs.Input.{Input};
+ghost use Rattle.mls_wire.specs.Limits.{input_limit};
 ghost use Rattle.mls_wire.specs.Spelling.{items, list};
 ghost use Rattle.mls_wire.specs.Parsing.{GivesOrFull, Finds, whole_at, items_at, list_at};
 ghost use Rattle.mls_wire.specs.Reading.{Decodes, DecodesAll, DecodesInput, NoListTakes, seen};
@@ -45,7 +46,9 @@ pub trait Decode: Drop {
 
 /// The values that all of the body spells, one after the other.
 fn items_of<T: Decode>(alloc: Global, mut body: Reader<'_>) -> Result<Vec<T>, CodecFault>
-    ensures { Finds (items_at T.reading (length body.entry.left) body.entry) (seen (λ v. v.items) result) }
+    ensures { Finds
+        (items_at T.reading (length body.entry.left) body.entry)
+        (seen (λ v. v.items) result) }
 {
     let mut items = Vec::new(alloc);
     while !body.at_end() {
@@ -65,7 +68,7 @@ fn list_of<T: Decode>(alloc: Global, reader: &mut Reader<'_>) -> Result<Vec<T>, 
     if T::is_uneven(body.len()) {
         return Err(CodecFault::Wire(WireFault {
             kind: WireFaultKind::OddLength,
-            at: reader.place(),
+            at: reader.offset(),
         }));
     }
     let items = items_of(alloc, body)?;
@@ -73,13 +76,14 @@ fn list_of<T: Decode>(alloc: Global, reader: &mut Reader<'_>) -> Result<Vec<T>, 
     Ok(items)
 }
 
-/// Reads a list: its length in bytes, and its items (RFC 9420, section 2.1.2).
+/// Reads a list: its length in bytes, and its items (RFC 9420, 2.1.2).
 pub(crate) fn read_list<T: Decode>(
     alloc: Global,
     reader: &mut Reader<'_>,
 ) -> Result<Vec<T>, CodecFault>
     ensures fits { IfOk result (λ v. IsSome (list T.spelling v.items)) }
-    ensures exact { GivesOrFull (list_at T.reading) reader.old reader.new (seen (λ v. v.items) result) }
+    ensures exact { GivesOrFull (list_at T.reading) reader.old reader.new
+        (seen (λ v. v.items) result) }
 {
     list_of(alloc, reader)
 }
@@ -113,7 +117,7 @@ pub fn read_all_of<T: Decode>(alloc: Global, bytes: &[u8]) -> Result<T, CodecFau
 /// holds.
 pub fn read_input<T: Decode>(alloc: Global, bytes: &[u8]) -> Result<T, CodecFault>
     ensures spelled { DecodesInput T.spelling bytes.now result }
-    ensures long { 268435456 < length bytes.now → result ≡ Err (CodecFault.Wire (too_long_at 0)) }
+    ensures long { input_limit < length bytes.now → result ≡ Err (CodecFault.Wire (too_long_at 0)) }
 {
     if bytes.len() > MAX_INPUT {
         return Err(CodecFault::Wire(WireFault {

@@ -115,21 +115,21 @@ impl Draft {
         self.written.write_u64(n)
     }
 
-    /// Adds a length in its shortest form (RFC 9420, section 2.1.2).
+    /// Adds a length in its shortest form (RFC 9420, 2.1.2).
     pub fn put_len(&mut self, n: usize) -> Result<(), CodecFault>
         ensures { PutsPiece (length_form n) self.old self.new result }
     {
         self.written.write_len(n)
     }
 
-    /// Adds a vector: the length of the body, and the body (RFC 9420, section 2.1.2).
+    /// Adds a vector: the length of the body, and the body (RFC 9420, 2.1.2).
     pub fn put_vec(&mut self, body: &[u8]) -> Result<(), CodecFault>
         ensures { PutsPiece (vector body.now) self.old self.new result }
     {
         self.written.write_vec(body)
     }
 
-    /// Adds the byte before an optional value (RFC 9420, section 2.1.1).
+    /// Adds the byte before an optional value (RFC 9420, 2.1.1).
     pub fn put_optional(&mut self, is_present: bool) -> Result<(), CodecFault>
         ensures { PutsPiece (flag is_present) self.old self.new result }
     {

@@ -29,7 +29,7 @@ fn body_of<T: Encode>(alloc: Global, values: &[T]) -> Result<Vec<u8>, CodecFault
     Ok(body.finish())
 }
 
-/// Adds a list: its length in bytes, and its items (RFC 9420, section 2.1.2). A list with an item that has no
+/// Adds a list: its length in bytes, and its items (RFC 9420, 2.1.2). A list with an item that has no
 /// spelling, or of more bytes than a vector's body may have, is `TooLong`.
 #[tactic(auto, unfolding(crate::specs::Spelling::list), using(crate::specs::Written::sized_makes, crate::specs::Written::sized_none))]
 pub fn put_list<T: Encode>(alloc: Global, values: &[T], draft: &mut Draft) -> Result<(), CodecFault>

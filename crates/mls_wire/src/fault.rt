@@ -8,20 +8,20 @@ use thiserror::Error;
 
 /// What is wrong with bytes, or with a value that was to be written.
 ///
-/// A vector is judged in this order: first byte missing (`Truncated`), `BadPrefix`, length bytes missing (`Truncated`),
-/// `NotShortest`, body missing (`Truncated`), `OddLength`.
+/// A vector is judged in this order: first byte missing (`Truncated`), `BadPrefix`, length bytes missing
+/// (`Truncated`), `NotShortest`, body missing (`Truncated`), `OddLength`.
 #[derive(Clone, Copy, Debug, PartialEq, Eq, Error)]
 pub enum WireFaultKind {
     /// The bytes end within an item.
     #[error("Truncated")]
     Truncated,
-    /// A length in a longer form than it needs (RFC 9420, section 2.1.2).
+    /// A length in a longer form than it needs (RFC 9420, 2.1.2).
     #[error("NotShortest")]
     NotShortest,
-    /// A length whose first byte is `c0` or more (RFC 9420, section 2.1.2).
+    /// A length whose first byte is `c0` or more (RFC 9420, 2.1.2).
     #[error("BadPrefix")]
     BadPrefix,
-    /// A byte before an optional value that is neither 0 nor 1 (RFC 9420, section 2.1.1).
+    /// A byte before an optional value that is neither 0 nor 1 (RFC 9420, 2.1.1).
     #[error("BadOptional")]
     BadOptional,
     /// A tag that names no variant which is read here.
@@ -44,9 +44,9 @@ pub enum WireFaultKind {
 pub struct WireFault {
     /// What is wrong.
     pub kind: WireFaultKind,
-    /// The place, counted from the start of the outermost input, at which the smallest item begins that can't be read:
-    /// a vector begins at its length. `Trailing` stands at the first byte left, and the `TooLong` of a writer at the
-    /// number of bytes written so far.
+    /// The offset, counted from the start of the outermost input, at which the smallest item begins that can't be
+    /// read: a vector begins at its length. `Trailing` stands at the first byte left, and the `TooLong` of a writer
+    /// at the number of bytes written so far.
     pub at: usize,
 }
 

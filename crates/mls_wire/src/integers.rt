@@ -1,4 +1,4 @@
-//! The unsigned integers of RFC 8446, section 3.3, which RFC 9420 uses: as many bytes as they are wide, the highest first.
+//! The unsigned integers of RFC 8446, 3.3, which RFC 9420 uses: as many bytes as they are wide, the highest first.
 
 ghost use Rattle.std.specs.Prelude.{◌↔◌, ◌≢◌, ◌%◌, IsTrue};
 ghost use Rattle.std.specs.Int.{w8, w16, w32, w64};

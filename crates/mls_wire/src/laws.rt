@@ -1,6 +1,6 @@
-//! What holds of the spellings themselves: bytes spell at most one value of a type, and no spelling is a proper prefix
-//! of another, so a reader that goes from left to right has no choice. The functions here do nothing; their contracts
-//! are the laws.
+//! What holds of the spellings themselves: bytes spell at most one value of a type, and no spelling is a proper
+//! prefix of another, so a reader that goes from left to right has no choice. The functions here do nothing; their
+//! contracts are the laws.
 
 ghost use Rattle.std.specs.Int.{w8, w16, w32, w64};
 ghost use Rattle.mls_wire.specs.Spelling.{SpellsOnce, IsPrefixFree, IsUnambiguous, number, length_form, vector, flag};
@@ -13,7 +13,7 @@ pub fn one_value<T: Decode>()
     ensures whole { IsPrefixFree T.spelling }
 {}
 
-/// The laws of unsigned integers, lengths, vectors and the byte before an optional value (RFC 9420, section 2.1).
+/// The laws of unsigned integers, lengths, vectors and the byte before an optional value (RFC 9420, 2.1).
 pub fn primitives()
     ensures uint8 { IsUnambiguous (number w8) }
     ensures uint16 { IsUnambiguous (number w16) }

@@ -1,4 +1,4 @@
-//! The presentation language of MLS (RFC 9420, section 2.1): integers, lengths, vectors, optional values and lists as
+//! The presentation language of MLS (RFC 9420, 2.1): integers, lengths, vectors, optional values and lists as
 //! bytes, and the devices that give and take bytes.
 //!
 //! - A [`Reader`] goes over bytes from left to right, and a [`Writer`] adds pieces at the end of its own.
@@ -7,9 +7,9 @@
 //! - [`Opaque`] is the body of a vector, [`Items`] a list that fits into one, [`Sequence`] a list of any length.
 //! - A [`Source`] gives bytes and a [`Sink`] takes them, in pieces of any size; each over std or over memory.
 //!
-//! The contracts speak of spellings (`specs/Spelling.antt`): a read gives the value that is spelled at the front and is
-//! refused exactly where none is; a write adds exactly the spelling, or nothing. [`Decode::read`], which implementors
-//! prove, names the reading function too; no other public contract does.
+//! The contracts speak of spellings (`specs/Spelling.antt`): a read gives the value that is spelled at the front and
+//! is refused exactly where none is; a write adds exactly the spelling, or nothing. [`Decode::read`], which
+//! implementors prove, names the reading function too; no other public contract does.
 #![tactic(auto)]
 
 mod copy;
@@ -27,8 +27,6 @@ mod reader;
 mod sequence;
 mod sink;
 mod source;
-#[cfg(test)]
-mod tests;
 mod writer;
 
 pub use copy::TryClone;

@@ -1,6 +1,6 @@
 //! Lists that fit into one vector.
 
-ghost use Rattle.std.specs.Prelude.{◌≡◌, ◌↔◌, ℕ, List, Option, length, option_map, IsSome, IsTrue, IfSome, ◌<◌, MatchResult};
+ghost use Rattle.std.specs.Prelude.{◌≡◌, ◌↔◌, ℕ, List, Option, length, option_map, IsSome, IsTrue, IfSome, ◌<◌, ◌^◌, MatchResult};
 ghost use Rattle.mls_wire.specs.Input.{Input};
 ghost use Rattle.mls_wire.specs.Spelling.{list};
 ghost use Rattle.mls_wire.specs.Parsing.{GivesOrFull, list_at};
@@ -20,7 +20,7 @@ pub trait Measure: Encode {
     /// How many bytes the value takes, where it has a spelling.
     fn size(&self) -> Option<usize>
         ensures size { result ≡ option_map length (Self.spelling self.now) }
-        ensures small { IfSome result (λ n. n < 4294967296) };
+        ensures small { IfSome result (λ n. n < 2 ^ 32) };
 }
 
 impl Measure for u16 {
@@ -50,7 +50,7 @@ impl Measure for Opaque {
     }
 }
 
-/// Whether the values, one after the other, take no more bytes than the body of a vector may have (RFC 9420, section
+/// Whether the values, one after the other, take no more bytes than the body of a vector may have (RFC 9420,
 /// 2.1.2). It goes over the values once.
 pub fn fits<T: Measure>(values: &[T]) -> bool
     ensures { IsTrue result ↔ IsSome (list T.spelling values.now) }
@@ -68,10 +68,17 @@ pub fn fits<T: Measure>(values: &[T]) -> bool
     true
 }
 
-/// A list that fits into one vector, so it has a spelling: its length in bytes, and its items (RFC 9420, section 2.1.2).
-#[derive(Debug, Drop)]
+/// A list that fits into one vector, so it has a spelling: its length in bytes, and its items (RFC 9420, 2.1.2).
+#[derive(Debug)]
 pub struct Items<T: Measure> {
     items: Vec<T>,
+}
+
+// By hand, so that a drop is one call in the proofs of those who hold one.
+impl<T: Measure> Drop for Items<T> {
+    fn drop(self) {
+        let Items { items: _ } = self;
+    }
 }
 
 impl<T: Measure> Model for Items<T> {
@@ -96,7 +103,9 @@ impl<T: Measure> Items<T> {
 
     /// The list of these items, without taking memory. A list over the limit is handed back.
     pub fn new(items: Vec<T>) -> Result<Items<T>, Vec<T>>
-        ensures { MatchResult result (λ o. o ≡ items.items) (λ v. (v ≡ items) × (IsSome (list T.spelling items.items) → ⊥)) }
+        ensures { MatchResult result
+            (λ made. made ≡ items.items)
+            (λ back. (back ≡ items) × (IsSome (list T.spelling items.items) → ⊥)) }
     {
         if fits(items.as_slice()) {
             Ok(Items { items })

@@ -28,7 +28,13 @@ impl<'a> Model for MemorySource<'a> {
 
     ghost Value = { MemoryLeft };
 
-    ghost view = { λ s. record { left = s.left.now; piece = s.piece; calls = s.calls; fails_at = s.fails_at; is_failed = s.has_failed } };
+    ghost view = { λ s. record {
+      left = s.left.now;
+      piece = s.piece;
+      calls = s.calls;
+      fails_at = s.fails_at;
+      is_failed = s.has_failed;
+    } };
 
     ghost invariant = { λ s. 0 < s.piece };
 }
@@ -44,8 +50,8 @@ fn is_failing(fails_at: Option<usize>, call: usize) -> bool
 }
 
 impl<'a> MemorySource<'a> {
-    /// A source of these bytes that has not failed. It gives at most `piece` of them at a call, and fails at the call of
-    /// number `fails_at`, counted from 1; the count stays at the greatest `usize` once there.
+    /// A source of these bytes that has not failed. It gives at most `piece` of them at a call, and fails at the call
+    /// of number `fails_at`, counted from 1; the count stays at the greatest `usize` once there.
     pub fn new(bytes: &'a [u8], piece: usize, fails_at: Option<usize>) -> MemorySource<'a>
         requires { 0 < piece }
         ensures left { result.left ≡ bytes.now }
@@ -84,7 +90,9 @@ impl<'a> Source for MemorySource<'a> {
 
         ensures fails { is_err result ≡ fails_to_pull self.old }
         ensures count { IfOk result (λ n. n ≡ pulled_count self.old (length into.old)) }
-        ensures rest { MatchResult result (λ n. drop n into.new ≡ drop n into.old) (λ _. into.new ≡ into.old) }
+        ensures rest { MatchResult result
+            (λ n. drop n into.new ≡ drop n into.old)
+            (λ _. into.new ≡ into.old) }
         ensures calls { self.new.calls ≡ next_call self.old.calls }
         ensures piece { self.new.piece ≡ self.old.piece }
         ensures fails_at { self.new.fails_at ≡ self.old.fails_at }
@@ -124,15 +132,24 @@ impl Model for MemorySink {
 
     ghost Value = { MemoryHeld };
 
-    ghost view = { λ s. record { held = s.bytes.items; room = s.room; piece = s.piece; calls = s.calls; fails_at = s.fails_at; is_failed = s.has_failed } };
+    ghost view = { λ s. record {
+      held = s.bytes.items;
+      room = s.room;
+      piece = s.piece;
+      calls = s.calls;
+      fails_at = s.fails_at;
+      is_failed = s.has_failed;
+    } };
 
-    ghost invariant = { λ s. (0 < s.piece) × (length s.bytes.items ≤ s.room) × (s.room ≤ vec_capacity s.bytes) };
+    ghost invariant = { λ s. (0 < s.piece)
+        × (length s.bytes.items ≤ s.room)
+        × (s.room ≤ vec_capacity s.bytes) };
 }
 
 impl MemorySink {
-    /// A sink that holds nothing and has not failed. It takes all its room here, so a push takes no memory. It takes at
-    /// most `piece` bytes at a call, and fails at the call of number `fails_at`, counted from 1 (the count stays at the
-    /// greatest `usize` once there), and where it is full and the bytes are not empty.
+    /// A sink that holds nothing and has not failed. It takes all its room here, so a push takes no memory. It takes
+    /// at most `piece` bytes at a call, and fails at the call of number `fails_at`, counted from 1 (the count stays
+    /// at the greatest `usize` once there), and where it is full and the bytes are not empty.
     pub fn new(
         alloc: Global,
         room: usize,

@@ -3,6 +3,7 @@
 ghost use Rattle.std.specs.Prelude.{◌≡◌, ℕ, ◌≤◌, ◌<◌, List, Option, Err, length, MatchResult};
 ghost use Rattle.mls_wire.specs.Faults.{too_long_at};
 ghost use Rattle.mls_wire.specs.Input.{Input};
+ghost use Rattle.mls_wire.specs.Limits.{vector_limit};
 ghost use Rattle.mls_wire.specs.Spelling.{vector};
 ghost use Rattle.mls_wire.specs.Parsing.{GivesOrFull, vector_at};
 ghost use Rattle.mls_wire.specs.Vectors.{vector_exact, vector_long};
@@ -15,29 +16,39 @@ use crate::reader::Reader;
 use std::alloc::Global;
 use std::marker::Model;
 
-/// The most bytes that the body of a vector has (RFC 9420, section 2.1.2).
+/// The most bytes that the body of a vector has (RFC 9420, 2.1.2).
 pub const MAX_BODY: usize = 1073741823;
 
-/// The body of a vector, `opaque x<V>` (RFC 9420, section 2.1.2): bytes, at most [`MAX_BODY`] of them.
-#[derive(Debug, Drop)]
+/// The body of a vector, `opaque x<V>` (RFC 9420, 2.1.2): bytes, at most [`MAX_BODY`] of them.
+#[derive(Debug)]
 pub struct Opaque {
     bytes: Vec<u8>,
 }
 
+// By hand, so that a drop is one call in the proofs of those who hold one.
+impl Drop for Opaque {
+    fn drop(self) {
+        let Opaque { bytes: _ } = self;
+    }
+}
+
 impl Model for Opaque {
     ghost use Rattle.std.specs.Prelude.{ℕ, ◌≤◌, List, length};
+    ghost use Rattle.mls_wire.specs.Limits.{vector_limit};
 
     ghost Value = { List ℕ };
 
     ghost view = { λ a. a.bytes.items };
 
-    ghost invariant = { λ a. length a.bytes.items ≤ 1073741823 };
+    ghost invariant = { λ a. length a.bytes.items ≤ vector_limit };
 }
 
 impl Opaque {
     /// The bytes of a vector, without taking memory. A longer vector is handed back.
     pub fn new(bytes: Vec<u8>) -> Result<Opaque, Vec<u8>>
-        ensures { MatchResult result (λ o. o ≡ bytes.items) (λ v. (v ≡ bytes) × (1073741823 < length bytes.items)) }
+        ensures { MatchResult result
+            (λ made. made ≡ bytes.items)
+            (λ back. (back ≡ bytes) × (vector_limit < length bytes.items)) }
     {
         if bytes.len() > MAX_BODY {
             return Err(bytes);
@@ -47,8 +58,10 @@ impl Opaque {
 
     /// A copy of the bytes: `TooLong` at 0 for more of them than a vector's body may have.
     pub fn copy(alloc: Global, bytes: &[u8]) -> Result<Opaque, CodecFault>
-        ensures long { 1073741823 < length bytes.now → result ≡ Err (CodecFault.Wire (too_long_at 0)) }
-        ensures short { length bytes.now ≤ 1073741823 → MatchResult result (λ o. o ≡ bytes.now) (λ e. e ≡ CodecFault.OutOfMemory) }
+        ensures long { vector_limit < length bytes.now
+            → result ≡ Err (CodecFault.Wire (too_long_at 0)) }
+        ensures short { length bytes.now ≤ vector_limit
+            → MatchResult result (λ made. made ≡ bytes.now) (λ e. e ≡ CodecFault.OutOfMemory) }
     {
         if bytes.len() > MAX_BODY {
             return Err(CodecFault::Wire(WireFault {
@@ -63,7 +76,7 @@ impl Opaque {
     /// The bytes.
     pub fn as_slice(&self) -> &[u8]
         ensures bytes { result.now ≡ self.now }
-        ensures limit { length self.now ≤ 1073741823 }
+        ensures limit { length self.now ≤ vector_limit }
     {
         self.bytes.as_slice()
     }

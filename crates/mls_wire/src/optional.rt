@@ -1,4 +1,4 @@
-//! Optional values: a byte that tells whether one follows, and the value (RFC 9420, section 2.1.1).
+//! Optional values: a byte that tells whether one follows, and the value (RFC 9420, 2.1.1).
 
 use crate::decode::Decode;
 use crate::draft::Draft;

@@ -15,11 +15,11 @@ use std::marker::Model;
 /// What is left of an input, and where it begins in the outermost input.
 ///
 /// Each `read_..` call gives the one value that is spelled at the front, and moves behind it. It is refused exactly
-/// where no value is spelled there, and then the place stays. The fault stands at the first byte of the smallest item
-/// that can't be read.
+/// where no value is spelled there, and then the offset stays. The fault stands at the first byte of the smallest
+/// item that can't be read.
 #[derive(Drop)]
 pub struct Reader<'a> {
-    place: usize,
+    offset: usize,
     left: &'a [u8],
 }
 
@@ -29,14 +29,19 @@ impl<'a> Model for Reader<'a> {
 
     ghost Value = { Input };
 
-    ghost view = { λ r. record { place = r.place; left = r.left.now } };
+    ghost view = { λ r. record { offset = r.offset; left = r.left.now } };
 
-    ghost invariant = { λ r. r.place + length r.left.now < 2 ^ 64 };
+    ghost invariant = { λ r. r.offset + length r.left.now < 2 ^ 64 };
 }
 
 /// The first `count` bytes, and the others.
 fn cut(bytes: &[u8], count: usize) -> Option<(&[u8], &[u8])>
-    ensures { MatchOption result (length bytes.now < count) (λ parts. (count ≤ length bytes.now) × (parts.0.now ≡ take count bytes.now) × (parts.1.now ≡ drop count bytes.now) × IsBytes parts.0.now) }
+    ensures { MatchOption result
+        (length bytes.now < count)
+        (λ parts. (count ≤ length bytes.now)
+        × (parts.0.now ≡ take count bytes.now)
+        × (parts.1.now ≡ drop count bytes.now)
+        × IsBytes parts.0.now) }
 {
     if bytes.len() < count {
         return None;
@@ -45,21 +50,21 @@ fn cut(bytes: &[u8], count: usize) -> Option<(&[u8], &[u8])>
 }
 
 impl<'a> Reader<'a> {
-    /// A reader of an outermost input, at place 0.
+    /// A reader of an outermost input, at offset 0.
     pub fn new(bytes: &'a [u8]) -> Reader<'a>
         ensures { result ≡ at 0 bytes.now }
     {
         Reader {
-            place: 0,
+            offset: 0,
             left: bytes,
         }
     }
 
     /// How many bytes of the outermost input stand before what is left.
-    pub fn place(&self) -> usize
-        ensures { result ≡ self.now.place }
+    pub fn offset(&self) -> usize
+        ensures { result ≡ self.now.offset }
     {
-        self.place
+        self.offset
     }
 
     /// Whether nothing is left.
@@ -76,34 +81,39 @@ impl<'a> Reader<'a> {
         self.left.len()
     }
 
-    /// A second reader of the same bytes, at the same place.
+    /// A second reader of the same bytes, at the same offset.
     pub fn fork(&self) -> Reader<'a>
         ensures { result ≡ self.now }
     {
         Reader {
-            place: self.place,
+            offset: self.offset,
             left: self.left,
         }
     }
 
-    /// A fault of this kind, at the present place.
+    /// A fault of this kind, at the present offset.
     fn fault(&self, kind: WireFaultKind) -> WireFault
         ensures kind { result.kind ≡ kind }
-        ensures place { result.at ≡ self.now.place }
+        ensures offset { result.at ≡ self.now.offset }
     {
         WireFault {
             kind,
-            at: self.place,
+            at: self.offset,
         }
     }
 
     /// The next `count` bytes, where there are as many.
     fn front(&mut self, count: usize) -> Option<&'a [u8]>
-        ensures { MatchOption result ((self.new ≡ self.old) × ((w : Width) → byte_len w ≡ count → number_at w self.old ≡ None)) (λ front. (length front.now ≡ count) × ((w : Width) → byte_len w ≡ count → number_at w self.old ≡ Some (from_be_bytes w front.now, self.new))) }
+        ensures { MatchOption result
+            ((self.new ≡ self.old)
+            × ((w : Width) → byte_len w ≡ count → number_at w self.old ≡ None))
+            (λ front. (length front.now ≡ count)
+            × ((w : Width) → byte_len w ≡ count
+            → number_at w self.old ≡ Some (from_be_bytes w front.now, self.new))) }
     {
         let (front, rest) = cut(self.left, count)?;
         self.left = rest;
-        self.place += count;
+        self.offset += count;
         Some(front)
     }
 
@@ -182,18 +192,22 @@ impl<'a> Reader<'a> {
 
     /// A reader of the next `count` bytes.
     fn split(&mut self, count: usize) -> Option<Reader<'a>>
-        ensures { MatchOption result ((self.new ≡ self.old) × (length self.old.left < count)) (λ body. (count ≤ length self.old.left) × (body ≡ at self.old.place (take count self.old.left)) × (self.new ≡ skip count self.old)) }
+        ensures { MatchOption result
+            ((self.new ≡ self.old) × (length self.old.left < count))
+            (λ body. (count ≤ length self.old.left)
+            × (body ≡ at self.old.offset (take count self.old.left))
+            × (self.new ≡ skip count self.old)) }
     {
         if self.left.len() < count {
             return None;
         }
         let (front, rest) = self.left.split_at(count);
         let body = Reader {
-            place: self.place,
+            offset: self.offset,
             left: front,
         };
         self.left = rest;
-        self.place += count;
+        self.offset += count;
         Some(body)
     }
 
@@ -237,7 +251,9 @@ impl<'a> Reader<'a> {
 
     /// Refuses bytes that are left: `Trailing`, at the first of them.
     pub fn finish(&self) -> Result<(), WireFault>
-        ensures { MatchResult result (λ _. self.now.left ≡ []) (λ e. (self.now.left ≢ []) × (e ≡ trailing_at self.now.place)) }
+        ensures { MatchResult result
+            (λ _. self.now.left ≡ [])
+            (λ e. (self.now.left ≢ []) × (e ≡ trailing_at self.now.offset)) }
     {
         if self.at_end() {
             Ok(())
@@ -274,7 +290,7 @@ impl<'a> Reader<'a> {
         self.next_u64()
     }
 
-    /// Reads a length alone, without asking for the body (RFC 9420, section 2.1.2). The faults in this order: no first
+    /// Reads a length alone, without asking for the body (RFC 9420, 2.1.2). The faults in this order: no first
     /// byte (`Truncated`), a first byte from `c0` on (`BadPrefix`), a missing byte of a longer form (`Truncated`), a
     /// form that is longer than needed (`NotShortest`).
     pub fn read_len(&mut self) -> Result<usize, WireFault>
@@ -283,15 +299,15 @@ impl<'a> Reader<'a> {
         self.next_len()
     }
 
-    /// Reads a vector, `opaque x<V>`, and gives its body (RFC 9420, section 2.1.2). The faults of its length come first,
-    /// then `Truncated` where the body is longer than what is left; each at the place of the length.
+    /// Reads a vector, `opaque x<V>`, and gives its body (RFC 9420, 2.1.2). The faults of its length come first,
+    /// then `Truncated` where the body is longer than what is left; each at the offset of the length.
     pub fn read_vec(&mut self) -> Result<&'a [u8], WireFault>
         ensures { Reads vector self.old self.new (seen (λ x. x.now) result) }
     {
         self.next_vec()
     }
 
-    /// Reads the byte before an optional value: whether one follows (RFC 9420, section 2.1.1). `BadOptional` where it is
+    /// Reads the byte before an optional value: whether one follows (RFC 9420, 2.1.1). `BadOptional` where it is
     /// neither 0 nor 1.
     pub fn read_optional(&mut self) -> Result<bool, WireFault>
         ensures { Reads flag self.old self.new result }
@@ -299,8 +315,8 @@ impl<'a> Reader<'a> {
         self.next_optional()
     }
 
-    /// Reads a vector as [`read_vec`](Reader::read_vec) does, and gives a reader of its body, whose places are counted
-    /// on from the start of the outermost input.
+    /// Reads a vector as [`read_vec`](Reader::read_vec) does, and gives a reader of its body, whose offsets are
+    /// counted on from the start of the outermost input.
     pub fn read_sub(&mut self) -> Result<Reader<'a>, WireFault>
         ensures { ReadsBody self.old self.new result }
     {

@@ -16,8 +16,8 @@ pub trait Sink: Drop {
     /// Whether it has failed.
     ghost is_failed: { Self → Bool };
 
-    /// Takes bytes from the front of `bytes`, and answers how many: none only where `bytes` is empty. A device that failed
-    /// answers nothing but [`DeviceFault`].
+    /// Takes bytes from the front of `bytes`, and answers how many: none only where `bytes` is empty. A device that
+    /// failed answers nothing but [`DeviceFault`].
     fn push(&mut self, bytes: &[u8]) -> Result<usize, DeviceFault>
         ensures bound { WritesAtMost result bytes.now }
         ensures bytes { WriteAppends (written self.old) (written self.new) result bytes.now }
@@ -30,8 +30,8 @@ pub trait Sink: Drop {
         ensures { result ≡ is_failed self.now };
 }
 
-/// A sink over a writer of std. Any error of the writer is a failure of the sink, and so is a write that takes nothing of
-/// bytes which are not empty.
+/// A sink over a writer of std. Any error of the writer is a failure of the sink, and so is a write that takes
+/// nothing of bytes which are not empty.
 #[derive(Drop)]
 pub struct StdSink<W: Write + Drop> {
     writer: W,
@@ -77,7 +77,8 @@ impl<W: Write + Drop> Sink for StdSink<W> {
 /// Pushes all the bytes, in as few pieces as the sink takes. Where it fails, a part of them from the front was taken.
 pub fn write_all<K: Sink>(sink: &mut K, bytes: &[u8]) -> Result<(), DeviceFault>
     ensures all { OnOk result (Appends (K.written sink.old) (K.written sink.new) bytes.now) }
-    ensures part { OnErr result (AppendsPrefix (K.written sink.old) (K.written sink.new) bytes.now) }
+    ensures part { OnErr result
+        (AppendsPrefix (K.written sink.old) (K.written sink.new) bytes.now) }
     ensures failed { K.is_failed sink.new ≡ (K.is_failed sink.old || is_err result) }
 {
     let mut rest = bytes;

@@ -15,8 +15,8 @@ pub trait Source: Drop {
     /// Whether it has failed.
     ghost is_failed: { Self → Bool };
 
-    /// Puts bytes at the front of `into`, and answers how many: none only where `into` is empty, or at the end. A device
-    /// that failed answers nothing but [`DeviceFault`].
+    /// Puts bytes at the front of `into`, and answers how many: none only where `into` is empty, or at the end. A
+    /// device that failed answers nothing but [`DeviceFault`].
     fn pull(&mut self, into: &mut [u8]) -> Result<usize, DeviceFault>
         ensures bound { ReadsAtMost result into.new }
         ensures bytes { ReadConsumes (left self.old) (left self.new) result into.new }
@@ -71,14 +71,18 @@ impl<R: Read + Drop> Source for StdSource<R> {
     }
 }
 
-/// Fills `into` from the front, as far as there are bytes, and answers how many there were. Where the source fails, the
-/// bytes that it gave before are lost.
+/// Fills `into` from the front, as far as there are bytes, and answers how many there were. Where the source fails,
+/// the bytes that it gave before are lost.
 pub fn fill<S: Source>(source: &mut S, into: &mut [u8]) -> Result<usize, DeviceFault>
     ensures bound { IfOk result (λ n. n ≤ length into.new) }
-    ensures bytes { IfOk result (λ n. Consumes (S.left source.old) (S.left source.new) (take n into.new)) }
+    ensures bytes { IfOk result
+        (λ n. Consumes (S.left source.old) (S.left source.new) (take n into.new)) }
     ensures end { IfOk result (λ n. n < length into.new → IsAtEnd (S.left source.new)) }
     ensures len { length into.new ≡ length into.old }
-    ensures part { OnErr result ((got : List ℕ) × (length got < length into.old) × Consumes (S.left source.old) (S.left source.new) got) }
+    ensures part { OnErr result
+        ((got : List ℕ)
+        × (length got < length into.old)
+        × Consumes (S.left source.old) (S.left source.new) got) }
     ensures failed { S.is_failed source.new ≡ (S.is_failed source.old || is_err result) }
 {
     let mut at = 0;

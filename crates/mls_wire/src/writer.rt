@@ -15,8 +15,8 @@ use std::mem::replace;
 
 /// The bytes that were written so far. A refused write leaves them as they were.
 ///
-/// Each call of `write_..` answers [`WireFaultKind::TooLong`], at the number of bytes written so far, exactly where the
-/// piece has no spelling within its limit.
+/// Each call of `write_..` answers [`WireFaultKind::TooLong`], at the number of bytes written so far, exactly where
+/// the piece has no spelling within its limit.
 #[derive(Drop)]
 pub struct Writer {
     bytes: Vec<u8>,
@@ -68,8 +68,8 @@ impl Writer {
         self.bytes.clear();
     }
 
-    /// Makes room for `more` bytes at once, so that the writer doesn't grow piece by piece. The bytes stay; room is no part of what
-    /// contracts see.
+    /// Makes room for `more` bytes at once, so that the writer doesn't grow piece by piece. The bytes stay; room is
+    /// no part of what contracts see.
     pub fn reserve(&mut self, more: usize) -> Result<(), AllocError>
         ensures { self.new ≡ self.old }
     {
@@ -128,7 +128,7 @@ impl Writer {
         self.write_bytes(&n.to_be_bytes())
     }
 
-    /// Writes a length in the shortest of its three forms (RFC 9420, section 2.1.2): one byte up to 63, two up to
+    /// Writes a length in the shortest of its three forms (RFC 9420, 2.1.2): one byte up to 63, two up to
     /// 16,383, four up to 1,073,741,823. A greater length is `TooLong`.
     pub fn write_len(&mut self, n: usize) -> Result<(), CodecFault>
         ensures { WritesPiece (length_form n) self.old self.new result }
@@ -144,7 +144,7 @@ impl Writer {
         }
     }
 
-    /// Writes a vector, `opaque x<V>`: the length of its body, and the body (RFC 9420, section 2.1.2). A body of more
+    /// Writes a vector, `opaque x<V>`: the length of its body, and the body (RFC 9420, 2.1.2). A body of more
     /// than 1,073,741,823 bytes is `TooLong`.
     pub fn write_vec(&mut self, body: &[u8]) -> Result<(), CodecFault>
         ensures { WritesPiece (vector body.now) self.old self.new result }
@@ -160,7 +160,7 @@ impl Writer {
         }
     }
 
-    /// Writes the byte before an optional value (RFC 9420, section 2.1.1): 1 where the value follows, 0 where there
+    /// Writes the byte before an optional value (RFC 9420, 2.1.1): 1 where the value follows, 0 where there
     /// is none.
     #[tactic(auto, unfolding(crate::specs::Spelling::flag))]
     pub fn write_optional(&mut self, is_present: bool) -> Result<(), CodecFault>

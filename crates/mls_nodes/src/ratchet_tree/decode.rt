@@ -2,8 +2,10 @@
 
 ghost use Rattle.std.specs.Prelude.{◌≡◌, ◌≤◌, ◌<◌, Err, map, length, IfOk, IfErr};
 ghost use Rattle.mls_wire.specs.Faults.{too_long_at};
+ghost use Rattle.mls_wire.specs.Limits.{input_limit};
 ghost use Rattle.mls_wire.specs.Parsing.{Gives, flag_at, body_at, items_at, optional_at};
 ghost use Rattle.mls_wire.specs.Reading.{seen};
+ghost use Rattle.mls_nodes.specs.Limits.{entry_limit};
 ghost use Rattle.mls_nodes.specs.Value.{node_value, entry_value};
 ghost use Rattle.mls_nodes.specs.RatchetTree.{ends_set, full_size, filled};
 ghost use Rattle.mls_nodes.specs.Faults.{DecodesTree};
@@ -37,7 +39,7 @@ fn read_body<'a>(reader: &mut Reader<'a>) -> Result<Reader<'a>, WireFault>
 fn read_node(alloc: Global, place: usize, reader: &mut Reader<'_>) -> Result<Node, NodeFault>
     ensures { GivesNode (node_in place) reader.old reader.new (seen node_value result) }
 {
-    let at = reader.place();
+    let at = reader.offset();
     match u8::read(alloc, reader)? {
         1 if place % 2 == 0 => Ok(Node::Leaf(Box::new(alloc, LeafNode::read(alloc, reader)?)?)),
         2 if place % 2 == 1 => Ok(Node::Parent(Box::new(alloc, ParentNode::read(alloc, reader)?)?)),
@@ -56,7 +58,8 @@ fn read_entry(
     place: usize,
     reader: &mut Reader<'_>,
 ) -> Result<Option<Node>, NodeFault>
-    ensures { GivesNode (optional_at (node_in place)) reader.old reader.new (seen entry_value result) }
+    ensures { GivesNode (optional_at (node_in place)) reader.old reader.new
+        (seen entry_value result) }
 {
     if !read_presence(reader)? {
         return Ok(None);
@@ -66,7 +69,9 @@ fn read_entry(
 
 /// The entries of a tree, one after the other.
 fn read_entries(alloc: Global, mut body: Reader<'_>) -> Result<Vec<Option<Node>>, NodeFault>
-    ensures { FindsNodes (placed (items_at (optional_at node_at) (length body.entry.left) body.entry)) (seen (λ v. map entry_value v.items) result) }
+    ensures { FindsNodes
+        (placed (items_at (optional_at node_at) (length body.entry.left) body.entry))
+        (seen (λ v. map entry_value v.items) result) }
 {
     let mut entries = Vec::new(alloc);
     while !body.at_end() {
@@ -110,7 +115,7 @@ fn read_tree(alloc: Global, bytes: &[u8]) -> Result<Vec<Option<Node>>, NodeFault
 
 /// How many entries the least full tree has that has room for so many.
 fn full_size_of(count: usize) -> usize
-    requires { count ≤ 2097151 }
+    requires { count ≤ entry_limit }
     ensures { result ≡ full_size count }
 {
     let mut size = 1;
@@ -122,8 +127,9 @@ fn full_size_of(count: usize) -> usize
 
 /// Puts blanks behind, up to a full tree.
 fn fill(mut entries: Vec<Option<Node>>) -> Result<Vec<Option<Node>>, NodeFault>
-    requires { length entries.items ≤ 2097151 }
-    ensures full { IfOk result (λ v. map entry_value v.items ≡ filled (map entry_value entries.items)) }
+    requires { length entries.items ≤ entry_limit }
+    ensures full { IfOk result
+        (λ v. map entry_value v.items ≡ filled (map entry_value entries.items)) }
     ensures memory { IfErr result (λ e. e ≡ faults.OutOfMemory) }
 {
     let size = full_size_of(entries.len());
@@ -137,13 +143,13 @@ fn fill(mut entries: Vec<Option<Node>>) -> Result<Vec<Option<Node>>, NodeFault>
 /// The tree that all of the bytes spell, with blanks behind it up to the least number 2^(d+1) - 1 of
 /// entries that is not below its own.
 ///
-/// An input of more than 268,435,456 bytes is `TooLong` at 0. Then come the faults of the vector
-/// itself, those of the entries one after the other (`TooManyLeaves` as one begins at place 2,097,151,
-/// `WrongNodeKind` at a node's type, before its body is read), `EmptyTree` where no entry is set,
-/// `LastBlank`, and `Trailing` for bytes behind the vector.
+/// An input of more than [`MAX_INPUT`] bytes is `TooLong` at 0. Then come the faults of the vector itself, those of
+/// the entries one after the other (`TooManyLeaves` as one begins at place 2,097,151, `WrongNodeKind` at a node's
+/// type, before its body is read), `EmptyTree` where no entry is set, `LastBlank`, and `Trailing` for bytes behind
+/// the vector.
 pub fn decode_ratchet_tree(alloc: Global, bytes: &[u8]) -> Result<Vec<Option<Node>>, NodeFault>
     ensures spelled { DecodesTree bytes.now (seen (λ v. map entry_value v.items) result) }
-    ensures long { 268435456 < length bytes.now → result ≡ Err (faults.Wire (too_long_at 0)) }
+    ensures long { input_limit < length bytes.now → result ≡ Err (faults.Wire (too_long_at 0)) }
 {
     if bytes.len() > MAX_INPUT {
         return Err(NodeFault::Wire(WireFault {

@@ -4,6 +4,7 @@ ghost use Rattle.std.specs.Prelude.{◌≡◌, ◌≢◌, ◌↔◌, ◌<◌, �
 ghost use Rattle.mls_wire.specs.Spelling.{items, list, optional};
 ghost use Rattle.mls_wire.specs.Reading.{seen};
 ghost use Rattle.mls_wire.specs.Writing.{Makes, Puts};
+ghost use Rattle.mls_nodes.specs.Limits.{entry_limit};
 ghost use Rattle.mls_nodes.specs.Value.{node_value, entry_value};
 ghost use Rattle.mls_nodes.specs.Layout.{node};
 ghost use Rattle.mls_nodes.specs.RatchetTree.{stands_at, trimmed, IsFirstMisplaced};
@@ -87,7 +88,9 @@ fn put_entry(alloc: Global, entry: &Option<Node>, draft: &mut Draft) -> Result<(
 
 /// The entries' bytes, one after the other.
 fn body_of(alloc: Global, entries: &[Option<Node>]) -> Result<Vec<u8>, CodecFault>
-    ensures { Makes (items (optional node) (map entry_value entries.now)) (seen (λ v. v.items) result) }
+    ensures { Makes
+        (items (optional node) (map entry_value entries.now))
+        (seen (λ v. v.items) result) }
 {
     let mut body = Draft::new(alloc);
     for entry in entries {
@@ -99,7 +102,9 @@ fn body_of(alloc: Global, entries: &[Option<Node>]) -> Result<Vec<u8>, CodecFaul
 /// The entries as one vector.
 #[tactic(auto, unfolding(mls_wire::specs::Spelling::list), using(mls_wire::specs::Written::sized_makes, mls_wire::specs::Written::sized_none))]
 fn bytes_of_entries(alloc: Global, entries: &[Option<Node>]) -> Result<Vec<u8>, CodecFault>
-    ensures { Makes (list (optional node) (map entry_value entries.now)) (seen (λ v. v.items) result) }
+    ensures { Makes
+        (list (optional node) (map entry_value entries.now))
+        (seen (λ v. v.items) result) }
 {
     let body = body_of(alloc, entries)?;
     let mut draft = Draft::new(alloc);
@@ -126,8 +131,11 @@ fn encode_trimmed(alloc: Global, entries: &[Option<Node>]) -> Result<Vec<u8>, No
 pub fn encode_ratchet_tree(alloc: Global, nodes: &[Option<Node>]) -> Result<Vec<u8>, NodeFault>
     ensures encoded { EncodesTree (map entry_value nodes.now) (seen (λ v. v.items) result) }
     ensures empty { (result ≡ Err faults.EmptyTree) ↔ (trimmed (map entry_value nodes.now) ≡ []) }
-    ensures misplaced { (place : ℕ) → result ≡ Err (faults.WrongNodeKind place) → IsFirstMisplaced (trimmed (map entry_value nodes.now)) place }
-    ensures many { result ≡ Err faults.TooManyLeaves → 2097151 < length (trimmed (map entry_value nodes.now)) }
+    ensures misplaced { (place : ℕ)
+        → result ≡ Err (faults.WrongNodeKind place)
+        → IsFirstMisplaced (trimmed (map entry_value nodes.now)) place }
+    ensures many { result ≡ Err faults.TooManyLeaves
+        → entry_limit < length (trimmed (map entry_value nodes.now)) }
     ensures not_blank { result ≢ Err faults.LastBlank }
 {
     encode_trimmed(alloc, trim(nodes))

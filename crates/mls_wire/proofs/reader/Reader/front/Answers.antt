@@ -11,5 +11,5 @@ returns c =
     let h = c.in_ok-front.ensures in
     rw (← c.self.view_is) (
       omega (arith, ap length h.1, length-take c.args.count c.self.inside.left.now, h.0),
-      front_read _ _ _ c.args.count h.3 h.0 h.1 (ap (at (c.self.inside.place + c.args.count)) h.2),
+      front_read _ _ _ c.args.count h.3 h.0 h.1 (ap (at (c.self.inside.offset + c.args.count)) h.2),
     )

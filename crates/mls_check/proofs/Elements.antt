@@ -83,12 +83,3 @@ unmerged-from n (x ∷ xs) u c =
 
 pub found-at : (xs : List ℕ) (i k : ℕ) → k < length xs → get_or xs k i ≡ i → list_any (λ x. x == i) xs ≡ true
 found-at xs i k l e = list_any_at (λ x. x == i) xs k i l ((Decides-eqb (get_or xs k i) i).1 e)
-
--- an even place is listed where half of it is in the list
-pub listed-place : (list : List ℕ) (place : ℕ) (r : Bool) → place % 2 ≡ 0 → r ≡ list_any (λ x. x == place / 2) list
-    → (r ≡ true → IsListed list place) × (IsListed list place → r ≡ true)
-listed-place list place r even e = (
-  λ t. (place / 2, contains-found list (place / 2) (sym e ∙ t), omega arith),
-  λ w. let half : w.0 ≡ place / 2 = (let f = w.2 in omega arith) in
-      e ∙ subst (λ i. list_any (λ x. x == i) list ≡ true) half (found-at list w.0 w.1.0 w.1.1 w.1.2),
-)

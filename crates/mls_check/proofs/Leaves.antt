@@ -7,14 +7,24 @@ use Rattle.mls_nodes.specs.declared.parent.ParentNode.{ParentNode}
 use Rattle.mls_tree.specs.Tree.{Tree, leaf, branch, leaf_count, leaf_at}
 use Rattle.mls_check.specs.Members.{all_leaves, FailsFirst}
 
-leaf_at-here : (first : ℕ) (y : Option LeafNode) → leaf_at first (leaf y) first ≡ y
+pub leaf_at-here : (first : ℕ) (y : Option LeafNode) → leaf_at first (leaf y) first ≡ y
 leaf_at-here first y = let t : eqb first first ≡ true = grind (arith, nat_tests) in rw t refl
 
-leaf_at-left : (first : ℕ) (l : Tree) (n : Option ParentNode) (r : Tree) (i : ℕ) → i < first + leaf_count l → leaf_at first (branch l n r) i ≡ leaf_at first l i
+pub leaf_at-left : (first : ℕ) (l : Tree) (n : Option ParentNode) (r : Tree) (i : ℕ) → i < first + leaf_count l → leaf_at first (branch l n r) i ≡ leaf_at first l i
 leaf_at-left first l n r i low = let t : ltb i (first + leaf_count l) ≡ true = grind (arith, nat_tests) in rw t refl
 
-leaf_at-right : (first : ℕ) (l : Tree) (n : Option ParentNode) (r : Tree) (i : ℕ) → first + leaf_count l ≤ i → leaf_at first (branch l n r) i ≡ leaf_at (first + leaf_count l) r i
+pub leaf_at-right : (first : ℕ) (l : Tree) (n : Option ParentNode) (r : Tree) (i : ℕ) → first + leaf_count l ≤ i → leaf_at first (branch l n r) i ≡ leaf_at (first + leaf_count l) r i
 leaf_at-right first l n r i from = let t : ltb i (first + leaf_count l) ≡ false = grind (arith, nat_tests) in rw t refl
+
+-- which leaf stands in a tree of one leaf
+pub leaf_at-leaf : (first : ℕ) (y : Option LeafNode) (i : ℕ) (x : LeafNode) → leaf_at first (leaf y) i ≡ Some x → (i ≡ first) × (y ≡ Some x)
+leaf_at-leaf first y i x e =
+    elim (cases_eq i first) [
+      | inl same ↦ (same, sym (leaf_at-here first y) ∙ rw same at e)
+      | inr other ↦
+          let t : eqb i first ≡ false = grind (arith, nat_tests) in
+          let f : ◌≡◌ {A = Option LeafNode} None (Some x) = rw t at e in absurd cc
+    ]
 
 -- a test holds of each set leaf below number i
 pub record HoldsBelow (test : ℕ → LeafNode → Bool) (t : Tree) (i : ℕ) : Type 0 where
@@ -41,7 +51,7 @@ module _ (test : ℕ → LeafNode → Bool) where
   HoldsBelow-set t i x below set passes = HoldsBelow-more t i below (λ y e. let f : ◌≡◌ {A = Option LeafNode} (Some x) (Some y) = sym set ∙ e in let g : x ≡ y = cc in rw g at passes)
 
   -- each of a tree's own leaves passes the test
-  all_leaves-from : (first : ℕ) (t : Tree) → ((i : ℕ) (x : LeafNode) → first ≤ i → i < first + leaf_count t → leaf_at first t i ≡ Some x → test i x ≡ true) → all_leaves test first t ≡ true
+  pub all_leaves-from : (first : ℕ) (t : Tree) → ((i : ℕ) (x : LeafNode) → first ≤ i → i < first + leaf_count t → leaf_at first t i ≡ Some x → test i x ≡ true) → all_leaves test first t ≡ true
   all_leaves-from first (leaf None) h = refl
   all_leaves-from first (leaf (Some x)) h = h first x (omega arith) (omega arith) (leaf_at-here first (Some x))
   all_leaves-from first (branch l n r) h =

@@ -6,6 +6,7 @@ pub mod Used
 pub mod Keys
 pub mod Rules
 pub mod Judged
+pub mod FirstFault
 pub mod Outside
 pub mod Elements
 pub mod Hashed
@@ -15,6 +16,7 @@ pub mod Marking
 pub mod Placing
 pub mod Reaching
 pub mod Repeats
+pub mod Distinctness
 pub mod Decided
 pub mod Chains
 pub mod Faulted

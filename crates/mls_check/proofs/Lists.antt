@@ -27,7 +27,3 @@ found xs x r h b = go r (searched xs x r b (rises xs h))
     go (Err i) m =
         or_is (list_any (λ y. y == x)) (λ y. y == x) refl (λ _ _. refl) xs 0 false (λ e. absurd (false≢true e))
         (λ _ k l. ne_eqb (get_or xs k 0) x (λ e. elim (cases_lt k i) [ inl u ↦ (let a = m.1 k u in omega arith) | inr u ↦ (let a = m.2 k u l in omega arith) ]))
-
--- the same of a slice that holds the list
-pub found_in : (xs ys : List ℕ) (x : ℕ) (r : Result ℕ ℕ) → ys ≡ xs → IsStrictlyIncreasing xs → IsBinarySearchResult (λ y. nat_cmp y x) ys r → is_ok r ≡ list_any (λ y. y == x) xs
-found_in xs ys x r e h b = found xs x r h (subst (λ zs. IsBinarySearchResult (λ y. nat_cmp y x) zs r) e b)

@@ -39,10 +39,6 @@ listed-some digests (Some input) digest e =
     let f : digest ≡ sha256 input = cc in
     ap (λ (x : List ℕ). list_any (λ d. bytes_eq d x) digests) (sym f)
 
-pub listed-none : (digests : List (List ℕ)) (input : Option (List ℕ)) → None ≡ option_map sha256 input → is_listed digests input ≡ false
-listed-none digests None e = refl
-listed-none digests (Some input) e = absurd cc
-
 -- what a search for the digest of an input answers
 pub search_answers : (digests slice : List (List ℕ)) (input : Option (List ℕ)) (digest : List ℕ) (r : Result ℕ ℕ) → slice ≡ digests → IsSorted (slice_cmp nat_cmp) digests
     → IsSearchInRange r (length slice) → IsBinarySearchResult (λ y. slice_cmp nat_cmp y digest) slice r → Some digest ≡ option_map sha256 input → is_ok r ≡ is_listed digests input

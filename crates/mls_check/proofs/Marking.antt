@@ -62,12 +62,6 @@ module _ (H : List ℕ → List ℕ) (t : Tree) (marks : List Bool) where
       go None f = λ p. there p (f p)
       go (Some p) f = record { fails = λ h. f.fails (back p h); earlier = λ q l. there q (f.earlier q l) }
 
-pub none-marked : (H : List ℕ → List ℕ) (t : Tree) (marks : List Bool) (n : ℕ) → marks ≡ replicate n false → AreSound H t marks
-none-marked H t marks n e q m = absurd (false≢true (sym (unmarked n q) ∙ subst (λ ms. IsMarked ms q) e m))
-  where
-    unmarked : (n q : ℕ) → get_or (replicate n false) q false ≡ false
-    unmarked n q = elim (cases_lt q n) [ inl l ↦ get_or-replicate n q false false l | inr g ↦ get_or_past _ q false (omega (arith, length-replicate n false)) ]
-
 parent-set : (s : Subtree) → HasSetParent s.tree → is_some (parent_of (root_entry s.tree)) ≡ true
 parent-set s h = go s.tree h
   where
@@ -75,10 +69,6 @@ parent-set s h = go s.tree h
     go (leaf _) h = absurd h
     go (branch l None r) h = absurd h
     go (branch l (Some p) r) h = refl
-
--- where no set parent stands there is nothing to mark
-pub unset-marked : (t : Tree) (marks : List Bool) (p : ℕ) → is_some (parent_of (node_at t p)) ≡ false → IsMarkedAt t marks p
-unset-marked t marks p n s e h = absurd (false≢true (sym n ∙ ap (λ o. is_some (parent_of (entry_of o))) e ∙ parent-set s h))
 
 pub marked_everywhere : (t : Tree) (marks : List Bool) (n : ℕ) → n + 1 ≡ 2 * leaf_count t → ((p : ℕ) → p < n → IsMarkedAt t marks p) → (p : ℕ) → IsMarkedAt t marks p
 marked_everywhere t marks n e h p s a =

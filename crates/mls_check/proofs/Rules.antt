@@ -28,11 +28,11 @@ module _ (G : Meaning) (suite : ℕ) (group_id : List ℕ) (required : RequiredC
   }
 
   -- there are five rules
-  no_rule : (k i : ℕ) (x : LeafNode) → 5 < k → member_rule G suite group_id required t k i x ≡ true
+  pub no_rule : (k i : ℕ) (x : LeafNode) → 5 < k → member_rule G suite group_id required t k i x ≡ true
   unfolding member_rule
   no_rule k i x past = grind (arith, nat_tests)
 
-  no_rule_zero : (i : ℕ) (x : LeafNode) → member_rule G suite group_id required t 0 i x ≡ true
+  pub no_rule_zero : (i : ℕ) (x : LeafNode) → member_rule G suite group_id required t 0 i x ≡ true
   unfolding member_rule
   no_rule_zero i x = refl
 

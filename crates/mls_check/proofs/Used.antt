@@ -14,34 +14,6 @@ pub record TypeSeen (t : Tree) (kind i : ℕ) (seen : Bool) : Type 0 where
   pub used : seen ≡ true → IsCredentialUsed t kind
   pub unused : seen ≡ false → (j : ℕ) (x : LeafNode) → j < i → leaf_at 0 t j ≡ Some x → credential_type x.credential ≢ kind
 
-pub TypeSeen-none : (t : Tree) (kind : ℕ) → TypeSeen t kind 0 false
-TypeSeen-none t kind = record { used = λ e. absurd cc; unused = λ e j x low set. absurd (omega arith) }
-
-pub TypeSeen-blank : (t : Tree) (kind i : ℕ) (seen : Bool) → TypeSeen t kind i seen → leaf_at 0 t i ≡ None → TypeSeen t kind (i + 1) seen
-TypeSeen-blank t kind i seen h blank = record {
-  used = h.used;
-  unused = λ e j x low set.
-      elim (cases_lt j i) [
-        | inl before ↦ h.unused e j x before set
-        | inr after ↦ let same : j ≡ i = omega arith in let f : ◌≡◌ {A = Option LeafNode} None (Some x) = sym blank ∙ (rw same at set) in absurd cc
-      ];
-}
-
--- a leaf with another type
-pub TypeSeen-other : (t : Tree) (kind i : ℕ) (seen : Bool) (x : LeafNode) → TypeSeen t kind i seen → leaf_at 0 t i ≡ Some x → credential_type x.credential ≢ kind → TypeSeen t kind (i + 1) seen
-TypeSeen-other t kind i seen x h here other = record {
-  used = h.used;
-  unused = λ e j y low set.
-      elim (cases_lt j i) [
-        | inl before ↦ h.unused e j y before set
-        | inr after ↦ let same : j ≡ i = omega arith in let f : ◌≡◌ {A = Option LeafNode} (Some x) (Some y) = sym here ∙ (rw same at set) in let g : x ≡ y = cc in rw g at other
-      ];
-}
-
--- a leaf with this type
-pub TypeSeen-here : (t : Tree) (kind i : ℕ) (x : LeafNode) → leaf_at 0 t i ≡ Some x → credential_type x.credential ≡ kind → TypeSeen t kind (i + 1) true
-TypeSeen-here t kind i x here is = record { used = λ e. (i, x, here, is); unused = λ e. absurd cc }
-
 -- all leaves were seen
 pub TypeSeen-all : (t : Tree) (kind i : ℕ) (seen : Bool) → TypeSeen t kind i seen → leaf_count t ≤ i → IsTrue seen ↔ IsCredentialUsed t kind
 TypeSeen-all t kind i true h end = (λ e. h.used e, λ used. refl)

@@ -42,9 +42,6 @@ pub record IsLeft (Coming : ℕ → Type 0) (list rest : List ℕ) : Type 0 wher
   pub whole : list ≡ front ++ rest
   pub below : (x n : ℕ) → Contains front x → Coming n → x < n
 
-pub all-left : (Coming : ℕ → Type 0) (list : List ℕ) → IsLeft Coming list list
-all-left Coming list = record { front = []; whole = refl; below = λ x n c. absurd (contains-nil x c) }
-
 pub fewer-coming : (Coming Later : ℕ → Type 0) (list rest : List ℕ) → ((n : ℕ) → Later n → Coming n) → IsLeft Coming list rest → IsLeft Later list rest
 fewer-coming Coming Later list rest f h = record { front = h.front; whole = h.whole; below = λ x n c l. h.below x n c (f n l) }
 
@@ -89,9 +86,6 @@ Among xs i n = (j : ℕ) × (i ≤ j) × (j < length xs) × (get_or xs j 0 ≡ n
 
 pub here-among : (xs : List ℕ) (i : ℕ) → i < length xs → Among xs i (get_or xs i 0)
 here-among xs i l = (i, omega arith, l, refl)
-
-pub later-among : (xs : List ℕ) (i n : ℕ) → Among xs (i + 1) n → Among xs i n
-later-among xs i n w = (w.0, omega (arith, w.1), w.2, w.3)
 
 pub rising-among : (xs : List ℕ) (i : ℕ) → IsStrictlyIncreasing xs → (n : ℕ) → Among xs (i + 1) n → get_or xs i 0 ≤ n
 rising-among xs i h n w = let k = AllPairs-from_increasing xs h i w.0 0 (omega (arith, w.1)) w.2 in let e = w.3 in omega (arith, k, e)

@@ -1,5 +1,5 @@
 -- The rules that make the leaves of a tree members of a group (RFC 9420, 7.3).
-use Rattle.std.specs.Prelude.{◌≡◌, ℕ, ◌+◌, ◌<◌, ◌==◌, Bool, true, false, ◌&&◌, ◌||◌, not, nat_le, nat_lt, if◌then◌else◌, List, Option, Some, None, codes, ◌⊎◌}
+use Rattle.std.specs.Prelude.{◌≡◌, ◌≢◌, ◌↔◌, ℕ, ◌+◌, ◌<◌, ◌==◌, Bool, true, false, ◌&&◌, ◌||◌, not, nat_le, nat_lt, if◌then◌else◌, List, [], ◌∷◌, Option, Some, None, option_map, codes, ◌⊎◌}
 use Rattle.std.specs.List.{list_all, list_any}
 use Rattle.std.specs.Str.{bytes_eq}
 use Rattle.mls_nodes.specs.declared.credential.Credential.{Credential}
@@ -8,11 +8,12 @@ use Rattle.mls_nodes.specs.declared.leaf.LeafNode.{LeafNode}
 use Rattle.mls_nodes.specs.declared.required_capabilities.RequiredCapabilities.{RequiredCapabilities}
 use Rattle.mls_nodes.specs.Signed.{leaf_tbs}
 use Rattle.mls_tree.specs.Tree.{Tree, leaf, branch, leaf_count, leaf_at}
-use Rattle.mls_check.specs.Signatures.{Meaning, is_signed}
+use Rattle.mls_tree.specs.Blanks.{first_of}
+use Rattle.mls_check.specs.Signatures.{Meaning, is_signed_text}
 use Rattle.mls_check.specs.declared.members.MemberFault.{MemberFault}
 use Rattle.mls_check.specs.declared.members.MemberFault.TheVariants.{ExtensionUnlisted, RequirementUnmet, CredentialUnsupported, SignatureKeyRepeated, LeafSignature, OutOfMemory}
 
--- whether a test holds of each set leaf and its number, in a tree whose first leaf is numbered `first`
+-- whether a test holds of each set leaf and its index, in a tree whose first leaf has the index `first`
 abbrev pub all_leaves : (ℕ → LeafNode → Bool) → ℕ → Tree → Bool
 all_leaves test first (leaf None) = true
 all_leaves test first (leaf (Some x)) = test first x
@@ -64,16 +65,11 @@ supports_used_credentials t x = all_leaves (λ _ other. supports_credential x (c
 unfoldable pub has_own_signature_key : Tree → ℕ → LeafNode → Bool
 has_own_signature_key t i x = all_leaves (λ j other. j == i || not (bytes_eq other.signature_key x.signature_key)) 0 t
 
--- whether bytes to be signed are signed by a leaf under the label of leaf nodes; what has no spelling isn't
-abbrev pub is_signed_by : Meaning → ℕ → LeafNode → Option (List ℕ) → Bool
-is_signed_by G suite x None = false
-is_signed_by G suite x (Some tbs) = is_signed G suite x.signature_key (codes "MLS 1.0 LeafNodeTBS") tbs x.signature
-
 -- rule 5: the checker says that leaf i has signed its LeafNodeTBS (7.2)
 unfoldable pub is_leaf_signed : Meaning → ℕ → List ℕ → ℕ → LeafNode → Bool
-is_leaf_signed G suite group_id i x = is_signed_by G suite x (leaf_tbs x group_id i)
+is_leaf_signed G suite group_id i x = is_signed_text G suite x.signature_key (codes "MLS 1.0 LeafNodeTBS") (leaf_tbs x group_id i) x.signature
 
--- rule k, of a set leaf and its number (7.3)
+-- rule k, of a set leaf and its index (7.3)
 unfoldable pub member_rule : Meaning → ℕ → List ℕ → RequiredCapabilities → Tree → ℕ → ℕ → LeafNode → Bool
 member_rule G suite group_id required t k i x =
     if k == 1 then supports_own_extensions x
@@ -122,6 +118,37 @@ NoFaultOfMembers = (G : Meaning) (suite : ℕ) (group_id : List ℕ) (required :
 abbrev pub OneMemberFault : Type 0
 OneMemberFault = (G : Meaning) (suite : ℕ) (group_id : List ℕ) (required : RequiredCapabilities) (t : Tree) (k i l j : ℕ)
     → FailsMember G suite group_id required t k i → FailsMember G suite group_id required t l j → (k ≡ l) × (i ≡ j)
+
+-- the smallest set leaf at which a test fails, in a tree whose first leaf has the index `first`
+abbrev pub first_failing_leaf : (ℕ → LeafNode → Bool) → ℕ → Tree → Option ℕ
+first_failing_leaf test first (leaf None) = None
+first_failing_leaf test first (leaf (Some x)) = if test first x then None else Some first
+first_failing_leaf test first (branch l _ r) = first_of (first_failing_leaf test first l) (first_failing_leaf test (first + leaf_count l) r)
+
+-- the first fault that there is
+abbrev pub first_fault : List (Option MemberFault) → Option MemberFault
+first_fault [] = None
+first_fault (None ∷ faults) = first_fault faults
+first_fault (Some f ∷ faults) = Some f
+
+-- the fault of the leaves of a tree, if there is one: the first rule that fails anywhere, and the smallest leaf at which it does
+unfoldable pub member_fault : Meaning → ℕ → List ℕ → RequiredCapabilities → Tree → Option MemberFault
+member_fault G suite group_id required t = first_fault (
+    option_map ExtensionUnlisted (first_failing_leaf (member_rule G suite group_id required t 1) 0 t) ∷
+    option_map RequirementUnmet (first_failing_leaf (member_rule G suite group_id required t 2) 0 t) ∷
+    option_map CredentialUnsupported (first_failing_leaf (member_rule G suite group_id required t 3) 0 t) ∷
+    option_map SignatureKeyRepeated (first_failing_leaf (member_rule G suite group_id required t 4) 0 t) ∷
+    option_map LeafSignature (first_failing_leaf (member_rule G suite group_id required t 5) 0 t) ∷ [])
+
+-- which is the fault that is told of them
+abbrev pub FaultIsFirst : Type 0
+FaultIsFirst = (G : Meaning) (suite : ℕ) (group_id : List ℕ) (required : RequiredCapabilities) (t : Tree) (f : MemberFault)
+    → f ≢ OutOfMemory → IsMemberFault G suite group_id required t f ↔ (member_fault G suite group_id required t ≡ Some f)
+
+-- and members have none
+abbrev pub MembersAreFaultless : Type 0
+MembersAreFaultless = (G : Meaning) (suite : ℕ) (group_id : List ℕ) (required : RequiredCapabilities) (t : Tree)
+    → Members G suite group_id required t ↔ (member_fault G suite group_id required t ≡ None)
 
 -- what a search for the smallest leaf that fails a test answers
 abbrev pub FindsFailing : (ℕ → LeafNode → Bool) → Tree → Option ℕ → Type 0

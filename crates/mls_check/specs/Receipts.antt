@@ -3,6 +3,7 @@ use Rattle.std.specs.Prelude.{◌≡◌, ℕ, ◌+◌, ◌==◌, ◌≤◌, ◌<
 use Rattle.std.specs.Int.{w16}
 use Rattle.std.specs.List.{list_any}
 use Rattle.std.specs.Str.{bytes_eq}
+use Rattle.mls_wire.specs.Limits.{input_limit}
 use Rattle.sha2.specs.Sha256.{sha256}
 use Rattle.hex.specs.Hex.{decode_pairs}
 use Rattle.hex.specs.declared.error.FromHexError.{FromHexError}
@@ -44,8 +45,7 @@ digest_of line = if length line == 64 then decoded (decode_pairs 0 line) else No
 
 -- the digests on the lines of a file, where each line has one
 pub record IsReceipts (bytes : List ℕ) (digests : List (List ℕ)) : Type 0 where
-  -- a file has at most 268,435,456 bytes
-  pub within : length bytes ≤ 268435456
+  pub within : length bytes ≤ input_limit
   pub lines : map digest_of (receipt_lines bytes) ≡ map (λ digest. Some digest) digests
 
 -- the number of the first line without a digest, where the first line has number n
@@ -57,8 +57,8 @@ bad_line_from n (line ∷ lines) = if is_some (digest_of line) then bad_line_fro
 abbrev pub bad_line : List ℕ → Option ℕ
 bad_line bytes = bad_line_from 1 (receipt_lines bytes)
 
--- why a file isn't read: it is longer than 268,435,456 bytes, which is judged first; or this line of it is the first one without a digest; or memory
+-- why a file isn't read: it is longer than an input may be, which is judged first; or this line of it is the first one without a digest; or memory
 abbrev pub IsReceiptsFault : ReceiptsFault → List ℕ → Type 0
-IsReceiptsFault TooLong bytes = 268435456 < length bytes
-IsReceiptsFault (BadLine n) bytes = (length bytes ≤ 268435456) × (bad_line bytes ≡ Some n)
-IsReceiptsFault OutOfMemory bytes = length bytes ≤ 268435456
+IsReceiptsFault TooLong bytes = input_limit < length bytes
+IsReceiptsFault (BadLine n) bytes = (length bytes ≤ input_limit) × (bad_line bytes ≡ Some n)
+IsReceiptsFault OutOfMemory bytes = length bytes ≤ input_limit

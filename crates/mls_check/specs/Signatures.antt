@@ -18,3 +18,8 @@ is_good G suite key signature (Some content) = G suite key content signature
 -- VerifyWithLabel (5.1.2): whether the checker says that the key has signed these bytes under this label
 abbrev pub is_signed : Meaning → ℕ → List ℕ → List ℕ → List ℕ → List ℕ → Bool
 is_signed G suite key label tbs signature = is_good G suite key signature (sign_content label tbs)
+
+-- the same of bytes that may have no spelling; what has none is not signed
+abbrev pub is_signed_text : Meaning → ℕ → List ℕ → List ℕ → Option (List ℕ) → List ℕ → Bool
+is_signed_text G suite key label None signature = false
+is_signed_text G suite key label (Some tbs) signature = is_signed G suite key label tbs signature

@@ -30,7 +30,7 @@ abbrev pub lists : Option ParentNode → ℕ → Bool
 lists None i = true
 lists (Some p) i = list_any (λ x. x == i) p.unmerged
 
--- whether leaf i of a tree whose first leaf has the number `first` is set, and stands in the list of each set parent above it
+-- whether leaf i of a tree whose first leaf has the index `first` is set, and stands in the list of each set parent above it
 abbrev pub is_entered : ℕ → ℕ → Tree → Bool
 is_entered i first (leaf x) = (i == first) && is_some x
 is_entered i first (branch l p r) =

@@ -41,7 +41,8 @@ fn credential_types(tree: &PublicTree) -> CredentialTypes
 
 /// Whether a leaf supports these types.
 fn supports_types(leaf: &LeafNode, types: &CredentialTypes) -> bool
-    ensures { result ≡ ((not types.now.basic || supports_credential leaf.now 1) && (not types.now.x509 || supports_credential leaf.now 2)) }
+    ensures { result ≡ ((not types.now.basic || supports_credential leaf.now 1) &&
+        (not types.now.x509 || supports_credential leaf.now 2)) }
 {
     (!types.basic || supports_credential(leaf, BASIC))
         && (!types.x509 || supports_credential(leaf, X509))

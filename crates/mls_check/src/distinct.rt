@@ -3,9 +3,10 @@
 ghost use Rattle.std.specs.Prelude.{◌≡◌, IfOk};
 ghost use Rattle.std.specs.Option.{option_copied};
 ghost use Rattle.mls_check.specs.FirstFailure.{IsFirstFailureIn};
-ghost use Rattle.mls_check.specs.Distinct.{key_at, HasOwnKeyAt};
+ghost use Rattle.mls_check.specs.Distinct.{key_at, HasOwnKeyAt, has_distinct_keys};
 
 use crate::places::place_count;
+use crate::signatures::OutOfMemory;
 use mls_nodes::Node;
 use mls_tree::PublicTree;
 use std::alloc::{AllocError, Global};
@@ -40,4 +41,11 @@ pub(crate) fn first_repeated(alloc: Global, tree: &PublicTree) -> Result<Option<
         }
     }
     Ok(first)
+}
+
+/// Whether no two set nodes of a tree, leaves and parents, have one encryption key (RFC 9420, 7.3 and 12.4.3.1).
+pub fn has_distinct_keys(alloc: Global, tree: &PublicTree) -> Result<bool, OutOfMemory>
+    ensures { IfOk result (λ distinct. distinct ≡ has_distinct_keys tree.now.tree) }
+{
+    Ok(first_repeated(alloc, tree)?.is_none())
 }

@@ -19,12 +19,8 @@ mod sorted;
 mod support;
 mod valid;
 
-pub use members::{MemberFault, validate_members};
+pub use distinct::has_distinct_keys;
+pub use members::{MemberFault, is_leaf_signed, validate_members};
 pub use receipts::{Listed, ReceiptsFault};
 pub use signatures::{OutOfMemory, SignatureCheck, Trusting, signed};
 pub use valid::{TreeFault, validate_tree};
-
-#[cfg(test)]
-mod tests;
-#[cfg(test)]
-mod tree_tests;

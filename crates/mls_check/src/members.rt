@@ -72,8 +72,11 @@ pub fn validate_members(
     tree: &PublicTree,
     checker: &dyn SignatureCheck,
 ) -> Result<(), MemberFault>
-    ensures members { OnOk result (Members (meaning checker.now) suite group_id.now requirements.now tree.now.tree) }
-    ensures fault { IfErr result (λ e. IsMemberFault (meaning checker.now) suite group_id.now requirements.now tree.now.tree e) }
+    ensures members { OnOk result
+        (Members (meaning checker.now) suite group_id.now requirements.now tree.now.tree) }
+    ensures fault { IfErr result
+        (λ e. IsMemberFault (meaning checker.now) suite group_id.now requirements.now tree.now.tree
+        e) }
 {
     if let Some(leaf) = first_unlisted_extension(alloc, tree)? {
         return Err(MemberFault::ExtensionUnlisted(leaf));
@@ -113,7 +116,8 @@ fn first_unmet_requirement(
     tree: &PublicTree,
     requirements: &RequiredCapabilities,
 ) -> Result<Option<u32>, OutOfMemory>
-    ensures { IfOk result (FindsFailing (λ _ x. supports_required requirements.now x) tree.now.tree) }
+    ensures { IfOk result
+        (FindsFailing (λ _ x. supports_required requirements.now x) tree.now.tree) }
 {
     let rising = RisingRequirements::new(alloc, requirements)?;
     for index in 0..tree.leaf_count() {
@@ -134,7 +138,8 @@ fn first_unsigned_leaf(
     tree: &PublicTree,
     checker: &dyn SignatureCheck,
 ) -> Result<Option<u32>, OutOfMemory>
-    ensures { IfOk result (FindsFailing (is_leaf_signed (meaning checker.now) suite group_id.now) tree.now.tree) }
+    ensures { IfOk result
+        (FindsFailing (is_leaf_signed (meaning checker.now) suite group_id.now) tree.now.tree) }
 {
     for index in 0..tree.leaf_count() {
         if let Some(leaf) = tree.leaf(index) {
@@ -146,9 +151,10 @@ fn first_unsigned_leaf(
     Ok(None)
 }
 
-/// Whether the leaf of this number has signed its LeafNodeTBS (RFC 9420, 7.2).
+/// Whether the leaf of this index has signed its LeafNodeTBS in the group of this id (RFC 9420, 7.2), as the checker
+/// takes it. The group's id and the index count only where the leaf comes from an Update or a Commit.
 #[tactic(auto, unfolding(crate::specs::Members::is_leaf_signed))]
-fn is_leaf_signed(
+pub fn is_leaf_signed(
     alloc: Global,
     suite: u16,
     group_id: &Opaque,
@@ -156,7 +162,8 @@ fn is_leaf_signed(
     leaf: &LeafNode,
     checker: &dyn SignatureCheck,
 ) -> Result<bool, OutOfMemory>
-    ensures { IfOk result (λ good. good ≡ is_leaf_signed (meaning checker.now) suite group_id.now index leaf.now) }
+    ensures { IfOk result
+        (λ good. good ≡ is_leaf_signed (meaning checker.now) suite group_id.now index leaf.now) }
 {
     let tbs = match leaf_tbs(alloc, leaf, group_id, index) {
         Ok(tbs) => tbs,

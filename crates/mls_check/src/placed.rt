@@ -34,7 +34,8 @@ fn lists_all(parent: Option<&ParentNode>, leaves: &[u32]) -> bool
 fn are_entered(tree: &PublicTree, leaves: &[u32], place: u32) -> bool
     requires sorted { IsSorted tree.now.tree }
     requires rising { IsStrictlyIncreasing leaves.now }
-    ensures { result ≡ list_all (λ i. is_entered_at (subtree_at 0 tree.now.tree place) i) leaves.now }
+    ensures { result ≡ list_all
+        (λ i. is_entered_at (subtree_at 0 tree.now.tree place) i) leaves.now }
 {
     if leaves.is_empty() {
         return true;

@@ -26,7 +26,8 @@ use std::alloc::{AllocError, Global};
 fn lone_place(places: &[u32], list: &[u32]) -> Option<u32>
     requires list { IsStrictlyIncreasing list.now }
     requires places { RisesInLeaves places.now }
-    ensures { MatchOption result ((p : ℕ) → ¬ IsLone list.now places.now p) (λ p. IsLone list.now places.now p) }
+    ensures { MatchOption result ((p : ℕ) → ¬ IsLone list.now places.now p)
+        (λ p. IsLone list.now places.now p) }
 {
     let mut lone = None;
     let mut rest = list;
@@ -117,7 +118,8 @@ fn is_linked(
     requires set { IsSome (parent_at tree.now.tree place) }
     requires hashes { AreSubtreeHashes (hash_of suite) tree.now.tree hashes.now }
     requires placed { IsPlaced tree.now.tree }
-    ensures { IfOk result (λ b. IsTrue b ↔ CarriesHash (hash_of suite) tree.now.tree place side below) }
+    ensures { IfOk result
+        (λ b. IsTrue b ↔ CarriesHash (hash_of suite) tree.now.tree place side below) }
 {
     let Some(below) = below else {
         return Ok(false);

@@ -7,6 +7,7 @@
 ghost use Rattle.std.specs.Prelude.{◌≡◌, ◌++◌, ℕ, ◌<◌, ◌≤◌, List, ◌∷◌, Bool, Option, Some, None, option_map, length, map, IfOk, IfErr, IfNone, OnSome};
 ghost use Rattle.sha2.specs.Sha256.{sha256};
 ghost use Rattle.mls_wire.specs.Spelling.{length_form, vector};
+ghost use Rattle.mls_wire.specs.Limits.{input_limit, vector_limit};
 ghost use Rattle.mls_check.specs.Receipts.{receipt_input, listed, receipt_lines, digest_of, bad_line, IsReceipts, IsReceiptsFault};
 ghost use Rattle.mls_check.specs.declared.receipts.ReceiptsFault.TheVariants.{BadLine, TooLong, OutOfMemory};
 
@@ -65,7 +66,9 @@ impl Model for Listed {
 impl Listed {
     /// The checker of a file of receipts. A file that is too long is refused first, then its first bad line.
     pub fn read(alloc: Global, bytes: &[u8]) -> Result<Listed, ReceiptsFault>
-        ensures listed { IfOk result (λ l. (digests : List (List ℕ)) × IsReceipts bytes.now digests × (⟦<Listed as SignatureCheck>⟧.meaning l ≡ listed digests)) }
+        ensures listed { IfOk result
+            (λ l. (digests : List (List ℕ)) × IsReceipts bytes.now digests
+            × (⟦<Listed as SignatureCheck>⟧.meaning l ≡ listed digests)) }
         ensures refused { IfErr result (λ e. IsReceiptsFault e bytes.now) }
     {
         if bytes.len() > MAX_INPUT {
@@ -104,8 +107,10 @@ fn split_line(bytes: &[u8]) -> (&[u8], &[u8])
 
 /// The digests on the lines, in their order.
 fn digests_of(alloc: Global, bytes: &[u8]) -> Result<Vec<[u8; 32]>, ReceiptsFault>
-    requires { length bytes.now ≤ 268435456 }
-    ensures digests { IfOk result (λ digests. map digest_of (receipt_lines bytes.now) ≡ map (λ digest. Some digest) digests.items) }
+    requires { length bytes.now ≤ input_limit }
+    ensures digests { IfOk result
+        (λ digests. map digest_of (receipt_lines bytes.now)
+        ≡ map (λ digest. Some digest) digests.items) }
     ensures refused { IfErr result (λ e. IsReceiptsFault e bytes.now) }
 {
     let mut digests = Vec::new(alloc);
@@ -124,8 +129,9 @@ fn digests_of(alloc: Global, bytes: &[u8]) -> Result<Vec<[u8; 32]>, ReceiptsFaul
 /// Adds the length of a vector, in the shortest of its three forms.
 #[tactic(auto, unfolding(mls_wire::specs::Spelling::length_form))]
 fn update_length(hasher: &mut Sha256, count: usize)
-    requires { count ≤ 1073741823 }
-    ensures { (m text : List ℕ) → ⟦<Sha256 as Digest>⟧.holds hasher.old m → length_form count ≡ Some text → ⟦<Sha256 as Digest>⟧.holds hasher.new (m ++ text) }
+    requires { count ≤ vector_limit }
+    ensures { (m text : List ℕ) → ⟦<Sha256 as Digest>⟧.holds hasher.old m
+        → length_form count ≡ Some text → ⟦<Sha256 as Digest>⟧.holds hasher.new (m ++ text) }
 {
     if count < 64 {
         hasher.update([count as u8]);
@@ -139,7 +145,10 @@ fn update_length(hasher: &mut Sha256, count: usize)
 /// Adds a vector; None where it is too long for one.
 fn update_vector(hasher: &mut Sha256, body: &[u8]) -> Option<()>
     ensures none { IfNone result (vector body.now ≡ None) }
-    ensures some { OnSome result ((text : List ℕ) × (vector body.now ≡ Some text) × ((m : List ℕ) → ⟦<Sha256 as Digest>⟧.holds hasher.old m → ⟦<Sha256 as Digest>⟧.holds hasher.new (m ++ text))) }
+    ensures some { OnSome result
+        ((text : List ℕ) × (vector body.now ≡ Some text)
+        × ((m : List ℕ) → ⟦<Sha256 as Digest>⟧.holds hasher.old m
+        → ⟦<Sha256 as Digest>⟧.holds hasher.new (m ++ text))) }
 {
     if body.len() > MAX_BODY {
         return None;

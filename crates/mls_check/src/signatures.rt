@@ -84,7 +84,9 @@ pub fn signed(
     tbs: &[u8],
     signature: &[u8],
 ) -> Result<bool, OutOfMemory>
-    ensures { IfOk result (λ good. good ≡ is_signed (meaning checker.now) suite key.now label.now tbs.now signature.now) }
+    ensures { IfOk result
+        (λ good. good ≡ is_signed
+        (meaning checker.now) suite key.now label.now tbs.now signature.now) }
 {
     match sign_content(alloc, label, tbs) {
         Ok(content) => Ok(checker.good(suite, key, content.as_slice(), signature)),

@@ -82,7 +82,8 @@ pub(crate) fn supports_required(
     leaf: &LeafNode,
     requirements: &RisingRequirements,
 ) -> Result<bool, OutOfMemory>
-    ensures { IfOk result (λ all. all ≡ supports_required (requirements_of requirements.now) leaf.now) }
+    ensures { IfOk result
+        (λ all. all ≡ supports_required (requirements_of requirements.now) leaf.now) }
 {
     if !supports_extensions(alloc, leaf, requirements.extensions.as_slice())? {
         return Ok(false);

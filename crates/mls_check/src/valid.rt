@@ -17,7 +17,8 @@ use mls_tree::PublicTree;
 use std::alloc::{AllocError, Global};
 use thiserror::Error;
 
-/// Why a tree isn't valid: the first check that fails, with the smallest place at which it does.
+/// Why a tree isn't valid for its group: the first check that fails, with the smallest place at which it does. (Why a call on a
+/// tree is refused, whatever its group, is told by `TreeError` of `mls_tree`.)
 #[derive(Clone, Copy, Debug, PartialEq, Eq, Error)]
 pub enum TreeFault {
     /// The tree hash isn't that of the context (RFC 9420, 7.8).
@@ -54,7 +55,8 @@ impl From<AllocError> for TreeFault {
 
 /// Whether the tree, whose subtrees have these hashes, has this hash itself.
 fn has_hash(tree: &PublicTree, hashes: &SubtreeHashes, hash: &[u8]) -> bool
-    ensures { (H : List ℕ → List ℕ) → AreSubtreeHashes H tree.now.tree hashes.now → (IsTrue result ↔ (tree_hash H 0 tree.now.tree ≡ Some hash.now)) }
+    ensures { (H : List ℕ → List ℕ) → AreSubtreeHashes H tree.now.tree hashes.now
+        → (IsTrue result ↔ (tree_hash H 0 tree.now.tree ≡ Some hash.now)) }
 {
     let root = tree.leaf_count() - 1;
     match hashes.get(root) {
@@ -76,7 +78,8 @@ pub fn validate_tree(
 ) -> Result<(), TreeFault>
     requires suite_of_context { suite ≡ context.now.cipher_suite }
     ensures valid { OnOk result (Valid (hash_of suite) context.now.tree_hash tree.now.tree) }
-    ensures first_fault { IfErr result (λ e. IsFirstTreeFault (hash_of suite) context.now.tree_hash tree.now.tree e) }
+    ensures first_fault { IfErr result
+        (λ e. IsFirstTreeFault (hash_of suite) context.now.tree_hash tree.now.tree e) }
 {
     let hashes = SubtreeHashes::new(alloc, suite, tree)?;
     if !has_hash(tree, &hashes, context.tree_hash.as_slice()) {

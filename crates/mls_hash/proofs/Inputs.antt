@@ -16,7 +16,7 @@ use Rattle.mls_wire.specs.Steps.{some_is, allowed}
 use Rattle.mls_wire.specs.Joined.{joined, join}
 use Rattle.mls_wire.specs.Numbers.{number_made, number_below, wide32}
 use Rattle.mls_wire.specs.Lists.{sized_parts}
-use Rattle.mls_wire.specs.Vectors.{vector_limit}
+use Rattle.mls_wire.specs.Vectors.{vector_within}
 use Rattle.mls_wire.specs.Sizes.{some_size}
 use Rattle.mls_nodes.specs.declared.leaf.LeafNode.{LeafNode}
 use Rattle.mls_nodes.specs.declared.parent.ParentNode.{ParentNode}
@@ -107,7 +107,7 @@ unmerged_there L xs t e =
     let a = allowed _ (list (number w32) xs) t e in
     let low : length xs ≤ 1048576 = leb-true (length xs) 1048576 a.0 in
     let b = sized_parts (items (number w32) xs) t a.1 in
-    let limit : length b.0 ≤ 1073741823 = vector_limit b.0 t b.2 in
+    let limit : length b.0 ≤ 1073741823 = vector_within b.0 t b.2 in
     let k = kept_there (λ i. not (is_among L i)) xs b.0 b.1 in
     let v = vector_there k.0 (omega arith) in
     let fewer : length (without L xs) ≤ 1048576 = omega (arith, without_low L xs) in

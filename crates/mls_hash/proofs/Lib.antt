@@ -5,4 +5,3 @@ pub mod Strips
 pub mod Answers
 pub mod Alike
 pub mod Filling
-pub mod Owned

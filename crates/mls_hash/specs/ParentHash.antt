@@ -1,4 +1,4 @@
--- The parent hash of a parent node (RFC 9420, section 7.9).
+-- The parent hash of a parent node (RFC 9420, 7.9).
 use Rattle.std.specs.Prelude.{ℕ, ◌+◌, List, Option, Some, None, option_map, option_and_then}
 use Rattle.mls_wire.specs.Spelling.{◌⊕◌, vector}
 use Rattle.mls_nodes.specs.declared.parent.ParentNode.{ParentNode}
@@ -8,12 +8,12 @@ use Rattle.mls_hash.specs.declared.side.Side.TheVariants.{Left, Right}
 use Rattle.mls_hash.specs.Strip.{original_tree_hash}
 
 -- ParentHashInput: the parent's key and its own parent hash, and the original tree hash of its child on the copath
--- (section 7.9)
+-- (7.9)
 abbrev pub parent_hash_input : ParentNode → List ℕ → Option (List ℕ)
 parent_hash_input p original = vector p.encryption_key ⊕ vector p.parent_hash ⊕ vector original
 
 -- The parent hash of a parent whose child on the copath is a subtree with the first leaf `first`: that child is hashed
--- without the parent's unmerged leaves (section 7.9).
+-- without the parent's unmerged leaves (7.9).
 abbrev pub parent_hash : (List ℕ → List ℕ) → ParentNode → ℕ → Tree → Option (List ℕ)
 parent_hash H p first sibling =
     option_and_then (λ original. option_map H (parent_hash_input p original)) (original_tree_hash H p.unmerged first sibling)

@@ -11,7 +11,7 @@ abbrev pub child_on : Side → ℕ → ℕ → ℕ
 child_on sides.Left left right = left
 child_on sides.Right left right = right
 
--- a set parent stands at place p, and its child on that side at place `child`; the first leaf under its right child has the number `middle`
+-- a set parent stands at place p, and its child on that side at place `child`; the first leaf under its right child has the index `middle`
 pub record HasChildOn (t : Tree) (p : ℕ) (side : Side) (child middle : ℕ) (parent : ParentNode) : Type 0 where
   pub left : ℕ
   pub right : ℕ

@@ -1,4 +1,4 @@
--- The tree hashes of all subtrees of a tree, each at the place of its subtree (RFC 9420, section 7.8).
+-- The tree hashes of all subtrees of a tree, each at the place of its subtree (RFC 9420, 7.8).
 use Rattle.std.specs.Prelude.{◌≡◌, ℕ, ◌+◌, ◌≤◌, ◌<◌, List, Some, All, slice_get}
 use Rattle.mls_nodes.specs.declared.parent.ParentNode.{ParentNode}
 use Rattle.mls_tree.specs.Tree.{Tree, leaf_count, Subtree, subtree_at}
@@ -13,21 +13,21 @@ IsSubtreeHashAt H t hashes p = slice_get hashes p ≡ tree_hash_at H t p
 abbrev pub AreSubtreeHashes : (List ℕ → List ℕ) → Tree → List (List ℕ) → Type 0
 AreSubtreeHashes H t hashes = (p : ℕ) → IsSubtreeHashAt H t hashes p
 
--- number i is that of a leaf of the subtree
+-- index i is that of a leaf of the subtree
 abbrev pub IsLeafOf : Subtree → ℕ → Type 0
 IsLeafOf s i = (s.first ≤ i) × (i < s.first + leaf_count s.tree)
 
--- each entry of the unmerged list of the parent at place p, if one is set there, is the number of a leaf under it
+-- each entry of the unmerged list of the parent at place p, if one is set there, is the index of a leaf under it
 abbrev pub HoldsOwnLeavesAt : Tree → ℕ → Type 0
 HoldsOwnLeavesAt t p = (s : Subtree) (q : ParentNode) → subtree_at 0 t p ≡ Some s → root_parent s.tree ≡ Some q → All (IsLeafOf s) q.unmerged
 
--- the unmerged list of every set parent has numbers of leaves under it alone
+-- the unmerged list of every set parent has indices of leaves under it alone
 abbrev pub HoldsOwnLeaves : Tree → Type 0
 HoldsOwnLeaves t = (p : ℕ) → HoldsOwnLeavesAt t p
 
 -- ---- for the code alone
 
--- each number in the list is that of a leaf under place p, if the tree has such a place
+-- each index in the list is that of a leaf under place p, if the tree has such a place
 abbrev pub AreLeavesUnder : Tree → ℕ → List ℕ → Type 0
 AreLeavesUnder t p leaves = (s : Subtree) → subtree_at 0 t p ≡ Some s → All (IsLeafOf s) leaves
 

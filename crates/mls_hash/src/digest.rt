@@ -20,7 +20,7 @@ fn finish(hasher: Sha256, suite: Suite) -> HashValue
     HashValue::new(&digest).unwrap()
 }
 
-/// The hash of `first` and `second`, taken as one message (RFC 9420, section 5.2). It takes no memory.
+/// The hash of `first` and `second`, taken as one message (RFC 9420, 5.2). It takes no memory.
 pub fn hash(suite: Suite, first: &[u8], second: &[u8]) -> HashValue
     ensures { result ≡ hash_of suite (first.now ++ second.now) }
 {
@@ -30,7 +30,7 @@ pub fn hash(suite: Suite, first: &[u8], second: &[u8]) -> HashValue
     finish(hasher, suite)
 }
 
-/// Feeds the length of a vector, in the shortest of its forms (RFC 9420, section 2.1.2).
+/// Feeds the length of a vector, in the shortest of its forms (RFC 9420, 2.1.2).
 fn feed_length(hasher: &mut Sha256, length: usize) -> Result<(), HashFault>
     ensures { FeedsText (length_form length) hasher.old hasher.new result }
 {
@@ -55,10 +55,12 @@ fn feed_vector(hasher: &mut Sha256, body: &[u8]) -> Result<(), HashFault>
     Ok(())
 }
 
-/// The reference `RefHash(label, value)` (RFC 9420, section 5.2): the hash of the label and the value, each as a vector.
+/// The reference `RefHash(label, value)` (RFC 9420, 5.2): the hash of the label and the value, each as a vector.
 /// A label or a value of more than 1,073,741,823 bytes is [`HashFault::TooLong`]. It takes no memory.
 pub fn ref_hash(suite: Suite, label: &str, value: &[u8]) -> Result<HashValue, HashFault>
-    ensures { MatchResult result (λ h. option_map (hash_of suite) (ref_hash_input label.now value.now) ≡ Some h) (λ e. (e ≡ HashFault.TooLong) × (ref_hash_input label.now value.now ≡ None)) }
+    ensures { MatchResult result
+        (λ h. option_map (hash_of suite) (ref_hash_input label.now value.now) ≡ Some h)
+        (λ e. (e ≡ HashFault.TooLong) × (ref_hash_input label.now value.now ≡ None)) }
 {
     let mut hasher = Sha256::new();
     feed_vector(&mut hasher, label.as_bytes())?;

@@ -1,14 +1,14 @@
-//! The inputs of the hashes of nodes (RFC 9420, sections 7.8 and 7.9), each written into one buffer and hashed there.
+//! The inputs of the tree hashes of nodes (RFC 9420, 7.8), each written into one buffer and hashed there.
 
 ghost use Rattle.std.specs.Prelude.{◌≡◌, ◌≤◌, ◌^◌, MatchOption, OnOk, Some, length, option_copied, option_map};
 ghost use Rattle.std.specs.Int.{w32};
 ghost use Rattle.mls_wire.specs.Spelling as spell;
 ghost use Rattle.mls_wire.specs.Writing.{after};
+ghost use Rattle.mls_nodes.specs.Limits.{leaf_limit};
 ghost use Rattle.mls_nodes.specs.Layout as layout;
 ghost use Rattle.mls_tree.specs.TreeHash.{leaf_hash_input, parent_hash_input};
 ghost use Rattle.mls_hash.specs.Hashing.{hash_of};
 ghost use Rattle.mls_hash.specs.Inputs.{HashesText, HashesWritten, IsNoWireFault, WritesText};
-ghost use Rattle.mls_hash.specs.ParentHash as parents;
 ghost use Rattle.mls_hash.specs.Strip.{stripped_parent, without};
 
 use crate::digest::hash;
@@ -27,7 +27,8 @@ fn write_optional_leaf(
     node: Option<&LeafNode>,
     writer: &mut Writer,
 ) -> Result<(), CodecFault>
-    ensures { WritesText (spell.optional layout.leaf (option_copied node.entry)) writer.old writer.new result }
+    ensures { WritesText (spell.optional layout.leaf (option_copied node.entry)) writer.old
+        writer.new result }
 {
     match node {
         None => writer.write_optional(false),
@@ -46,7 +47,8 @@ fn write_leaf_input(
     node: Option<&LeafNode>,
     writer: &mut Writer,
 ) -> Result<(), CodecFault>
-    ensures { WritesText (leaf_hash_input number (option_copied node.entry)) writer.old writer.new result }
+    ensures { WritesText (leaf_hash_input number (option_copied node.entry)) writer.old writer.new
+        result }
 {
     writer.write_u8(1)?;
     writer.write_u32(number)?;
@@ -83,7 +85,9 @@ fn write_kept(
     left_out: &LeafSet<'_>,
     writer: &mut Writer,
 ) -> Result<(), AllocError>
-    ensures { OnOk result (after writer.old (spell.items (spell.number w32) (without left_out.now numbers.now)) ≡ Some writer.new) }
+    ensures { OnOk result
+        (after writer.old (spell.items (spell.number w32) (without left_out.now numbers.now))
+        ≡ Some writer.new) }
 {
     for number in numbers {
         if !left_out.contains(*number) {
@@ -99,8 +103,9 @@ fn write_unmerged(
     left_out: &LeafSet<'_>,
     writer: &mut Writer,
 ) -> Result<(), CodecFault>
-    requires { length numbers.now ≤ 1048576 }
-    ensures { WritesText (layout.unmerged (without left_out.now numbers.now)) writer.old writer.new result }
+    requires { length numbers.now ≤ leaf_limit }
+    ensures { WritesText (layout.unmerged (without left_out.now numbers.now)) writer.old writer.new
+        result }
 {
     let kept = count_kept(numbers, left_out);
     writer.write_len(4 * kept)?;
@@ -115,7 +120,8 @@ fn write_stripped_parent(
     left_out: &LeafSet<'_>,
     writer: &mut Writer,
 ) -> Result<(), CodecFault>
-    ensures { WritesText (layout.parent (stripped_parent left_out.now node.now)) writer.old writer.new result }
+    ensures { WritesText (layout.parent (stripped_parent left_out.now node.now)) writer.old
+        writer.new result }
 {
     writer.write_vec(node.encryption_key.as_slice())?;
     writer.write_vec(node.parent_hash.as_slice())?;
@@ -129,7 +135,9 @@ fn write_optional_parent(
     left_out: &LeafSet<'_>,
     writer: &mut Writer,
 ) -> Result<(), CodecFault>
-    ensures { WritesText (spell.optional layout.parent (option_map (stripped_parent left_out.now) (option_copied node.entry))) writer.old writer.new result }
+    ensures { WritesText (spell.optional layout.parent
+        (option_map (stripped_parent left_out.now) (option_copied node.entry))) writer.old
+        writer.new result }
 {
     match node {
         None => writer.write_optional(false),
@@ -149,7 +157,9 @@ fn write_parent_input(
     right: &HashValue,
     writer: &mut Writer,
 ) -> Result<(), CodecFault>
-    ensures { WritesText (parent_hash_input (option_map (stripped_parent left_out.now) (option_copied node.entry)) left.now right.now) writer.old writer.new result }
+    ensures { WritesText (parent_hash_input
+        (option_map (stripped_parent left_out.now) (option_copied node.entry)) left.now right.now)
+        writer.old writer.new result }
 {
     writer.write_u8(2)?;
     write_optional_parent(node, left_out, writer)?;
@@ -157,23 +167,10 @@ fn write_parent_input(
     writer.write_vec(right.as_slice())
 }
 
-/// Writes the input of a parent hash.
-#[tactic(auto, using(mls_wire::specs::Written::written))]
-fn write_parent_hash_input(
-    parent: &ParentNode,
-    original: &HashValue,
-    writer: &mut Writer,
-) -> Result<(), CodecFault>
-    ensures { WritesText (parents.parent_hash_input parent.now original.now) writer.old writer.new result }
-{
-    writer.write_vec(parent.encryption_key.as_slice())?;
-    writer.write_vec(parent.parent_hash.as_slice())?;
-    writer.write_vec(original.as_slice())
-}
-
 /// How many bytes a leaf node takes behind the byte that tells, if it is set.
 fn length_of_leaf(node: Option<&LeafNode>) -> u64
-    ensures length { MatchOption (option_copied node.entry) (result ≡ 0) (λ x. option_map length (layout.leaf x) ≡ Some result) }
+    ensures length { MatchOption (option_copied node.entry) (result ≡ 0)
+        (λ x. option_map length (layout.leaf x) ≡ Some result) }
     ensures small { result ≤ 2 ^ 40 }
 {
     match node {
@@ -184,7 +181,8 @@ fn length_of_leaf(node: Option<&LeafNode>) -> u64
 
 /// How many bytes a parent node takes behind the byte that tells, if it is set.
 fn length_of_parent(node: Option<&ParentNode>) -> u64
-    ensures length { MatchOption (option_copied node.entry) (result ≡ 0) (λ p. option_map length (layout.parent p) ≡ Some result) }
+    ensures length { MatchOption (option_copied node.entry) (result ≡ 0)
+        (λ p. option_map length (layout.parent p) ≡ Some result) }
     ensures small { result ≤ 2 ^ 40 }
 {
     match node {
@@ -194,7 +192,7 @@ fn length_of_parent(node: Option<&ParentNode>) -> u64
 }
 
 /// The hash of the bytes that were written, where they were.
-fn hash_written(
+pub(crate) fn hash_written(
     suite: Suite,
     written: Result<(), CodecFault>,
     writer: &Writer,
@@ -209,7 +207,7 @@ fn hash_written(
     }
 }
 
-/// The tree hash of a leaf (RFC 9420, section 7.8). The writer is used anew.
+/// The tree hash of a leaf (RFC 9420, 7.8). The writer is used anew.
 pub(crate) fn hash_leaf(
     alloc: Global,
     suite: Suite,
@@ -217,7 +215,8 @@ pub(crate) fn hash_leaf(
     node: Option<&LeafNode>,
     writer: &mut Writer,
 ) -> Result<HashValue, HashFault>
-    ensures { HashesText (option_map (hash_of suite) (leaf_hash_input number (option_copied node.entry))) result }
+    ensures { HashesText (option_map (hash_of suite)
+        (leaf_hash_input number (option_copied node.entry))) result }
 {
     writer.clear();
     writer.reserve(length_of_leaf(node) as usize + 6)?;
@@ -225,7 +224,7 @@ pub(crate) fn hash_leaf(
     hash_written(suite, written, writer)
 }
 
-/// The tree hash of a parent, by the hashes of its children (RFC 9420, section 7.8), without the unmerged leaves of the set. The
+/// The tree hash of a parent, by the hashes of its children (RFC 9420, 7.8), without the unmerged leaves of the set. The
 /// writer is used anew.
 pub(crate) fn hash_parent(
     suite: Suite,
@@ -235,26 +234,13 @@ pub(crate) fn hash_parent(
     right: &HashValue,
     writer: &mut Writer,
 ) -> Result<HashValue, HashFault>
-    ensures { HashesText (option_map (hash_of suite) (parent_hash_input (option_map (stripped_parent left_out.now) (option_copied node.entry)) left.now right.now)) result }
+    ensures { HashesText (option_map (hash_of suite)
+        (parent_hash_input (option_map (stripped_parent left_out.now) (option_copied node.entry))
+        left.now right.now)) result }
 {
     writer.clear();
     let hashes = left.as_slice().len() + right.as_slice().len();
     writer.reserve(length_of_parent(node) as usize + hashes + 6)?;
     let written = write_parent_input(node, left_out, left, right, writer);
-    hash_written(suite, written, writer)
-}
-
-/// The parent hash of a parent, by the original tree hash of its child on the copath (RFC 9420, section 7.9). The writer is used anew.
-pub(crate) fn hash_parent_fields(
-    suite: Suite,
-    parent: &ParentNode,
-    original: &HashValue,
-    writer: &mut Writer,
-) -> Result<HashValue, HashFault>
-    ensures { HashesText (option_map (hash_of suite) (parents.parent_hash_input parent.now original.now)) result }
-{
-    writer.clear();
-    writer.reserve(parent.encoded_len() as usize + original.as_slice().len() + 2)?;
-    let written = write_parent_hash_input(parent, original, writer);
     hash_written(suite, written, writer)
 }

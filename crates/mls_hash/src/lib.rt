@@ -1,29 +1,26 @@
 //! Hashes of an MLS group: those of a ratchet tree and of its parents, and references to messages (RFC 9420,
-//! sections 5.2, 7.8 and 7.9), for the cipher suites that hash with SHA-256.
+//! 5.2, 7.8 and 7.9), for the cipher suites that hash with SHA-256.
 //!
 //! A tree hash is computed on the tree as it stands, with one hash for each node. The original tree hash of a subtree,
 //! which leaves some leaves out, is computed on the same tree, and no tree is copied. [`SubtreeHashes`] keeps the tree
 //! hashes of all subtrees, so that a parent hash is computed anew only where leaves are left out.
 #![tactic(auto)]
 
-mod copath;
 mod digest;
 mod fault;
 mod input;
 mod leaf_set;
+mod parent_hashes;
 mod side;
 mod subtree;
 mod subtree_hashes;
 mod suite;
 
-pub use copath::parent_hash;
 pub use digest::{hash, ref_hash};
 pub use fault::HashFault;
 pub use mls_tree::HashValue;
+pub use parent_hashes::{parent_hash, parent_hash_of};
 pub use side::Side;
 pub use subtree::{original_tree_hash, tree_hash};
 pub use subtree_hashes::SubtreeHashes;
 pub use suite::Suite;
-
-#[cfg(test)]
-mod tests;

@@ -1,4 +1,4 @@
-//! Tree hashes of subtrees, as they stand and without some of their leaves (RFC 9420, sections 7.8 and 7.9).
+//! Tree hashes of subtrees, as they stand and without some of their leaves (RFC 9420, 7.8 and 7.9).
 
 ghost use Rattle.std.specs.Prelude.{◌≡◌, ◌↔◌, ◌⊎◌, None, Some, Err, IfOk, IfErr, option_copied};
 ghost use Rattle.mls_tree.specs.Tree.{subtree_at};
@@ -36,7 +36,8 @@ pub(crate) fn hash_subtree(
     place: u32,
     writer: &mut Writer,
 ) -> Result<HashValue, HashFault>
-    ensures { HashesSubtree (subtree_at 0 tree.now.tree place) (original_tree_hash_at (hash_of suite) left_out.now tree.now.tree place) result }
+    ensures { HashesSubtree (subtree_at 0 tree.now.tree place)
+        (original_tree_hash_at (hash_of suite) left_out.now tree.now.tree place) result }
 {
     match tree.part(place) {
         None => Err(HashFault::NoSuchNode),
@@ -59,7 +60,7 @@ pub(crate) fn hash_subtree(
     }
 }
 
-/// The tree hash of the subtree whose root stands at a place (RFC 9420, section 7.8). `NoSuchNode` where the tree has no such place.
+/// The tree hash of the subtree whose root stands at a place (RFC 9420, 7.8). `NoSuchNode` where the tree has no such place.
 pub fn tree_hash(
     alloc: Global,
     suite: Suite,
@@ -67,15 +68,17 @@ pub fn tree_hash(
     place: u32,
 ) -> Result<HashValue, HashFault>
     ensures hash { IfOk result (λ h. tree_hash_at (hash_of suite) tree.now.tree place ≡ Some h) }
-    ensures no_such_node { (result ≡ Err HashFault.NoSuchNode) ↔ (subtree_at 0 tree.now.tree place ≡ None) }
-    ensures else_memory { IfErr result (λ e. (e ≡ HashFault.NoSuchNode) ⊎ (e ≡ HashFault.OutOfMemory)) }
+    ensures no_such_node { (result ≡ Err HashFault.NoSuchNode)
+        ↔ (subtree_at 0 tree.now.tree place ≡ None) }
+    ensures else_memory { IfErr result
+        (λ e. (e ≡ HashFault.NoSuchNode) ⊎ (e ≡ HashFault.OutOfMemory)) }
 {
     let left_out = LeafSet::empty();
     let mut writer = Writer::new(alloc);
     hash_subtree(alloc, suite, tree, &left_out, place, &mut writer)
 }
 
-/// The original tree hash of the subtree at a place (RFC 9420, section 7.9): that of the subtree with each of these leaves blank, and
+/// The original tree hash of the subtree at a place (RFC 9420, 7.9): that of the subtree with each of these leaves blank, and
 /// without them in each list of unmerged leaves. The tree is not copied. `NoSuchNode` where the tree has no such place.
 pub fn original_tree_hash(
     alloc: Global,
@@ -84,9 +87,12 @@ pub fn original_tree_hash(
     place: u32,
     leaves: &[u32],
 ) -> Result<HashValue, HashFault>
-    ensures hash { IfOk result (λ h. original_tree_hash_at (hash_of suite) leaves.now tree.now.tree place ≡ Some h) }
-    ensures no_such_node { (result ≡ Err HashFault.NoSuchNode) ↔ (subtree_at 0 tree.now.tree place ≡ None) }
-    ensures else_memory { IfErr result (λ e. (e ≡ HashFault.NoSuchNode) ⊎ (e ≡ HashFault.OutOfMemory)) }
+    ensures hash { IfOk result
+        (λ h. original_tree_hash_at (hash_of suite) leaves.now tree.now.tree place ≡ Some h) }
+    ensures no_such_node { (result ≡ Err HashFault.NoSuchNode)
+        ↔ (subtree_at 0 tree.now.tree place ≡ None) }
+    ensures else_memory { IfErr result
+        (λ e. (e ≡ HashFault.NoSuchNode) ⊎ (e ≡ HashFault.OutOfMemory)) }
 {
     if tree.part(place).is_none() {
         return Err(HashFault::NoSuchNode);

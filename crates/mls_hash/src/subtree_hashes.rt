@@ -1,4 +1,4 @@
-//! The tree hashes of all subtrees of a tree, each computed once (RFC 9420, section 7.8), and parent hashes by them (section 7.9).
+//! The tree hashes of all subtrees of a tree, each computed once (RFC 9420, 7.8), and parent hashes by them (7.9).
 
 ghost use Rattle.std.specs.Prelude.{◌≡◌, ◌↔◌, ◌⊎◌, ◌+◌, ◌*◌, ◌<◌, [], None, Some, Err, IfOk, IfErr, IfSome, OnOk, length, slice_get, slice_set};
 ghost use Rattle.mls_tree.specs.Tree.{leaf_count, subtree_at};
@@ -8,10 +8,10 @@ ghost use Rattle.mls_hash.specs.ParentHash.{parent_at, parent_hash_at};
 ghost use Rattle.mls_hash.specs.Strip.{original_tree_hash_at, tree_hash_at};
 ghost use Rattle.mls_hash.specs.SubtreeHashes.{AreHashesKept, AreHashesUnder, AreLeavesUnder, AreSubtreeHashes, HoldsOwnLeaves};
 
-use crate::copath::parent_and_child;
 use crate::fault::HashFault;
-use crate::input::{hash_leaf, hash_parent, hash_parent_fields};
+use crate::input::{hash_leaf, hash_parent};
 use crate::leaf_set::{LeafSet, sorted};
+use crate::parent_hashes::{hash_parent_fields, parent_and_child};
 use crate::side::Side;
 use crate::subtree::kept_leaf;
 use crate::suite::Suite;
@@ -20,7 +20,7 @@ use mls_wire::Writer;
 use std::alloc::{AllocError, Global};
 use std::marker::Model;
 
-/// The tree hash of the subtree at each place of a tree (RFC 9420, section 7.8), each computed once.
+/// The tree hash of the subtree at each place of a tree (RFC 9420, 7.8), each computed once.
 ///
 /// Contracts see it as the list of the hashes, in the order of the places.
 #[derive(Drop)]
@@ -55,7 +55,8 @@ fn put_hashes(
     writer: &mut Writer,
 ) -> Result<HashValue, HashFault>
     requires room { length hashes.old + 1 ≡ 2 * leaf_count tree.now.tree }
-    ensures hash { HashesSubtree (subtree_at 0 tree.now.tree place) (tree_hash_at (hash_of suite) tree.now.tree place) result }
+    ensures hash { HashesSubtree (subtree_at 0 tree.now.tree place)
+        (tree_hash_at (hash_of suite) tree.now.tree place) result }
     ensures kept { OnOk result (AreHashesKept (hash_of suite) tree.now.tree hashes.old hashes.new) }
     ensures put { OnOk result (AreHashesUnder (hash_of suite) tree.now.tree hashes.new place) }
 {
@@ -131,7 +132,8 @@ impl SubtreeHashes {
         requires hashes { AreSubtreeHashes (hash_of suite) tree.now.tree self.now }
         requires own_leaves { HoldsOwnLeaves tree.now.tree }
         requires under { AreLeavesUnder tree.now.tree place left_out.now }
-        ensures { HashesSubtree (subtree_at 0 tree.now.tree place) (original_tree_hash_at (hash_of suite) left_out.now tree.now.tree place) result }
+        ensures { HashesSubtree (subtree_at 0 tree.now.tree place)
+            (original_tree_hash_at (hash_of suite) left_out.now tree.now.tree place) result }
     {
         if let Some(hash) = self.unchanged(left_out, place) {
             return Ok(hash);
@@ -158,7 +160,7 @@ impl SubtreeHashes {
         }
     }
 
-    /// The parent hash of the parent that is set at a place, whose child on the copath is the one on that side (RFC 9420, section 7.9), as
+    /// The parent hash of the parent that is set at a place, whose child on the copath is the one on that side (RFC 9420, 7.9), as
     /// [`parent_hash`](crate::parent_hash) gives it, where the kept hashes are those of this tree: a part of the child that has none of the
     /// parent's unmerged leaves isn't hashed again. `NoSuchNode` where no set parent stands at the place.
     pub fn parent_hash(
@@ -171,9 +173,12 @@ impl SubtreeHashes {
     ) -> Result<HashValue, HashFault>
         requires hashes { AreSubtreeHashes (hash_of suite) tree.now.tree self.now }
         requires own_leaves { HoldsOwnLeaves tree.now.tree }
-        ensures hash { IfOk result (λ h. parent_hash_at (hash_of suite) tree.now.tree place side ≡ Some h) }
-        ensures no_such_node { (result ≡ Err HashFault.NoSuchNode) ↔ (parent_at tree.now.tree place ≡ None) }
-        ensures else_memory { IfErr result (λ e. (e ≡ HashFault.NoSuchNode) ⊎ (e ≡ HashFault.OutOfMemory)) }
+        ensures hash { IfOk result
+            (λ h. parent_hash_at (hash_of suite) tree.now.tree place side ≡ Some h) }
+        ensures no_such_node { (result ≡ Err HashFault.NoSuchNode)
+            ↔ (parent_at tree.now.tree place ≡ None) }
+        ensures else_memory { IfErr result
+            (λ e. (e ≡ HashFault.NoSuchNode) ⊎ (e ≡ HashFault.OutOfMemory)) }
     {
         let Some((parent, child, middle)) = parent_and_child(tree, place, side) else {
             return Err(HashFault::NoSuchNode);

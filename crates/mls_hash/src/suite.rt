@@ -6,7 +6,7 @@ ghost use Rattle.mls_hash.specs.Suites.{IsSupported};
 use crate::fault::HashFault;
 use std::marker::Model;
 
-/// A cipher suite whose hash function is known, by its number in the registry (RFC 9420, section 17.1): 1, 2 or 3, which
+/// A cipher suite whose hash function is known, by its number in the registry (RFC 9420, 17.1): 1, 2 or 3, which
 /// hash with SHA-256.
 ///
 /// Contracts see it as its number.

@@ -55,15 +55,6 @@ coordinates-trailing_ones p k m e n =
       | inr (inr gt) ↦ absurd (let x = o.2 k gt in let y = b.zero_next in omega arith)
     ]
 
-pub trailing_zeros-pow : (k : ℕ) → k ≤ 20 → trailing_zeros w32 (2 ^ k) ≡ k
-trailing_zeros-pow k l =
-    let o = bit_at-trailing_zeros w32 (2 ^ k) (pow_pos k) (omega (arith, pow_below k 32)) in
-    elim (cases_order (trailing_zeros w32 (2 ^ k)) k) [
-      | inl same ↦ same
-      | inr (inl lt) ↦ absurd (let x = bit_at-pow_other k (trailing_zeros w32 (2 ^ k)) (λ e. omega arith) in let y = o.1 in omega arith)
-      | inr (inr gt) ↦ absurd (let x = bit_at-pow_other k (trailing_zeros w32 (2 ^ k)) (λ e. omega arith) in let y = o.1 in omega arith)
-    ]
-
 pub root_place-perfect : (first : ℕ) (t : Tree) → IsPerfect t → root_place first t + 1 ≡ 2 * first + leaves_at (height t)
 root_place-perfect first (leaf x) h = omega arith
 root_place-perfect first (branch l n r) h = omega (arith, leaf_count-perfect l h.1, leaf_count-positive l)
@@ -354,11 +345,6 @@ leaf_count-low t = (t.shape.low, leaf_count-perfect t.tree t.shape.perfect)
 
 pub root-seen : (t : RatchetTree) (n : ℕ) → leaf_count t.tree ≡ n → n - 1 ≡ root_place 0 t.tree
 root-seen t n c = omega (arith, root_place-perfect 0 t.tree t.shape.perfect, leaf_count-perfect t.tree t.shape.perfect)
-
--- the siblings, by the halves of their parent
-pub AreSiblings-none : (t : RatchetTree) (p : ℕ) → ((q : ℕ) → IsParentOf t.tree q p → ⊥) → (u : ℕ) → AreSiblings t.tree p u → ⊥
-AreSiblings-none t p none u (q, inl h) = none q (inl h.0)
-AreSiblings-none t p none u (q, inr h) = none q (inr h.0)
 
 other_half : (first : ℕ) (u : Tree) (p : ℕ) → left_place first u ≡ Some p → (v : ℕ) × (right_place first u ≡ Some v)
 other_half first (leaf _) p e = absurd (none-some p e)

@@ -5,6 +5,9 @@ pub mod Arrays
 pub mod Lookups
 pub mod Refusals
 pub mod FirstBlanks
+pub mod Added
+pub mod Members
+pub mod Elsewhere
 pub mod SameListings
 pub mod Coordinates
 pub mod Walking
@@ -16,5 +19,5 @@ pub mod Changing
 pub mod Growing
 pub mod Listings
 pub mod Lists
-pub mod Lens
 pub mod Padding
+pub mod Filled

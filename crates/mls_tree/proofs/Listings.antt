@@ -96,10 +96,6 @@ listing-fits t xs e p = record {
       (subst (λ o. IsParentEntry o) (ap (λ v. slice_get v (2 * (p / 2) + 1)) e ∙ slice_get-map entry_value xs (2 * (p / 2) + 1) ∙ ap (λ k. option_map entry_value (slice_get xs k)) (let q : 2 * (p / 2) + 1 ≡ p = omega arith in q)) (listing-odd t (p / 2)));
 }
 
-pub leaves_at-unique : (h k : ℕ) → h ≤ 20 → 20 < k → leaves_at h ≡ leaves_at k → ⊥
-leaves_at-unique h k a b e =
-    let x : leaves_at 21 ≤ leaves_at k = leaves_at-le 21 k b in let y = leaves_at-low h a in omega (arith, e)
-
 pub IsArrayOf-fits : (xs ys : List (Option Node)) (h : ℕ) → ys ≡ xs → length xs + 1 ≡ 2 * leaves_at h → ((p : ℕ) → FitsPlace p (slice_get ys p)) → IsArrayOf xs h
 IsArrayOf-fits xs ys h read n f = record {
   long = n;

@@ -81,15 +81,8 @@ snoc-same (x ∷ xs) (y ∷ ys) a b e =
     let q : x ≡ y = cc in
     ((λ i. q i ∷ h.0 i), h.1)
 
-snoc-not_nil : {X : Type 0} → (xs : List X) (a : X) → xs ++ a ∷ [] ≡ [] → ⊥
-snoc-not_nil [] a e = cc
-snoc-not_nil (x ∷ xs) a e = cc
-
 pub popped : {X : Type 0} → (all rest xs : List X) (a b : X) (r : Option X) → r ≡ Some b → all ≡ rest ++ option_to_list r → all ≡ xs ++ a ∷ [] → (rest ≡ xs) × (b ≡ a)
 popped all rest xs a b r s e f = snoc-same rest xs b a (sym (ap (λ v. rest ++ option_to_list v) s) ∙ sym e ∙ f)
-
-pub not_empty : {X : Type 0} → (all xs : List X) (a : X) → all ≡ xs ++ a ∷ [] → 0 < length all
-not_empty all xs a e = omega (arith, ap length e, length-append xs (a ∷ []))
 
 -- a list that doesn't have a number gets one entry more
 insert_before-either : (i x : ℕ) (xs : List ℕ) (b : Bool) → length (insert_before i xs) ≡ suc (length xs)

@@ -241,9 +241,6 @@ module _ (xs : List (Option Node)) (h : ℕ) (t : RatchetTree) (view : tree_in x
   pub resolution_at-seen : resolution_at t.tree p ≡ Some (resolution n first (tree_in xs k first))
   resolution_at-seen = ap (λ o. option_map (λ (u : Subtree). resolution (leaf_count t.tree) u.first u.tree) o) subtree_at-seen ∙ ap (λ v. Some (resolution v first (tree_in xs k first))) c
 
-pub resolution_at-no_place : (t : RatchetTree) (p : ℕ) → subtree_at 0 t.tree p ≡ None → resolution_at t.tree p ≡ None
-resolution_at-no_place t p e = ap (λ o. option_map (λ (u : Subtree). resolution (leaf_count t.tree) u.first u.tree) o) e
-
 pub no_some : {X : Type 0} → (o : Option X) → is_some o ≡ false → o ≡ None
 no_some None e = refl
 no_some (Some x) e = absurd (cc)

@@ -80,9 +80,6 @@ Memory-not_TooMany h = cc
 pub Memory-not_NoSuch : OutOfMemory ≡ NoSuchNode → ⊥
 Memory-not_NoSuch h = cc
 
-pub TooMany-not_NoSuch : TooManyLeaves ≡ NoSuchNode → ⊥
-TooMany-not_NoSuch h = cc
-
 -- what a refusal of the nodes says
 abbrev with_nodes : (T : Type 0) {V : Type 0} → TreeError → V → Result T (TreeError × V)
 with_nodes T e v = Err (e, v)

@@ -25,7 +25,7 @@ parent_part (Some None) = None
 parent_part (Some (Some (Leaf b))) = None
 parent_part (Some (Some (Parent b))) = Some b.value
 
--- the tree of height h in the array whose first leaf is numbered `first`
+-- the tree of height h in the array whose first leaf has the index `first`
 abbrev pub tree_in : List (Option Node) → ℕ → ℕ → Tree
 tree_in xs zero first = leaf (leaf_part (slice_get xs (2 * first)))
 tree_in xs (suc h) first =

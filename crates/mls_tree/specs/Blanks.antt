@@ -1,8 +1,8 @@
 -- The first blank leaf of a tree (RFC 9420, 12.1.1).
-use Rattle.std.specs.Prelude.{◌≡◌, ℕ, ◌+◌, ◌<◌, Option, Some, None, IsSome}
+use Rattle.std.specs.Prelude.{◌≡◌, ℕ, ◌+◌, ◌<◌, nat_lt, if◌then◌else◌, Option, Some, None, IsSome}
 use Rattle.mls_tree.specs.Tree.{Tree, leaf, branch, leaf_count, leaf_at}
 
--- the first number that there is
+-- the first index that there is
 abbrev pub first_of : Option ℕ → Option ℕ → Option ℕ
 first_of None b = b
 first_of (Some i) b = Some i
@@ -13,11 +13,21 @@ first_blank_leaf first (leaf None) = Some first
 first_blank_leaf first (leaf (Some _)) = None
 first_blank_leaf first (branch l _ r) = first_of (first_blank_leaf first l) (first_blank_leaf (first + leaf_count l) r)
 
+-- the leftmost blank leaf whose index is not below `start`
+abbrev pub next_blank_leaf : ℕ → ℕ → Tree → Option ℕ
+next_blank_leaf start first (leaf None) = if nat_lt first start then None else Some first
+next_blank_leaf start first (leaf (Some _)) = None
+next_blank_leaf start first (branch l _ r) = first_of (next_blank_leaf start first l) (next_blank_leaf start (first + leaf_count l) r)
+
 -- leaf j is blank, and each one before it is set
 pub record IsFirstBlank (t : Tree) (j : ℕ) : Type 0 where
   pub inside : j < leaf_count t
   pub blank : leaf_at 0 t j ≡ None
   pub earlier : (i : ℕ) → i < j → IsSome (leaf_at 0 t i)
+
+-- each leaf whose index is below `last` is set
+abbrev pub AreSetBelow : Tree → ℕ → Type 0
+AreSetBelow t last = (i : ℕ) → i < last → IsSome (leaf_at 0 t i)
 
 -- every leaf is set
 abbrev pub AllLeavesSet : Tree → Type 0

@@ -1,6 +1,7 @@
--- The changes of a tree (RFC 9420, 7.7 and 12.1), each of which follows the number of a leaf down.
+-- The changes of a tree (RFC 9420, 7.7 and 12.1), each of which follows the index of a leaf down.
 use Rattle.std.specs.Prelude.{ℕ, zero, suc, ◌+◌, ◌*◌, ◌==◌, nat_lt, length, if◌then◌else◌, ◌||◌, Bool, true, false, IsTrue, List, [], ◌∷◌, Option, Some, None}
 use Rattle.std.specs.List.{list_any}
+use Rattle.mls_nodes.specs.Limits.{leaf_limit}
 use Rattle.mls_nodes.specs.declared.leaf.LeafNode.{LeafNode}
 use Rattle.mls_nodes.specs.declared.parent.ParentNode.{ParentNode}
 use Rattle.mls_tree.specs.Tree.{Tree, leaf, branch, height, leaf_count}
@@ -37,7 +38,7 @@ abbrev pub insert_before : ℕ → List ℕ → List ℕ
 insert_before i [] = i ∷ []
 insert_before i (x ∷ xs) = if nat_lt x i then x ∷ insert_before i xs else i ∷ x ∷ xs
 
--- i enters a list of leaf numbers; a list that has it stays
+-- i enters a list of leaf indices; a list that has it stays
 abbrev pub insert_number : ℕ → List ℕ → List ℕ
 insert_number i xs = if list_any (λ x. x == i) xs then xs else insert_before i xs
 
@@ -50,10 +51,10 @@ with_unmerged i (Some p) = Some (record p { unmerged = insert_number i p.unmerge
 abbrev pub enter_unmerged : Tree → ℕ → Tree
 enter_unmerged t i = change_above (with_unmerged i) 0 t i
 
--- a set parent's list of unmerged leaves gets more than the 2 ^ 20 entries that a list may have, with i in it
+-- a set parent's list of unmerged leaves gets more entries than a tree may have leaves, with i in it
 abbrev pub is_overfilled : ℕ → Option ParentNode → Bool
 is_overfilled i None = false
-is_overfilled i (Some p) = nat_lt 1048576 (length (insert_number i p.unmerged))
+is_overfilled i (Some p) = nat_lt leaf_limit (length (insert_number i p.unmerged))
 
 -- the list of some parent above leaf i does
 abbrev pub is_overfilled_above : ℕ → Tree → ℕ → Bool
@@ -61,7 +62,7 @@ is_overfilled_above first (leaf x) i = false
 is_overfilled_above first (branch l n r) i =
     (if nat_lt i (first + leaf_count l) then is_overfilled_above first l i else is_overfilled_above (first + leaf_count l) r i) || is_overfilled i n
 
--- some list of the tree can't take the number of leaf i
+-- some list of the tree can't take the index of leaf i
 abbrev pub IsOverfull : Tree → ℕ → Type 0
 IsOverfull t i = IsTrue (is_overfilled_above 0 t i)
 
@@ -93,7 +94,7 @@ update t i x = clear_path (put_leaf 0 t i (Some x)) i
 abbrev pub remove : Tree → ℕ → Tree
 remove t i = shrink (clear_path (put_leaf 0 t i None) i)
 
--- a number, or another where there is none
+-- an index, or another where there is none
 abbrev pub number_or : ℕ → Option ℕ → ℕ
 number_or n None = n
 number_or n (Some j) = j

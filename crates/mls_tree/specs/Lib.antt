@@ -5,9 +5,9 @@ pub mod Parts
 pub mod Paths
 pub mod Blanks
 pub mod Changes
-pub mod Replace
 pub mod Sizes
 pub mod Array
 pub mod NewLists
 pub mod HashValue
 pub mod TreeHash
+pub mod Reading

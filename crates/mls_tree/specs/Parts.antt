@@ -12,7 +12,7 @@ parent_of None = None
 parent_of (Some (leaf_node _)) = None
 parent_of (Some (parent_node p)) = Some p
 
--- a parent stands at place p, and its children at q and u; the first leaf of its right half has the number `middle`
+-- a parent stands at place p, and its children at q and u; the first leaf of its right half has the index `middle`
 pub record HasChildren (t : Tree) (p q u middle : ℕ) (node : Option ParentNode) : Type 0 where
   pub first : ℕ
   pub left : Tree

@@ -2,7 +2,7 @@
 use Rattle.std.specs.Prelude.{ℕ, ◌+◌, ◌*◌, ◌-◌, nat_lt, if◌then◌else◌, List, [], ◌∷◌, ◌++◌, map, filter, Option, Some, None, option_map}
 use Rattle.mls_tree.specs.Tree.{Tree, leaf, branch, leaf_count, root_place, subtree_at}
 
--- the places of a parent's unmerged leaves in the order of its list, without the numbers that no leaf of the whole tree has
+-- the places of a parent's unmerged leaves in the order of its list, without the entries that are the index of no leaf of the whole tree
 abbrev pub unmerged_places : ℕ → List ℕ → List ℕ
 unmerged_places leaves xs = map (λ i. 2 * i) (filter (λ i. nat_lt i leaves) xs)
 

@@ -46,12 +46,6 @@ tail gnil = gnil
 tail (gnum n) = gnil
 tail (gcons a b) = b
 
--- the code has two parts
-abbrev IsCons : Gv → Type 0
-IsCons gnil = ⊥
-IsCons (gnum n) = ⊥
-IsCons (gcons a b) = Unit {0}
-
 -- the code of a leaf
 abbrev leaf_coded : Coded (Option LeafNode)
 leaf_coded = coded_option leaf-node.the_row.coded

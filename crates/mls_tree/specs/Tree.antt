@@ -1,5 +1,5 @@
 -- Ratchet trees and their subtrees (RFC 9420, 4.1.1): a leaf, blank or set; or a left half, a parent, blank or set, and a right half.
--- Leaves are numbered from left to right. A definition that takes `first` speaks of a tree whose first leaf has that number, as a part
+-- Leaves have indices from left to right. A definition that takes `first` speaks of a tree whose first leaf has that index, as a part
 -- of a larger tree; of a whole tree it is 0. A place is a position in the listing: leaf i stands at 2 * i (Appendix C).
 use Rattle.std.specs.Prelude.{◌≡◌, ℕ, zero, suc, ◌+◌, ◌*◌, ◌-◌, ◌==◌, nat_lt, if◌then◌else◌, List, [], ◌∷◌, ◌++◌, Option, Some, None}
 use Rattle.mls_nodes.specs.declared.leaf.LeafNode.{LeafNode}
@@ -21,6 +21,12 @@ abbrev pub leaf_count : Tree → ℕ
 leaf_count (leaf _) = 1
 leaf_count (branch l _ r) = leaf_count l + leaf_count r
 
+-- how many leaves are set
+abbrev pub member_count : Tree → ℕ
+member_count (leaf None) = 0
+member_count (leaf (Some _)) = 1
+member_count (branch l _ r) = member_count l + member_count r
+
 -- both halves of each parent have equal height: a perfect binary tree (4.1.1)
 abbrev pub IsPerfect : Tree → Type 0
 IsPerfect (leaf _) = Unit {0}
@@ -41,12 +47,19 @@ abbrev pub parent_entry : Option ParentNode → Option NodeValue
 parent_entry None = None
 parent_entry (Some x) = Some (parent_node x)
 
+-- how many entries of a list of nodes are leaves
+abbrev pub leaves_among : List (Option NodeValue) → ℕ
+leaves_among [] = 0
+leaves_among (None ∷ nodes) = leaves_among nodes
+leaves_among (Some (leaf_node _) ∷ nodes) = 1 + leaves_among nodes
+leaves_among (Some (parent_node _) ∷ nodes) = leaves_among nodes
+
 -- all nodes from left to right: the left half's, the parent, the right half's (Appendix C)
 abbrev pub listing : Tree → List (Option NodeValue)
 listing (leaf x) = leaf_entry x ∷ []
 listing (branch l p r) = listing l ++ parent_entry p ∷ listing r
 
--- a tree with the number of its first leaf in a whole tree
+-- a tree with the index of its first leaf in a whole tree
 pub record Subtree : Type 0 where
   pub first : ℕ
   pub tree : Tree

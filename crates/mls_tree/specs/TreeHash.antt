@@ -1,4 +1,4 @@
--- The tree hash of a ratchet tree (RFC 9420, section 7.8), for any hash function.
+-- The tree hash of a ratchet tree (RFC 9420, 7.8), for any hash function.
 use Rattle.std.specs.Prelude.{ℕ, ◌+◌, List, Option, Some, None, option_map}
 use Rattle.std.specs.Int.{w8, w32}
 use Rattle.mls_wire.specs.Spelling.{◌⊕◌, number, vector, optional}
@@ -7,11 +7,11 @@ use Rattle.mls_nodes.specs.declared.parent.ParentNode.{ParentNode}
 use Rattle.mls_nodes.specs.Layout as layout
 use Rattle.mls_tree.specs.Tree.{Tree, leaf, branch, leaf_count}
 
--- TreeHashInput of a leaf: the node type 1, the number of the leaf, and the leaf node, if it is set (section 7.8)
+-- TreeHashInput of a leaf: the node type 1, the index of the leaf, and the leaf node, if it is set (7.8)
 abbrev pub leaf_hash_input : ℕ → Option LeafNode → Option (List ℕ)
 leaf_hash_input i x = number w8 1 ⊕ number w32 i ⊕ optional layout.leaf x
 
--- TreeHashInput of a parent: the node type 2, the parent node, if it is set, and the hashes of both halves (section 7.8)
+-- TreeHashInput of a parent: the node type 2, the parent node, if it is set, and the hashes of both halves (7.8)
 abbrev pub parent_hash_input : Option ParentNode → List ℕ → List ℕ → Option (List ℕ)
 parent_hash_input p left right = number w8 2 ⊕ optional layout.parent p ⊕ vector left ⊕ vector right
 
@@ -21,7 +21,7 @@ hash_of_parent H p None right = None
 hash_of_parent H p (Some left) None = None
 hash_of_parent H p (Some left) (Some right) = option_map H (parent_hash_input p left right)
 
--- The tree hash of a subtree whose first leaf is numbered `first`, by the hash function H (section 7.8). It exists where every
+-- The tree hash of a subtree whose first leaf has the index `first`, by the hash function H (7.8). It exists where every
 -- node of the subtree has a spelling, as each node does that can be built.
 abbrev pub tree_hash : (List ℕ → List ℕ) → ℕ → Tree → Option (List ℕ)
 tree_hash H first (leaf x) = option_map H (leaf_hash_input first x)

@@ -1,6 +1,7 @@
 //! The entries of the array of nodes: leaves at even places, parents at odd ones, and blanks.
-ghost use Rattle.std.specs.Prelude.{◌≡◌, ℕ, ◌↔◌, IsTrue, Some, IfOk, IfErr, map, option_map, option_copied, slice_get};
+ghost use Rattle.std.specs.Prelude.{◌≡◌, ℕ, ◌≤◌, ◌↔◌, IsTrue, Some, IfOk, IfErr, length, map, option_map, option_copied, slice_get};
 ghost use Rattle.mls_nodes.specs.Value.{entry_value};
+ghost use Rattle.mls_tree.specs.Tree.{leaves_among};
 ghost use Rattle.mls_tree.specs.Array.{leaf_part, parent_part, IsNoParent, IsNoLeaf, FitsPlace};
 
 use mls_nodes::{LeafNode, Node, ParentNode};
@@ -49,6 +50,20 @@ pub(crate) fn parent_entry(parent: Option<Box<ParentNode>>) -> Option<Node>
         Some(parent) => Some(Node::Parent(parent)),
         None => None,
     }
+}
+
+/// How many entries are leaves.
+pub(crate) fn count_leaves(nodes: &[Option<Node>]) -> usize
+    ensures count { result ≡ leaves_among (map entry_value nodes.now) }
+    ensures few { result ≤ length nodes.now }
+{
+    let mut leaves = 0;
+    for entry in nodes {
+        if as_leaf(entry).is_some() {
+            leaves += 1;
+        }
+    }
+    leaves
 }
 
 fn clone_entry(alloc: Global, entry: &Option<Node>) -> Result<Option<Node>, CodecFault>

@@ -3,7 +3,8 @@
 use std::alloc::{AllocError, AllocFailed};
 use thiserror::Error;
 
-/// Why a call on a tree was refused. The tree is then as it was before the call.
+/// Why a call on a tree was refused: what a `PublicTree` can't do, or no such tree. The tree is then as it was before the call.
+/// (Why a tree that is there isn't valid is told by `TreeFault` of `mls_check`.)
 #[derive(Clone, Copy, Debug, PartialEq, Eq, Error)]
 pub enum TreeError {
     /// The tree has no such leaf or place, or a parent was asked for at the place of a leaf.

@@ -1,4 +1,4 @@
-//! Ratchet trees of RFC 9420, sections 4.1, 7.7 and Appendix C: the arithmetic of places, and `PublicTree`, a tree of public nodes kept
+//! Ratchet trees of RFC 9420, 4.1, 7.7 and Appendix C: the arithmetic of places, and `PublicTree`, a tree of public nodes kept
 //! as one array. Contracts see a `PublicTree` as a recursive tree (`specs/Tree.antt`); the array is private to this crate.
 //!
 //! Nodes are named by their places in the listing of the tree from left to right: leaf `i` stands at place `2 * i`, parents stand at odd
@@ -6,6 +6,7 @@
 #![tactic(auto)]
 
 mod blanks;
+mod decode;
 mod entries;
 mod error;
 mod hash_value;
@@ -25,6 +26,3 @@ pub use part::Part;
 pub use places::{left, level, parent, right, root, sibling};
 pub use public_tree::PublicTree;
 pub use split::split_leaves;
-
-#[cfg(test)]
-mod tests;

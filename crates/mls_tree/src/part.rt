@@ -39,7 +39,8 @@ impl PublicTree {
 
     /// What stands at a place. None where the tree has no such place.
     pub fn part(&self, place: u32) -> Option<Part<'_>>
-        ensures { MatchOption result (subtree_at 0 self.now.tree place ≡ None) (λ part. IsPartAt self.now.tree place part) }
+        ensures { MatchOption result (subtree_at 0 self.now.tree place ≡ None)
+            (λ part. IsPartAt self.now.tree place part) }
     {
         let leaves = self.leaf_count();
         if level(place, leaves)? == 0 {

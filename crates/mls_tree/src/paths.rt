@@ -1,7 +1,8 @@
 //! Walks that collect the places of a path from a leaf to the root (RFC 9420, 4.1.2), the lowest first.
 //!
-//! Each walks a subtree given by its height `level` and the number of its first leaf `first`, and goes at most 20 halves deep.
+//! Each walks a subtree given by its height `level` and the index of its first leaf `first`, and goes at most 20 halves deep.
 ghost use Rattle.std.specs.Prelude.{◌≡◌, ℕ, ◌≤◌, ◌+◌, ◌*◌, ◌-◌, ◌++◌, length, OnOk};
+ghost use Rattle.mls_nodes.specs.Limits.{leaf_limit};
 ghost use Rattle.mls_tree.specs.Tree.{Tree, height, leaves_at, IsPerfect};
 ghost use Rattle.mls_tree.specs.Array.{tree_in};
 ghost use Rattle.mls_tree.specs.Paths.{direct_path, copath, filtered_direct_path};
@@ -19,8 +20,10 @@ pub(crate) fn push_direct_path(
     leaf: u32,
 ) -> Result<(), AllocError>
     requires low { level ≤ 20 }
-    requires inside { first + leaves_at level ≤ 1048576 }
-    ensures { OnOk result ((t : Tree) → IsPerfect t → height t ≡ level → out.new.items ≡ out.old.items ++ direct_path first t leaf) }
+    requires inside { first + leaves_at level ≤ leaf_limit }
+    ensures { OnOk result
+        ((t : Tree) → IsPerfect t → height t ≡ level
+        → out.new.items ≡ out.old.items ++ direct_path first t leaf) }
 {
     if level == 0 {
         return Ok(());
@@ -38,7 +41,7 @@ pub(crate) fn push_direct_path(
 // The place of the root of the subtree.
 fn root_of(level: u32, first: u32) -> u32
     requires low { level ≤ 20 }
-    requires inside { first + leaves_at level ≤ 1048576 }
+    requires inside { first + leaves_at level ≤ leaf_limit }
     ensures { result + 1 ≡ 2 * first + leaves_at level }
 {
     2 * first + leaves_of(level) - 1
@@ -52,8 +55,10 @@ pub(crate) fn push_copath(
     leaf: u32,
 ) -> Result<(), AllocError>
     requires low { level ≤ 20 }
-    requires inside { first + leaves_at level ≤ 1048576 }
-    ensures { OnOk result ((t : Tree) → IsPerfect t → height t ≡ level → out.new.items ≡ out.old.items ++ copath first t leaf) }
+    requires inside { first + leaves_at level ≤ leaf_limit }
+    ensures { OnOk result
+        ((t : Tree) → IsPerfect t → height t ≡ level
+        → out.new.items ≡ out.old.items ++ copath first t leaf) }
 {
     if level == 0 {
         return Ok(());
@@ -78,9 +83,11 @@ pub(crate) fn push_filtered_direct_path(
     leaf: u32,
 ) -> Result<(), AllocError>
     requires low { level ≤ 20 }
-    requires inside { first + leaves_at level ≤ 1048576 }
+    requires inside { first + leaves_at level ≤ leaf_limit }
     requires long { 2 * (first + leaves_at level) ≤ length nodes.now + 1 }
-    ensures { OnOk result ((leaves : ℕ) → out.new.items ≡ out.old.items ++ filtered_direct_path leaves first (tree_in nodes.now level first) leaf) }
+    ensures { OnOk result
+        ((leaves : ℕ) → out.new.items
+        ≡ out.old.items ++ filtered_direct_path leaves first (tree_in nodes.now level first) leaf) }
 {
     if level == 0 {
         return Ok(());

@@ -9,7 +9,8 @@ use crate::sizes::{height_of, leaves_of};
 
 /// The place of the root of a tree of so many leaves. None where `leaves` is no power of two from 1 to 1,048,576.
 pub fn root(leaves: u32) -> Option<u32>
-    ensures found { (t : RatchetTree) → leaf_count t.tree ≡ leaves → result ≡ Some (root_place 0 t.tree) }
+    ensures found { (t : RatchetTree) → leaf_count t.tree ≡ leaves
+        → result ≡ Some (root_place 0 t.tree) }
     ensures no_tree { ((t : RatchetTree) → leaf_count t.tree ≢ leaves) → result ≡ None }
 {
     match height_of(leaves as usize) {
@@ -37,7 +38,8 @@ pub(crate) fn level_inside(place: u32, leaves: u32) -> Option<u32>
 /// The level of a place: 0 for a leaf, and one more than its children's for a parent. None where `leaves` is no power of two from 1 to
 /// 1,048,576, or the tree of so many leaves has no such place.
 pub fn level(place: u32, leaves: u32) -> Option<u32>
-    ensures found { (t : RatchetTree) → leaf_count t.tree ≡ leaves → result ≡ level_at t.tree place }
+    ensures found { (t : RatchetTree) → leaf_count t.tree ≡ leaves
+        → result ≡ level_at t.tree place }
     ensures no_tree { ((t : RatchetTree) → leaf_count t.tree ≢ leaves) → result ≡ None }
 {
     match level_inside(place, leaves) {
@@ -60,7 +62,8 @@ pub fn left(place: u32, leaves: u32) -> Option<u32>
 
 /// The place of a parent's right child. None also where `level` is, and for a leaf.
 pub fn right(place: u32, leaves: u32) -> Option<u32>
-    ensures found { (t : RatchetTree) → leaf_count t.tree ≡ leaves → result ≡ right_at t.tree place }
+    ensures found { (t : RatchetTree) → leaf_count t.tree ≡ leaves
+        → result ≡ right_at t.tree place }
     ensures no_tree { ((t : RatchetTree) → leaf_count t.tree ≢ leaves) → result ≡ None }
 {
     let level = level_inside(place, leaves)?;
@@ -72,7 +75,9 @@ pub fn right(place: u32, leaves: u32) -> Option<u32>
 
 /// The place of the parent of a node. None also where `level` is, and for the root.
 pub fn parent(place: u32, leaves: u32) -> Option<u32>
-    ensures found { (t : RatchetTree) → leaf_count t.tree ≡ leaves → MatchOption result ((q : ℕ) → ¬ IsParentOf t.tree q place) (λ q. IsParentOf t.tree q place) }
+    ensures found { (t : RatchetTree) → leaf_count t.tree ≡ leaves
+        → MatchOption result ((q : ℕ) → ¬ IsParentOf t.tree q place)
+        (λ q. IsParentOf t.tree q place) }
     ensures no_tree { ((t : RatchetTree) → leaf_count t.tree ≢ leaves) → result ≡ None }
 {
     let level = level_inside(place, leaves)?;
@@ -88,7 +93,9 @@ pub fn parent(place: u32, leaves: u32) -> Option<u32>
 
 /// The place of the other child of a node's parent. None also where `level` is, and for the root.
 pub fn sibling(place: u32, leaves: u32) -> Option<u32>
-    ensures found { (t : RatchetTree) → leaf_count t.tree ≡ leaves → MatchOption result ((u : ℕ) → ¬ AreSiblings t.tree place u) (λ u. AreSiblings t.tree place u) }
+    ensures found { (t : RatchetTree) → leaf_count t.tree ≡ leaves
+        → MatchOption result ((u : ℕ) → ¬ AreSiblings t.tree place u)
+        (λ u. AreSiblings t.tree place u) }
     ensures no_tree { ((t : RatchetTree) → leaf_count t.tree ≢ leaves) → result ≡ None }
 {
     let parent = parent(place, leaves)?;

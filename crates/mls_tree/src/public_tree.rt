@@ -1,15 +1,16 @@
 //! The public tree of a group, kept as one array of nodes.
 ghost use Rattle.std.specs.Prelude.{◌≡◌, ℕ, ◌≤◌, ◌<◌, length, IfOk, IfErr, Err, MatchOption, OnOk, OnErr, IsOk, IsErr, ◌↔◌, ◌⊎◌, None, Some, map, option_map, option_copied};
 ghost use Rattle.std.specs.Bool.{OnTrue, OnFalse};
+ghost use Rattle.mls_nodes.specs.Limits.{leaf_limit};
 ghost use Rattle.mls_nodes.specs.Value.{entry_value, node_value};
-ghost use Rattle.mls_tree.specs.Tree.{leaf_count, height, listing, node_at, leaf_at, IsParentPlace};
+ghost use Rattle.mls_tree.specs.Tree.{leaf_count, member_count, height, listing, node_at, leaf_at, IsParentPlace};
 ghost use Rattle.mls_tree.specs.Paths.{direct_path, copath, filtered_direct_path, resolution_at};
-ghost use Rattle.mls_tree.specs.Blanks.{first_blank_leaf, IsFirstBlank, AllLeavesSet};
+ghost use Rattle.mls_tree.specs.Blanks.{first_blank_leaf, next_blank_leaf, IsFirstBlank, AllLeavesSet};
 ghost use Rattle.mls_tree.specs.Changes.{put_leaf, put_parent, clear_path, enter_unmerged, IsOverfull, shrink, blank_tree, grow};
 ghost use Rattle.mls_tree.specs.Sizes.{IsPowerOfTwo, IsTooLong, IsListing};
 
 use crate::blanks::{blank_above, has_set_leaf, push_blanks};
-use crate::entries::{all_fit, as_leaf, clone_entries, leaf_entry, parent_entry};
+use crate::entries::{all_fit, as_leaf, clone_entries, count_leaves, leaf_entry, parent_entry};
 use crate::error::TreeError;
 use crate::paths::{push_copath, push_direct_path, push_filtered_direct_path};
 use crate::places::level_inside;
@@ -52,8 +53,10 @@ impl PublicTree {
         ensures tree { IfOk result (λ t. listing t.tree ≡ map entry_value nodes.items) }
         ensures ok { IsOk result ↔ IsListing (map entry_value nodes.items) }
 
-        ensures too_many_leaves { (result ≡ Err (TreeError.TooManyLeaves, nodes)) ↔ IsTooLong (length nodes.items) }
-        ensures bad_shape { (result ≡ Err (TreeError.BadShape, nodes)) ↔ ((¬ IsListing (map entry_value nodes.items)) × ¬ IsTooLong (length nodes.items)) }
+        ensures too_many_leaves { (result ≡ Err (TreeError.TooManyLeaves, nodes))
+            ↔ IsTooLong (length nodes.items) }
+        ensures bad_shape { (result ≡ Err (TreeError.BadShape, nodes))
+            ↔ ((¬ IsListing (map entry_value nodes.items)) × ¬ IsTooLong (length nodes.items)) }
         ensures handed_back { IfErr result (λ e. e.1 ≡ nodes) }
     {
         let height = match height_of_length(nodes.len()) {
@@ -73,8 +76,11 @@ impl PublicTree {
         ensures blank { IfOk result (λ t. t.tree ≡ blank_tree (height t.tree)) }
 
         ensures bad_shape { (result ≡ Err TreeError.BadShape) ↔ (¬ IsPowerOfTwo leaves) }
-        ensures too_many_leaves { (result ≡ Err TreeError.TooManyLeaves) ↔ (IsPowerOfTwo leaves × (1048576 < leaves)) }
-        ensures else_memory { IfErr result (λ e. (e ≡ TreeError.BadShape) ⊎ (e ≡ TreeError.TooManyLeaves) ⊎ (e ≡ TreeError.OutOfMemory)) }
+        ensures too_many_leaves { (result ≡ Err TreeError.TooManyLeaves)
+            ↔ (IsPowerOfTwo leaves × (leaf_limit < leaves)) }
+        ensures else_memory { IfErr result
+            (λ e. (e ≡ TreeError.BadShape) ⊎ (e ≡ TreeError.TooManyLeaves)
+            ⊎ (e ≡ TreeError.OutOfMemory)) }
     {
         let height = height_of(leaves as usize)?;
         let mut nodes = Vec::new(alloc);
@@ -87,6 +93,13 @@ impl PublicTree {
         ensures { result ≡ leaf_count self.now.tree }
     {
         leaves_of(self.height)
+    }
+
+    /// How many leaves are set: the members of the group.
+    pub fn member_count(&self) -> u32
+        ensures { result ≡ member_count self.now.tree }
+    {
+        count_leaves(self.nodes.as_slice()) as u32
     }
 
     /// All nodes, in the order of their places.
@@ -106,7 +119,7 @@ impl PublicTree {
         }
     }
 
-    /// The leaf of a number. None where it is blank or the tree has no such leaf.
+    /// The leaf of an index. None where it is blank or the tree has no such leaf.
     pub fn leaf(&self, index: u32) -> Option<&LeafNode>
         ensures { option_copied result ≡ leaf_at 0 self.now.tree index }
     {
@@ -116,12 +129,21 @@ impl PublicTree {
         }
     }
 
-    /// The number of the leftmost blank leaf. None where all leaves are set.
+    /// The index of the leftmost blank leaf. None where all leaves are set.
     pub fn first_blank_leaf(&self) -> Option<u32>
         ensures first { result ≡ first_blank_leaf 0 self.now.tree }
-        ensures leftmost { MatchOption result (AllLeavesSet self.now.tree) (λ j. IsFirstBlank self.now.tree j) }
+        ensures leftmost { MatchOption result (AllLeavesSet self.now.tree)
+            (λ j. IsFirstBlank self.now.tree j) }
     {
-        for index in 0..self.leaf_count() {
+        self.next_blank_leaf(0)
+    }
+
+    /// The index of the leftmost blank leaf among those from `start` on. None where all of them are set, or the tree has
+    /// no leaf `start`.
+    pub fn next_blank_leaf(&self, start: u32) -> Option<u32>
+        ensures { result ≡ next_blank_leaf start 0 self.now.tree }
+    {
+        for index in start..self.leaf_count() {
             if self.leaf(index).is_none() {
                 return Some(index);
             }
@@ -132,8 +154,10 @@ impl PublicTree {
     /// The places of the parents above a leaf, the lowest first (RFC 9420, 4.1.2). `NoSuchNode` where the tree has no such leaf.
     pub fn direct_path(&self, alloc: Global, leaf: u32) -> Result<Vec<u32>, TreeError>
         ensures places { IfOk result (λ v. v.items ≡ direct_path 0 self.now.tree leaf) }
-        ensures no_such_node { (result ≡ Err TreeError.NoSuchNode) ↔ (leaf_count self.now.tree ≤ leaf) }
-        ensures else_memory { IfErr result (λ e. (e ≡ TreeError.NoSuchNode) ⊎ (e ≡ TreeError.OutOfMemory)) }
+        ensures no_such_node { (result ≡ Err TreeError.NoSuchNode)
+            ↔ (leaf_count self.now.tree ≤ leaf) }
+        ensures else_memory { IfErr result
+            (λ e. (e ≡ TreeError.NoSuchNode) ⊎ (e ≡ TreeError.OutOfMemory)) }
     {
         if leaf >= self.leaf_count() {
             return Err(TreeError::NoSuchNode);
@@ -147,8 +171,10 @@ impl PublicTree {
     /// where the tree has no such leaf.
     pub fn copath(&self, alloc: Global, leaf: u32) -> Result<Vec<u32>, TreeError>
         ensures places { IfOk result (λ v. v.items ≡ copath 0 self.now.tree leaf) }
-        ensures no_such_node { (result ≡ Err TreeError.NoSuchNode) ↔ (leaf_count self.now.tree ≤ leaf) }
-        ensures else_memory { IfErr result (λ e. (e ≡ TreeError.NoSuchNode) ⊎ (e ≡ TreeError.OutOfMemory)) }
+        ensures no_such_node { (result ≡ Err TreeError.NoSuchNode)
+            ↔ (leaf_count self.now.tree ≤ leaf) }
+        ensures else_memory { IfErr result
+            (λ e. (e ≡ TreeError.NoSuchNode) ⊎ (e ≡ TreeError.OutOfMemory)) }
     {
         if leaf >= self.leaf_count() {
             return Err(TreeError::NoSuchNode);
@@ -161,9 +187,12 @@ impl PublicTree {
     /// The places of those parents above a leaf whose child on the copath has a resolution that is not empty, the lowest first (RFC 9420,
     /// 4.1.2). `NoSuchNode` where the tree has no such leaf.
     pub fn filtered_direct_path(&self, alloc: Global, leaf: u32) -> Result<Vec<u32>, TreeError>
-        ensures places { IfOk result (λ v. v.items ≡ filtered_direct_path (leaf_count self.now.tree) 0 self.now.tree leaf) }
-        ensures no_such_node { (result ≡ Err TreeError.NoSuchNode) ↔ (leaf_count self.now.tree ≤ leaf) }
-        ensures else_memory { IfErr result (λ e. (e ≡ TreeError.NoSuchNode) ⊎ (e ≡ TreeError.OutOfMemory)) }
+        ensures places { IfOk result
+            (λ v. v.items ≡ filtered_direct_path (leaf_count self.now.tree) 0 self.now.tree leaf) }
+        ensures no_such_node { (result ≡ Err TreeError.NoSuchNode)
+            ↔ (leaf_count self.now.tree ≤ leaf) }
+        ensures else_memory { IfErr result
+            (λ e. (e ≡ TreeError.NoSuchNode) ⊎ (e ≡ TreeError.OutOfMemory)) }
     {
         if leaf >= self.leaf_count() {
             return Err(TreeError::NoSuchNode);
@@ -177,8 +206,10 @@ impl PublicTree {
     /// its children resolve to. An unmerged leaf that the tree does not have is left out. `NoSuchNode` where the tree has no such place.
     pub fn resolution(&self, alloc: Global, place: u32) -> Result<Vec<u32>, TreeError>
         ensures places { IfOk result (λ v. resolution_at self.now.tree place ≡ Some v.items) }
-        ensures no_such_node { (result ≡ Err TreeError.NoSuchNode) ↔ (resolution_at self.now.tree place ≡ None) }
-        ensures else_memory { IfErr result (λ e. (e ≡ TreeError.NoSuchNode) ⊎ (e ≡ TreeError.OutOfMemory)) }
+        ensures no_such_node { (result ≡ Err TreeError.NoSuchNode)
+            ↔ (resolution_at self.now.tree place ≡ None) }
+        ensures else_memory { IfErr result
+            (λ e. (e ≡ TreeError.NoSuchNode) ⊎ (e ≡ TreeError.OutOfMemory)) }
     {
         let leaves = self.leaf_count();
         let Some(level) = level_inside(place, leaves) else {
@@ -210,7 +241,8 @@ impl PublicTree {
         index: u32,
         leaf: Option<Box<LeafNode>>,
     ) -> Result<(), (TreeError, Option<Box<LeafNode>>)>
-        ensures ok { OnOk result (self.new.tree ≡ put_leaf 0 self.old.tree index (option_map (λ b. b.value) leaf)) }
+        ensures ok { OnOk result
+            (self.new.tree ≡ put_leaf 0 self.old.tree index (option_map (λ b. b.value) leaf)) }
         ensures err { OnErr result (self.new ≡ self.old) }
         ensures no_such_node { IsErr result ↔ (leaf_count self.old.tree ≤ index) }
         ensures handed_back { IfErr result (λ e. e ≡ (TreeError.NoSuchNode, leaf)) }
@@ -229,7 +261,8 @@ impl PublicTree {
         place: u32,
         parent: Option<Box<ParentNode>>,
     ) -> Result<(), (TreeError, Option<Box<ParentNode>>)>
-        ensures ok { OnOk result (self.new.tree ≡ put_parent 0 self.old.tree place (option_map (λ b. b.value) parent)) }
+        ensures ok { OnOk result
+            (self.new.tree ≡ put_parent 0 self.old.tree place (option_map (λ b. b.value) parent)) }
         ensures err { OnErr result (self.new ≡ self.old) }
         ensures no_such_node { IsErr result ↔ (¬ IsParentPlace self.old.tree place) }
         ensures handed_back { IfErr result (λ e. e ≡ (TreeError.NoSuchNode, parent)) }
@@ -245,7 +278,8 @@ impl PublicTree {
     pub fn blank_path(&mut self, index: u32) -> Result<(), TreeError>
         ensures ok { OnOk result (self.new.tree ≡ clear_path self.old.tree index) }
         ensures err { OnErr result (self.new ≡ self.old) }
-        ensures no_such_node { (result ≡ Err TreeError.NoSuchNode) ↔ (leaf_count self.old.tree ≤ index) }
+        ensures no_such_node { (result ≡ Err TreeError.NoSuchNode)
+            ↔ (leaf_count self.old.tree ≤ index) }
         ensures no_other { IfErr result (λ e. e ≡ TreeError.NoSuchNode) }
     {
         if index >= leaves_of(self.height) {
@@ -256,17 +290,21 @@ impl PublicTree {
         Ok(())
     }
 
-    /// Puts a leaf's number into the list of unmerged leaves of each set parent above it, before the first entry that is not less (RFC 9420,
-    /// 12.1.1). A list that has the number stays. `NoSuchNode` where the tree has no such leaf, `TooManyLeaves` only where a list would get
+    /// Puts a leaf's index into the list of unmerged leaves of each set parent above it, before the first entry that is not less (RFC 9420,
+    /// 12.1.1). A list that has the index stays. `NoSuchNode` where the tree has no such leaf, `TooManyLeaves` only where a list would get
     /// more than 1,048,576 entries. All new lists are made before one is put in place.
     pub fn add_unmerged(&mut self, alloc: Global, index: u32) -> Result<(), TreeError>
         ensures ok { OnOk result (self.new.tree ≡ enter_unmerged self.old.tree index) }
         ensures err { OnErr result (self.new ≡ self.old) }
 
-        ensures no_such_node { (result ≡ Err TreeError.NoSuchNode) ↔ (leaf_count self.old.tree ≤ index) }
-        ensures too_many_leaves { result ≡ Err TreeError.TooManyLeaves → (index < leaf_count self.old.tree) × IsOverfull self.old.tree index }
+        ensures no_such_node { (result ≡ Err TreeError.NoSuchNode)
+            ↔ (leaf_count self.old.tree ≤ index) }
+        ensures too_many_leaves { result ≡ Err TreeError.TooManyLeaves
+            → (index < leaf_count self.old.tree) × IsOverfull self.old.tree index }
         ensures overfull { IsOverfull self.old.tree index → IsErr result }
-        ensures else_memory { IfErr result (λ e. (e ≡ TreeError.NoSuchNode) ⊎ (e ≡ TreeError.TooManyLeaves) ⊎ (e ≡ TreeError.OutOfMemory)) }
+        ensures else_memory { IfErr result
+            (λ e. (e ≡ TreeError.NoSuchNode) ⊎ (e ≡ TreeError.TooManyLeaves)
+            ⊎ (e ≡ TreeError.OutOfMemory)) }
     {
         if index >= leaves_of(self.height) {
             return Err(TreeError::NoSuchNode);
@@ -309,8 +347,10 @@ impl PublicTree {
     pub fn extend(&mut self) -> Result<(), TreeError>
         ensures ok { OnOk result (self.new.tree ≡ grow self.old.tree) }
         ensures err { OnErr result (self.new ≡ self.old) }
-        ensures too_many_leaves { (result ≡ Err TreeError.TooManyLeaves) ↔ (leaf_count self.old.tree ≡ 1048576) }
-        ensures else_memory { IfErr result (λ e. (e ≡ TreeError.TooManyLeaves) ⊎ (e ≡ TreeError.OutOfMemory)) }
+        ensures too_many_leaves { (result ≡ Err TreeError.TooManyLeaves)
+            ↔ (leaf_count self.old.tree ≡ leaf_limit) }
+        ensures else_memory { IfErr result
+            (λ e. (e ≡ TreeError.TooManyLeaves) ⊎ (e ≡ TreeError.OutOfMemory)) }
     {
         if self.height == 20 {
             return Err(TreeError::TooManyLeaves);

@@ -1,7 +1,8 @@
 //! Walks that collect the resolution of a subtree (RFC 9420, 4.1.1).
 //!
-//! Each walks a subtree given by its height `level` and the number of its first leaf `first`, and goes at most 20 halves deep.
+//! Each walks a subtree given by its height `level` and the index of its first leaf `first`, and goes at most 20 halves deep.
 ghost use Rattle.std.specs.Prelude.{◌≡◌, ◌≢◌, ℕ, ◌≤◌, ◌+◌, ◌*◌, [], ◌++◌, length, OnOk, IsTrue, ◌↔◌};
+ghost use Rattle.mls_nodes.specs.Limits.{leaf_limit};
 ghost use Rattle.mls_tree.specs.Tree.{leaves_at};
 ghost use Rattle.mls_tree.specs.Array.{tree_in};
 ghost use Rattle.mls_tree.specs.Paths.{resolution, unmerged_places};
@@ -13,7 +14,7 @@ use std::alloc::AllocError;
 
 // Adds the places of unmerged leaves, without those that the tree does not have.
 fn push_unmerged(out: &mut Vec<u32>, leaves: u32, unmerged: &[u32]) -> Result<(), AllocError>
-    requires { leaves ≤ 1048576 }
+    requires { leaves ≤ leaf_limit }
     ensures { OnOk result (out.new.items ≡ out.old.items ++ unmerged_places leaves unmerged.now) }
 {
     for leaf in unmerged {
@@ -33,10 +34,11 @@ pub(crate) fn push_resolution(
     first: u32,
 ) -> Result<(), AllocError>
     requires low { level ≤ 20 }
-    requires inside { first + leaves_at level ≤ 1048576 }
+    requires inside { first + leaves_at level ≤ leaf_limit }
     requires long { 2 * (first + leaves_at level) ≤ length nodes.now + 1 }
-    requires leaves_low { leaves ≤ 1048576 }
-    ensures { OnOk result (out.new.items ≡ out.old.items ++ resolution leaves first (tree_in nodes.now level first)) }
+    requires leaves_low { leaves ≤ leaf_limit }
+    ensures { OnOk result
+        (out.new.items ≡ out.old.items ++ resolution leaves first (tree_in nodes.now level first)) }
 {
     if level == 0 {
         if as_leaf(&nodes[2 * first as usize]).is_some() {
@@ -61,9 +63,10 @@ pub(crate) fn push_resolution(
 /// Whether the subtree's resolution is not empty.
 pub(crate) fn has_resolution(nodes: &[Option<Node>], level: u32, first: u32) -> bool
     requires low { level ≤ 20 }
-    requires inside { first + leaves_at level ≤ 1048576 }
+    requires inside { first + leaves_at level ≤ leaf_limit }
     requires long { 2 * (first + leaves_at level) ≤ length nodes.now + 1 }
-    ensures { (leaves : ℕ) → IsTrue result ↔ (resolution leaves first (tree_in nodes.now level first) ≢ []) }
+    ensures { (leaves : ℕ) → IsTrue result
+        ↔ (resolution leaves first (tree_in nodes.now level first) ≢ []) }
 {
     if level == 0 {
         return as_leaf(&nodes[2 * first as usize]).is_some();

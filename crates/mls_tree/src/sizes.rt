@@ -1,5 +1,6 @@
 //! How large a tree is: its height, its number of leaves, and the number of its nodes.
 ghost use Rattle.std.specs.Prelude.{◌≡◌, ◌+◌, ◌*◌, ◌^◌, ◌≤◌, ◌<◌, MatchOption, MatchResult};
+ghost use Rattle.mls_nodes.specs.Limits.{leaf_limit};
 ghost use Rattle.mls_tree.specs.Tree.{leaves_at};
 ghost use Rattle.mls_tree.specs.Sizes.{IsPowerOfTwo};
 ghost use Rattle.mls_tree.specs.Array.{IsNoSize, IsNoLength};
@@ -10,7 +11,7 @@ use crate::error::TreeError;
 pub(crate) fn leaves_of(height: u32) -> u32
     requires { height ≤ 20 }
     ensures value { result ≡ leaves_at height }
-    ensures low { result ≤ 1048576 }
+    ensures low { result ≤ leaf_limit }
     ensures positive { 0 < result }
 {
     1 << height
@@ -44,7 +45,8 @@ pub(crate) fn height_of(leaves: usize) -> Result<u32, TreeError>
 /// The height of the tree that has so many nodes, as `height_of`.
 pub(crate) fn height_of_length(length: usize) -> Result<u32, TreeError>
     requires { length < 2 ^ 63 }
-    ensures { MatchResult result (λ h. (h ≤ 20) × (length + 1 ≡ 2 * leaves_at h)) (λ e. IsNoLength e length) }
+    ensures { MatchResult result (λ h. (h ≤ 20) × (length + 1 ≡ 2 * leaves_at h))
+        (λ e. IsNoLength e length) }
 {
     if length % 2 == 0 {
         return Err(TreeError::BadShape);

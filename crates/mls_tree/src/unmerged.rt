@@ -1,8 +1,9 @@
-//! A leaf's number put into the lists of unmerged leaves above it (RFC 9420, 12.1.1): all new lists are made, which may want memory,
+//! A leaf's index put into the lists of unmerged leaves above it (RFC 9420, 12.1.1): all new lists are made, which may want memory,
 //! before the first is put in place.
 //!
-//! Each walk is over a subtree given by its height `level` and the number of its first leaf `first`, and goes at most 20 halves deep.
+//! Each walk is over a subtree given by its height `level` and the index of its first leaf `first`, and goes at most 20 halves deep.
 ghost use Rattle.std.specs.Prelude.{◌≡◌, ℕ, ◌≤◌, ◌<◌, ◌+◌, ◌*◌, ◌-◌, ◌++◌, Some, false, length, take, drop, insert, All, slice_get, OnOk, IsOk, IfOk, IfErr, IfSome, IsTrue};
+ghost use Rattle.mls_nodes.specs.Limits.{leaf_limit};
 ghost use Rattle.mls_tree.specs.Tree.{leaves_at};
 ghost use Rattle.mls_tree.specs.Array.{tree_in, ChangesWithin, parent_part, IsNoLeaf};
 ghost use Rattle.mls_tree.specs.Changes.{change_above, insert_before, insert_number, with_unmerged, is_overfilled_above};
@@ -33,8 +34,9 @@ pub(crate) fn insertion_point(items: &[u32], number: u32) -> usize
 // The list with a number put into it, unless the list has it.
 fn with_number(alloc: Global, list: &Unmerged, number: u32) -> Result<Option<Unmerged>, TreeError>
     ensures made { IfOk result (λ new. new ≡ changed_list number list.now) }
-    ensures fits { IsOk result → length (insert_number number list.now) ≤ 1048576 }
-    ensures refused { IfErr result (λ e. IsListRefusal e (1048576 < length (insert_number number list.now))) }
+    ensures fits { IsOk result → length (insert_number number list.now) ≤ leaf_limit }
+    ensures refused { IfErr result
+        (λ e. IsListRefusal e (leaf_limit < length (insert_number number list.now))) }
 {
     let list = list.as_slice();
     if list.contains(&number) {
@@ -64,11 +66,15 @@ pub(crate) fn push_new_lists(
     leaf: u32,
 ) -> Result<(), TreeError>
     requires low { level ≤ 20 }
-    requires inside { first + leaves_at level ≤ 1048576 }
+    requires inside { first + leaves_at level ≤ leaf_limit }
     requires long { 2 * (first + leaves_at level) ≤ length nodes.now + 1 }
-    ensures made { OnOk result (out.new.items ≡ out.old.items ++ new_lists first (tree_in nodes.now level first) leaf) }
-    ensures fits { OnOk result (is_overfilled_above first (tree_in nodes.now level first) leaf ≡ false) }
-    ensures refused { IfErr result (λ e. IsListRefusal e (IsTrue (is_overfilled_above first (tree_in nodes.now level first) leaf))) }
+    ensures made { OnOk result
+        (out.new.items ≡ out.old.items ++ new_lists first (tree_in nodes.now level first) leaf) }
+    ensures fits { OnOk result
+        (is_overfilled_above first (tree_in nodes.now level first) leaf ≡ false) }
+    ensures refused { IfErr result
+        (λ e. IsListRefusal e
+        (IsTrue (is_overfilled_above first (tree_in nodes.now level first) leaf))) }
 {
     if level == 0 {
         return Ok(());
@@ -91,7 +97,8 @@ pub(crate) fn push_new_lists(
 
 // Gives a parent a new list, where there is one.
 fn set_list(entry: &mut Option<Node>, list: Option<Unmerged>)
-    ensures part { parent_part (Some entry.new) ≡ with_new_list (parent_part (Some entry.old)) list }
+    ensures part { parent_part (Some entry.new)
+        ≡ with_new_list (parent_part (Some entry.old)) list }
     ensures no_leaf { IsNoLeaf (Some entry.new) }
 {
     *entry = match mem::replace(entry, None) {
@@ -115,11 +122,13 @@ pub(crate) fn put_lists(
     leaf: u32,
 )
     requires low { level ≤ 20 }
-    requires inside { first + leaves_at level ≤ 1048576 }
+    requires inside { first + leaves_at level ≤ leaf_limit }
     requires long { 2 * (first + leaves_at level) ≤ length nodes.old + 1 }
     requires lists { lists.old.items ≡ new_lists first (tree_in nodes.old level first) leaf }
-    ensures tree { tree_in nodes.new level first ≡ change_above (with_unmerged leaf) first (tree_in nodes.old level first) leaf }
-    ensures changes { ChangesWithin nodes.old nodes.new (2 * first) (2 * (first + leaves_at level) - 1) }
+    ensures tree { tree_in nodes.new level first
+        ≡ change_above (with_unmerged leaf) first (tree_in nodes.old level first) leaf }
+    ensures changes { ChangesWithin nodes.old nodes.new (2 * first)
+        (2 * (first + leaves_at level) - 1) }
 {
     if level == 0 {
         return;

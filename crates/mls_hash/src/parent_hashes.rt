@@ -1,0 +1,119 @@
+//! Parent hashes (RFC 9420, 7.9).
+
+ghost use Rattle.std.specs.Prelude.{◌≡◌, ◌↔◌, ◌⊎◌, None, Some, Err, IfOk, IfErr, MatchOption, option_map};
+ghost use Rattle.mls_hash.specs.Hashing.{hash_of};
+ghost use Rattle.mls_hash.specs.Inputs.{HashesText, WritesText};
+ghost use Rattle.mls_hash.specs.ParentHash.{parent_at, parent_hash_at, parent_hash_input};
+ghost use Rattle.mls_hash.specs.Parts.{HasChildOn};
+
+use crate::fault::HashFault;
+use crate::input::hash_written;
+use crate::leaf_set::{LeafSet, sorted};
+use crate::side::Side;
+use crate::subtree::hash_subtree;
+use crate::suite::Suite;
+use mls_nodes::ParentNode;
+use mls_tree::{HashValue, Part, PublicTree};
+use mls_wire::{CodecFault, Writer};
+use std::alloc::Global;
+
+/// The parent that is set at a place, the place of its child on a side, and the index of the first leaf under its right
+/// child. `None` where no set parent stands there.
+pub(crate) fn parent_and_child(
+    tree: &PublicTree,
+    place: u32,
+    side: Side,
+) -> Option<(&ParentNode, u32, u32)>
+    ensures { MatchOption result (parent_at tree.now.tree place ≡ None)
+        (λ r. HasChildOn tree.now.tree place side r.1 r.2 r.0.now) }
+{
+    let Some(
+        Part::Parent {
+            node: Some(parent),
+            left,
+            right,
+            middle,
+        },
+    ) = tree.part(place)
+    else {
+        return None;
+    };
+    match side {
+        Side::Left => Some((parent, left, middle)),
+        Side::Right => Some((parent, right, middle)),
+    }
+}
+
+/// Writes the input of a parent hash.
+#[tactic(auto, using(mls_wire::specs::Written::written))]
+fn write_parent_hash_input(
+    parent: &ParentNode,
+    original: &HashValue,
+    writer: &mut Writer,
+) -> Result<(), CodecFault>
+    ensures { WritesText (parent_hash_input parent.now original.now) writer.old writer.new result }
+{
+    writer.write_vec(parent.encryption_key.as_slice())?;
+    writer.write_vec(parent.parent_hash.as_slice())?;
+    writer.write_vec(original.as_slice())
+}
+
+/// The parent hash of a parent, by the original tree hash of its child on the copath (RFC 9420, 7.9). The writer is used
+/// anew.
+pub(crate) fn hash_parent_fields(
+    suite: Suite,
+    parent: &ParentNode,
+    original: &HashValue,
+    writer: &mut Writer,
+) -> Result<HashValue, HashFault>
+    ensures { HashesText (option_map (hash_of suite) (parent_hash_input parent.now original.now))
+        result }
+{
+    writer.clear();
+    writer.reserve(parent.encoded_len() as usize + original.as_slice().len() + 2)?;
+    let written = write_parent_hash_input(parent, original, writer);
+    hash_written(suite, written, writer)
+}
+
+/// The parent hash of a parent node (RFC 9420, 7.9), by the original tree hash of its child on the copath: the hash of
+/// its key, its own parent hash and that tree hash. The parent need not stand in a tree.
+pub fn parent_hash_of(
+    alloc: Global,
+    suite: Suite,
+    parent: &ParentNode,
+    original: &HashValue,
+) -> Result<HashValue, HashFault>
+    ensures hash { let input = parent_hash_input parent.now original.now in
+        IfOk result (λ h. option_map (hash_of suite) input ≡ Some h) }
+    ensures memory { IfErr result (λ e. e ≡ HashFault.OutOfMemory) }
+{
+    let mut writer = Writer::new(alloc);
+    hash_parent_fields(suite, parent, original, &mut writer)
+}
+
+/// The parent hash of the parent that is set at a place, whose child on the copath is the one on that side (RFC 9420,
+/// 7.9): the hash of its key, its own parent hash and the original tree hash of that child, without the parent's
+/// unmerged leaves. `NoSuchNode` where no set parent stands at the place.
+pub fn parent_hash(
+    alloc: Global,
+    suite: Suite,
+    tree: &PublicTree,
+    place: u32,
+    side: Side,
+) -> Result<HashValue, HashFault>
+    ensures hash { IfOk result
+        (λ h. parent_hash_at (hash_of suite) tree.now.tree place side ≡ Some h) }
+    ensures no_such_node { (result ≡ Err HashFault.NoSuchNode)
+        ↔ (parent_at tree.now.tree place ≡ None) }
+    ensures else_memory { IfErr result
+        (λ e. (e ≡ HashFault.NoSuchNode) ⊎ (e ≡ HashFault.OutOfMemory)) }
+{
+    let Some((parent, child, _)) = parent_and_child(tree, place, side) else {
+        return Err(HashFault::NoSuchNode);
+    };
+    let leaves = sorted(alloc, parent.unmerged.as_slice())?;
+    let left_out = LeafSet::new(&leaves);
+    let mut writer = Writer::new(alloc);
+    let original = hash_subtree(alloc, suite, tree, &left_out, child, &mut writer)?;
+    hash_parent_fields(suite, parent, &original, &mut writer)
+}

@@ -1,0 +1,187 @@
+-- Members that are added one after the other.
+use Rattle.std.proofs.Common.{◌≡◌, ◌∙◌, ℕ, ◌+◌, ◌<◌, ◌≤◌, true, false, List, [], ◌∷◌, ◌++◌, length, drop, get_or, Option, Some, None, refl, sym, ap, subst, arith}
+use Rattle.std.specs.Prelude.{if◌then◌else◌, is_some, option_map, MatchOption}
+use Rattle.std.proofs.lemmas.Bool.{false≢true}
+use Rattle.std.proofs.lemmas.List.{append_assoc, append-nil, drop_all}
+use Rattle.mls_nodes.specs.declared.leaf.LeafNode.{LeafNode}
+use Rattle.mls_msgs.specs.declared.key_package.KeyPackage.{KeyPackage}
+use Rattle.mls_msgs.specs.declared.proposal.Proposal.{Proposal}
+use Rattle.mls_msgs.specs.declared.proposal.Proposal.TheVariants.{Add, Update, Remove}
+use Rattle.mls_nodes.specs.Limits.{leaf_limit}
+use Rattle.mls_tree.specs.Tree.{Tree, height, leaf_count, member_count, leaf_at}
+use Rattle.mls_tree.specs.Blanks.{first_blank_leaf, IsFirstBlank, AllLeavesSet, AreSetBelow}
+use Rattle.mls_tree.specs.Changes.{grow, add, add_at, added_leaf, grown_for, number_or, blank_tree, enter_unmerged, with_unmerged}
+use Rattle.mls_tree.proofs.Trees.{leaf_count-positive}
+use Rattle.mls_tree.proofs.Kept.{leaf_at-change_above, leaf_count-change_above, leaf_at-grow}
+use Rattle.mls_tree.proofs.Added.{add-set_below}
+use Rattle.mls_tree.proofs.FirstBlanks.{first_blank_leaf-leftmost}
+use Rattle.mls_tree.proofs.Lookups.{leaf_at-past}
+use Rattle.mls_apply.specs.Outcome.{Grown, grown, after_leaf, after_adds, added_to, new_members}
+use Rattle.mls_apply.specs.Adding.{is_add, is_overfull_add, Adds}
+use Rattle.mls_apply.specs.declared.item.ListItem.{ListItem}
+use Rattle.mls_apply.proofs.Updating.{next_item}
+use Rattle.mls_apply.proofs.Members.{member_count-change_above, member_count-put_leaf, member_count-grow, member_count-full}
+
+-- ---- how many members are added
+
+-- where an item adds none
+same_members : (p : Proposal) (xs : List LeafNode) → is_add p ≡ false → added_to p xs ≡ xs
+same_members (Add k) xs e = absurd (false≢true (sym e))
+same_members (Update x) xs e = refl
+same_members (Remove i) xs e = refl
+
+pub new_members-add : (x : ListItem) (xs : List ListItem) → is_add x.proposal ≡ true → length (new_members (x ∷ xs)) ≡ length (new_members xs) + 1
+unfolding new_members
+new_members-add x xs e = go x.proposal e
+  where
+    go : (p : Proposal) → is_add p ≡ true → length (added_to p (new_members xs)) ≡ length (new_members xs) + 1
+    go (Add k) e = omega arith
+    go (Update y) e = absurd (false≢true e)
+    go (Remove i) e = absurd (false≢true e)
+
+pub new_members-other : (x : ListItem) (xs : List ListItem) → is_add x.proposal ≡ false → length (new_members (x ∷ xs)) ≡ length (new_members xs)
+unfolding new_members
+new_members-other x xs e = ap length (same_members x.proposal (new_members xs) e)
+
+-- a count of the Adds in a walk along the list
+module _ (items : List ListItem) (i : ℕ) (x : ListItem) (count : ℕ) (lt : i < length items) (e : x ≡ get_or items i x)
+    (known : count + length (new_members (drop i items)) ≡ length (new_members items)) where
+  pub count-more : is_add x.proposal ≡ true → count + 1 + length (new_members (drop (i + 1) items)) ≡ length (new_members items)
+  count-more a =
+      let here = ap (λ xs. length (new_members xs)) (next_item items i x lt e) in
+      let one = new_members-add x (drop (i + 1) items) a in
+      omega arith
+
+  pub count-same : is_add x.proposal ≡ false → count + length (new_members (drop (i + 1) items)) ≡ length (new_members items)
+  count-same a =
+      let here = ap (λ xs. length (new_members xs)) (next_item items i x lt e) in
+      let none = new_members-other x (drop (i + 1) items) a in
+      omega arith
+
+pub count-all : (items : List ListItem) (i count : ℕ) → length items ≤ i → count + length (new_members (drop i items)) ≡ length (new_members items)
+    → count ≡ length (new_members items)
+unfolding new_members
+count-all items i count past known = let none = ap (λ xs. length (new_members xs)) (drop_all i items past) in omega arith
+
+-- ---- one member is added
+
+-- where the new member's leaf is blank
+module _ (u : Tree) (j : ℕ) (x : LeafNode) (inside : j < leaf_count u) (blank : leaf_at 0 u j ≡ None) where
+  member_count-add_at : member_count (add_at u j x) ≡ member_count u + 1
+  member_count-add_at =
+      let count = leaf_count-change_above (with_unmerged j) 0 u j in
+      member_count-put_leaf 0 (enter_unmerged u j) j x (omega arith) (omega arith) (leaf_at-change_above (with_unmerged j) 0 u j j ∙ blank)
+      ∙ ap (λ n. n + 1) (member_count-change_above (with_unmerged j) 0 u j)
+
+-- with a new member there is one more, by the leftmost blank leaf
+one_member : (t : Tree) (x : LeafNode) (o : Option ℕ) → MatchOption o (AllLeavesSet t) (λ j. IsFirstBlank t j)
+    → member_count (add_at (grown_for o t) (number_or (leaf_count t) o) x) ≡ member_count t + 1
+one_member t x None all =
+    member_count-add_at (grow t) (leaf_count t) x (omega (arith, leaf_count-positive (blank_tree (height t))))
+    (leaf_at-grow t (leaf_count t) ∙ leaf_at-past 0 t (leaf_count t) (omega arith))
+    ∙ ap (λ n. n + 1) (member_count-grow t)
+one_member t x (Some j) first = member_count-add_at t j x first.inside first.blank
+
+pub blank_inside : (t : Tree) (j : ℕ) → first_blank_leaf 0 t ≡ Some j → j < leaf_count t
+blank_inside t j e =
+    let first : IsFirstBlank t j = subst (λ o. MatchOption o (AllLeavesSet t) (λ j. IsFirstBlank t j)) e (first_blank_leaf-leftmost t) in
+    first.inside
+
+pub member_count-add : (t : Tree) (x : LeafNode) → member_count (add t x) ≡ member_count t + 1
+member_count-add t x = one_member t x (first_blank_leaf 0 t) (first_blank_leaf-leftmost t)
+
+-- a tree grows only where it has fewer leaves than a group has members
+pub room_to_grow : (t : Tree) → first_blank_leaf 0 t ≡ None → member_count t < leaf_limit → leaf_count t ≡ 1048576 → ⊥
+room_to_grow t e room full = let all = member_count-full 0 t e in omega arith
+
+-- ---- a walk along the list
+
+-- what is added behind these leaves
+abbrev pub behind : List ℕ → Grown → Grown
+behind added g = grown g.tree (added ++ g.added)
+
+-- where a walk stands, before the rest of the list
+pub record Adding (whole : Option Grown) (rest : List ListItem) (t : Tree) (added : List ℕ) (start : ℕ) : Type 0 where
+  pub so_far : whole ≡ option_map (behind added) (after_adds (new_members rest) t)
+  pub set : AreSetBelow t start
+  pub room : member_count t + length (new_members rest) ≤ leaf_limit
+
+none_before : (o : Option Grown) → o ≡ option_map (behind []) o
+none_before None = refl
+none_before (Some g) = refl
+
+pub adding-start : (items : List ListItem) (t : Tree) → member_count t + length (new_members items) ≤ leaf_limit
+    → Adding (after_adds (new_members items) t) items t [] 0
+adding-start items t room = record {
+  so_far = none_before (after_adds (new_members items) t);
+  set = λ i lt. absurd (omega arith);
+  room = room;
+}
+
+adding-end : (whole : Option Grown) (t : Tree) (added : List ℕ) (start : ℕ) → Adding whole [] t added start → whole ≡ Some (grown t added)
+unfolding new_members after_adds
+adding-end whole t added start a = a.so_far ∙ ap (λ js. Some (grown t js)) (append-nil added)
+
+pub adding-all : (whole : Option Grown) (items : List ListItem) (i : ℕ) (t : Tree) (added : List ℕ) (start : ℕ) → length items ≤ i
+    → Adding whole (drop i items) t added start → whole ≡ Some (grown t added)
+adding-all whole items i t added start past a =
+    adding-end whole t added start (subst (λ xs. Adding whole xs t added start) (drop_all i items past) a)
+
+-- a proposal that is no Add
+no_add : (p : Proposal) → ((k : KeyPackage) → p ≡ Add k → ⊥) → is_add p ≡ false
+no_add (Add k) none = absurd (none k refl)
+no_add (Update x) none = refl
+no_add (Remove i) none = refl
+
+one_more : (added : List ℕ) (j : ℕ) (o : Option Grown)
+    → option_map (behind added) (option_map (after_leaf j) o) ≡ option_map (behind (added ++ j ∷ [])) o
+one_more added j None = refl
+one_more added j (Some g) = ap (λ js. Some (grown g.tree js)) (sym (append_assoc added (j ∷ []) g.added))
+
+module _ (whole : Option Grown) (x : ListItem) (xs : List ListItem) (t : Tree) (added : List ℕ) (start : ℕ)
+    (a : Adding whole (x ∷ xs) t added start) where
+  pub adding-other : ((k : KeyPackage) → x.proposal ≡ Add k → ⊥) → Adding whole xs t added start
+  unfolding new_members
+  adding-other none =
+      let same = same_members x.proposal (new_members xs) (no_add x.proposal none) in
+      record {
+        so_far = a.so_far ∙ ap (λ ms. option_map (behind added) (after_adds ms t)) same;
+        set = a.set;
+        room = subst (λ ms. member_count t + length ms ≤ leaf_limit) same a.room;
+      }
+
+  module _ (k : KeyPackage) (e : x.proposal ≡ Add k) where
+    so_far_member : whole ≡ option_map (behind added) (after_adds (k.leaf_node ∷ new_members xs) t)
+    unfolding new_members
+    so_far_member = a.so_far ∙ ap (λ p. option_map (behind added) (after_adds (added_to p (new_members xs)) t)) e
+
+    room_member : member_count t + length (k.leaf_node ∷ new_members xs) ≤ leaf_limit
+    unfolding new_members
+    room_member = subst (λ p. member_count t + length (added_to p (new_members xs)) ≤ leaf_limit) e a.room
+
+    -- there is room for it
+    pub adding-room : member_count t < leaf_limit
+    adding-room = let r = room_member in omega arith
+
+    -- it was added
+    pub adding-member : (j : ℕ) (u : Tree) → Adds t k.leaf_node j u → Adding whole xs u (added ++ j ∷ []) (j + 1)
+    unfolding after_adds
+    adding-member j u d =
+        let r = room_member in
+        let more = ap member_count d.tree ∙ member_count-add t k.leaf_node in
+        record {
+          so_far =
+              so_far_member
+              ∙ ap (λ b. option_map (behind added) (if b then None else option_map (after_leaf (added_leaf t)) (after_adds (new_members xs) (add t k.leaf_node)))) d.fits
+              ∙ one_more added (added_leaf t) (after_adds (new_members xs) (add t k.leaf_node))
+              ∙ sym (λ i. option_map (behind (added ++ d.index i ∷ [])) (after_adds (new_members xs) (d.tree i)));
+          set = λ i lt. (let low : i < added_leaf t + 1 = omega (arith, d.index) in ap (λ v. is_some (leaf_at 0 v i)) d.tree ∙ add-set_below t k.leaf_node i low);
+          room = omega arith;
+        }
+
+    -- a list gets too long
+    pub adding-refused : is_overfull_add t ≡ true → whole ≡ None
+    unfolding after_adds
+    adding-refused o =
+        so_far_member
+        ∙ ap (λ b. option_map (behind added) (if b then None else option_map (after_leaf (added_leaf t)) (after_adds (new_members xs) (add t k.leaf_node)))) o

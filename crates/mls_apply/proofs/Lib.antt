@@ -1,0 +1,15 @@
+pub mod RuleLists
+pub mod Resolving
+pub mod Concerned
+pub mod Leaves
+pub mod Members
+pub mod Adding
+pub mod Updating
+pub mod Removing
+pub mod Outcomes
+pub mod Routes
+pub mod Making
+pub mod Paths
+pub mod Refusals
+pub mod PathKeys
+pub mod Counting

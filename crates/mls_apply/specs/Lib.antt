@@ -1,0 +1,10 @@
+pub mod Rules
+pub mod Items
+pub mod Proposals
+pub mod ListRules
+pub mod Outcome
+pub mod Adding
+pub mod Merge
+pub mod PathRules
+pub mod Route
+pub mod Seen

@@ -1,0 +1,68 @@
+-- The rules for the list of proposals that a commit applies (RFC 9420, 12.2 and 12.4).
+use Rattle.std.specs.Prelude.{ℕ, ◌==◌, ◌&&◌, ◌||◌, not, is_some, List, [], ◌∷◌, Bool, true, false, Option, Some, None}
+use Rattle.std.specs.List.{list_any}
+use Rattle.mls_msgs.specs.declared.proposal.Proposal.{Proposal}
+use Rattle.mls_msgs.specs.declared.proposal.Proposal.TheVariants.{Add, Update, Remove}
+use Rattle.mls_apply.specs.Rules.{Rule, rule, first_failing}
+use Rattle.mls_apply.specs.declared.fault.ApplyFault.{ApplyFault}
+use Rattle.mls_apply.specs.declared.fault.ApplyFault.TheVariants.{UpdateByCommitter, RemovesCommitter, SameLeafTwice, PathMissing}
+use Rattle.mls_apply.specs.declared.item.ListItem.{ListItem}
+
+-- the leaf that a proposal replaces: an Update its sender's (12.1.2)
+abbrev pub replaced_leaf : ℕ → Proposal → Option ℕ
+replaced_leaf sender (Add _) = None
+replaced_leaf sender (Update _) = Some sender
+replaced_leaf sender (Remove _) = None
+
+-- the leaf that a proposal removes (12.1.3)
+abbrev pub removed_leaf : Proposal → Option ℕ
+removed_leaf (Add _) = None
+removed_leaf (Update _) = None
+removed_leaf (Remove i) = Some i
+
+-- the leaf that an Update or a Remove concerns
+abbrev pub concerned_leaf : ℕ → Proposal → Option ℕ
+concerned_leaf sender (Add _) = None
+concerned_leaf sender (Update _) = Some sender
+concerned_leaf sender (Remove i) = Some i
+
+-- whether there is a leaf, and it has this number
+abbrev pub is_leaf_number : Option ℕ → ℕ → Bool
+is_leaf_number None i = false
+is_leaf_number (Some j) i = j == i
+
+-- no Update is the committer's own (12.2)
+unfoldable pub has_no_update_by : ℕ → List ListItem → Bool
+has_no_update_by committer items =
+    not (list_any (λ x. is_leaf_number (replaced_leaf x.sender x.proposal) committer) items)
+
+-- no Remove removes the committer (12.2)
+unfoldable pub has_no_remove_of : ℕ → List ListItem → Bool
+has_no_remove_of committer items = not (list_any (λ x. is_leaf_number (removed_leaf x.proposal) committer) items)
+
+-- whether a leaf is among those that Updates and Removes concern
+abbrev pub concerns : List ListItem → Option ℕ → Bool
+concerns items None = false
+concerns items (Some i) = list_any (λ x. is_leaf_number (concerned_leaf x.sender x.proposal) i) items
+
+-- no two Updates or Removes concern one leaf (12.2)
+unfoldable pub concern_once : List ListItem → Bool
+concern_once [] = true
+concern_once (x ∷ xs) = not (concerns xs (concerned_leaf x.sender x.proposal)) && concern_once xs
+
+-- a commit needs a path where its list is empty, or has an Update or a Remove (12.4)
+unfoldable pub needs_path : List ListItem → Bool
+needs_path [] = true
+needs_path (x ∷ xs) = list_any (λ y. is_some (concerned_leaf y.sender y.proposal)) (x ∷ xs)
+
+-- the rules for the list, with or without a path
+abbrev pub list_rules : ℕ → List ListItem → Bool → List (Rule ApplyFault)
+list_rules committer items has_path =
+    rule UpdateByCommitter (has_no_update_by committer items) ∷
+    rule RemovesCommitter (has_no_remove_of committer items) ∷
+    rule SameLeafTwice (concern_once items) ∷
+    rule PathMissing (has_path || not (needs_path items)) ∷ []
+
+-- the first of them that fails
+unfoldable pub list_refusal : ℕ → List ListItem → Bool → Option ApplyFault
+list_refusal committer items has_path = first_failing (list_rules committer items has_path)

@@ -1,0 +1,21 @@
+-- Rules in an order, and the first that fails.
+use Rattle.std.specs.Prelude.{Bool, if◌then◌else◌, List, [], ◌∷◌, Option, Some, None}
+
+-- a rule: how its refusal is named, and whether it holds
+pub record Rule (E : Type 0) : Type 0 where
+  pub refusal : E
+  pub holds : Bool
+
+-- the rule of this refusal
+abbrev pub rule : {E : Type 0} → E → Bool → Rule E
+rule e b = record { refusal = e; holds = b }
+
+-- the refusal of the first rule that fails, if one does
+abbrev pub first_failing : {E : Type 0} → List (Rule E) → Option E
+first_failing [] = None
+first_failing (r ∷ rs) = if r.holds then first_failing rs else Some r.refusal
+
+-- the same rules, under other names
+abbrev pub renamed : {E F : Type 0} → (E → F) → List (Rule E) → List (Rule F)
+renamed f [] = []
+renamed f (r ∷ rs) = rule (f r.refusal) r.holds ∷ renamed f rs

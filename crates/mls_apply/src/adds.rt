@@ -1,0 +1,143 @@
+//! The Adds of a commit's list (RFC 9420, 12.1.1).
+
+ghost use Rattle.std.specs.Prelude.{◌≡◌, ◌+◌, ◌<◌, ◌≤◌, ◌⊎◌, true, false, None, Some, Err, IfOk, IfErr, OnOk, length, nat_le};
+ghost use Rattle.mls_nodes.specs.Limits.{leaf_limit};
+ghost use Rattle.mls_tree.specs.Tree.{leaf_count, member_count};
+ghost use Rattle.mls_tree.specs.Blanks.{first_blank_leaf, AreSetBelow};
+ghost use Rattle.mls_tree.specs.Changes.{added_leaf, grown_for, enter_unmerged, is_overfilled_above};
+ghost use Rattle.mls_apply.specs.Outcome.{after_adds, grown, new_members};
+ghost use Rattle.mls_apply.specs.Adding.{is_add, is_overfull_add, Adds};
+
+use crate::fault::ApplyFault;
+use crate::item::ListItem;
+use crate::outcome::Leaves;
+use crate::replace::put_copy;
+use mls_msgs::Proposal;
+use mls_nodes::LeafNode;
+use mls_tree::{PublicTree, TreeError};
+use std::alloc::Global;
+
+/// The most members that a group has.
+const MAX_MEMBERS: usize = 1_048_576;
+
+/// Whether an item is an Add.
+fn is_add(item: &ListItem) -> bool
+    ensures { result ≡ is_add item.now.proposal }
+{
+    match &item.proposal {
+        Proposal::Add(_) => true,
+        Proposal::Update(_) => false,
+        Proposal::Remove(_) => false,
+    }
+}
+
+/// How many items are Adds.
+fn add_count(items: &[ListItem]) -> usize
+    ensures { result ≡ length (new_members items.now) }
+{
+    let mut count = 0;
+    for item in items {
+        if is_add(item) {
+            count += 1;
+        }
+    }
+    count
+}
+
+/// Whether a tree has room for the Adds of a list.
+pub(crate) fn has_room(tree: &PublicTree, items: &[ListItem]) -> bool
+    ensures { result
+        ≡ nat_le (member_count tree.now.tree + length (new_members items.now)) leaf_limit }
+{
+    let members = tree.member_count() as usize;
+    members <= MAX_MEMBERS && add_count(items) <= MAX_MEMBERS - members
+}
+
+/// The leaf that a new member gets: the leftmost blank one, or else the first of the half by which the tree then
+/// grows. The leaves before `start` are set.
+fn leaf_for_member(tree: &mut PublicTree, start: u32) -> Result<u32, ApplyFault>
+    requires set { AreSetBelow tree.old.tree start }
+    requires room { member_count tree.old.tree < leaf_limit }
+    ensures index { IfOk result (λ j. j ≡ added_leaf tree.old.tree) }
+    ensures inside { IfOk result (λ j. j < leaf_count tree.new.tree) }
+    ensures tree { OnOk result
+        (tree.new.tree ≡ grown_for (first_blank_leaf 0 tree.old.tree) tree.old.tree) }
+    ensures memory { IfErr result (λ e. e ≡ ApplyFault.OutOfMemory) }
+{
+    if let Some(index) = tree.next_blank_leaf(start) {
+        return Ok(index);
+    }
+    let index = tree.leaf_count();
+    match tree.extend() {
+        Ok(()) => Ok(index),
+        Err(TreeError::TooManyLeaves) => unreachable!(),
+        Err(_) => Err(ApplyFault::OutOfMemory),
+    }
+}
+
+/// Enters the number of a leaf into the lists of unmerged leaves above it. `TooManyLeaves` where one of them gets too
+/// long.
+fn enter_unmerged(alloc: Global, tree: &mut PublicTree, index: u32) -> Result<(), ApplyFault>
+    requires { index < leaf_count tree.old.tree }
+    ensures entered { OnOk result (tree.new.tree ≡ enter_unmerged tree.old.tree index) }
+    ensures fits { OnOk result (is_overfilled_above 0 tree.old.tree index ≡ false) }
+    ensures too_many_leaves { result ≡ Err ApplyFault.TooManyLeaves
+        → is_overfilled_above 0 tree.old.tree index ≡ true }
+    ensures else_memory { IfErr result (λ e.
+        (e ≡ ApplyFault.TooManyLeaves) ⊎ (e ≡ ApplyFault.OutOfMemory)) }
+{
+    match tree.add_unmerged(alloc, index) {
+        Ok(()) => Ok(()),
+        Err(TreeError::TooManyLeaves) => Err(ApplyFault::TooManyLeaves),
+        Err(TreeError::OutOfMemory) => Err(ApplyFault::OutOfMemory),
+        Err(_) => unreachable!(),
+    }
+}
+
+/// Adds a member with this leaf node, and says at which leaf. The leaves before `start` are set.
+fn add_member(
+    alloc: Global,
+    tree: &mut PublicTree,
+    start: u32,
+    leaf: &LeafNode,
+) -> Result<u32, ApplyFault>
+    requires set { AreSetBelow tree.old.tree start }
+    requires room { member_count tree.old.tree < leaf_limit }
+    ensures added { IfOk result (λ j. Adds tree.old.tree leaf.now j tree.new.tree) }
+    ensures too_many_leaves { result ≡ Err ApplyFault.TooManyLeaves
+        → is_overfull_add tree.old.tree ≡ true }
+    ensures else_memory { IfErr result (λ e.
+        (e ≡ ApplyFault.TooManyLeaves) ⊎ (e ≡ ApplyFault.OutOfMemory)) }
+{
+    let index = leaf_for_member(tree, start)?;
+    enter_unmerged(alloc, tree, index)?;
+    put_copy(alloc, tree, index, leaf)?;
+    Ok(index)
+}
+
+/// Applies the Adds of a list, in its order, and says at which leaves. Each search for a blank leaf goes on behind
+/// the leaf that was added last.
+pub(crate) fn apply_adds(
+    alloc: Global,
+    tree: &mut PublicTree,
+    items: &[ListItem],
+) -> Result<Leaves, ApplyFault>
+    requires { member_count tree.old.tree + length (new_members items.now) ≤ leaf_limit }
+    ensures added { IfOk result (λ added.
+        after_adds (new_members items.now) tree.old.tree ≡ Some (grown tree.new.tree added)) }
+    ensures too_many_leaves { result ≡ Err ApplyFault.TooManyLeaves
+        → after_adds (new_members items.now) tree.old.tree ≡ None }
+    ensures else_memory { IfErr result (λ e.
+        (e ≡ ApplyFault.TooManyLeaves) ⊎ (e ≡ ApplyFault.OutOfMemory)) }
+{
+    let mut added = Vec::new(alloc);
+    let mut start = 0;
+    for item in items {
+        if let Proposal::Add(key_package) = &item.proposal {
+            let index = add_member(alloc, tree, start, &key_package.leaf_node)?;
+            added.push(index)?;
+            start = index + 1;
+        }
+    }
+    Ok(Leaves::new(added))
+}

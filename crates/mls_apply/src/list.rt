@@ -1,0 +1,122 @@
+//! The rules for the list of proposals that a commit applies (RFC 9420, 12.2 and 12.4).
+
+ghost use Rattle.std.specs.Prelude.{◌≡◌, ◌≢◌, Some, None, IfOk, IfErr, OnOk, is_some};
+ghost use Rattle.std.specs.List.{list_any};
+ghost use Rattle.mls_apply.specs.ListRules.{is_leaf_number, replaced_leaf, removed_leaf, concerned_leaf};
+ghost use Rattle.mls_apply.specs.ListRules.{concern_once, needs_path, list_refusal};
+
+use crate::fault::ApplyFault;
+use crate::item::ListItem;
+use mls_msgs::Proposal;
+use std::alloc::{AllocError, Global};
+use std::collections::BTreeSet;
+
+/// Whether the list of proposals of a commit keeps the rules for lists (RFC 9420, 12.2 and 12.4). The first of these
+/// that fails is answered, but for want of memory:
+///
+/// 1. `UpdateByCommitter`: no Update is the committer's own.
+/// 2. `RemovesCommitter`: no Remove removes the committer.
+/// 3. `SameLeafTwice`: no two Updates or Removes concern one leaf, an Update its sender's.
+/// 4. `PathMissing`: the commit has a path, or its list has an Add and nothing else.
+#[tactic(auto, unfolding(crate::specs::ListRules::list_refusal, crate::specs::ListRules::has_no_update_by, crate::specs::ListRules::has_no_remove_of))]
+pub fn check_list(
+    alloc: Global,
+    committer: u32,
+    items: &[ListItem],
+    has_path: bool,
+) -> Result<(), ApplyFault>
+    ensures kept { OnOk result (list_refusal committer items.now has_path ≡ None) }
+    ensures refused { IfErr result (λ e. e ≢ ApplyFault.OutOfMemory
+        → list_refusal committer items.now has_path ≡ Some e) }
+{
+    if has_update_by(committer, items) {
+        return Err(ApplyFault::UpdateByCommitter);
+    }
+    if has_remove_of(committer, items) {
+        return Err(ApplyFault::RemovesCommitter);
+    }
+    if !concern_once(alloc, items)? {
+        return Err(ApplyFault::SameLeafTwice);
+    }
+    if !has_path && needs_path(items) {
+        return Err(ApplyFault::PathMissing);
+    }
+    Ok(())
+}
+
+/// Whether an item is an Update of this member's.
+fn is_update_by(item: &ListItem, member: u32) -> bool
+    ensures { result ≡ is_leaf_number (replaced_leaf item.now.sender item.now.proposal) member }
+{
+    match &item.proposal {
+        Proposal::Update(_) => item.sender == member,
+        Proposal::Add(_) => false,
+        Proposal::Remove(_) => false,
+    }
+}
+
+/// Whether an item is a Remove of this member.
+fn is_remove_of(item: &ListItem, member: u32) -> bool
+    ensures { result ≡ is_leaf_number (removed_leaf item.now.proposal) member }
+{
+    match &item.proposal {
+        Proposal::Remove(leaf) => *leaf == member,
+        Proposal::Add(_) => false,
+        Proposal::Update(_) => false,
+    }
+}
+
+/// The leaf that an item replaces or removes.
+fn concerned_leaf(item: &ListItem) -> Option<u32>
+    ensures { result ≡ concerned_leaf item.now.sender item.now.proposal }
+{
+    match &item.proposal {
+        Proposal::Add(_) => None,
+        Proposal::Update(_) => Some(item.sender),
+        Proposal::Remove(leaf) => Some(*leaf),
+    }
+}
+
+/// Whether some Update is this member's own.
+fn has_update_by(member: u32, items: &[ListItem]) -> bool
+    ensures { result
+        ≡ list_any (λ x. is_leaf_number (replaced_leaf x.sender x.proposal) member) items.now }
+{
+    items.iter().any(|item| is_update_by(item, member))
+}
+
+/// Whether some Remove removes this member.
+fn has_remove_of(member: u32, items: &[ListItem]) -> bool
+    ensures { result ≡ list_any (λ x. is_leaf_number (removed_leaf x.proposal) member) items.now }
+{
+    items.iter().any(|item| is_remove_of(item, member))
+}
+
+/// Whether no two Updates or Removes concern one leaf.
+fn concern_once(alloc: Global, items: &[ListItem]) -> Result<bool, AllocError>
+    ensures { IfOk result (λ once. once ≡ concern_once items.now) }
+{
+    let mut concerned = BTreeSet::new(alloc);
+    for item in items {
+        if let Some(leaf) = concerned_leaf(item) {
+            if !concerned.insert(leaf)? {
+                return Ok(false);
+            }
+        }
+    }
+    Ok(true)
+}
+
+/// Whether some item is an Update or a Remove.
+fn has_concerned_leaf(items: &[ListItem]) -> bool
+    ensures { result ≡ list_any (λ x. is_some (concerned_leaf x.sender x.proposal)) items.now }
+{
+    items.iter().any(|item| concerned_leaf(item).is_some())
+}
+
+/// Whether a commit of this list needs a path.
+fn needs_path(items: &[ListItem]) -> bool
+    ensures { result ≡ needs_path items.now }
+{
+    items.is_empty() || has_concerned_leaf(items)
+}

@@ -1,0 +1,73 @@
+//! A tree after the proposals of a commit (RFC 9420, 12.3).
+
+ghost use Rattle.std.specs.Prelude.{◌≡◌, ◌⊎◌, Err, Some, None, IfOk, IfErr, IsSome};
+ghost use Rattle.mls_apply.specs.Outcome.{outcome, without_adds, grown};
+
+use crate::adds::{apply_adds, has_room};
+use crate::fault::ApplyFault;
+use crate::item::ListItem;
+use crate::removes::apply_removes;
+use crate::updates::apply_updates;
+use mls_tree::PublicTree;
+use mls_wire::Sequence;
+use std::alloc::Global;
+
+/// Numbers of leaves.
+pub type Leaves = Sequence<u32>;
+
+/// A tree after the proposals of a commit.
+#[derive(Debug, Drop)]
+pub struct Applied {
+    /// The tree.
+    pub tree: PublicTree,
+    /// The leaves that the Adds of the list added, in its order.
+    pub added: Leaves,
+}
+
+/// Applies a list of proposals to a tree: its Updates, then its Removes, then its Adds.
+fn apply_all(alloc: Global, tree: &mut PublicTree, items: &[ListItem]) -> Result<Leaves, ApplyFault>
+    ensures applied { IfOk result (λ added.
+        outcome items.now tree.old.tree ≡ Some (grown tree.new.tree added)) }
+    ensures no_such_leaf { result ≡ Err ApplyFault.NoSuchLeaf
+        → without_adds items.now tree.old.tree ≡ None }
+    ensures too_many_leaves { result ≡ Err ApplyFault.TooManyLeaves
+        → IsSome (without_adds items.now tree.old.tree) × (outcome items.now tree.old.tree ≡ None) }
+    ensures else_memory { IfErr result (λ e.
+        (e ≡ ApplyFault.NoSuchLeaf) ⊎ (e ≡ ApplyFault.TooManyLeaves)
+        ⊎ (e ≡ ApplyFault.OutOfMemory)) }
+{
+    apply_updates(alloc, tree, items)?;
+    apply_removes(tree, items)?;
+    if !has_room(tree, items) {
+        return Err(ApplyFault::TooManyLeaves);
+    }
+    apply_adds(alloc, tree, items)
+}
+
+/// The tree after a list of proposals (RFC 9420, 12.3): the Updates of the list, then its Removes, then its Adds,
+/// each kind in the order of the list. The tree that is handed in stays. `NoSuchLeaf` where an Update or a Remove
+/// meets a leaf that isn't set at its turn, else `TooManyLeaves` where the set leaves after the Removes plus the Adds
+/// are more than 1,048,576, or a list of unmerged leaves would get more entries.
+pub fn apply_list(
+    alloc: Global,
+    tree: &PublicTree,
+    items: &[ListItem],
+) -> Result<Applied, ApplyFault>
+    ensures applied { IfOk result (λ a.
+        outcome items.now tree.now.tree ≡ Some (grown a.tree.tree a.added)) }
+    ensures no_such_leaf { result ≡ Err ApplyFault.NoSuchLeaf
+        → without_adds items.now tree.now.tree ≡ None }
+    ensures too_many_leaves { result ≡ Err ApplyFault.TooManyLeaves
+        → IsSome (without_adds items.now tree.now.tree) × (outcome items.now tree.now.tree ≡ None) }
+    ensures else_memory { IfErr result (λ e.
+        (e ≡ ApplyFault.NoSuchLeaf) ⊎ (e ≡ ApplyFault.TooManyLeaves)
+        ⊎ (e ≡ ApplyFault.OutOfMemory)) }
+{
+    let Ok(mut after) = tree.try_clone(alloc) else {
+        return Err(ApplyFault::OutOfMemory);
+    };
+    match apply_all(alloc, &mut after, items) {
+        Ok(added) => Ok(Applied { tree: after, added }),
+        Err(fault) => Err(fault),
+    }
+}

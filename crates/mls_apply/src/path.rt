@@ -1,0 +1,256 @@
+//! Update paths: the parent hashes that a path has to carry, and the tree with a path merged into it (RFC 9420, 7.5,
+//! 7.6 and 7.9).
+
+ghost use Rattle.std.specs.Prelude.{◌≡◌, ◌≢◌, ◌<◌, ◌⊎◌, ◌∷◌, ℕ, List, All, Err, Some, None, IfOk, IfErr, OnOk, is_some, length, map, option_map, true};
+ghost use Rattle.mls_hash.specs.Hashing.{hash_of};
+ghost use Rattle.mls_tree.specs.Tree.{leaf_at, leaf_count, IsParentPlace};
+ghost use Rattle.mls_tree.specs.Paths.{filtered_direct_path};
+ghost use Rattle.mls_apply.specs.Merge.{expected_hashes, merged};
+ghost use Rattle.mls_apply.specs.Outcome.{grown};
+ghost use Rattle.mls_apply.specs.PathRules.{carries_first, keys_refusal, node_keys, path_refusal};
+ghost use Rattle.mls_apply.specs.Proposals.{is_from_commit};
+ghost use Rattle.mls_apply.specs.Route.{carried, path_route};
+ghost use Rattle.mls_apply.specs.Seen.{change_of, hash_refusal, route_of};
+
+use crate::fault::ApplyFault;
+use crate::new_parents::{NewParent, NewParents, new_parents, opaque_of, put_path};
+use crate::outcome::Applied;
+use crate::path_rules::{has_new_keys, have_counts};
+use mls_hash::Suite;
+use mls_msgs::{PathNode, UpdatePath};
+use mls_nodes::{LeafNode, LeafSource, ParentNode};
+use mls_tree::{HashValue, PublicTree, TreeError};
+use mls_wire::{CodecFault, Opaque, TryClone};
+use std::alloc::{AllocError, Global};
+
+/// The places of the filtered direct path of a leaf, the lowest first. `NoSuchLeaf` where the leaf isn't set.
+fn path_places(alloc: Global, tree: &PublicTree, leaf: u32) -> Result<Vec<u32>, ApplyFault>
+    ensures places { IfOk result (λ places. let t = tree.now.tree in
+        places.items ≡ filtered_direct_path (leaf_count t) 0 t leaf) }
+    ensures set { OnOk result (is_some (leaf_at 0 tree.now.tree leaf) ≡ true) }
+    ensures not_set { result ≡ Err ApplyFault.NoSuchLeaf → leaf_at 0 tree.now.tree leaf ≡ None }
+    ensures else_memory { IfErr result (λ e.
+        (e ≡ ApplyFault.NoSuchLeaf) ⊎ (e ≡ ApplyFault.OutOfMemory)) }
+{
+    if tree.leaf(leaf).is_none() {
+        return Err(ApplyFault::NoSuchLeaf);
+    }
+    match tree.filtered_direct_path(alloc, leaf) {
+        Ok(places) => Ok(places),
+        Err(TreeError::OutOfMemory) => Err(ApplyFault::OutOfMemory),
+        Err(_) => unreachable!(),
+    }
+}
+
+/// A second key, equal to this one.
+fn copy_of(alloc: Global, key: &Opaque) -> Result<Opaque, AllocError>
+    ensures { IfOk result (λ copy. copy ≡ key.now) }
+{
+    match key.try_clone(alloc) {
+        Ok(copy) => Ok(copy),
+        Err(CodecFault::OutOfMemory) => Err(AllocError),
+        Err(CodecFault::Wire(_)) => unreachable!(),
+    }
+}
+
+/// Copies of keys.
+fn copies_of(alloc: Global, keys: &[Opaque]) -> Result<Vec<Opaque>, AllocError>
+    ensures { IfOk result (λ copies. copies.items ≡ keys.now) }
+{
+    let mut copies = Vec::new(alloc);
+    for key in keys {
+        copies.push(copy_of(alloc, key)?)?;
+    }
+    Ok(copies)
+}
+
+/// Copies of the keys of a path's nodes.
+fn node_keys(alloc: Global, nodes: &[PathNode]) -> Result<Vec<Opaque>, AllocError>
+    ensures { IfOk result (λ keys. keys.items ≡ map (λ n. n.encryption_key) nodes.now) }
+{
+    let mut keys = Vec::new(alloc);
+    for node in nodes {
+        keys.push(copy_of(alloc, &node.encryption_key)?)?;
+    }
+    Ok(keys)
+}
+
+/// A leaf node equal to this one.
+fn leaf_of(alloc: Global, leaf: &LeafNode) -> Result<Box<LeafNode>, AllocError>
+    ensures { IfOk result (λ copy. copy.value ≡ leaf.now) }
+{
+    match leaf.try_clone(alloc) {
+        Ok(copy) => Ok(Box::new(alloc, copy)?),
+        Err(CodecFault::OutOfMemory) => Err(AllocError),
+        Err(CodecFault::Wire(_)) => unreachable!(),
+    }
+}
+
+/// The parent hashes that came down to a leaf and to each new parent above it, the leaf's first.
+fn carried(alloc: Global, new: NewParents) -> Result<Vec<Opaque>, AllocError>
+    ensures { IfOk result (λ hashes. hashes.items ≡ carried (route_of new)) }
+{
+    let NewParents { mut parents, hash } = new;
+    let mut hashes = Vec::new(alloc);
+    hashes.push(opaque_of(alloc, &hash)?)?;
+    while let Some(parent) = parents.pop() {
+        let ParentNode { parent_hash, .. } = Box::into_inner(parent.node);
+        hashes.push(parent_hash)?;
+    }
+    Ok(hashes)
+}
+
+/// The parent hashes that an update path of the committer with these keys, the lowest node's first, has to carry (RFC
+/// 9420, 7.9): first the leaf's, then one for each node, the last of which is empty. `NoSuchLeaf` where the
+/// committer's leaf isn't set, else `PathLength` where the filtered direct path has another number of nodes than
+/// there are keys.
+pub fn expected_parent_hashes(
+    alloc: Global,
+    suite: Suite,
+    tree: &PublicTree,
+    committer: u32,
+    keys: &[Opaque],
+) -> Result<Vec<Opaque>, ApplyFault>
+    ensures hashes { IfOk result (λ hashes.
+        expected_hashes (hash_of suite) tree.now.tree committer keys.now ≡ Some hashes.items) }
+    ensures kept { OnOk result (keys_refusal tree.now.tree committer keys.now ≡ None) }
+    ensures refused { IfErr result (λ e. e ≢ ApplyFault.OutOfMemory
+        → keys_refusal tree.now.tree committer keys.now ≡ Some e) }
+{
+    let places = path_places(alloc, tree, committer)?;
+    if keys.len() != places.len() {
+        return Err(ApplyFault::PathLength);
+    }
+    let keys = copies_of(alloc, keys)?;
+    let new = new_parents(alloc, suite, tree, committer, &places, keys)?;
+    Ok(carried(alloc, new)?)
+}
+
+/// Whether a leaf is meant for a commit (RFC 9420, 7.2).
+fn is_from_commit(source: &LeafSource) -> bool
+    ensures { result ≡ is_from_commit source.now }
+{
+    matches!(source, LeafSource::Commit { .. })
+}
+
+/// Whether a leaf is meant for a commit and carries this parent hash.
+fn carries(source: &LeafSource, hash: &HashValue) -> bool
+    ensures { (hashes : List (List ℕ))
+        → result ≡ carries_first source.now (Some (hash.now ∷ hashes)) }
+{
+    match source {
+        LeafSource::Commit { parent_hash } => parent_hash.as_slice() == hash.as_slice(),
+        _ => false,
+    }
+}
+
+/// The places of the nodes of a path, where it keeps the rules for paths but for the last one, on the parent hash.
+fn checked_places(
+    alloc: Global,
+    applied: &Applied,
+    committer: u32,
+    path: &UpdatePath,
+) -> Result<Vec<u32>, ApplyFault>
+    ensures places { IfOk result (λ places. let t = applied.now.tree.tree in
+        places.items ≡ filtered_direct_path (leaf_count t) 0 t committer) }
+    ensures paired { IfOk result (λ places. length path.now.nodes ≡ length places.items) }
+    ensures inside { OnOk result (committer < leaf_count applied.now.tree.tree) }
+    ensures kept { OnOk result ((H : List ℕ → List ℕ)
+        → path_refusal H (grown applied.now.tree.tree applied.now.added) committer path.now
+        ≡ hash_refusal H path.now applied.now.tree.tree committer) }
+    ensures refused { IfErr result (λ e. e ≢ ApplyFault.OutOfMemory → (H : List ℕ → List ℕ)
+        → path_refusal H (grown applied.now.tree.tree applied.now.added) committer path.now
+        ≡ Some e) }
+{
+    let tree = &applied.tree;
+    let nodes = path.nodes.as_slice();
+    let places = path_places(alloc, tree, committer)?;
+    if nodes.len() != places.len() {
+        return Err(ApplyFault::PathLength);
+    }
+    if !is_from_commit(&path.leaf_node.source) {
+        return Err(ApplyFault::PathSource);
+    }
+    if !has_new_keys(alloc, path, tree)? {
+        return Err(ApplyFault::PathKeyUsed);
+    }
+    let added = applied.added.as_slice();
+    if !have_counts(alloc, tree, committer, added, &places, nodes)? {
+        return Err(ApplyFault::CiphertextCount);
+    }
+    Ok(places)
+}
+
+/// The new nodes of a path: the leaf's, and the new parents above it.
+#[derive(Drop)]
+struct NewNodes {
+    leaf: Box<LeafNode>,
+    parents: Vec<NewParent>,
+}
+
+/// The new nodes of a path, where it keeps the rules for paths.
+fn new_nodes(
+    alloc: Global,
+    suite: Suite,
+    applied: &Applied,
+    committer: u32,
+    path: &UpdatePath,
+) -> Result<NewNodes, ApplyFault>
+    ensures leaf { IfOk result (λ new. new.leaf.value ≡ path.now.leaf_node) }
+    ensures route { IfOk result (λ new.
+        let keys = node_keys path.now in
+        let made = path_route (hash_of suite) applied.now.tree.tree committer keys in
+        option_map (λ r. r.changes) made ≡ Some (map change_of new.parents.items)) }
+    ensures inside { OnOk result (committer < leaf_count applied.now.tree.tree) }
+    ensures parents { IfOk result (λ new.
+        All (λ p. IsParentPlace applied.now.tree.tree p.place) new.parents.items) }
+    ensures kept { let g = grown applied.now.tree.tree applied.now.added in
+        OnOk result (path_refusal (hash_of suite) g committer path.now ≡ None) }
+    ensures refused { let g = grown applied.now.tree.tree applied.now.added in
+        IfErr result (λ e. e ≢ ApplyFault.OutOfMemory
+        → path_refusal (hash_of suite) g committer path.now ≡ Some e) }
+{
+    let places = checked_places(alloc, applied, committer, path)?;
+    let keys = node_keys(alloc, path.nodes.as_slice())?;
+    let new = new_parents(alloc, suite, &applied.tree, committer, &places, keys)?;
+    if !carries(&path.leaf_node.source, &new.hash) {
+        return Err(ApplyFault::PathParentHash);
+    }
+    let leaf = leaf_of(alloc, &path.leaf_node)?;
+    Ok(NewNodes {
+        leaf,
+        parents: new.parents,
+    })
+}
+
+/// The tree with an update path of the committer merged into it (RFC 9420, 7.5): its leaf is that of the path, the
+/// parents of its filtered direct path have the path's keys and no unmerged leaves, and the other parents above it
+/// are blank. `NoSuchLeaf` where the committer's leaf isn't set, else the first of `PathLength`, `PathSource`,
+/// `PathKeyUsed`, `CiphertextCount` and `PathParentHash` that applies. After any fault, also for want of memory, what
+/// was handed in comes back as it was.
+pub fn merge_path(
+    alloc: Global,
+    suite: Suite,
+    applied: Applied,
+    committer: u32,
+    path: &UpdatePath,
+) -> Result<PublicTree, (ApplyFault, Applied)>
+    ensures merged { IfOk result (λ tree. let keys = node_keys path.now in
+        merged (hash_of suite) applied.tree.tree committer path.now.leaf_node keys
+        ≡ Some tree.tree) }
+    ensures kept { let g = grown applied.tree.tree applied.added in
+        OnOk result (path_refusal (hash_of suite) g committer path.now ≡ None) }
+    ensures refused { let g = grown applied.tree.tree applied.added in
+        IfErr result (λ e. e.0 ≢ ApplyFault.OutOfMemory
+        → path_refusal (hash_of suite) g committer path.now ≡ Some e.0) }
+    ensures handed_back { IfErr result (λ e. e.1 ≡ applied) }
+{
+    match new_nodes(alloc, suite, &applied, committer, path) {
+        Ok(new) => {
+            let mut tree = applied.tree;
+            put_path(&mut tree, committer, new.leaf, new.parents);
+            Ok(tree)
+        }
+        Err(fault) => Err((fault, applied)),
+    }
+}

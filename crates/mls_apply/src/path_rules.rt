@@ -1,0 +1,152 @@
+//! The rules for the keys and the ciphertexts of an update path (RFC 9420, 7.6 and 12.4.2).
+
+ghost use Rattle.std.specs.Prelude.{◌≡◌, ℕ, ◌*◌, ◌==◌, All, IfOk, IsSome, filter, length, map, not};
+ghost use Rattle.std.specs.BTreeSet.{contains};
+ghost use Rattle.std.specs.List.{list_any};
+ghost use Rattle.std.specs.Ordering.{nat_cmp};
+ghost use Rattle.mls_nodes.specs.Value.{node_value};
+ghost use Rattle.mls_tree.specs.Tree.{leaf_count, subtree_at, IsParentPlace};
+ghost use Rattle.mls_check.specs.Distinct.{encryption_key, tree_keys};
+ghost use Rattle.mls_apply.specs.PathRules.{has_new_keys, have_counts};
+ghost use Rattle.mls_apply.specs.Route.{away_resolution, resolution_of};
+ghost use Rattle.mls_apply.specs.Seen.{holds_key, IsKeySet};
+
+use crate::new_parents::away_half;
+use mls_msgs::{PathNode, UpdatePath};
+use mls_nodes::Node;
+use mls_tree::{PublicTree, TreeError};
+use std::alloc::{AllocError, Global};
+use std::collections::BTreeSet;
+
+/// The keys of a path, the leaf's among them. None where one stands twice.
+fn distinct_keys<'a>(
+    alloc: Global,
+    path: &'a UpdatePath,
+) -> Result<Option<BTreeSet<&'a [u8]>>, AllocError>
+    ensures { IfOk result (IsKeySet path.now) }
+{
+    let nodes = path.nodes.as_slice();
+    let mut keys: BTreeSet<&[u8]> = BTreeSet::new(alloc);
+    for index in (0..nodes.len()).rev() {
+        if !keys.insert(nodes[index].encryption_key.as_slice())? {
+            return Ok(None);
+        }
+    }
+    if !keys.insert(path.leaf_node.encryption_key.as_slice())? {
+        return Ok(None);
+    }
+    Ok(Some(keys))
+}
+
+/// The encryption key of a node.
+fn key_of(node: &Node) -> &[u8]
+    ensures { result.now ≡ encryption_key (node_value node.now) }
+{
+    match node {
+        Node::Leaf(leaf) => leaf.encryption_key.as_slice(),
+        Node::Parent(parent) => parent.encryption_key.as_slice(),
+    }
+}
+
+/// Whether a node of the tree has one of these keys.
+fn uses_key(tree: &PublicTree, keys: &BTreeSet<&[u8]>) -> bool
+    ensures { result ≡ list_any (holds_key keys.now) (tree_keys tree.now.tree) }
+{
+    for entry in tree.nodes() {
+        if let Some(node) = entry {
+            if keys.contains(key_of(node)) {
+                return true;
+            }
+        }
+    }
+    false
+}
+
+/// Whether no key of a path stands in the tree, or twice in the path (RFC 9420, 12.4.2).
+pub(crate) fn has_new_keys(
+    alloc: Global,
+    path: &UpdatePath,
+    tree: &PublicTree,
+) -> Result<bool, AllocError>
+    ensures { IfOk result (λ new. new ≡ has_new_keys path.now tree.now.tree) }
+{
+    match distinct_keys(alloc, path)? {
+        Some(keys) => Ok(!uses_key(tree, &keys)),
+        None => Ok(false),
+    }
+}
+
+/// The places of added leaves.
+fn places_of(alloc: Global, added: &[u32]) -> Result<BTreeSet<u64>, AllocError>
+    ensures { IfOk result (λ places. (p : ℕ)
+        → contains nat_cmp places p ≡ list_any (λ j. p == 2 * j) added.now) }
+{
+    let mut places = BTreeSet::new(alloc);
+    for leaf in added {
+        places.insert(2 * u64::from(*leaf))?;
+    }
+    Ok(places)
+}
+
+/// The resolution of the subtree at a place.
+fn resolution(alloc: Global, tree: &PublicTree, place: u32) -> Result<Vec<u32>, AllocError>
+    requires { IsSome (subtree_at 0 tree.now.tree place) }
+    ensures { IfOk result (λ places. let t = tree.now.tree in
+        places.items ≡ resolution_of (leaf_count t) (subtree_at 0 t place)) }
+{
+    match tree.resolution(alloc, place) {
+        Ok(places) => Ok(places),
+        Err(TreeError::OutOfMemory) => Err(AllocError),
+        Err(_) => unreachable!(),
+    }
+}
+
+/// How many ciphertexts the node of a path of a leaf has at a place: one for each node of the resolution of its half
+/// away from the leaf, but for those at the places of added leaves.
+fn recipient_count(
+    alloc: Global,
+    tree: &PublicTree,
+    leaf: u32,
+    place: u32,
+    added: &BTreeSet<u64>,
+) -> Result<usize, AllocError>
+    requires { IsParentPlace tree.now.tree place }
+    ensures { IfOk result (λ count.
+        let resolution = away_resolution tree.now.tree leaf place in
+        count ≡ length (filter (λ p. not (contains nat_cmp added.now p)) resolution)) }
+{
+    let away = away_half(tree, leaf, place);
+    let places = resolution(alloc, tree, away)?;
+    Ok(
+        places
+            .iter()
+            .filter(|place| !added.contains(&u64::from(**place)))
+            .count(),
+    )
+}
+
+/// Whether each node of a path of a leaf has as many ciphertexts as it has to, where leaves were added (RFC 9420,
+/// 7.6). The nodes stand at these places.
+pub(crate) fn have_counts(
+    alloc: Global,
+    tree: &PublicTree,
+    leaf: u32,
+    added: &[u32],
+    places: &[u32],
+    nodes: &[PathNode],
+) -> Result<bool, AllocError>
+    requires parents { All (IsParentPlace tree.now.tree) places.now }
+    requires paired { length nodes.now ≡ length places.now }
+    ensures { IfOk result (λ good.
+        let resolutions = map (away_resolution tree.now.tree leaf) places.now in
+        good ≡ have_counts added.now resolutions nodes.now) }
+{
+    let added = places_of(alloc, added)?;
+    for (index, node) in nodes.iter().enumerate() {
+        let count = recipient_count(alloc, tree, leaf, places[index], &added)?;
+        if node.ciphertexts.as_slice().len() != count {
+            return Ok(false);
+        }
+    }
+    Ok(true)
+}

@@ -1,0 +1,42 @@
+//! Changes of single leaves that the three kinds of proposals share.
+
+ghost use Rattle.std.specs.Prelude.{◌≡◌, ◌<◌, Some, None, IfErr, OnOk};
+ghost use Rattle.mls_tree.specs.Tree.{leaf_count};
+ghost use Rattle.mls_tree.specs.Changes.{put_leaf, clear_path};
+
+use crate::fault::ApplyFault;
+use mls_nodes::LeafNode;
+use mls_tree::PublicTree;
+use mls_wire::TryClone;
+use std::alloc::Global;
+
+/// Replaces a leaf of the tree by a copy of this one.
+pub(crate) fn put_copy(
+    alloc: Global,
+    tree: &mut PublicTree,
+    index: u32,
+    leaf: &LeafNode,
+) -> Result<(), ApplyFault>
+    requires { index < leaf_count tree.old.tree }
+    ensures put { OnOk result (tree.new.tree ≡ put_leaf 0 tree.old.tree index (Some leaf.now)) }
+    ensures memory { IfErr result (λ e. e ≡ ApplyFault.OutOfMemory) }
+{
+    let Ok(copy) = leaf.try_clone(alloc) else {
+        return Err(ApplyFault::OutOfMemory);
+    };
+    let copy = Box::new(alloc, copy)?;
+    let Ok(()) = tree.set_leaf(index, Some(copy)) else {
+        unreachable!();
+    };
+    Ok(())
+}
+
+/// Makes the parents above a leaf of the tree blank.
+pub(crate) fn blank_above(tree: &mut PublicTree, index: u32)
+    requires { index < leaf_count tree.old.tree }
+    ensures { tree.new.tree ≡ clear_path tree.old.tree index }
+{
+    let Ok(()) = tree.blank_path(index) else {
+        unreachable!();
+    };
+}

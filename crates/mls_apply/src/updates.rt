@@ -1,0 +1,50 @@
+//! The Updates of a commit's list (RFC 9420, 12.1.2).
+
+ghost use Rattle.std.specs.Prelude.{◌≡◌, ◌⊎◌, Some, None, Err, IfErr, OnOk};
+ghost use Rattle.mls_apply.specs.Outcome.{after_update, after_updates};
+
+use crate::fault::ApplyFault;
+use crate::item::ListItem;
+use crate::replace::{blank_above, put_copy};
+use mls_msgs::Proposal;
+use mls_tree::PublicTree;
+use std::alloc::Global;
+
+/// Applies an item if it is an Update: its sender's leaf is replaced, and the parents above it become blank.
+#[tactic(auto, using(crate::proofs::Leaves::leaf_inside))]
+fn apply_update(alloc: Global, tree: &mut PublicTree, item: &ListItem) -> Result<(), ApplyFault>
+    ensures updated { OnOk result
+        (after_update item.now.sender item.now.proposal tree.old.tree ≡ Some tree.new.tree) }
+    ensures no_such_leaf { result ≡ Err ApplyFault.NoSuchLeaf
+        → after_update item.now.sender item.now.proposal tree.old.tree ≡ None }
+    ensures else_memory { IfErr result (λ e.
+        (e ≡ ApplyFault.NoSuchLeaf) ⊎ (e ≡ ApplyFault.OutOfMemory)) }
+{
+    let Proposal::Update(leaf) = &item.proposal else {
+        return Ok(());
+    };
+    if tree.leaf(item.sender).is_none() {
+        return Err(ApplyFault::NoSuchLeaf);
+    }
+    put_copy(alloc, tree, item.sender, leaf)?;
+    blank_above(tree, item.sender);
+    Ok(())
+}
+
+/// Applies the Updates of a list, in its order.
+pub(crate) fn apply_updates(
+    alloc: Global,
+    tree: &mut PublicTree,
+    items: &[ListItem],
+) -> Result<(), ApplyFault>
+    ensures updated { OnOk result (after_updates items.now tree.old.tree ≡ Some tree.new.tree) }
+    ensures no_such_leaf { result ≡ Err ApplyFault.NoSuchLeaf
+        → after_updates items.now tree.old.tree ≡ None }
+    ensures else_memory { IfErr result (λ e.
+        (e ≡ ApplyFault.NoSuchLeaf) ⊎ (e ≡ ApplyFault.OutOfMemory)) }
+{
+    for item in items {
+        apply_update(alloc, tree, item)?;
+    }
+    Ok(())
+}

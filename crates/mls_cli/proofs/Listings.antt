@@ -1,106 +1,13 @@
--- The entries that a ratchet tree is filled up to are the listing of a tree.
-use Rattle.std.proofs.Common.{◌≡◌, ℕ, zero, suc, ◌+◌, ◌*◌, ◌-◌, ◌%◌, ◌/◌, ◌^◌, ◌≤◌, List, [], ◌∷◌, ◌++◌, length, map, replicate, Bool, true, false, ◌&&◌, Option, Some, None, refl, sym, ap, subst, ◌∙◌, inl, inr, arith, option_map}
-use Rattle.std.specs.Prelude.{slice_get}
-use Rattle.std.proofs.lemmas.Bool.{cases_lt, eqb-true, leb-true}
-use Rattle.std.proofs.lemmas.List.{length-map}
-use Rattle.std.proofs.lemmas.Option.{slice_get-map}
-use Rattle.std.proofs.Math.Pow.{pow_mono}
-use Rattle.std.proofs.Math.Nat.{pow-suc}
-use Rattle.mls_wire.specs.Spelling.{list, optional}
-use Rattle.mls_wire.specs.Steps.{allowed}
-use Rattle.mls_nodes.specs.declared.node.Node.{Node}
-use Rattle.mls_nodes.specs.declared.node.Node.TheVariants.{Leaf, Parent}
-use Rattle.mls_nodes.specs.Value.{NodeValue, entry_value}
-use Rattle.mls_nodes.specs.Layout.{node}
-use Rattle.mls_nodes.specs.RatchetTree.{ratchet_tree, filled, full_size, is_placed, ends_set, stand_from, stands_at}
-use Rattle.mls_nodes.specs.Filled.{filled-full, filled-least}
-use Rattle.mls_tree.specs.Tree.{Tree, leaf_count, listing, leaves_at}
-use Rattle.mls_tree.specs.Array.{FitsPlace, IsArrayOf, ratchet_tree_in}
-use Rattle.mls_tree.specs.Sizes.{IsListing}
-use Rattle.mls_tree.proofs.Arrays.{listing-array}
-use Rattle.mls_tree.proofs.Listings.{IsArrayOf-fits}
-use Rattle.mls_tree.proofs.Numbers.{leaves_at-pow}
+-- The counts of a tree, by its listing.
+use Rattle.std.proofs.Common.{◌≡◌, ◌+◌, ◌/◌, length, arith}
+use Rattle.mls_tree.specs.Tree.{Tree, leaf_count, member_count, leaves_among, listing}
+use Rattle.mls_tree.proofs.Members.{member_count-listing}
 use Rattle.mls_tree.proofs.Trees.{length-listing}
-
-both-left : (a b : Bool) → a && b ≡ true → a ≡ true
-both-left true b e = refl
-both-left false b e = e
-
-both-right : (a b : Bool) → a && b ≡ true → b ≡ true
-both-right true b e = e
-both-right false b e = absurd cc
-
-both : (a b : Bool) → a ≡ true → b ≡ true → a && b ≡ true
-both true b p q = q
-both false b p q = p
-
--- blanks may stand anywhere
-stand_from-blanks : (place n : ℕ) → stand_from place (replicate n None) ≡ true
-stand_from-blanks place zero = refl
-stand_from-blanks place (suc n) = stand_from-blanks (place + 1) n
-
--- so entries that may stand at their places may also where blanks are behind them
-stand_from-more : (place : ℕ) (xs : List (Option NodeValue)) (n : ℕ) → stand_from place xs ≡ true → stand_from place (xs ++ replicate n None) ≡ true
-stand_from-more place [] n h = stand_from-blanks place n
-stand_from-more place (x ∷ xs) n h =
-    both (stands_at place x) (stand_from (place + 1) (xs ++ replicate n None)) (both-left (stands_at place x) _ h)
-    (stand_from-more (place + 1) xs n (both-right (stands_at place x) _ h))
-
--- an entry, where there is one, may stand at the place
-abbrev MayStand : ℕ → Option (Option NodeValue) → Type 0
-MayStand place None = Unit {0}
-MayStand place (Some x) = stands_at place x ≡ true
-
-MayStand-at : (place : ℕ) (xs : List (Option NodeValue)) (p : ℕ) → stand_from place xs ≡ true → MayStand (place + p) (slice_get xs p)
-MayStand-at place [] p h = tt
-MayStand-at place (x ∷ xs) zero h = subst (λ k. stands_at k x ≡ true) (let e : place ≡ place + 0 = omega arith in e) (both-left (stands_at place x) _ h)
-MayStand-at place (x ∷ xs) (suc p) h =
-    subst (λ k. MayStand k (slice_get xs p)) (let e : place + 1 + p ≡ place + suc p = omega arith in e)
-    (MayStand-at (place + 1) xs p (both-right (stands_at place x) _ h))
-
--- such an entry of an array is a leaf at an even place and a parent at an odd one
-MayStand-fits : (p : ℕ) (o : Option (Option Node)) → MayStand p (option_map entry_value o) → FitsPlace p o
-MayStand-fits p None h = record { even = λ z. tt; odd = λ z. tt }
-MayStand-fits p (Some None) h = record { even = λ z. tt; odd = λ z. tt }
-MayStand-fits p (Some (Some (Leaf b))) h = record { even = λ z. tt; odd = λ z. z (eqb-true (p % 2) 0 h) }
-MayStand-fits p (Some (Some (Parent b))) h = record { even = λ z. let one : p % 2 ≡ 1 = eqb-true (p % 2) 1 h in absurd (omega arith); odd = λ z. tt }
-
--- a full tree of entries that may all stand at their places is an array of a tree
-array : (entries : List (Option Node)) (d : ℕ) → stand_from 0 (map entry_value entries) ≡ true → length entries + 1 ≡ 2 * leaves_at d → IsArrayOf entries d
-array entries d stand long =
-    IsArrayOf-fits entries entries d refl long
-    (λ p.
-    let at : MayStand p (slice_get (map entry_value entries) p) =
-    subst (λ k. MayStand k (slice_get (map entry_value entries) p)) (let e : 0 + p ≡ p = omega arith in e) (MayStand-at 0 (map entry_value entries) p stand) in
-    MayStand-fits p (slice_get entries p) (subst (λ o. MayStand p o) (slice_get-map entry_value entries p) at))
-
--- a full tree of at most 2,097,151 entries has at most 20 levels of parents
-low_full : (d n : ℕ) → n ≡ 2 ^ (d + 1) - 1 → n ≤ 2097151 → d ≤ 20
-low_full d n e le =
-    elim (cases_lt d 21) [
-      | inl lt ↦ omega arith
-      | inr ge ↦ let high : 2 ^ 22 ≤ 2 ^ (d + 1) = pow_mono {i = 22} {j = d + 1} (omega arith) in absurd (omega arith)
-    ]
-
--- an array whose entries fill up those that some bytes spell (RFC 9420, section 12.4.3.3) is the listing of a tree
-pub filled_listing : (nodes : List (Option NodeValue)) (bytes : List ℕ) (entries : List (Option Node))
-    → ratchet_tree nodes ≡ Some bytes → map entry_value entries ≡ filled nodes → IsListing (map entry_value entries)
-unfolding ratchet_tree
-filled_listing nodes bytes entries spelled fill =
-    let a = (allowed (is_placed nodes && ends_set nodes) (list (optional node) nodes) bytes spelled).0 in
-    let placed : is_placed nodes ≡ true = both-left (is_placed nodes) (ends_set nodes) a in
-    let stand : stand_from 0 nodes ≡ true = both-left (stand_from 0 nodes) _ placed in
-    let few : length nodes ≤ 2097151 = leb-true (length nodes) 2097151 (both-right (stand_from 0 nodes) _ placed) in
-    let full = filled-full nodes in
-    let small : length (filled nodes) ≤ 2097151 = filled-least nodes 20 few in
-    let low : full.0 ≤ 20 = low_full full.0 (length (filled nodes)) full.1 small in
-    let count : length entries ≡ length (filled nodes) = sym (length-map entries entry_value) ∙ ap length fill in
-    let some : 1 ≤ 2 ^ (full.0 + 1) = pow_mono {i = 0} {j = full.0 + 1} (omega arith) in
-    let twice : 2 ^ (full.0 + 1) ≡ 2 ^ full.0 * 2 = ap (λ (n : ℕ). 2 ^ n) (omega arith) ∙ pow-suc 2 full.0 in
-    let long : length entries + 1 ≡ 2 * leaves_at full.0 = omega (arith, count, full.1, some, twice, leaves_at-pow full.0) in
-    let ok = array entries full.0 (ap (stand_from 0) fill ∙ stand_from-more 0 nodes (full_size (length nodes) - length nodes) stand) long in
-    (ratchet_tree_in entries full.0 low, sym (listing-array entries full.0 ok))
 
 -- half of the listing's length is the number of leaves
 pub half_listing : (t : Tree) → leaf_count t ≡ (length (listing t) + 1) / 2
 half_listing t = omega (arith, length-listing t)
+
+-- as many leaves are set as the listing has
+pub members_listed : (t : Tree) → member_count t ≡ leaves_among (listing t)
+members_listed t = member_count-listing t

@@ -22,16 +22,26 @@ flag_rule name = record (new_rule name) { long = Some name; action = Some SetTru
 
 -- `show KIND FILE`
 abbrev pub show_app : App
-show_app = with_rule (with_rule (new_app (codes "show")) (word_rule (codes "KIND"))) (word_rule (codes "FILE"))
+show_app =
+    with_rule (with_rule
+    (new_app (codes "show"))
+    (word_rule (codes "KIND")))
+    (word_rule (codes "FILE"))
 
 -- `validate-tree --context FILE --tree FILE`, and one of `--trust` and `--receipts FILE`
 abbrev pub validate_tree_app : App
 validate_tree_app =
-    with_rule (with_rule (with_rule (with_rule (new_app (codes "validate-tree")) (needed_rule (codes "context"))) (needed_rule (codes "tree")))
-    (flag_rule (codes "trust"))) (file_rule (codes "receipts"))
+    with_rule (with_rule (with_rule (with_rule
+    (new_app (codes "validate-tree"))
+    (needed_rule (codes "context")))
+    (needed_rule (codes "tree")))
+    (flag_rule (codes "trust")))
+    (file_rule (codes "receipts"))
 
 -- the program: one of its subcommands has to be given
 abbrev pub mlscheck_app : App
 mlscheck_app =
-    with_subcommand (with_subcommand (on_top (λ s. record s { subcommand_required = true }) (new_app (codes "mlscheck"))) show_app.top)
+    with_subcommand (with_subcommand
+    (on_top (λ s. record s { subcommand_required = true }) (new_app (codes "mlscheck")))
+    show_app.top)
     validate_tree_app.top

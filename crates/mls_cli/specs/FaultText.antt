@@ -18,7 +18,7 @@ wire_kind_text kind.OddLength = codes "OddLength"
 wire_kind_text kind.Trailing = codes "Trailing"
 wire_kind_text kind.TooLong = codes "TooLong"
 
--- what is wrong, and the place at which the item begins
+-- what is wrong, and the offset at which the item begins
 abbrev pub wire_fault_text : WireFault → List ℕ
 wire_fault_text f = wire_kind_text f.kind ++ (codes " " ++ decimal f.at)
 

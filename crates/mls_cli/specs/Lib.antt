@@ -8,6 +8,5 @@ pub mod Show
 pub mod Status
 pub mod Texts
 pub mod TreeText
-pub mod Trees
 pub mod UnreadableReceipts
 pub mod ValidateTree

@@ -20,12 +20,14 @@ kind_text kind.Message = codes "message"
 
 -- the arguments KIND and FILE are these
 abbrev pub IsShow : List Row → ShowKind → Text → Type 0
-IsShow rows k file = (first_of (codes "KIND") rows ≡ Some (kind_text k)) × (first_of (codes "FILE") rows ≡ Some file)
+IsShow rows k file =
+    (first_of (codes "KIND") rows ≡ Some (kind_text k)) × (first_of (codes "FILE") rows ≡ Some file)
 
 -- exactly one of `--trust` and `--receipts` is given, and this is who judges signatures
 abbrev pub IsChecker : Option Text → Option Text → Checker → Type 0
 IsChecker trust receipts checker.Trust = (trust ≡ Some (codes "true")) × (receipts ≡ None)
-IsChecker trust receipts (checker.Receipts file) = (trust ≢ Some (codes "true")) × (receipts ≡ Some file)
+IsChecker trust receipts (checker.Receipts file) =
+    (trust ≢ Some (codes "true")) × (receipts ≡ Some file)
 
 -- the options of `validate-tree` are these
 abbrev pub IsValidateTree : List Row → Text → Text → Checker → Type 0
@@ -35,8 +37,11 @@ IsValidateTree rows context tree c =
 
 -- the order is what clap found: a subcommand's name, and the values of its arguments
 abbrev pub IsOrder : Option (Text × List Row) → Order → Type 0
-IsOrder found (order.Show k file) = (rows : List Row) × (found ≡ Some (codes "show", rows)) × IsShow rows k file
-IsOrder found (order.ValidateTree context tree c) = (rows : List Row) × (found ≡ Some (codes "validate-tree", rows)) × IsValidateTree rows context tree c
+IsOrder found (order.Show k file) =
+    (rows : List Row) × (found ≡ Some (codes "show", rows)) × IsShow rows k file
+IsOrder found (order.ValidateTree context tree c) =
+    (rows : List Row) × (found ≡ Some (codes "validate-tree", rows))
+    × IsValidateTree rows context tree c
 
 -- clap refuses none of the words, and what it finds in them is the order
 pub record IsOrderOf (words : List Text) (o : Order) : Type 0 where

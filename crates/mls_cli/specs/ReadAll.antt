@@ -1,10 +1,7 @@
 -- What is taken from a source that is read to its end.
 use Rattle.std.specs.Prelude.{ℕ, ◌+◌, ◌≤◌, List, length, Option}
 use Rattle.std.specs.Io.KnownBytes.{Consumes, IsAtEnd}
-
--- the most bytes that an input may have
-abbrev pub input_limit : ℕ
-input_limit = 268435456
+use Rattle.mls_wire.specs.Limits.{input_limit}
 
 -- the bytes were taken: all that there were, or one more than an input may have
 pub record ReadsAll (old new : Option (List ℕ)) (bytes : List ℕ) : Type 0 where

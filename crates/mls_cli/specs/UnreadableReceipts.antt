@@ -7,14 +7,16 @@ use Rattle.mls_check.specs.declared.receipts.ReceiptsFault.TheVariants as faults
 use Rattle.mls_cli.specs.declared.outcome.Verdict.{Verdict}
 use Rattle.mls_cli.specs.declared.outcome.Verdict.TheVariants.{No}
 
--- the line names the first line that holds no digest, by its number, or says that the file is too long; want of memory has no line
+-- the line names the first line that holds no digest, by its number, or says that the file is too long;
+-- want of memory has no line
 abbrev pub receipts_line : ReceiptsFault → List ℕ
 receipts_line (faults.BadLine line) = codes "receipts unreadable " ++ (decimal line ++ codes "\n")
 receipts_line faults.TooLong = codes "receipts unreadable TooLong\n"
 receipts_line faults.OutOfMemory = []
 
 -- the line of the fault was written whole, which says No; want of memory has none
-pub record TellsReceipts (fault : ReceiptsFault) (written0 written1 : Option (List ℕ)) (verdict : Verdict) : Type 0 where
+pub record TellsReceipts (fault : ReceiptsFault) (written0 written1 : Option (List ℕ))
+    (verdict : Verdict) : Type 0 where
   pub own : fault ≢ faults.OutOfMemory
   pub wrote : Appends written0 written1 (receipts_line fault)
   pub verdict_is : verdict ≡ No

@@ -1,13 +1,16 @@
--- The report `validate-tree`: one line, the first that applies.
-use Rattle.std.specs.Prelude.{ℕ, ◌≤◌, List, [], ◌++◌, length, codes, Option, Some, Ok, ◌≡◌, ◌≢◌, ◌⊎◌}
+-- The report `validate-tree`: one line, the first that applies. Numbers in parentheses are sections of
+-- RFC 9420.
+use Rattle.std.specs.Prelude.{ℕ, ◌≤◌, List, [], ◌++◌, length, codes, Option, Some, ◌≡◌, ◌≢◌, ◌⊎◌}
 use Rattle.std.specs.Fmt.{decimal}
 use Rattle.std.specs.Io.KnownBytes.{Appends}
 use Rattle.mls_wire.specs.Devices.{AppendsPrefix}
+use Rattle.mls_wire.specs.Limits.{input_limit}
 use Rattle.mls_nodes.specs.Layout.{group_context}
-use Rattle.mls_nodes.specs.Requirements.{FindsRequirements, extension_of}
+use Rattle.mls_nodes.specs.Requirements.{Requires, HasNoRequirements}
 use Rattle.mls_nodes.specs.declared.context.GroupContext.{GroupContext}
 use Rattle.mls_nodes.specs.declared.required_capabilities.RequiredCapabilities.{RequiredCapabilities}
 use Rattle.mls_tree.specs.RatchetTree.{RatchetTree}
+use Rattle.mls_tree.specs.Reading.{IsTreeOf, IsNoTree}
 use Rattle.mls_hash.specs.Suites.{IsSupported}
 use Rattle.mls_hash.specs.Hashing.{hash_of}
 use Rattle.mls_check.specs.Members.{Members, IsMemberFault}
@@ -17,13 +20,12 @@ use Rattle.mls_check.specs.declared.members.MemberFault.{MemberFault}
 use Rattle.mls_check.specs.declared.members.MemberFault.TheVariants as members
 use Rattle.mls_check.specs.declared.valid.TreeFault.{TreeFault}
 use Rattle.mls_check.specs.declared.valid.TreeFault.TheVariants as trees
-use Rattle.mls_cli.specs.ReadAll.{ReadsAll, input_limit}
+use Rattle.mls_cli.specs.ReadAll.{ReadsAll}
 use Rattle.mls_cli.specs.Texts.{IsOneLine, hex_text}
-use Rattle.mls_cli.specs.Trees.{IsTreeOf, IsNoTree}
 use Rattle.mls_cli.specs.declared.outcome.Verdict.{Verdict}
 use Rattle.mls_cli.specs.declared.outcome.Verdict.TheVariants.{Yes, No}
 
--- the group context is the one that the bytes of an input spell (RFC 9420, section 8.1)
+-- the group context is the one that the bytes of an input spell (8.1)
 pub record IsContext (bytes : List ℕ) (c : GroupContext) : Type 0 where
   pub spelled : group_context c ≡ Some bytes
   pub bounded : length bytes ≤ input_limit
@@ -31,14 +33,6 @@ pub record IsContext (bytes : List ℕ) (c : GroupContext) : Type 0 where
 -- the bytes of an input spell no group context
 abbrev pub IsNoContext : List ℕ → Type 0
 IsNoContext bytes = (c : GroupContext) → IsContext bytes c → ⊥
-
--- what the group requires of its members' clients (section 11.1)
-abbrev pub Requires : GroupContext → RequiredCapabilities → Type 0
-Requires c r = FindsRequirements (extension_of 3 c.extensions) (Ok r)
-
--- the group's requirements can't be read
-abbrev pub HasNoRequirements : GroupContext → Type 0
-HasNoRequirements c = (r : RequiredCapabilities) → Requires c r → ⊥
 
 -- a line that says No
 abbrev pub IsRefusal : List ℕ → List ℕ → Verdict → Type 0
@@ -51,7 +45,7 @@ pub record IsFaultLine (head text : List ℕ) (verdict : Verdict) : Type 0 where
   pub text_is : text ≡ head ++ (fault ++ codes "\n")
   pub verdict_is : verdict ≡ No
 
--- why a tree is not valid, by number and name, with the place (sections 7.8, 7.9.2 and 12.4.3.1)
+-- why a tree is not valid, by number and name, with the place (7.8, 7.9.2 and 12.4.3.1)
 abbrev pub tree_fault_text : TreeFault → List ℕ
 tree_fault_text trees.HashDiffers = codes "1 HashDiffers"
 tree_fault_text (trees.UnmergedUnsorted place) = codes "2 UnmergedUnsorted " ++ decimal place
@@ -60,53 +54,64 @@ tree_fault_text (trees.KeyRepeated place) = codes "4 KeyRepeated " ++ decimal pl
 tree_fault_text (trees.ParentHashInvalid place) = codes "5 ParentHashInvalid " ++ decimal place
 tree_fault_text trees.OutOfMemory = codes "OutOfMemory"
 
--- why the leaves are no members, by number and name, with the leaf (section 7.3)
+-- why the leaves are no members, by number and name, with the leaf (7.3)
 abbrev pub member_fault_text : MemberFault → List ℕ
 member_fault_text (members.ExtensionUnlisted leaf) = codes "1 ExtensionUnlisted " ++ decimal leaf
 member_fault_text (members.RequirementUnmet leaf) = codes "2 RequirementUnmet " ++ decimal leaf
-member_fault_text (members.CredentialUnsupported leaf) = codes "3 CredentialUnsupported " ++ decimal leaf
-member_fault_text (members.SignatureKeyRepeated leaf) = codes "4 SignatureKeyRepeated " ++ decimal leaf
+member_fault_text (members.CredentialUnsupported leaf) =
+    codes "3 CredentialUnsupported " ++ decimal leaf
+member_fault_text (members.SignatureKeyRepeated leaf) =
+    codes "4 SignatureKeyRepeated " ++ decimal leaf
 member_fault_text (members.LeafSignature leaf) = codes "5 LeafSignature " ++ decimal leaf
 member_fault_text members.OutOfMemory = codes "OutOfMemory"
 
 -- the leaves are members of the group, and the report tells the tree's hash, which is the context's
-pub record IsMembersReport (G : Meaning) (c : GroupContext) (r : RequiredCapabilities) (t : RatchetTree) (text : List ℕ) (verdict : Verdict) : Type 0 where
+pub record IsMembersReport (G : Meaning) (c : GroupContext) (r : RequiredCapabilities)
+    (t : RatchetTree) (text : List ℕ) (verdict : Verdict) : Type 0 where
   pub members : Members G c.cipher_suite c.group_id r t.tree
   pub text_is : text ≡ codes "valid " ++ (hex_text c.tree_hash ++ codes "\n")
   pub verdict_is : verdict ≡ Yes
 
 -- a rule of members fails, and the report says which one first, at which leaf
-pub record IsNoMembersReport (G : Meaning) (c : GroupContext) (r : RequiredCapabilities) (t : RatchetTree) (text : List ℕ) (verdict : Verdict) : Type 0 where
+pub record IsNoMembersReport (G : Meaning) (c : GroupContext) (r : RequiredCapabilities)
+    (t : RatchetTree) (text : List ℕ) (verdict : Verdict) : Type 0 where
   pub fault : MemberFault
   pub own : fault ≢ members.OutOfMemory
   pub fails : IsMemberFault G c.cipher_suite c.group_id r t.tree fault
-  pub refused : IsRefusal (codes "members refused " ++ (member_fault_text fault ++ codes "\n")) text verdict
+  pub refused : IsRefusal
+      (codes "members refused " ++ (member_fault_text fault ++ codes "\n")) text verdict
 
 -- a valid tree, whose leaves are judged as members
-pub record IsValidTreeReport (G : Meaning) (c : GroupContext) (r : RequiredCapabilities) (t : RatchetTree) (text : List ℕ) (verdict : Verdict) : Type 0 where
+pub record IsValidTreeReport (G : Meaning) (c : GroupContext) (r : RequiredCapabilities)
+    (t : RatchetTree) (text : List ℕ) (verdict : Verdict) : Type 0 where
   pub valid : Valid (hash_of c.cipher_suite) c.tree_hash t.tree
   pub report : IsMembersReport G c r t text verdict ⊎ IsNoMembersReport G c r t text verdict
 
 -- a tree that is not valid, and the report says what fails first, at which place
-pub record IsInvalidTreeReport (c : GroupContext) (t : RatchetTree) (text : List ℕ) (verdict : Verdict) : Type 0 where
+pub record IsInvalidTreeReport (c : GroupContext) (t : RatchetTree) (text : List ℕ)
+    (verdict : Verdict) : Type 0 where
   pub fault : TreeFault
   pub own : fault ≢ trees.OutOfMemory
   pub fails : IsFirstTreeFault (hash_of c.cipher_suite) c.tree_hash t.tree fault
-  pub refused : IsRefusal (codes "tree refused " ++ (tree_fault_text fault ++ codes "\n")) text verdict
+  pub refused : IsRefusal
+      (codes "tree refused " ++ (tree_fault_text fault ++ codes "\n")) text verdict
 
 -- the group's requirements are read, and the tree is judged
-pub record IsJudgedReport (G : Meaning) (c : GroupContext) (t : RatchetTree) (text : List ℕ) (verdict : Verdict) : Type 0 where
+pub record IsJudgedReport (G : Meaning) (c : GroupContext) (t : RatchetTree) (text : List ℕ)
+    (verdict : Verdict) : Type 0 where
   pub required : RequiredCapabilities
   pub requires : Requires c required
   pub report : IsValidTreeReport G c required t text verdict ⊎ IsInvalidTreeReport c t text verdict
 
 -- the group's requirements can't be read
-pub record IsNoRequirementsReport (c : GroupContext) (text : List ℕ) (verdict : Verdict) : Type 0 where
+pub record IsNoRequirementsReport (c : GroupContext) (text : List ℕ)
+    (verdict : Verdict) : Type 0 where
   pub no_requirements : HasNoRequirements c
   pub refused : IsRefusal (codes "context refused RequirementsUnreadable\n") text verdict
 
 -- the tree can be read
-pub record IsReadTreeReport (G : Meaning) (c : GroupContext) (tree_bytes text : List ℕ) (verdict : Verdict) : Type 0 where
+pub record IsReadTreeReport (G : Meaning) (c : GroupContext) (tree_bytes text : List ℕ)
+    (verdict : Verdict) : Type 0 where
   pub tree : RatchetTree
   pub is_tree : IsTreeOf tree_bytes tree
   pub report : IsNoRequirementsReport c text verdict ⊎ IsJudgedReport G c tree text verdict
@@ -117,27 +122,31 @@ pub record IsUnreadTreeReport (tree_bytes text : List ℕ) (verdict : Verdict) :
   pub unreadable : IsFaultLine (codes "tree unreadable ") text verdict
 
 -- a context of version 1 and of a suite that is followed
-pub record IsUsableReport (G : Meaning) (c : GroupContext) (tree_bytes text : List ℕ) (verdict : Verdict) : Type 0 where
+pub record IsUsableReport (G : Meaning) (c : GroupContext) (tree_bytes text : List ℕ)
+    (verdict : Verdict) : Type 0 where
   pub version : c.version ≡ 1
   pub supported : IsSupported c.cipher_suite
-  pub report : IsUnreadTreeReport tree_bytes text verdict ⊎ IsReadTreeReport G c tree_bytes text verdict
+  pub report : IsUnreadTreeReport tree_bytes text verdict
+      ⊎ IsReadTreeReport G c tree_bytes text verdict
 
--- a context of another version (section 6)
+-- a context of another version (6)
 pub record IsVersionReport (c : GroupContext) (text : List ℕ) (verdict : Verdict) : Type 0 where
   pub version : c.version ≢ 1
   pub refused : IsRefusal (codes "context refused UnsupportedVersion\n") text verdict
 
--- a context of a cipher suite that is not followed (section 17.1)
+-- a context of a cipher suite that is not followed (17.1)
 pub record IsSuiteReport (c : GroupContext) (text : List ℕ) (verdict : Verdict) : Type 0 where
   pub version : c.version ≡ 1
   pub unsupported : ¬ IsSupported c.cipher_suite
   pub refused : IsRefusal (codes "context refused UnsupportedSuite\n") text verdict
 
 -- the context can be read
-pub record IsContextReport (G : Meaning) (context_bytes tree_bytes text : List ℕ) (verdict : Verdict) : Type 0 where
+pub record IsContextReport (G : Meaning) (context_bytes tree_bytes text : List ℕ)
+    (verdict : Verdict) : Type 0 where
   pub context : GroupContext
   pub is_context : IsContext context_bytes context
-  pub report : IsVersionReport context text verdict ⊎ (IsSuiteReport context text verdict ⊎ IsUsableReport G context tree_bytes text verdict)
+  pub report : IsVersionReport context text verdict
+      ⊎ (IsSuiteReport context text verdict ⊎ IsUsableReport G context tree_bytes text verdict)
 
 -- the context can't be read
 pub record IsNoContextReport (context_bytes text : List ℕ) (verdict : Verdict) : Type 0 where
@@ -147,10 +156,13 @@ pub record IsNoContextReport (context_bytes text : List ℕ) (verdict : Verdict)
 -- the report of a context's bytes and a tree's, by what a checker of signatures means, and its verdict
 abbrev pub IsValidateTreeReport : Meaning → List ℕ → List ℕ → List ℕ → Verdict → Type 0
 IsValidateTreeReport G context_bytes tree_bytes text verdict =
-    IsNoContextReport context_bytes text verdict ⊎ IsContextReport G context_bytes tree_bytes text verdict
+    IsNoContextReport context_bytes text verdict
+    ⊎ IsContextReport G context_bytes tree_bytes text verdict
 
 -- both inputs were read to their ends, and the report of their bytes was written whole
-pub record ValidatesTree (G : Meaning) (context0 context1 tree0 tree1 written0 written1 : Option (List ℕ)) (verdict : Verdict) : Type 0 where
+pub record ValidatesTree (G : Meaning)
+    (context0 context1 tree0 tree1 written0 written1 : Option (List ℕ))
+    (verdict : Verdict) : Type 0 where
   pub context_bytes : List ℕ
   pub tree_bytes : List ℕ
   pub text : List ℕ
@@ -160,7 +172,8 @@ pub record ValidatesTree (G : Meaning) (context0 context1 tree0 tree1 written0 w
   pub wrote : Appends written0 written1 text
 
 -- both inputs were read to their ends, and a prefix of the report of their bytes was written
-pub record ValidatesTreePrefix (G : Meaning) (context0 context1 tree0 tree1 written0 written1 : Option (List ℕ)) : Type 0 where
+pub record ValidatesTreePrefix (G : Meaning)
+    (context0 context1 tree0 tree1 written0 written1 : Option (List ℕ)) : Type 0 where
   pub context_bytes : List ℕ
   pub tree_bytes : List ℕ
   pub text : List ℕ
@@ -171,6 +184,8 @@ pub record ValidatesTreePrefix (G : Meaning) (context0 context1 tree0 tree1 writ
   pub wrote : AppendsPrefix written0 written1 text
 
 -- nothing was written, or a prefix of the report of inputs that had ended
-abbrev pub ValidatesTreePart : Meaning → Option (List ℕ) → Option (List ℕ) → Option (List ℕ) → Option (List ℕ) → Option (List ℕ) → Option (List ℕ) → Type 0
+abbrev pub ValidatesTreePart : Meaning → Option (List ℕ) → Option (List ℕ) → Option (List ℕ)
+    → Option (List ℕ) → Option (List ℕ) → Option (List ℕ) → Type 0
 ValidatesTreePart G context0 context1 tree0 tree1 written0 written1 =
-    Appends written0 written1 [] ⊎ ValidatesTreePrefix G context0 context1 tree0 tree1 written0 written1
+    Appends written0 written1 []
+    ⊎ ValidatesTreePrefix G context0 context1 tree0 tree1 written0 written1

@@ -47,7 +47,8 @@ fn flag<'a>(alloc: Global, name: &'a str, help: &'a str) -> Arg<'a>
 fn with<'a>(command: Command<'a>, arg: Arg<'a>) -> Result<Command<'a>, AllocError>
     requires command_own { (fields_of command).has_globals ≡ false }
     requires arg_own { arg.global ≡ false }
-    ensures app { IfOk result (λ r. app_of r ≡ with_rule (app_of command.entry) (rule_of arg.entry)) }
+    ensures app { IfOk result
+        (λ r. app_of r ≡ with_rule (app_of command.entry) (rule_of arg.entry)) }
     ensures own { IfOk result (λ r. (fields_of r).has_globals ≡ false) }
 {
     command.arg(arg)

@@ -12,14 +12,9 @@ mod read;
 mod receipts;
 mod report;
 mod show;
-#[cfg(test)]
-mod tests;
 mod text;
 mod tree_text;
-mod trees;
 mod validate_tree;
-#[cfg(test)]
-mod validate_tree_tests;
 mod write;
 
 pub use file_name::FileName;

@@ -67,7 +67,8 @@ fn framed_line(alloc: Global, framed: &FramedContent) -> Result<String, AllocErr
 
 /// The line of a message that is not read, by the length of its body.
 fn unread_line(alloc: Global, wire_format: u16, body: &[u8]) -> Result<String, AllocError>
-    ensures { IfOk result (λ text. string_bytes text ≡ lines.unread_line wire_format (length body.now)) }
+    ensures { IfOk result
+        (λ text. string_bytes text ≡ lines.unread_line wire_format (length body.now)) }
 {
     let length = body.len();
     if wire_format == 2 {

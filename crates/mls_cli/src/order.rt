@@ -1,6 +1,6 @@
 //! What a command line asks for.
 
-ghost use Rattle.std.specs.Prelude.{◌≡◌, ◌≢◌, ◌↔◌, IsTrue, IfOk, IfErr, codes, Some, option_map, map, string_bytes};
+ghost use Rattle.std.specs.Prelude.{◌≡◌, ◌↔◌, IsTrue, IfOk, IfErr, codes, Some, option_map, map, string_bytes};
 ghost use Rattle.clap.specs.Values.{kind_of};
 ghost use Rattle.clap.specs.Words.{first_of, rows_of, found_of, subcommand_rows_of};
 ghost use Rattle.mls_cli.specs.Orders.{IsChecker, IsOrder, IsOrderOf, IsHelp, AsksForHelp, Refuses, kind_text};
@@ -117,7 +117,8 @@ fn value<'a>(matches: &ArgMatches<'a>, id: &str) -> Option<&'a str>
 /// The file that an argument names.
 fn file_of(alloc: Global, matches: &ArgMatches<'_>, id: &str) -> Result<FileName, OrderFault>
     ensures file { IfOk result (λ f. first_of id.now (rows_of (found_of matches.now)) ≡ Some f) }
-    ensures refused { IfErr result (Refuses (λ (f : FileName). first_of id.now (rows_of (found_of matches.now)) ≡ Some f)) }
+    ensures refused { IfErr result
+        (Refuses (λ (f : FileName). first_of id.now (rows_of (found_of matches.now)) ≡ Some f)) }
     ensures own { IfErr result (λ e. IsHelp e → ⊥) }
 {
     match value(matches, id) {
@@ -128,8 +129,11 @@ fn file_of(alloc: Global, matches: &ArgMatches<'_>, id: &str) -> Result<FileName
 
 /// The kind that `show` is given.
 fn show_kind(alloc: Global, matches: &ArgMatches<'_>) -> Result<ShowKind, OrderFault>
-    ensures kind { IfOk result (λ k. first_of (codes "KIND") (rows_of (found_of matches.now)) ≡ Some (kind_text k)) }
-    ensures refused { IfErr result (Refuses (λ k. first_of (codes "KIND") (rows_of (found_of matches.now)) ≡ Some (kind_text k))) }
+    ensures kind { IfOk result
+        (λ k. first_of (codes "KIND") (rows_of (found_of matches.now)) ≡ Some (kind_text k)) }
+    ensures refused { IfErr result
+        (Refuses (λ k. first_of (codes "KIND") (rows_of (found_of matches.now))
+        ≡ Some (kind_text k))) }
     ensures own { IfErr result (λ e. IsHelp e → ⊥) }
 {
     match value(matches, "KIND") {
@@ -143,7 +147,8 @@ fn show_kind(alloc: Global, matches: &ArgMatches<'_>) -> Result<ShowKind, OrderF
 /// The order of `show`.
 fn show_order(alloc: Global, matches: &ArgMatches<'_>) -> Result<Order, OrderFault>
     ensures order { IfOk result (IsOrder (Some (codes "show", rows_of (found_of matches.now)))) }
-    ensures refused { IfErr result (Refuses (IsOrder (Some (codes "show", rows_of (found_of matches.now))))) }
+    ensures refused { IfErr result
+        (Refuses (IsOrder (Some (codes "show", rows_of (found_of matches.now))))) }
     ensures own { IfErr result (λ e. IsHelp e → ⊥) }
 {
     let kind = show_kind(alloc, matches)?;
@@ -153,15 +158,20 @@ fn show_order(alloc: Global, matches: &ArgMatches<'_>) -> Result<Order, OrderFau
 
 /// Whether `--trust` is given.
 fn is_trusted(matches: &ArgMatches<'_>) -> bool
-    ensures { IsTrue result ↔ (first_of (codes "trust") (rows_of (found_of matches.now)) ≡ Some (codes "true")) }
+    ensures { IsTrue result
+        ↔ (first_of (codes "trust") (rows_of (found_of matches.now)) ≡ Some (codes "true")) }
 {
     value(matches, "trust") == Some("true")
 }
 
 /// Who judges signatures: exactly one of the two options is given.
 fn chosen_checker(alloc: Global, matches: &ArgMatches<'_>) -> Result<Checker, OrderFault>
-    ensures checker { IfOk result (IsChecker (first_of (codes "trust") (rows_of (found_of matches.now))) (first_of (codes "receipts") (rows_of (found_of matches.now)))) }
-    ensures refused { IfErr result (Refuses (IsChecker (first_of (codes "trust") (rows_of (found_of matches.now))) (first_of (codes "receipts") (rows_of (found_of matches.now))))) }
+    ensures checker { IfOk result
+        (IsChecker (first_of (codes "trust") (rows_of (found_of matches.now)))
+        (first_of (codes "receipts") (rows_of (found_of matches.now)))) }
+    ensures refused { IfErr result
+        (Refuses (IsChecker (first_of (codes "trust") (rows_of (found_of matches.now)))
+        (first_of (codes "receipts") (rows_of (found_of matches.now))))) }
     ensures own { IfErr result (λ e. IsHelp e → ⊥) }
 {
     match (is_trusted(matches), value(matches, "receipts")) {
@@ -173,8 +183,10 @@ fn chosen_checker(alloc: Global, matches: &ArgMatches<'_>) -> Result<Checker, Or
 
 /// The order of `validate-tree`.
 fn validate_tree_order(alloc: Global, matches: &ArgMatches<'_>) -> Result<Order, OrderFault>
-    ensures order { IfOk result (IsOrder (Some (codes "validate-tree", rows_of (found_of matches.now)))) }
-    ensures refused { IfErr result (Refuses (IsOrder (Some (codes "validate-tree", rows_of (found_of matches.now))))) }
+    ensures order { IfOk result
+        (IsOrder (Some (codes "validate-tree", rows_of (found_of matches.now)))) }
+    ensures refused { IfErr result
+        (Refuses (IsOrder (Some (codes "validate-tree", rows_of (found_of matches.now))))) }
     ensures own { IfErr result (λ e. IsHelp e → ⊥) }
 {
     let checker = chosen_checker(alloc, matches)?;

@@ -14,7 +14,8 @@ const PIECE: usize = 8192;
 /// Pulls one piece from the source.
 fn pull_piece<S: Source>(source: &mut S, piece: &mut [u8]) -> Result<usize, RunFault>
     ensures bound { IfOk result (λ n. n ≤ length piece.new) }
-    ensures bytes { IfOk result (λ n. Consumes (S.left source.old) (S.left source.new) (take n piece.new)) }
+    ensures bytes { IfOk result
+        (λ n. Consumes (S.left source.old) (S.left source.new) (take n piece.new)) }
     ensures end { IfOk result (λ n. n ≡ 0 → 0 < length piece.new → IsAtEnd (S.left source.new)) }
     ensures fault { IfErr result (λ e. (e ≡ RunFault.Read) × (S.is_failed source.new ≡ true)) }
     ensures stays { OnErr result (Keeps (S.left source.old) (S.left source.new)) }
@@ -27,14 +28,15 @@ fn pull_piece<S: Source>(source: &mut S, piece: &mut [u8]) -> Result<usize, RunF
     }
 }
 
-/// Reads all bytes of the source, or the first 268,435,457 where there are more: then the input is
+/// Reads all bytes of the source, or the first `MAX_INPUT + 1` where there are more: then the input is
 /// longer than any input may be.
 ///
 /// Where the source fails this is `Read`, and where the bytes can't be kept it is `Memory`; what was
 /// taken until then stays taken.
 pub fn read_all<S: Source>(alloc: Global, source: &mut S) -> Result<Vec<u8>, RunFault>
     requires { S.is_failed source.old ≡ false }
-    ensures all { IfOk result (λ bytes. ReadsAll (S.left source.old) (S.left source.new) bytes.items) }
+    ensures all { IfOk result
+        (λ bytes. ReadsAll (S.left source.old) (S.left source.new) bytes.items) }
     ensures part { OnErr result (ReadsSome (S.left source.old) (S.left source.new)) }
     ensures read { (result ≡ Err RunFault.Read) ↔ (S.is_failed source.new ≡ true) }
     ensures fault { IfErr result (λ e. e ≢ RunFault.Write) }

@@ -14,7 +14,9 @@ use std::alloc::Global;
 
 /// The line of a file of receipts that can't be read.
 fn receipts_line(alloc: Global, fault: ReceiptsFault) -> Result<String, RunFault>
-    ensures line { IfOk result (λ text. (fault ≢ ReceiptsFault.OutOfMemory) × (string_bytes text ≡ reports.receipts_line fault)) }
+    ensures line { IfOk result
+        (λ text. (fault ≢ ReceiptsFault.OutOfMemory)
+        × (string_bytes text ≡ reports.receipts_line fault)) }
     ensures memory { IfErr result (λ e. e ≡ RunFault.Memory) }
 {
     match fault {
@@ -36,8 +38,10 @@ pub fn run_unreadable_receipts<K: Sink>(
 ) -> Result<Verdict, RunFault>
     requires { K.is_failed out.old ≡ false }
     ensures told { IfOk result (TellsReceipts fault (K.written out.old) (K.written out.new)) }
-    ensures part { OnErr result (AppendsPrefix (K.written out.old) (K.written out.new) (reports.receipts_line fault)) }
-    ensures memory { result ≡ Err RunFault.Memory → Appends (K.written out.old) (K.written out.new) [] }
+    ensures part { OnErr result
+        (AppendsPrefix (K.written out.old) (K.written out.new) (reports.receipts_line fault)) }
+    ensures memory { result ≡ Err RunFault.Memory
+        → Appends (K.written out.old) (K.written out.new) [] }
     ensures write { (result ≡ Err RunFault.Write) ↔ (K.is_failed out.new ≡ true) }
     ensures fault { IfErr result (λ e. e ≢ RunFault.Read) }
 {

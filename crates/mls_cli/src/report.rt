@@ -10,13 +10,16 @@ use std::alloc::{AllocError, Global};
 /// A report that is made, and not written yet.
 #[derive(Drop)]
 pub(crate) struct Report {
+    /// All of its lines.
     pub(crate) text: String,
+    /// What it says of its inputs.
     pub(crate) verdict: Verdict,
 }
 
 /// The line of an input that can't be read.
 fn unreadable_line(alloc: Global, fault: &str) -> Result<String, AllocError>
-    ensures { IfOk result (λ text. string_bytes text ≡ codes "unreadable " ++ (fault.now ++ codes "\n")) }
+    ensures { IfOk result
+        (λ text. string_bytes text ≡ codes "unreadable " ++ (fault.now ++ codes "\n")) }
 {
     format!(in alloc; "unreadable {fault}\n")
 }

@@ -11,28 +11,29 @@ use crate::outcome::{RunFault, Verdict};
 use crate::read::read_all;
 use crate::report::{Report, unreadable_report};
 use crate::tree_text::tree_text;
-use crate::trees::read_tree;
 use crate::write::write_text;
 use mls_msgs::{Message, decode_message};
 use mls_nodes::NodeFault;
+use mls_tree::PublicTree;
 use mls_wire::{CodecFault, Sink, Source};
 use std::alloc::{AllocError, Global};
 
 /// What an input is to be shown as.
 #[derive(Clone, Copy, Debug, PartialEq, Eq)]
 pub enum ShowKind {
-    /// A ratchet tree (RFC 9420, section 12.4.3.3).
+    /// A ratchet tree (RFC 9420, 12.4.3.3).
     Tree,
-    /// A group info (RFC 9420, section 12.4.3), as a message.
+    /// A group info (RFC 9420, 12.4.3), as a message.
     Info,
-    /// A message (RFC 9420, section 6).
+    /// A message (RFC 9420, 6).
     Message,
 }
 
 /// The report of bytes that spell no tree.
 #[tactic(auto, using(crate::proofs::Lines::node_fault_is_one_line))]
 fn no_tree_report(alloc: Global, fault: NodeFault) -> Result<Report, RunFault>
-    ensures report { IfOk result (λ r. (fault ≢ NodeFault.OutOfMemory) × IsUnreadable (string_bytes r.text) r.verdict) }
+    ensures report { IfOk result
+        (λ r. (fault ≢ NodeFault.OutOfMemory) × IsUnreadable (string_bytes r.text) r.verdict) }
     ensures memory { IfErr result (λ e. e ≡ RunFault.Memory) }
 {
     match fault {
@@ -46,10 +47,11 @@ fn no_tree_report(alloc: Global, fault: NodeFault) -> Result<Report, RunFault>
 
 /// The report of the bytes of a tree.
 fn tree_report(alloc: Global, bytes: &[u8]) -> Result<Report, RunFault>
-    ensures report { IfOk result (λ r. IsShowReport ShowKind.Tree bytes.now (string_bytes r.text) r.verdict) }
+    ensures report { IfOk result
+        (λ r. IsShowReport ShowKind.Tree bytes.now (string_bytes r.text) r.verdict) }
     ensures memory { IfErr result (λ e. e ≡ RunFault.Memory) }
 {
-    match read_tree(alloc, bytes) {
+    match PublicTree::decode(alloc, bytes) {
         Ok(tree) => Ok(Report {
             text: tree_text(alloc, &tree)?,
             verdict: Verdict::Yes,
@@ -61,7 +63,8 @@ fn tree_report(alloc: Global, bytes: &[u8]) -> Result<Report, RunFault>
 /// The report of bytes that spell no message.
 #[tactic(auto, using(crate::proofs::Lines::wire_fault_is_one_line))]
 fn no_message_report(alloc: Global, fault: CodecFault) -> Result<Report, RunFault>
-    ensures report { IfOk result (λ r. (fault ≢ CodecFault.OutOfMemory) × IsUnreadable (string_bytes r.text) r.verdict) }
+    ensures report { IfOk result
+        (λ r. (fault ≢ CodecFault.OutOfMemory) × IsUnreadable (string_bytes r.text) r.verdict) }
     ensures memory { IfErr result (λ e. e ≡ RunFault.Memory) }
 {
     match fault {
@@ -91,7 +94,8 @@ fn read_info_report(alloc: Global, message: &Message) -> Result<Report, AllocErr
 
 /// The report of the bytes of a group info.
 fn info_report(alloc: Global, bytes: &[u8]) -> Result<Report, RunFault>
-    ensures report { IfOk result (λ r. IsShowReport ShowKind.Info bytes.now (string_bytes r.text) r.verdict) }
+    ensures report { IfOk result
+        (λ r. IsShowReport ShowKind.Info bytes.now (string_bytes r.text) r.verdict) }
     ensures memory { IfErr result (λ e. e ≡ RunFault.Memory) }
 {
     match decode_message(alloc, bytes) {
@@ -106,7 +110,8 @@ fn info_report(alloc: Global, bytes: &[u8]) -> Result<Report, RunFault>
 
 /// The report of the bytes of a message.
 fn message_report(alloc: Global, bytes: &[u8]) -> Result<Report, RunFault>
-    ensures report { IfOk result (λ r. IsShowReport ShowKind.Message bytes.now (string_bytes r.text) r.verdict) }
+    ensures report { IfOk result
+        (λ r. IsShowReport ShowKind.Message bytes.now (string_bytes r.text) r.verdict) }
     ensures memory { IfErr result (λ e. e ≡ RunFault.Memory) }
 {
     match decode_message(alloc, bytes) {
@@ -124,7 +129,8 @@ fn message_report(alloc: Global, bytes: &[u8]) -> Result<Report, RunFault>
 
 /// The report of an input's bytes.
 fn show_report(alloc: Global, kind: ShowKind, bytes: &[u8]) -> Result<Report, RunFault>
-    ensures report { IfOk result (λ r. IsShowReport kind bytes.now (string_bytes r.text) r.verdict) }
+    ensures report { IfOk result
+        (λ r. IsShowReport kind bytes.now (string_bytes r.text) r.verdict) }
     ensures memory { IfErr result (λ e. e ≡ RunFault.Memory) }
 {
     match kind {
@@ -136,8 +142,8 @@ fn show_report(alloc: Global, kind: ShowKind, bytes: &[u8]) -> Result<Report, Ru
 
 /// Reads the input to its end, and then writes what it holds, `Yes`: for a tree a line for each node of
 /// the full tree and one with the counts of leaves and members; for a group info nine lines; for a
-/// message one. For an input that is none of its kind, or longer than 268,435,456 bytes, it writes one
-/// line that begins with `unreadable`, `No`.
+/// message one. For an input that is none of its kind, or longer than [`mls_wire::MAX_INPUT`], it writes
+/// one line that begins with `unreadable`, `No`.
 ///
 /// `Read` comes where the input fails, and `Write` where the output does; then a prefix of the report
 /// may be written already. Want of memory comes before anything is written.
@@ -149,9 +155,13 @@ pub fn run_show<S: Source, K: Sink>(
 ) -> Result<Verdict, RunFault>
     requires input { S.is_failed input.old ≡ false }
     requires out { K.is_failed out.old ≡ false }
-    ensures shown { IfOk result (Shows kind (S.left input.old) (S.left input.new) (K.written out.old) (K.written out.new)) }
-    ensures part { OnErr result (ShowsPart kind (S.left input.old) (S.left input.new) (K.written out.old) (K.written out.new)) }
-    ensures memory { result ≡ Err RunFault.Memory → Appends (K.written out.old) (K.written out.new) [] }
+    ensures shown { IfOk result
+        (Shows kind (S.left input.old) (S.left input.new) (K.written out.old) (K.written out.new)) }
+    ensures part { OnErr result
+        (ShowsPart kind (S.left input.old) (S.left input.new) (K.written out.old)
+        (K.written out.new)) }
+    ensures memory { result ≡ Err RunFault.Memory
+        → Appends (K.written out.old) (K.written out.new) [] }
     ensures read { (result ≡ Err RunFault.Read) ↔ (S.is_failed input.new ≡ true) }
     ensures write { (result ≡ Err RunFault.Write) ↔ (K.is_failed out.new ≡ true) }
 {

@@ -1,9 +1,9 @@
 //! The lines of `show tree`.
 
-ghost use Rattle.std.specs.Prelude.{◌≡◌, ◌++◌, ◌+◌, ◌/◌, length, List, ℕ, Option, IfOk, map, codes, string_bytes};
+ghost use Rattle.std.specs.Prelude.{◌≡◌, ◌++◌, ◌+◌, ◌/◌, length, IfOk, map, codes, string_bytes};
 ghost use Rattle.std.specs.Fmt.{decimal};
 ghost use Rattle.mls_nodes.specs.Value.{entry_value};
-ghost use Rattle.mls_tree.specs.Tree.{listing};
+ghost use Rattle.mls_tree.specs.Tree.{leaves_among, listing};
 ghost use Rattle.mls_cli.specs.TreeText as lines;
 
 use crate::text::{hex_of, numbers_of};
@@ -13,7 +13,10 @@ use std::alloc::{AllocError, Global};
 
 /// A lifetime in seconds since 1970.
 fn lifetime_text(alloc: Global, lifetime: Lifetime) -> Result<String, AllocError>
-    ensures { IfOk result (λ text. string_bytes text ≡ codes "key_package " ++ (decimal lifetime.not_before ++ (codes " " ++ decimal lifetime.not_after))) }
+    ensures { IfOk result
+        (λ text. string_bytes text
+        ≡ codes "key_package "
+        ++ (decimal lifetime.not_before ++ (codes " " ++ decimal lifetime.not_after))) }
 {
     let Lifetime {
         not_before,
@@ -59,7 +62,8 @@ fn parent_line(alloc: Global, place: usize, parent: &ParentNode) -> Result<Strin
 
 /// The line of the node at a place.
 fn node_line(alloc: Global, place: usize, node: &Option<Node>) -> Result<String, AllocError>
-    ensures { IfOk result (λ text. string_bytes text ≡ lines.node_line place (entry_value node.now)) }
+    ensures { IfOk result
+        (λ text. string_bytes text ≡ lines.node_line place (entry_value node.now)) }
 {
     match node {
         None => format!(in alloc; "{place} blank\n"),
@@ -70,7 +74,8 @@ fn node_line(alloc: Global, place: usize, node: &Option<Node>) -> Result<String,
 
 /// The lines of all nodes.
 fn node_lines(alloc: Global, nodes: &[Option<Node>]) -> Result<String, AllocError>
-    ensures { IfOk result (λ text. string_bytes text ≡ lines.node_lines 0 (map entry_value nodes.now)) }
+    ensures { IfOk result
+        (λ text. string_bytes text ≡ lines.node_lines 0 (map entry_value nodes.now)) }
 {
     let mut text = String::new(alloc);
     for (place, node) in nodes.iter().enumerate() {
@@ -81,16 +86,11 @@ fn node_lines(alloc: Global, nodes: &[Option<Node>]) -> Result<String, AllocErro
 }
 
 /// How many leaves are set.
-fn member_count(nodes: &[Option<Node>]) -> usize
-    ensures { result ≡ lines.member_count (map entry_value nodes.now) }
+#[tactic(auto, using(crate::proofs::Listings::members_listed))]
+fn member_count(tree: &PublicTree) -> u32
+    ensures { result ≡ leaves_among (listing tree.now.tree) }
 {
-    let mut members = 0;
-    for node in nodes {
-        if let Some(Node::Leaf(_)) = node {
-            members += 1;
-        }
-    }
-    members
+    tree.member_count()
 }
 
 /// How many leaves there are, blank ones among them.
@@ -107,7 +107,7 @@ pub(crate) fn tree_text(alloc: Global, tree: &PublicTree) -> Result<String, Allo
 {
     let mut text = node_lines(alloc, tree.nodes())?;
     let leaves = leaf_count(tree);
-    let members = member_count(tree.nodes());
+    let members = member_count(tree);
     let counts = format!(in alloc; "leaves {leaves} members {members}\n")?;
     text.push_str(counts.as_str())?;
     Ok(text)

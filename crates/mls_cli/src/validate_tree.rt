@@ -11,7 +11,6 @@ use crate::outcome::{RunFault, Verdict};
 use crate::read::read_all;
 use crate::report::Report;
 use crate::text::hex_of;
-use crate::trees::read_tree;
 use crate::write::write_text;
 use mls_check::{MemberFault, SignatureCheck, TreeFault, validate_members, validate_tree};
 use mls_hash::Suite;
@@ -64,7 +63,10 @@ fn member_fault_text(alloc: Global, fault: MemberFault) -> Result<String, AllocE
 
 /// The report of a tree that is refused.
 fn tree_refusal(alloc: Global, fault: TreeFault) -> Result<Report, RunFault>
-    ensures report { IfOk result (λ r. (fault ≢ TreeFault.OutOfMemory) × IsRefusal (codes "tree refused " ++ (reports.tree_fault_text fault ++ codes "\n")) (string_bytes r.text) r.verdict) }
+    ensures report { IfOk result
+        (λ r. (fault ≢ TreeFault.OutOfMemory)
+        × IsRefusal (codes "tree refused " ++ (reports.tree_fault_text fault ++ codes "\n"))
+        (string_bytes r.text) r.verdict) }
     ensures memory { IfErr result (λ e. e ≡ RunFault.Memory) }
 {
     if fault == TreeFault::OutOfMemory {
@@ -77,7 +79,10 @@ fn tree_refusal(alloc: Global, fault: TreeFault) -> Result<Report, RunFault>
 
 /// The report of members that are refused.
 fn member_refusal(alloc: Global, fault: MemberFault) -> Result<Report, RunFault>
-    ensures report { IfOk result (λ r. (fault ≢ MemberFault.OutOfMemory) × IsRefusal (codes "members refused " ++ (reports.member_fault_text fault ++ codes "\n")) (string_bytes r.text) r.verdict) }
+    ensures report { IfOk result
+        (λ r. (fault ≢ MemberFault.OutOfMemory)
+        × IsRefusal (codes "members refused " ++ (reports.member_fault_text fault ++ codes "\n"))
+        (string_bytes r.text) r.verdict) }
     ensures memory { IfErr result (λ e. e ≡ RunFault.Memory) }
 {
     if fault == MemberFault::OutOfMemory {
@@ -90,7 +95,9 @@ fn member_refusal(alloc: Global, fault: MemberFault) -> Result<Report, RunFault>
 
 /// The line of an input that can't be read.
 fn unreadable_line(alloc: Global, input: &str, fault: &str) -> Result<String, AllocError>
-    ensures { IfOk result (λ text. string_bytes text ≡ input.now ++ (codes " unreadable " ++ (fault.now ++ codes "\n"))) }
+    ensures { IfOk result
+        (λ text. string_bytes text
+        ≡ input.now ++ (codes " unreadable " ++ (fault.now ++ codes "\n"))) }
 {
     format!(in alloc; "{input} unreadable {fault}\n")
 }
@@ -98,7 +105,9 @@ fn unreadable_line(alloc: Global, input: &str, fault: &str) -> Result<String, Al
 /// The report of a context that can't be read.
 #[tactic(auto, using(crate::proofs::Lines::wire_fault_is_one_line))]
 fn no_context_report(alloc: Global, fault: CodecFault) -> Result<Report, RunFault>
-    ensures report { IfOk result (λ r. (fault ≢ CodecFault.OutOfMemory) × IsFaultLine (codes "context unreadable ") (string_bytes r.text) r.verdict) }
+    ensures report { IfOk result
+        (λ r. (fault ≢ CodecFault.OutOfMemory)
+        × IsFaultLine (codes "context unreadable ") (string_bytes r.text) r.verdict) }
     ensures memory { IfErr result (λ e. e ≡ RunFault.Memory) }
 {
     match fault {
@@ -116,7 +125,9 @@ fn no_context_report(alloc: Global, fault: CodecFault) -> Result<Report, RunFaul
 /// The report of a tree that can't be read.
 #[tactic(auto, using(crate::proofs::Lines::node_fault_is_one_line))]
 fn no_tree_report(alloc: Global, fault: NodeFault) -> Result<Report, RunFault>
-    ensures report { IfOk result (λ r. (fault ≢ NodeFault.OutOfMemory) × IsFaultLine (codes "tree unreadable ") (string_bytes r.text) r.verdict) }
+    ensures report { IfOk result
+        (λ r. (fault ≢ NodeFault.OutOfMemory)
+        × IsFaultLine (codes "tree unreadable ") (string_bytes r.text) r.verdict) }
     ensures memory { IfErr result (λ e. e ≡ RunFault.Memory) }
 {
     match fault {
@@ -133,7 +144,9 @@ fn no_tree_report(alloc: Global, fault: NodeFault) -> Result<Report, RunFault>
 
 /// The report of a tree and members that are all in order: the tree's hash, which is the context's.
 fn valid_report(alloc: Global, context: &GroupContext) -> Result<Report, AllocError>
-    ensures text { IfOk result (λ r. string_bytes r.text ≡ codes "valid " ++ (hex_text context.now.tree_hash ++ codes "\n")) }
+    ensures text { IfOk result
+        (λ r. string_bytes r.text
+        ≡ codes "valid " ++ (hex_text context.now.tree_hash ++ codes "\n")) }
     ensures verdict { IfOk result (λ r. r.verdict ≡ Verdict.Yes) }
 {
     let hash = hex_of(alloc, context.tree_hash.as_slice())?;
@@ -151,7 +164,11 @@ fn members_report(
     tree: &PublicTree,
     checker: &dyn SignatureCheck,
 ) -> Result<Report, RunFault>
-    ensures report { IfOk result (λ r. IsMembersReport (meaning checker.now) context.now required.now tree.now (string_bytes r.text) r.verdict ⊎ IsNoMembersReport (meaning checker.now) context.now required.now tree.now (string_bytes r.text) r.verdict) }
+    ensures report { IfOk result
+        (λ r. IsMembersReport (meaning checker.now) context.now required.now tree.now
+        (string_bytes r.text) r.verdict
+        ⊎ IsNoMembersReport (meaning checker.now) context.now required.now tree.now
+        (string_bytes r.text) r.verdict) }
     ensures memory { IfErr result (λ e. e ≡ RunFault.Memory) }
 {
     let suite = context.cipher_suite;
@@ -171,7 +188,10 @@ fn judged_report(
     checker: &dyn SignatureCheck,
 ) -> Result<Report, RunFault>
     requires { suite ≡ context.now.cipher_suite }
-    ensures report { IfOk result (λ r. IsValidTreeReport (meaning checker.now) context.now required.now tree.now (string_bytes r.text) r.verdict ⊎ IsInvalidTreeReport context.now tree.now (string_bytes r.text) r.verdict) }
+    ensures report { IfOk result
+        (λ r. IsValidTreeReport (meaning checker.now) context.now required.now tree.now
+        (string_bytes r.text) r.verdict
+        ⊎ IsInvalidTreeReport context.now tree.now (string_bytes r.text) r.verdict) }
     ensures memory { IfErr result (λ e. e ≡ RunFault.Memory) }
 {
     match validate_tree(alloc, suite, context, tree) {
@@ -189,7 +209,10 @@ fn required_report(
     checker: &dyn SignatureCheck,
 ) -> Result<Report, RunFault>
     requires { suite ≡ context.now.cipher_suite }
-    ensures report { IfOk result (λ r. IsNoRequirementsReport context.now (string_bytes r.text) r.verdict ⊎ IsJudgedReport (meaning checker.now) context.now tree.now (string_bytes r.text) r.verdict) }
+    ensures report { IfOk result
+        (λ r. IsNoRequirementsReport context.now (string_bytes r.text) r.verdict
+        ⊎ IsJudgedReport (meaning checker.now) context.now tree.now
+        (string_bytes r.text) r.verdict) }
     ensures memory { IfErr result (λ e. e ≡ RunFault.Memory) }
 {
     match requirements(alloc, context) {
@@ -210,10 +233,13 @@ fn usable_report(
     checker: &dyn SignatureCheck,
 ) -> Result<Report, RunFault>
     requires { suite ≡ context.now.cipher_suite }
-    ensures report { IfOk result (λ r. IsUnreadTreeReport tree_bytes.now (string_bytes r.text) r.verdict ⊎ IsReadTreeReport (meaning checker.now) context.now tree_bytes.now (string_bytes r.text) r.verdict) }
+    ensures report { IfOk result
+        (λ r. IsUnreadTreeReport tree_bytes.now (string_bytes r.text) r.verdict
+        ⊎ IsReadTreeReport (meaning checker.now) context.now tree_bytes.now
+        (string_bytes r.text) r.verdict) }
     ensures memory { IfErr result (λ e. e ≡ RunFault.Memory) }
 {
-    match read_tree(alloc, tree_bytes) {
+    match PublicTree::decode(alloc, tree_bytes) {
         Ok(tree) => required_report(alloc, suite, context, &tree, checker),
         Err(fault) => no_tree_report(alloc, fault),
     }
@@ -226,7 +252,11 @@ fn context_report(
     tree_bytes: &[u8],
     checker: &dyn SignatureCheck,
 ) -> Result<Report, RunFault>
-    ensures report { IfOk result (λ r. IsVersionReport context.now (string_bytes r.text) r.verdict ⊎ (IsSuiteReport context.now (string_bytes r.text) r.verdict ⊎ IsUsableReport (meaning checker.now) context.now tree_bytes.now (string_bytes r.text) r.verdict)) }
+    ensures report { IfOk result
+        (λ r. IsVersionReport context.now (string_bytes r.text) r.verdict
+        ⊎ (IsSuiteReport context.now (string_bytes r.text) r.verdict
+        ⊎ IsUsableReport (meaning checker.now) context.now tree_bytes.now
+        (string_bytes r.text) r.verdict)) }
     ensures memory { IfErr result (λ e. e ≡ RunFault.Memory) }
 {
     if context.version != 1 {
@@ -245,7 +275,9 @@ fn validate_tree_report(
     tree_bytes: &[u8],
     checker: &dyn SignatureCheck,
 ) -> Result<Report, RunFault>
-    ensures report { IfOk result (λ r. IsValidateTreeReport (meaning checker.now) context_bytes.now tree_bytes.now (string_bytes r.text) r.verdict) }
+    ensures report { IfOk result
+        (λ r. IsValidateTreeReport (meaning checker.now) context_bytes.now tree_bytes.now
+        (string_bytes r.text) r.verdict) }
     ensures memory { IfErr result (λ e. e ≡ RunFault.Memory) }
 {
     match decode_context(alloc, context_bytes) {
@@ -272,10 +304,16 @@ pub fn run_validate_tree<C: Source, T: Source, K: Sink>(
     requires context { C.is_failed context.old ≡ false }
     requires tree { T.is_failed tree.old ≡ false }
     requires out { K.is_failed out.old ≡ false }
-    ensures validated { IfOk result (ValidatesTree (meaning checker.now) (C.left context.old) (C.left context.new) (T.left tree.old) (T.left tree.new) (K.written out.old) (K.written out.new)) }
-    ensures part { OnErr result (ValidatesTreePart (meaning checker.now) (C.left context.old) (C.left context.new) (T.left tree.old) (T.left tree.new) (K.written out.old) (K.written out.new)) }
-    ensures memory { result ≡ Err RunFault.Memory → Appends (K.written out.old) (K.written out.new) [] }
-    ensures read { (result ≡ Err RunFault.Read) ↔ ((C.is_failed context.new ≡ true) ⊎ (T.is_failed tree.new ≡ true)) }
+    ensures validated { IfOk result
+        (ValidatesTree (meaning checker.now) (C.left context.old) (C.left context.new)
+        (T.left tree.old) (T.left tree.new) (K.written out.old) (K.written out.new)) }
+    ensures part { OnErr result
+        (ValidatesTreePart (meaning checker.now) (C.left context.old) (C.left context.new)
+        (T.left tree.old) (T.left tree.new) (K.written out.old) (K.written out.new)) }
+    ensures memory { result ≡ Err RunFault.Memory
+        → Appends (K.written out.old) (K.written out.new) [] }
+    ensures read { (result ≡ Err RunFault.Read)
+        ↔ ((C.is_failed context.new ≡ true) ⊎ (T.is_failed tree.new ≡ true)) }
     ensures write { (result ≡ Err RunFault.Write) ↔ (K.is_failed out.new ≡ true) }
 {
     let context_bytes = read_all(alloc, context)?;

@@ -1,9 +1,0 @@
-use Rattle.std.proofs.Common.{◌≡◌, true, false}
-use Rattle.mls_cli.proofs.Listings.{filled_listing}
-use Rattle.mls_cli.proofs.trees.read_tree.Goals as goal
-
-pub unreachable-requires : goal.unreachable-requires
-unreachable-requires c =
-    let d = c.in_ok-entries.ensures.spelled in
-    let bad : false ≡ true = c.in-Err.ensures.ok.1 (filled_listing d.0 c.args.bytes.now c.in_ok-entries.entries.items d.1 d.3) in
-    cc

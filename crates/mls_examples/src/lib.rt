@@ -1,0 +1,45 @@
+//! Worked examples of the libraries below: a crate of tests alone, with nothing public and no program.
+//!
+//! The libraries have no tests of their own, since a crate with tests is proved twice. A proof covers what contracts
+//! say, and these tests cover what they don't: that the contracts mean what RFC 9420 means, by values that were worked
+//! out from its text; that each call succeeds where there is memory; and the printed texts.
+//!
+//! - A file stands for each subject, and `support.rt` has what they share: bytes as hexadecimal text, the example
+//!   group's leaves and messages, and trees made of them.
+//! - Expected values are worked out by hand from the RFC's text, and are never what the libraries answered.
+#![tactic(auto)]
+
+#[cfg(test)]
+mod contexts;
+#[cfg(test)]
+mod hashes;
+#[cfg(test)]
+mod leaves;
+#[cfg(test)]
+mod members;
+#[cfg(test)]
+mod messages;
+#[cfg(test)]
+mod orders;
+#[cfg(test)]
+mod paths;
+#[cfg(test)]
+mod proposal_lists;
+#[cfg(test)]
+mod proposals;
+#[cfg(test)]
+mod ratchet_trees;
+#[cfg(test)]
+mod show;
+#[cfg(test)]
+mod single_checks;
+#[cfg(test)]
+mod support;
+#[cfg(test)]
+mod tree;
+#[cfg(test)]
+mod tree_reports;
+#[cfg(test)]
+mod validator;
+#[cfg(test)]
+mod wire;

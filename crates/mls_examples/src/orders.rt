@@ -1,0 +1,114 @@
+//! The orders of the command line, what is said where there is none, and how a run ends.
+
+use crate::support::expect_text;
+use mls_cli::{Checker, Order, OrderFault, RunFault, ShowKind, Verdict, order_of, status_of};
+use std::alloc::Global;
+use std::test::Fail;
+
+/// The order of the words of a line, behind the program's name.
+fn order(alloc: Global, line: &str) -> Result<Result<Order, OrderFault>, Fail> {
+    let mut words = Vec::new(alloc);
+    words.push(String::from_str(alloc, "mlscheck")?)?;
+    for word in line.split_whitespace() {
+        words.push(String::from_str(alloc, word)?)?;
+    }
+    Ok(order_of(alloc, words.as_slice()))
+}
+
+/// An order in words: what is to be done, the files, and the file of receipts, `-` where there is none.
+fn words_of(alloc: Global, order: &Order) -> Result<String, Fail> {
+    match order {
+        Order::Show { kind, file } => {
+            let kind = match kind {
+                ShowKind::Tree => "tree",
+                ShowKind::Info => "info",
+                ShowKind::Message => "message",
+            };
+            Ok(format!(in alloc; "show {kind} {}", file.as_str())?)
+        }
+        Order::ValidateTree {
+            context,
+            tree,
+            checker,
+        } => {
+            let receipts = match checker {
+                Checker::Trust => "-",
+                Checker::Receipts(file) => file.as_str(),
+            };
+            Ok(format!(in alloc;
+                "validate {} {} {receipts}",
+                context.as_str(),
+                tree.as_str()
+            )?)
+        }
+    }
+}
+
+/// The order of a line in words, or the status and the text of its fault.
+fn answer(alloc: Global, line: &str) -> Result<String, Fail> {
+    match order(alloc, line)? {
+        Ok(order) => words_of(alloc, &order),
+        Err(fault) => Ok(format!(in alloc; "{} {fault}", fault.status())?),
+    }
+}
+
+#[test]
+fn orders_are_read(rt: HostRuntime) -> Result<(), Fail> {
+    for (line, wanted) in [
+        ("show tree x", "show tree x"),
+        ("show info x", "show info x"),
+        ("show message x", "show message x"),
+        (
+            "validate-tree --context a --tree b --trust",
+            "validate a b -",
+        ),
+        (
+            "validate-tree --receipts c --tree b --context a",
+            "validate a b c",
+        ),
+        (
+            "validate-tree --context a --tree b",
+            "2 usage: give one of --trust and --receipts\n",
+        ),
+        (
+            "validate-tree --context a --tree b --trust --receipts c",
+            "2 usage: give one of --trust and --receipts\n",
+        ),
+        ("show nope x", "2 usage: KIND is tree, info or message\n"),
+    ] {
+        expect_text(&rt, answer(rt.alloc(), line)?, wanted);
+    }
+    Ok(())
+}
+
+/// Help, with status 0, and the usage texts that name what is missing or not known.
+#[test]
+fn usage_and_help(rt: HostRuntime) -> Result<(), Fail> {
+    for (line, status, part) in [
+        ("--help", "0", "Usage: mlscheck"),
+        ("show --help", "0", "Usage: mlscheck"),
+        ("help show", "0", "Usage: mlscheck"),
+        ("validate-tree --tree b --trust", "2", "--context"),
+        ("nope", "2", "unrecognized subcommand 'nope'"),
+        ("show tree", "2", "<FILE>"),
+        ("show tree x y", "2", "unexpected argument 'y'"),
+        ("", "2", "requires a subcommand"),
+    ] {
+        let text = answer(rt.alloc(), line)?;
+        assert!(rt; text.starts_with(status) && text.contains(part));
+    }
+    Ok(())
+}
+
+#[test]
+fn runs_have_statuses(rt: HostRuntime) {
+    for (outcome, status) in [
+        (Ok(Verdict::Yes), 0),
+        (Ok(Verdict::No), 1),
+        (Err(RunFault::Read), 3),
+        (Err(RunFault::Write), 3),
+        (Err(RunFault::Memory), 3),
+    ] {
+        assert!(rt; status_of(&outcome) == status);
+    }
+}

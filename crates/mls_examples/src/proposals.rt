@@ -1,0 +1,187 @@
+//! Single proposals (RFC 9420, 12.1.1 to 12.1.3), and the proposals that a commit refers to (12.4).
+
+use crate::support::{CONTEXT, bytes, expect_text, text, tree_of};
+use mls_apply::{ApplyFault, KnownProposal, check_proposal, find_known, resolve_list};
+use mls_check::{Listed, SignatureCheck, Trusting};
+use mls_hash::Suite;
+use mls_msgs::{Commit, decode_proposal, encode_proposal};
+use mls_nodes::decode_context;
+use mls_tree::HashValue;
+use mls_wire::read_all_of;
+use std::alloc::Global;
+use std::process::Abort;
+use std::test::Fail;
+
+/// The Add of member 1 by its key package.
+const ADD: &str =
+    "00010001000101f101a101b1000101410200010200010000020001010000000000000000ffffffffff\
+    ffffff0001c10001c9";
+
+/// The Update of member 0.
+const UPDATE: &str = "0002019001b0000101400200010200010000020001020001c0";
+
+/// Why a proposal is refused in the group of member 0 alone.
+fn fault_of(
+    rt: &impl Abort,
+    alloc: Global,
+    sender: u32,
+    proposal: &str,
+    checker: &dyn SignatureCheck,
+) -> Result<Option<ApplyFault>, Fail> {
+    let proposal = decode_proposal(alloc, bytes(alloc, proposal)?.as_slice())?;
+    let tree = tree_of(alloc, 1, &[0])?;
+    let context = decode_context(alloc, bytes(alloc, CONTEXT)?.as_slice())?;
+    let suite = Suite::from_u16(context.cipher_suite)?;
+    assert!(rt; suite.number() == context.cipher_suite);
+    Ok(check_proposal(alloc, suite, &context, &tree, sender, &proposal, checker).err())
+}
+
+/// Adds of another suite, another version, with the leaf's key as init key, and of a leaf from an update; Updates that keep
+/// their key, and of a leaf from a key package; Removes; and proposals of a member that isn't there.
+#[test]
+fn proposals_by_themselves(rt: HostRuntime) -> Result<(), Fail> {
+    for (sender, proposal, fault) in [
+        (0, ADD, None),
+        (
+            0,
+            "00010001000201f101a101b1000101410200010200010000020001010000000000000000ffffffffffffffff\
+                0001c10001c9",
+            Some(ApplyFault::AddInvalid),
+        ),
+        (
+            0,
+            "00010002000101f101a101b1000101410200010200010000020001010000000000000000ffffffffffffffff\
+                0001c10001c9",
+            Some(ApplyFault::AddInvalid),
+        ),
+        (
+            0,
+            "00010001000101a101a101b1000101410200010200010000020001010000000000000000ffffffffffffffff\
+                0001c10001c9",
+            Some(ApplyFault::AddInvalid),
+        ),
+        (
+            0,
+            "00010001000101f1019101b1000101410200010200010000020001020001c10001c9",
+            Some(ApplyFault::AddInvalid),
+        ),
+        (0, UPDATE, None),
+        (
+            0,
+            "000201a001b0000101400200010200010000020001020001c0",
+            Some(ApplyFault::UpdateInvalid),
+        ),
+        (
+            0,
+            "0002019001b0000101400200010200010000020001010000000000000000ffffffffffffffff0001c0",
+            Some(ApplyFault::UpdateInvalid),
+        ),
+        (0, "000300000000", None),
+        (0, "000300000005", Some(ApplyFault::RemoveInvalid)),
+        (1, "000300000005", Some(ApplyFault::NoSuchLeaf)),
+        (1, UPDATE, Some(ApplyFault::NoSuchLeaf)),
+    ] {
+        assert!(rt; fault_of(&rt, rt.alloc(), sender, proposal, &Trusting)? == fault);
+    }
+    Ok(())
+}
+
+/// The receipts are of member 1's leaf and key package, and of member 0's present leaf; of its update as leaf 0 of the group
+/// `47`, of the group `48`, and as leaf 1.
+#[test]
+fn proposals_by_their_signatures(rt: HostRuntime) -> Result<(), Fail> {
+    let joining = "e60b8f3c0a227ffc5e084212caecf78d7e2b38f53addb2f55387762615d6872a\n\
+        47c350198b187b8db3ec7885f5f8de0799a2ebdd4d7c97610b7b94d2af36410e";
+    let leaf_alone = "e60b8f3c0a227ffc5e084212caecf78d7e2b38f53addb2f55387762615d6872a";
+    let package_alone = "47c350198b187b8db3ec7885f5f8de0799a2ebdd4d7c97610b7b94d2af36410e";
+    let present = "bd6f8df8dcd01852d1c0a3e53b39dcb3bb86dda462a62c39b9582a3907fe4c36";
+    let updating = "32c0f611e9d0536460cc37f1f3a34a2331af2f57572b1426afcc67bbbfb9892d";
+    let elsewhere = "efa9372593f02a2f6384d2c33a33287fefbad5633d516d1bbb16c6301223644e\n\
+        231abf32ce218d510979ac0055de134a54cc3203ad42e5b38c3add7fa3b84d08";
+    for (receipts, proposal, fault) in [
+        (joining, ADD, None),
+        (leaf_alone, ADD, Some(ApplyFault::AddInvalid)),
+        (package_alone, ADD, Some(ApplyFault::AddInvalid)),
+        (updating, UPDATE, None),
+        (present, UPDATE, Some(ApplyFault::UpdateInvalid)),
+        (elsewhere, UPDATE, Some(ApplyFault::UpdateInvalid)),
+    ] {
+        let listed = Listed::read(rt.alloc(), receipts.as_bytes())?;
+        let found = fault_of(&rt, rt.alloc(), 0, proposal, &listed);
+        drop(listed);
+        assert!(rt; found? == fault);
+    }
+    Ok(())
+}
+
+/// A proposal that was sent before, by its reference.
+fn known(
+    alloc: Global,
+    reference: &[u8],
+    sender: u32,
+    proposal: &str,
+) -> Result<KnownProposal, Fail> {
+    let reference = HashValue::new(reference).ok_or("too long")?;
+    let proposal = decode_proposal(alloc, bytes(alloc, proposal)?.as_slice())?;
+    Ok(KnownProposal {
+        reference,
+        sender,
+        proposal,
+    })
+}
+
+/// Two members' proposals of one reference, and another one.
+fn known_proposals(alloc: Global) -> Result<Vec<KnownProposal>, Fail> {
+    let mut all = Vec::new(alloc);
+    all.push(known(alloc, &[0xaa, 0xbb], 2, "000300000004")?)?;
+    all.push(known(alloc, &[0xaa, 0xbb], 3, "000300000005")?)?;
+    all.push(known(alloc, &[0xcc], 1, "000300000006")?)?;
+    Ok(all)
+}
+
+/// What the list of a commit of member 7 stands for: each proposal with its sender, or why there is none.
+fn resolved(alloc: Global, commit: &str) -> Result<String, Fail> {
+    let commit: Commit = read_all_of(alloc, bytes(alloc, commit)?.as_slice())?;
+    let known = known_proposals(alloc)?;
+    let items = match resolve_list(alloc, &commit, 7, known.as_slice()) {
+        Ok(items) => items,
+        Err(fault) => return Ok(format!(in alloc; "{fault}")?),
+    };
+    let mut out = String::new(alloc);
+    for item in items.as_slice() {
+        let proposal = text(alloc, encode_proposal(alloc, &item.proposal)?.as_slice())?;
+        let sender = item.sender;
+        write!(out, "{sender} {proposal} ")?;
+    }
+    Ok(out)
+}
+
+#[test]
+fn a_list_of_references(rt: HostRuntime) -> Result<(), Fail> {
+    let alloc = rt.alloc();
+    for (commit, items) in [
+        ("0000", ""),
+        (
+            "0e010003000000010202aabb0201cc00",
+            "7 000300000001 2 000300000004 1 000300000006 ",
+        ),
+        ("060201cc0201dd00", "a proposal is not known"),
+    ] {
+        expect_text(&rt, resolved(alloc, commit)?, items);
+    }
+    Ok(())
+}
+
+#[test]
+fn the_first_of_a_reference(rt: HostRuntime) -> Result<(), Fail> {
+    let known = known_proposals(rt.alloc())?;
+    for (reference, sender) in [
+        ([0xcc].as_slice(), Some(1)),
+        (&[0xaa, 0xbb], Some(2)),
+        (&[0xaa], None),
+    ] {
+        let found = find_known(known.as_slice(), reference).map(|found| found.sender);
+        assert!(rt; found == sender);
+    }
+    Ok(())
+}

@@ -1,0 +1,67 @@
+//! The checks and the hash that stand alone beside the validators: a leaf's signature, the keys of a tree, and the parent
+//! hash of one parent node (RFC 9420, 7.2, 7.3 and 7.9).
+
+use crate::support::{
+    LEAF, LOWER, RECEIPT, RIGHT_HASH, SECOND_HASH, SECOND_LEAF, UPPER, bytes, expect_text,
+    leaf_node, parent_node, put_leaf, put_parent, suite, text, tree_of,
+};
+use mls_check::{Listed, SignatureCheck, Trusting, has_distinct_keys, is_leaf_signed};
+use mls_hash::parent_hash_of;
+use mls_tree::HashValue;
+use mls_wire::Opaque;
+use std::alloc::Global;
+use std::test::Fail;
+
+/// The parent hash of a parent with a key of one byte, over a half of this tree hash.
+fn hash_of(alloc: Global, key: u8, above: &str, half: &str) -> Result<String, Fail> {
+    let parent = parent_node(alloc, key, above, &[])?;
+    let half = bytes(alloc, half)?;
+    let half = HashValue::new(half.as_slice()).ok_or("at most 64 bytes")?;
+    text(
+        alloc,
+        parent_hash_of(alloc, suite()?, &parent, &half)?.as_slice(),
+    )
+}
+
+#[test]
+fn parent_hashes_of_nodes(rt: HostRuntime) -> Result<(), Fail> {
+    for (key, above, half, hash) in [
+        (0xd3, "", RIGHT_HASH, UPPER),
+        (0xd1, UPPER, SECOND_HASH, LOWER),
+    ] {
+        expect_text(&rt, hash_of(rt.alloc(), key, above, half)?, hash);
+    }
+    Ok(())
+}
+
+/// Whether a leaf's signature is good as that of leaf 0.
+fn is_signed(alloc: Global, leaf: &str, checker: &dyn SignatureCheck) -> Result<bool, Fail> {
+    let leaf = leaf_node(alloc, leaf)?;
+    let group_id = Opaque::copy(alloc, &[0x47])?;
+    Ok(is_leaf_signed(alloc, 1, &group_id, 0, &leaf, checker)?)
+}
+
+#[test]
+fn signatures_of_leaves(rt: HostRuntime) -> Result<(), Fail> {
+    let listed = Listed::read(rt.alloc(), RECEIPT.as_bytes())?;
+    assert!(rt; is_signed(rt.alloc(), LEAF, &listed)?);
+    assert!(rt; !is_signed(rt.alloc(), SECOND_LEAF, &listed)?);
+    assert!(rt; is_signed(rt.alloc(), SECOND_LEAF, &Trusting)?);
+    Ok(())
+}
+
+/// Two leaves with keys `a0` and `a1`; then a parent with another key, a parent with a leaf's key, and two equal leaves.
+#[test]
+fn keys_of_a_tree(rt: HostRuntime) -> Result<(), Fail> {
+    let alloc = rt.alloc();
+    let mut tree = tree_of(alloc, 2, &[0, 1])?;
+    assert!(rt; has_distinct_keys(alloc, &tree)?);
+    for (key, are_distinct) in [(0xd1, true), (0xa1, false)] {
+        put_parent(alloc, &mut tree, 1, key, "", &[])?;
+        assert!(rt; has_distinct_keys(alloc, &tree)? == are_distinct);
+    }
+    put_parent(alloc, &mut tree, 1, 0xd1, "", &[])?;
+    put_leaf(alloc, &mut tree, 1, LEAF)?;
+    assert!(rt; !has_distinct_keys(alloc, &tree)?);
+    Ok(())
+}

@@ -6,7 +6,8 @@ use Rattle.mls_nodes.specs.declared.parent.ParentNode.{ParentNode}
 use Rattle.mls_nodes.specs.Value.{NodeValue, leaf_node, parent_node}
 use Rattle.mls_tree.specs.Tree.{Tree, leaf, branch, leaf_count, Subtree, subtree_at, node_at}
 
--- the unmerged list of a set parent is strictly increasing (this is asked on top of the standard)
+-- the unmerged list of a set parent is strictly increasing: the standard wants it sorted (7.1); that no index is repeated is this
+-- library's own rule
 abbrev pub HasSortedList : Option NodeValue → Type 0
 HasSortedList None = Unit {0}
 HasSortedList (Some (leaf_node _)) = Unit {0}

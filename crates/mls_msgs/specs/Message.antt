@@ -1,7 +1,12 @@
 -- Messages as they are sent, and how they are spelled (RFC 9420, 6).
-use Rattle.std.specs.Prelude.{ℕ, List, Bool, ◌||◌, Option, Some, None, nat_eq, if◌then◌else◌}
+use Rattle.std.specs.Prelude.{◌≡◌, ℕ, List, Bool, true, false, ◌||◌, Option, Some, None, Result, Ok, Err, nat_eq, if◌then◌else◌}
 use Rattle.std.specs.Int.{w16}
 use Rattle.mls_wire.specs.Spelling.{◌⊕◌, number}
+use Rattle.mls_wire.specs.Writing.{after, Added}
+use Rattle.mls_wire.specs.declared.fault.WireFault.{WireFault}
+use Rattle.mls_wire.specs.declared.fault.WireFaultKind.TheVariants as kinds
+use Rattle.mls_wire.specs.declared.fault.CodecFault.{CodecFault}
+use Rattle.mls_wire.specs.declared.fault.CodecFault.TheVariants as faults
 use Rattle.mls_msgs.specs.Layout.{key_package, group_info}
 use Rattle.mls_msgs.specs.PublicMessage.{public_message}
 use Rattle.mls_msgs.specs.declared.message.Message.{Message}
@@ -21,3 +26,27 @@ message (messages.Public m) = header 1 ⊕ public_message m
 message (messages.Unread wire_format body) = if is_unread wire_format then header wire_format ⊕ Some body else None
 message (messages.GroupInfo g) = header 4 ⊕ group_info g
 message (messages.KeyPackage k) = header 5 ⊕ key_package k
+
+-- the fault of a wire format that is not of a message which is kept unread; it begins at offset 2
+abbrev pub bad_format : ℕ → WireFault
+bad_format wire_format = record { kind = kinds.BadTag wire_format; at = 2 }
+
+-- the fault of a message that has no spelling: BadTag of an unread one of another wire format, else TooLong
+abbrev pub IsMessageFault : Message → WireFault → Type 0
+IsMessageFault (messages.Public m) f = f.kind ≡ kinds.TooLong
+IsMessageFault (messages.Unread wire_format body) f =
+    (is_unread wire_format ≡ true → f.kind ≡ kinds.TooLong) × (is_unread wire_format ≡ false → f ≡ bad_format wire_format)
+IsMessageFault (messages.GroupInfo g) f = f.kind ≡ kinds.TooLong
+IsMessageFault (messages.KeyPackage k) f = f.kind ≡ kinds.TooLong
+
+-- What a call that adds a message to a draft answered: a fault only where it has no spelling.
+abbrev pub PutsMessage : {A : Type 0} → Message → Added → Added → Result A CodecFault → Type 0
+PutsMessage m old new (Ok x) = (after old.more (message m) ≡ Some new.more) × (new.kept ≡ old.kept)
+PutsMessage m old new (Err (faults.Wire f)) = (message m ≡ None) × (new.kept ≡ old.kept) × IsMessageFault m f
+PutsMessage m old new (Err faults.OutOfMemory) = new.kept ≡ old.kept
+
+-- The bytes that a call made of a message; a fault only where it has no spelling.
+abbrev pub MakesMessage : Message → Result (List ℕ) CodecFault → Type 0
+MakesMessage m (Ok bytes) = message m ≡ Some bytes
+MakesMessage m (Err (faults.Wire f)) = (message m ≡ None) × IsMessageFault m f
+MakesMessage m (Err faults.OutOfMemory) = Unit {0}

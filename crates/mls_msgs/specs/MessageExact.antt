@@ -7,6 +7,7 @@ use Rattle.std.proofs.lemmas.List.{append-nil, nil_from_length}
 use Rattle.mls_wire.specs.declared.fault.CodecFault.{CodecFault}
 use Rattle.mls_wire.specs.declared.fault.CodecFault.TheVariants as faults
 use Rattle.mls_wire.specs.Input.{Input, at}
+use Rattle.mls_wire.specs.Limits.{input_limit}
 use Rattle.mls_wire.specs.Spelling.{◌⊕◌, number, vector, list}
 use Rattle.mls_wire.specs.Parsing.{◌>>=◌, Finds, number_at, vector_at, list_at}
 use Rattle.mls_wire.specs.Exact.{Exact, IsExact, IsLong, Any, field_then, made_of, chosen, never}
@@ -172,7 +173,7 @@ message_again x bytes e =
     ap message_at p.4 ∙ rw (h, b) refl
 
 -- what is found in an input within the limit
-pub message_decoded : (bytes : List ℕ) (r : Result Message CodecFault) → length bytes ≤ 268435456 → Finds (message_at bytes) r → DecodesInput message bytes r
+pub message_decoded : (bytes : List ℕ) (r : Result Message CodecFault) → length bytes ≤ input_limit → Finds (message_at bytes) r → DecodesInput message bytes r
 message_decoded bytes (Ok x) le h = (message_takes bytes x h, le)
 message_decoded bytes (Err (faults.Wire f)) le h = λ x e _. let bad = sym h ∙ message_again x bytes e in absurd cc
-message_decoded bytes (Err faults.OutOfMemory) le h = tt
+message_decoded bytes (Err faults.OutOfMemory) le h = le

@@ -1,10 +1,12 @@
 //! Messages as they are sent.
 
-ghost use Rattle.std.specs.Prelude.{◌≡◌, ◌≤◌, ℕ, List, length, Some};
+ghost use Rattle.std.specs.Prelude.{◌≡◌, ◌≤◌, ◌<◌, ℕ, List, length, Some, Err};
+ghost use Rattle.mls_wire.specs.Faults.{too_long_at};
+ghost use Rattle.mls_wire.specs.Limits.{input_limit};
 ghost use Rattle.mls_wire.specs.Reading.{DecodesInput, seen};
 ghost use Rattle.mls_wire.specs.Parsing.{Finds, GivesOrFull};
-ghost use Rattle.mls_wire.specs.Writing.{Makes, Puts};
-ghost use Rattle.mls_msgs.specs.Message.{header, is_unread, message};
+ghost use Rattle.mls_wire.specs.Writing.{Puts};
+ghost use Rattle.mls_msgs.specs.Message.{header, is_unread, message, PutsMessage, MakesMessage};
 ghost use Rattle.mls_msgs.specs.MessageParsing.{header_at, rest_at, message_at};
 
 use crate::fault::bad_tag;
@@ -104,6 +106,7 @@ fn message_of(alloc: Global, bytes: &[u8]) -> Result<Message, CodecFault>
 #[tactic(auto, using(crate::specs::MessageExact::message_decoded))]
 pub fn decode_message(alloc: Global, bytes: &[u8]) -> Result<Message, CodecFault>
     ensures decoded { DecodesInput message bytes.now result }
+    ensures long { input_limit < length bytes.now → result ≡ Err (CodecFault.Wire (too_long_at 0)) }
 {
     if bytes.len() > MAX_INPUT {
         return Err(CodecFault::Wire(WireFault {
@@ -125,7 +128,7 @@ fn put_header(draft: &mut Draft, wire_format: u16) -> Result<(), CodecFault>
 
 #[tactic(auto, using(mls_wire::specs::Written::written), unfolding(crate::specs::Message::message))]
 fn put_message(alloc: Global, value: &Message, draft: &mut Draft) -> Result<(), CodecFault>
-    ensures { Puts (message value.now) draft.old draft.new result }
+    ensures { PutsMessage value.now draft.old draft.new result }
 {
     match value {
         Message::Public(public) => {
@@ -154,7 +157,7 @@ fn put_message(alloc: Global, value: &Message, draft: &mut Draft) -> Result<(), 
 /// `TooLong` where one of its vectors is over the limit.
 #[tactic(auto, using(crate::proofs::PartLemmas::drafted))]
 pub fn encode_message(alloc: Global, value: &Message) -> Result<Vec<u8>, CodecFault>
-    ensures encoded { Makes (message value.now) (seen (λ bytes. bytes.items) result) }
+    ensures encoded { MakesMessage value.now (seen (λ bytes. bytes.items) result) }
 {
     let mut draft = Draft::new(alloc);
     put_message(alloc, value, &mut draft)?;

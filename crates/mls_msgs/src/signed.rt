@@ -73,7 +73,7 @@ fn put_confirmed_input(
 
 /// What a message's signature covers (RFC 9420, 6.1: FramedContentTBS): the version, the wire format and the framed
 /// content, and then the group context exactly where one is handed in. By the standard that is for a member and for a
-/// new member's commit. Refused for another cause than memory only where there is no such spelling.
+/// new member's commit. `TooLong` only where there is no such spelling.
 #[tactic(auto, using(crate::proofs::PartLemmas::drafted))]
 pub fn content_tbs(
     alloc: Global,
@@ -89,8 +89,8 @@ pub fn content_tbs(
     Ok(draft.finish())
 }
 
-/// What a key package's signature covers (RFC 9420, 10: KeyPackageTBS): all fields before it. Refused for
-/// another cause than memory only where they have no spelling.
+/// What a key package's signature covers (RFC 9420, 10: KeyPackageTBS): all fields before it. `TooLong` only
+/// where they have no spelling.
 #[tactic(auto, using(crate::proofs::PartLemmas::drafted))]
 pub fn package_tbs(alloc: Global, key_package: &KeyPackage) -> Result<Vec<u8>, CodecFault>
     ensures made { Makes (package_tbs key_package.now) (seen (λ bytes. bytes.items) result) }
@@ -100,8 +100,8 @@ pub fn package_tbs(alloc: Global, key_package: &KeyPackage) -> Result<Vec<u8>, C
     Ok(draft.finish())
 }
 
-/// What a group info's signature covers (RFC 9420, 12.4.3: GroupInfoTBS): all fields before it. Refused for
-/// another cause than memory only where they have no spelling.
+/// What a group info's signature covers (RFC 9420, 12.4.3: GroupInfoTBS): all fields before it. `TooLong` only
+/// where they have no spelling.
 #[tactic(auto, using(crate::proofs::PartLemmas::drafted))]
 pub fn info_tbs(alloc: Global, info: &GroupInfo) -> Result<Vec<u8>, CodecFault>
     ensures made { Makes (info_tbs info.now) (seen (λ bytes. bytes.items) result) }
@@ -112,7 +112,7 @@ pub fn info_tbs(alloc: Global, info: &GroupInfo) -> Result<Vec<u8>, CodecFault>
 }
 
 /// What of a commit goes into the confirmed transcript hash (RFC 9420, 8.2: ConfirmedTranscriptHashInput): the
-/// wire format, the framed content and its signature. Refused for another cause than memory only where they have no
+/// wire format, the framed content and its signature. `TooLong` only where they have no
 /// spelling.
 #[tactic(auto, using(crate::proofs::PartLemmas::drafted))]
 pub fn confirmed_input(alloc: Global, auth: &Authenticated) -> Result<Vec<u8>, CodecFault>

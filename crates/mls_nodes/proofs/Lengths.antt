@@ -14,8 +14,10 @@ use Rattle.mls_nodes.specs.declared.leaf_source.Lifetime.{Lifetime}
 use Rattle.mls_nodes.specs.declared.capabilities.Capabilities.{Capabilities}
 use Rattle.mls_nodes.specs.declared.leaf.LeafNode.{LeafNode}
 use Rattle.mls_nodes.specs.declared.parent.ParentNode.{ParentNode}
+use Rattle.mls_nodes.specs.declared.context.GroupContext.{GroupContext}
 use Rattle.mls_nodes.specs.Extension.{extension}
-use Rattle.mls_nodes.specs.Layout.{credential, codes, capabilities, lifetime, source, leaf, unmerged, parent}
+use Rattle.mls_nodes.specs.Layout.{credential, codes, capabilities, lifetime, source, leaf, unsigned_leaf, unmerged, parent, group_context}
+use Rattle.mls_nodes.specs.Signed.{leaf_place, leaf_tbs}
 
 -- a text has a length
 abbrev pub HasLength : Option (List ℕ) → ℕ → Type 0
@@ -104,6 +106,46 @@ pub parent_has : (x : ParentNode) (a b c n : ℕ)
     → HasLength (vector x.encryption_key) a → HasLength (vector x.parent_hash) b → HasLength (unmerged x.unmerged) c → n ≡ a + b + c → HasLength (parent x) n
 unfolding parent
 parent_has x a b c n pa pb pc s = after_each _ _ a (b + c) n pa (after_each _ _ b c _ pb pc refl) (omega arith)
+
+pub context_has : (x : GroupContext) (a b c d n : ℕ)
+    → x.version < 2 ^ 16 → x.cipher_suite < 2 ^ 16 → x.epoch < 2 ^ 64
+    → HasLength (vector x.group_id) a → HasLength (vector x.tree_hash) b → HasLength (vector x.confirmed) c → HasLength (list extension x.extensions) d
+    → n ≡ 12 + a + b + c + d → HasLength (group_context x) n
+unfolding group_context
+context_has x a b c d n v u t pa pb pc pd s =
+    after_each _ _ 2 (2 + (a + (8 + (b + (c + d))))) n (number_w16 x.version v)
+    (after_each _ _ 2 (a + (8 + (b + (c + d)))) _ (number_w16 x.cipher_suite u)
+    (after_each _ _ a (8 + (b + (c + d))) _ pa
+    (after_each _ _ 8 (b + (c + d)) _ (number_w64 x.epoch t) (after_each _ _ b (c + d) _ pb (after_each _ _ c d _ pc pd refl) refl) refl) refl) refl)
+    (omega arith)
+
+-- what ties a leaf to its place
+pub place_free : (l : Lifetime) (group_id : List ℕ) (i : ℕ) → HasLength (leaf_place (KeyPackage l) group_id i) 0
+unfolding leaf_place
+place_free l group_id i = refl
+
+place_number : (group_id : List ℕ) (i n : ℕ) → i < 2 ^ 32 → HasLength (vector group_id) n → HasLength (vector group_id ⊕ number w32 i) (n + 4)
+place_number group_id i n lt e = after_each (vector group_id) (number w32 i) n 4 (n + 4) e (number_w32 i lt) refl
+
+pub place_of_update : (group_id : List ℕ) (i n : ℕ) → i < 2 ^ 32 → HasLength (vector group_id) n → HasLength (leaf_place Update group_id i) (n + 4)
+unfolding leaf_place
+place_of_update group_id i n lt e = place_number group_id i n lt e
+
+pub place_of_commit : (hash group_id : List ℕ) (i n : ℕ) → i < 2 ^ 32 → HasLength (vector group_id) n → HasLength (leaf_place (Commit hash) group_id i) (n + 4)
+unfolding leaf_place
+place_of_commit hash group_id i n lt e = place_number group_id i n lt e
+
+pub tbs_has : (x : LeafNode) (group_id : List ℕ) (i a b c d e f g n : ℕ)
+    → HasLength (vector x.encryption_key) a → HasLength (vector x.signature_key) b → HasLength (credential x.credential) c → HasLength (capabilities x.capabilities) d
+    → HasLength (source x.source) e → HasLength (list extension x.extensions) f → HasLength (leaf_place x.source group_id i) g
+    → n ≡ a + b + c + d + e + f + g → HasLength (leaf_tbs x group_id i) n
+unfolding leaf_tbs unsigned_leaf
+tbs_has x group_id i a b c d e f g n pa pb pc pd pe pf pg s =
+    after_each _ _ (a + (b + (c + (d + (e + f))))) g n
+    (after_each _ _ a (b + (c + (d + (e + f)))) _ pa
+    (after_each _ _ b (c + (d + (e + f))) _ pb (after_each _ _ c (d + (e + f)) _ pc (after_each _ _ d (e + f) _ pd (after_each _ _ e f _ pe pf refl) refl) refl) refl) refl)
+    pg
+    (omega arith)
 
 pub prefix_1 : (n : ℕ) → n < 64 → HasLength (length_form n) 1
 prefix_1 n lt = ap (option_map length) (form_1 n lt)

@@ -11,6 +11,8 @@ use Rattle.mls_wire.specs.declared.fault.CodecFault.TheVariants as codec
 use Rattle.mls_wire.specs.Spelling.{list, optional}
 use Rattle.mls_wire.specs.Reading.{seen}
 use Rattle.mls_wire.specs.Writing.{Makes}
+use Rattle.mls_wire.specs.declared.fault.WireFault.{WireFault}
+use Rattle.mls_wire.specs.declared.fault.WireFaultKind.TheVariants as kinds
 use Rattle.mls_nodes.specs.Faults.{node_fault, EncodesTree}
 use Rattle.mls_wire.specs.Parsing.{list_at, optional_at}
 use Rattle.mls_wire.specs.Steps.{allowed}
@@ -109,7 +111,7 @@ misjudged nodes.EmptyTree ns some h = absurd h
 misjudged nodes.LastBlank ns some h = absurd h
 
 pub unwritten : (e : CodecFault) (ns : List (Option NodeValue)) → ns ≢ [] → Makes (list (optional node) ns) (Err e) → WritesTree ns (Err (node_fault e))
-unwritten (codec.Wire f) ns some h = (some, h)
+unwritten (codec.Wire f) ns some h = (some, h.0, h.1)
 unwritten codec.OutOfMemory ns some h = some
 
 -- an entry at its place among the others
@@ -179,6 +181,9 @@ module _ {A : Type 0} (view : A → List ℕ) where
 
   pub is_too_long : (ns : List (Option NodeValue)) (r : Result A NodeFault) → WritesTree ns (seen view r) → r ≡ Err nodes.TooManyLeaves → 2097151 < length ns
   is_too_long ns r h e = (subst (λ (x : Result A NodeFault). WritesTree ns (seen view x)) e h).1
+
+  pub is_over_a_limit : (ns : List (Option NodeValue)) (r : Result A NodeFault) → WritesTree ns (seen view r) → (f : WireFault) → r ≡ Err (nodes.Wire f) → f.kind ≡ kinds.TooLong
+  is_over_a_limit ns r h f e = (subst (λ (x : Result A NodeFault). WritesTree ns (seen view x)) e h).2
 
   pub no_last_blank : (ns : List (Option NodeValue)) (r : Result A NodeFault) → WritesTree ns (seen view r) → r ≢ Err nodes.LastBlank
   no_last_blank ns r h e = subst (λ (x : Result A NodeFault). WritesTree ns (seen view x)) e h

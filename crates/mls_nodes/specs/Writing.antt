@@ -1,6 +1,7 @@
 -- How a ratchet tree is written, step by step: for proofs alone, no public contract speaks of it.
 use Rattle.std.specs.Prelude.{◌≡◌, ◌≢◌, ◌<◌, ℕ, List, [], length, true, Option, Some, None, Result, Ok, Err}
 use Rattle.mls_wire.specs.Spelling.{list, optional}
+use Rattle.mls_wire.specs.declared.fault.WireFaultKind.TheVariants as kinds
 use Rattle.mls_nodes.specs.declared.fault.NodeFault.{NodeFault}
 use Rattle.mls_nodes.specs.declared.fault.NodeFault.TheVariants as faults
 use Rattle.mls_nodes.specs.Limits.{entry_limit}
@@ -22,5 +23,5 @@ WritesTree nodes (Err faults.OutOfMemory) = nodes ≢ []
 WritesTree nodes (Err faults.EmptyTree) = nodes ≡ []
 WritesTree nodes (Err (faults.WrongNodeKind place)) = (nodes ≢ []) × IsFirstMisplaced nodes place
 WritesTree nodes (Err faults.TooManyLeaves) = (nodes ≢ []) × (entry_limit < length nodes)
-WritesTree nodes (Err (faults.Wire f)) = (nodes ≢ []) × (list (optional node) nodes ≡ None)
+WritesTree nodes (Err (faults.Wire f)) = (nodes ≢ []) × (list (optional node) nodes ≡ None) × (f.kind ≡ kinds.TooLong)
 WritesTree nodes (Err faults.LastBlank) = ⊥

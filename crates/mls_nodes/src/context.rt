@@ -126,14 +126,14 @@ pub fn decode_context(alloc: Global, bytes: &[u8]) -> Result<GroupContext, Codec
     read_input(alloc, bytes)
 }
 
-/// The group context's bytes: refused for another cause than memory only where it has no spelling.
+/// The group context's bytes. `TooLong` only where it has no spelling.
 pub fn encode_context(alloc: Global, context: &GroupContext) -> Result<Vec<u8>, CodecFault>
     ensures { Makes (group_context context.now) (seen (λ v. v.items) result) }
 {
     bytes_of(alloc, context)
 }
 
-/// Writes the group context at the end. A refusal leaves the bytes.
+/// Writes the group context at the end. `TooLong` only where it has no spelling. A refusal leaves the bytes.
 pub fn write_context(
     alloc: Global,
     context: &GroupContext,

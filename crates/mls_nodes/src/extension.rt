@@ -75,7 +75,7 @@ pub fn read_extensions(alloc: Global, reader: &mut Reader<'_>) -> Result<Extensi
     read_value(alloc, reader)
 }
 
-/// Writes the list of extensions at the end. A refusal leaves the bytes.
+/// Writes the list of extensions at the end. `TooLong` only where it has no spelling. A refusal leaves the bytes.
 pub fn write_extensions(
     alloc: Global,
     extensions: &Extensions,

@@ -135,14 +135,14 @@ pub fn decode_leaf(alloc: Global, bytes: &[u8]) -> Result<LeafNode, CodecFault>
     read_all_of(alloc, bytes)
 }
 
-/// The leaf node's bytes: refused for another cause than memory only where it has no spelling.
+/// The leaf node's bytes. `TooLong` only where it has no spelling.
 pub fn encode_leaf(alloc: Global, value: &LeafNode) -> Result<Vec<u8>, CodecFault>
     ensures { Makes (leaf value.now) (seen (λ v. v.items) result) }
 {
     bytes_of(alloc, value)
 }
 
-/// Writes the leaf node at the end. A refusal leaves the bytes.
+/// Writes the leaf node at the end. `TooLong` only where it has no spelling. A refusal leaves the bytes.
 pub fn write_leaf(alloc: Global, value: &LeafNode, writer: &mut Writer) -> Result<(), CodecFault>
     ensures { Writes (leaf value.now) writer.old writer.new result }
 {

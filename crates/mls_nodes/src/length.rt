@@ -1,12 +1,14 @@
-//! How many bytes nodes take. Each node has a spelling, since its parts are within their limits.
+//! How many bytes nodes and group contexts take. Each of them has a spelling, since its parts are within their limits.
 
 ghost use Rattle.std.specs.Prelude.{◌≡◌, ◌≤◌, ◌+◌, ◌*◌, ◌^◌, Some, length, option_map};
 ghost use Rattle.mls_wire.specs.Limits.{vector_limit};
 ghost use Rattle.mls_wire.specs.Spelling.{length_form, items, list, vector};
 ghost use Rattle.mls_nodes.specs.Limits.{leaf_limit};
-ghost use Rattle.mls_nodes.specs.Layout.{capabilities, credential, leaf, parent, source, unmerged};
+ghost use Rattle.mls_nodes.specs.Layout.{capabilities, credential, group_context, leaf, parent, source, unmerged};
+ghost use Rattle.mls_nodes.specs.Signed.{leaf_place, leaf_tbs};
 
 use crate::capabilities::Capabilities;
+use crate::context::GroupContext;
 use crate::credential::Credential;
 use crate::leaf::LeafNode;
 use crate::leaf_source::LeafSource;
@@ -136,4 +138,48 @@ impl ParentNode {
         let unmerged = length_of_unmerged(self.unmerged.as_slice());
         encryption_key + parent_hash + unmerged
     }
+}
+
+impl GroupContext {
+    /// How many bytes the group context takes: each has a spelling.
+    pub fn encoded_len(&self) -> u64
+        ensures length { option_map length (group_context self.now) ≡ Some result }
+        ensures small { result ≤ 2 ^ 40 }
+    {
+        let _version = self.version;
+        let _cipher_suite = self.cipher_suite;
+        let _epoch = self.epoch;
+        let group_id = length_of_vector(&self.group_id);
+        let tree_hash = length_of_vector(&self.tree_hash);
+        let confirmed = length_of_vector(&self.confirmed);
+        let extensions = length_of_list(&self.extensions);
+        12 + group_id + tree_hash + confirmed + extensions
+    }
+}
+
+/// How many bytes what ties a leaf to its place in a group takes.
+fn length_of_place(source: &LeafSource, group_id: &Opaque, index: u32) -> u64
+    ensures length { option_map length (leaf_place source.now group_id.now index) ≡ Some result }
+    ensures small { result ≤ vector_limit + 8 }
+{
+    let _index = index;
+    match source {
+        LeafSource::KeyPackage(_) => 0,
+        LeafSource::Update | LeafSource::Commit { .. } => length_of_vector(group_id) + 4,
+    }
+}
+
+/// How many bytes the LeafNodeTBS takes (RFC 9420, 7.2), which is known before it is made: each has a spelling.
+pub fn leaf_tbs_len(leaf: &LeafNode, group_id: &Opaque, index: u32) -> u64
+    ensures length { option_map length (leaf_tbs leaf.now group_id.now index) ≡ Some result }
+    ensures small { result ≤ 2 ^ 40 }
+{
+    let encryption_key = length_of_vector(&leaf.encryption_key);
+    let signature_key = length_of_vector(&leaf.signature_key);
+    let credential = length_of_credential(&leaf.credential);
+    let capabilities = length_of_capabilities(&leaf.capabilities);
+    let source = length_of_source(&leaf.source);
+    let extensions = length_of_list(&leaf.extensions);
+    let place = length_of_place(&leaf.source, group_id, index);
+    encryption_key + signature_key + credential + capabilities + source + extensions + place
 }

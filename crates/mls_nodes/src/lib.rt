@@ -28,6 +28,7 @@ pub use extension::{Extension, read_extensions, write_extensions};
 pub use fault::NodeFault;
 pub use leaf::{LeafNode, decode_leaf, encode_leaf, read_leaf, write_leaf};
 pub use leaf_source::{LeafSource, Lifetime};
+pub use length::leaf_tbs_len;
 pub use lists::{CertChain, Codes, Extensions};
 pub use node::Node;
 pub use parent::{ParentNode, write_parent};

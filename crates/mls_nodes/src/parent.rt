@@ -65,7 +65,7 @@ impl TryClone for ParentNode {
     }
 }
 
-/// Writes the parent node at the end. A refusal leaves the bytes.
+/// Writes the parent node at the end. `TooLong` only where it has no spelling. A refusal leaves the bytes.
 pub fn write_parent(
     alloc: Global,
     value: &ParentNode,

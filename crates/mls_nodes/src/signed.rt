@@ -30,8 +30,7 @@ fn put_place(
 }
 
 /// The bytes of the LeafNodeTBS: the leaf node without its signature, and for the sources update and
-/// commit then the group's id and the leaf's index. Refused for another cause than memory only where it
-/// has no spelling.
+/// commit then the group's id and the leaf's index. `TooLong` only where it has no spelling.
 #[tactic(auto, using(mls_wire::specs::Written::written), unfolding(crate::specs::Signed::leaf_tbs))]
 pub fn leaf_tbs(
     alloc: Global,

@@ -1,8 +1,7 @@
 -- Known bytes over two steps.
-use Rattle.std.proofs.Common.{ℕ, List, [], ◌++◌, Some, None, append_assoc, append-nil, refl, sym, ap, ◌∙◌}
+use Rattle.std.proofs.Common.{ℕ, List, ◌++◌, Some, None, append_assoc, sym, ap, ◌∙◌}
 use Rattle.std.specs.Prelude.{Option}
 use Rattle.std.specs.Io.KnownBytes.{Appends, Consumes}
-use Rattle.mls_wire.specs.Devices.{AppendsPrefix}
 
 -- bytes, and then others
 pub Appends-trans : (a b c : Option (List ℕ)) (bs cs : List ℕ) → Appends a b bs → Appends b c cs → Appends a c (bs ++ cs)

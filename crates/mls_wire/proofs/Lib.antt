@@ -1,3 +1,5 @@
 pub mod Numbers
 pub mod Pieces
 pub mod KnownBytes
+pub mod Logs
+pub mod LogLaws

@@ -6,7 +6,7 @@ use Rattle.mls_wire.specs.declared.fault.CodecFault.TheVariants as faults
 use Rattle.mls_wire.specs.Faults.{too_long_at}
 use Rattle.mls_wire.specs.Spelling.{length_form, vector}
 use Rattle.mls_wire.specs.Joined.{join, no_left}
-use Rattle.mls_wire.specs.Writing.{after, Added, added, Puts, WritesPiece, PutsPiece}
+use Rattle.mls_wire.specs.Writing.{after, added, WritesPiece, PutsPiece}
 use Rattle.mls_wire.specs.Written.{after_then, after_is, grown}
 
 -- an equal text

@@ -1,10 +1,12 @@
 -- What follows from an exact function for the spelling alone.
-use Rattle.std.proofs.Common.{ℕ, List, [], ◌++◌, Option, sym, ap, ◌∙◌}
+use Rattle.std.proofs.Common.{ℕ, ◌≡◌, List, [], ◌++◌, Option, Some, Ok, sym, ap, ◌∙◌}
 use Rattle.std.proofs.lemmas.List.{append-nil}
 use Rattle.mls_wire.specs.Input.{Input, at}
 use Rattle.mls_wire.specs.Steps.{some_is}
 use Rattle.mls_wire.specs.Spelling.{SpellsOnce, IsPrefixFree, IsUnambiguous}
+use Rattle.mls_wire.specs.Reading.{ReadsOnce}
 use Rattle.mls_wire.specs.Exact.{IsExact}
+use Rattle.mls_wire.specs.Answers.{Gives-reads}
 
 -- bytes spell at most one value
 pub one_value : {A : Type 0} (s : A → Option (List ℕ)) (f : Input → Option (A × Input)) → IsExact s f → SpellsOnce s
@@ -24,3 +26,11 @@ no_prefix {A = A} s f exact x y text more p q =
 -- both
 pub unambiguous : {A : Type 0} (s : A → Option (List ℕ)) (f : Input → Option (A × Input)) → IsExact s f → IsUnambiguous s
 unambiguous s f exact = record { once = one_value s f exact; prefix_free = no_prefix s f exact }
+
+-- what is read is determined
+pub one_reading : {A : Type 0} (s : A → Option (List ℕ)) (f : Input → Option (A × Input)) → IsExact s f → ReadsOnce s
+one_reading {A = A} s f exact x y i j k p q =
+    let first : f i ≡ Some (x, j) = Gives-reads s f exact i j (Ok x) p in
+    let second : f i ≡ Some (y, k) = Gives-reads s f exact i k (Ok y) q in
+    let same : ◌≡◌ {A = A × Input} (x, j) (y, k) = some_is _ _ (sym first ∙ second) in
+    (ap (λ (z : A × Input). z.0) same, ap (λ (z : A × Input). z.1) same)

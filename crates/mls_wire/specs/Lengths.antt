@@ -115,7 +115,7 @@ again_4 n rest offset le lt =
     rw (read, le-ltb b 64 (omega arith), le-ltb b 128 (omega arith), lt-ltb b 192 (omega arith), whole, back) refl
 
 -- the form that a length has
-length_cases : (n : ℕ) (front : List ℕ) → length_form n ≡ Some front
+pub length_cases : (n : ℕ) (front : List ℕ) → length_form n ≡ Some front
     → ((n < 64) × (n ∷ [] ≡ front)) ⊎ (((64 ≤ n) × (n < 16384) × (to_be_bytes w16 (n + 16384) ≡ front)) ⊎ ((16384 ≤ n) × (n < 1073741824) × (to_be_bytes w32 (n + 2147483648) ≡ front)))
 length_cases n front e =
     elim (cases_lt n 64) [

@@ -19,3 +19,4 @@ pub mod Answers
 pub mod Laws
 pub mod Written
 pub mod Sizes
+pub mod Logs

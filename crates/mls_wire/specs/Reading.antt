@@ -11,6 +11,10 @@ use Rattle.mls_wire.specs.Limits.{input_limit}
 abbrev pub Takes : {A : Type 0} → (A → Option (List ℕ)) → A → Input → Input → Type 0
 Takes spelling x i j = (front : List ℕ) × (spelling x ≡ Some front) × (i.left ≡ front ++ j.left) × (j.offset ≡ i.offset + length front)
 
+-- what is spelled at the front is one value, which ends at one offset
+abbrev pub ReadsOnce : {A : Type 0} → (A → Option (List ℕ)) → Type 0
+ReadsOnce {A} spelling = (x y : A) (i j k : Input) → Takes spelling x i j → Takes spelling y i k → (x ≡ y) × (j ≡ k)
+
 -- no value is spelled at the front of i
 abbrev pub Nothing : {A : Type 0} → (A → Option (List ℕ)) → Input → Type 0
 Nothing {A} spelling i = (x : A) (front rest : List ℕ) → spelling x ≡ Some front → i.left ≡ front ++ rest → ⊥
@@ -33,11 +37,11 @@ DecodesAll spelling bytes (Ok x) = spelling x ≡ Some bytes
 DecodesAll {A} spelling bytes (Err (faults.Wire f)) = (x : A) → spelling x ≡ Some bytes → ⊥
 DecodesAll spelling bytes (Err faults.OutOfMemory) = Unit {0}
 
--- the same of an input, which is within its limit
+-- the same of an input, which is within its limit; want of memory hides no input that is over it
 abbrev pub DecodesInput : {A : Type 0} → (A → Option (List ℕ)) → List ℕ → Result A CodecFault → Type 0
 DecodesInput spelling bytes (Ok x) = (spelling x ≡ Some bytes) × (length bytes ≤ input_limit)
 DecodesInput {A} spelling bytes (Err (faults.Wire f)) = (x : A) → spelling x ≡ Some bytes → length bytes ≤ input_limit → ⊥
-DecodesInput spelling bytes (Err faults.OutOfMemory) = Unit {0}
+DecodesInput spelling bytes (Err faults.OutOfMemory) = length bytes ≤ input_limit
 
 -- a vector's body, which ends where the input goes on
 abbrev pub ReadsBody : Input → Input → Result Input WireFault → Type 0

@@ -2,6 +2,7 @@
 use Rattle.std.specs.Prelude.{◌≡◌, ℕ, ◌+◌, List, ◌++◌, length, take, drop, Option, Some, None, IsSome, Result, Ok, Err}
 use Rattle.mls_wire.specs.declared.fault.CodecFault.{CodecFault}
 use Rattle.mls_wire.specs.declared.fault.CodecFault.TheVariants as faults
+use Rattle.mls_wire.specs.declared.fault.WireFaultKind.TheVariants as kinds
 use Rattle.mls_wire.specs.Faults.{too_long_at}
 
 -- the bytes with the text at their end, where it has a spelling
@@ -9,11 +10,11 @@ unfoldable pub after : List ℕ → Option (List ℕ) → Option (List ℕ)
 after old None = None
 after old (Some s) = Some (old ++ s)
 
--- What a call that writes at the end answered: the text stands there; a fault only where there is none;
--- after a refusal the bytes are unchanged.
+-- What a call that writes at the end answered: the text stands there; a fault only where there is none, and then it is
+-- of kind TooLong; after a refusal the bytes are unchanged.
 abbrev pub Writes : {A : Type 0} → Option (List ℕ) → List ℕ → List ℕ → Result A CodecFault → Type 0
 Writes text old new (Ok x) = after old text ≡ Some new
-Writes text old new (Err (faults.Wire f)) = (text ≡ None) × (new ≡ old)
+Writes text old new (Err (faults.Wire f)) = (text ≡ None) × (new ≡ old) × (f.kind ≡ kinds.TooLong)
 Writes text old new (Err faults.OutOfMemory) = new ≡ old
 
 -- The same of one piece: a fault exactly where there is no text, and then it is TooLong at the number of bytes
@@ -35,7 +36,7 @@ added count bytes = record { kept = take count bytes; more = drop count bytes }
 -- the same, where a refusal leaves what stood before
 abbrev pub Puts : {A : Type 0} → Option (List ℕ) → Added → Added → Result A CodecFault → Type 0
 Puts text old new (Ok x) = (after old.more text ≡ Some new.more) × (new.kept ≡ old.kept)
-Puts text old new (Err (faults.Wire f)) = (text ≡ None) × (new.kept ≡ old.kept)
+Puts text old new (Err (faults.Wire f)) = (text ≡ None) × (new.kept ≡ old.kept) × (f.kind ≡ kinds.TooLong)
 Puts text old new (Err faults.OutOfMemory) = new.kept ≡ old.kept
 
 -- the same of one piece, whose only fault is TooLong at the number of bytes that stand
@@ -50,8 +51,8 @@ FaultsTooLong n (Ok x) = Unit {0}
 FaultsTooLong n (Err (faults.Wire f)) = f ≡ too_long_at n
 FaultsTooLong n (Err faults.OutOfMemory) = Unit {0}
 
--- the bytes that a call made
+-- the bytes that a call made; a fault only where there is no text, and then of kind TooLong
 abbrev pub Makes : Option (List ℕ) → Result (List ℕ) CodecFault → Type 0
 Makes text (Ok bytes) = text ≡ Some bytes
-Makes text (Err (faults.Wire f)) = text ≡ None
+Makes text (Err (faults.Wire f)) = (text ≡ None) × (f.kind ≡ kinds.TooLong)
 Makes text (Err faults.OutOfMemory) = Unit {0}

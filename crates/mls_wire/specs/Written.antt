@@ -1,5 +1,5 @@
 -- Writing one text after the other.
-use Rattle.std.proofs.Common.{◌≡◌, ℕ, ◌+◌, ◌<◌, ◌≤◌, List, [], ◌∷◌, ◌++◌, length, take, drop, Option, Some, None, Result, Ok, Err, refl, sym, ap, ◌∙◌, append_assoc, get_or, length-append}
+use Rattle.std.proofs.Common.{◌≡◌, ℕ, ◌+◌, ◌<◌, ◌≤◌, List, [], ◌∷◌, ◌++◌, length, take, drop, Option, Some, None, Err, refl, sym, ap, ◌∙◌, append_assoc, get_or, length-append}
 use Rattle.std.proofs.lemmas.List.{drop-append-le, take-append-le, append-nil, take_more, drop_more, take-append-drop}
 use Rattle.std.specs.Prelude.{option_map}
 use Rattle.mls_wire.specs.declared.fault.CodecFault.{CodecFault}
@@ -95,7 +95,7 @@ module _ {A : Type 0} (s : A → Option (List ℕ)) where
       ap (items s) parts ∙ items_none (take i xs) x (drop (i + 1) xs) e
 
   pub items_fails : (e : CodecFault) (xs : List A) (i : ℕ) (x : A) (old new : Added) → i < length xs → x ≡ get_or xs i x → Puts {A = A} (s x) old new (Err e) → Makes (items s xs) (Err e)
-  items_fails (faults.Wire f) xs i x old new lt is h = items_refused xs i x lt is h.0
+  items_fails (faults.Wire f) xs i x old new lt is h = (items_refused xs i x lt is h.0, h.2)
   items_fails faults.OutOfMemory xs i x old new lt is h = tt
 
 -- all that was put behind nothing

@@ -114,7 +114,7 @@ pub fn read_all_of<T: Decode>(alloc: Global, bytes: &[u8]) -> Result<T, CodecFau
 }
 
 /// The value that all of an input spells. An input of more than [`MAX_INPUT`] bytes is `TooLong` at 0, whatever it
-/// holds.
+/// holds and before any memory is taken.
 pub fn read_input<T: Decode>(alloc: Global, bytes: &[u8]) -> Result<T, CodecFault>
     ensures spelled { DecodesInput T.spelling bytes.now result }
     ensures long { input_limit < length bytes.now → result ≡ Err (CodecFault.Wire (too_long_at 0)) }

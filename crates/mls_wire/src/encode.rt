@@ -12,8 +12,9 @@ use std::alloc::Global;
 
 /// A type whose values are written as bytes.
 pub trait Encode: Decode {
-    /// Adds the bytes of the value to a draft. A refusal may leave a part of them there, which whoever made the draft
-    /// takes back.
+    /// Adds the bytes of the value to a draft. A refusal for another cause than memory is `TooLong`, and comes only
+    /// where the value has no spelling. It may leave a part of the bytes there, which whoever made the draft takes
+    /// back.
     fn put(&self, alloc: Global, draft: &mut Draft) -> Result<(), CodecFault>
         ensures { Puts (Self.spelling self.now) draft.old draft.new result };
 }
@@ -43,8 +44,7 @@ pub fn put_list<T: Encode>(alloc: Global, values: &[T], draft: &mut Draft) -> Re
     }
 }
 
-/// The bytes that spell a value. Refused for another cause than memory exactly where it has no spelling, being over a
-/// limit.
+/// The bytes that spell a value. `TooLong` only where it has no spelling, being over a limit.
 pub fn bytes_of<T: Encode>(alloc: Global, value: &T) -> Result<Vec<u8>, CodecFault>
     ensures { Makes (T.spelling value.now) (seen (λ v. v.items) result) }
 {

@@ -6,6 +6,7 @@
 //!   [`read_value`], [`read_all_of`] and [`read_input`], and written by [`bytes_of`] and [`Writer::write`].
 //! - [`Opaque`] is the body of a vector, [`Items`] a list that fits into one, [`Sequence`] a list of any length.
 //! - A [`Source`] gives bytes and a [`Sink`] takes them, in pieces of any size; each over std or over memory.
+//! - A [`RecordReader`] goes over a log, records one after the other, as they come from a source.
 //!
 //! The contracts speak of spellings (`specs/Spelling.antt`): a read gives the value that is spelled at the front and
 //! is refused exactly where none is; a write adds exactly the spelling, or nothing. [`Decode::read`], which
@@ -24,6 +25,7 @@ mod memory;
 mod opaque;
 mod optional;
 mod reader;
+mod record;
 mod sequence;
 mod sink;
 mod source;
@@ -38,6 +40,7 @@ pub use measure::{Items, Measure, fits};
 pub use memory::{MemorySink, MemorySource};
 pub use opaque::{MAX_BODY, Opaque};
 pub use reader::Reader;
+pub use record::{LogStep, RecordFault, RecordReader};
 pub use sequence::Sequence;
 pub use sink::{Sink, StdSink, write_all};
 pub use source::{Source, StdSource, fill};

@@ -84,6 +84,7 @@ pub fn fill<S: Source>(source: &mut S, into: &mut [u8]) -> Result<usize, DeviceF
         × (length got < length into.old)
         × Consumes (S.left source.old) (S.left source.new) got) }
     ensures failed { S.is_failed source.new ≡ (S.is_failed source.old || is_err result) }
+    ensures stays { S.is_failed source.old ≡ true → 0 < length into.old → IsErr result }
 {
     let mut at = 0;
     while at < into.len() {

@@ -173,7 +173,8 @@ impl Writer {
         }
     }
 
-    /// Writes a value. A refusal for another cause than memory comes only where the value has no spelling.
+    /// Writes a value. A refusal for another cause than memory is `TooLong`, and comes only where the value has no
+    /// spelling.
     pub fn write<T: Encode>(&mut self, alloc: Global, value: &T) -> Result<(), CodecFault>
         ensures { Writes (T.spelling value.now) self.old self.new result }
     {

@@ -4,6 +4,8 @@ ghost use Rattle.std.specs.Prelude.{◌≡◌, ◌≢◌, ◌↔◌, ◌<◌, �
 ghost use Rattle.mls_wire.specs.Spelling.{items, list, optional};
 ghost use Rattle.mls_wire.specs.Reading.{seen};
 ghost use Rattle.mls_wire.specs.Writing.{Makes, Puts};
+ghost use Rattle.mls_wire.specs.declared.fault.WireFault.{WireFault};
+ghost use Rattle.mls_wire.specs.declared.fault.WireFaultKind.TheVariants.{TooLong};
 ghost use Rattle.mls_nodes.specs.Limits.{entry_limit};
 ghost use Rattle.mls_nodes.specs.Value.{node_value, entry_value};
 ghost use Rattle.mls_nodes.specs.Layout.{node};
@@ -136,6 +138,7 @@ pub fn encode_ratchet_tree(alloc: Global, nodes: &[Option<Node>]) -> Result<Vec<
         → IsFirstMisplaced (trimmed (map entry_value nodes.now)) place }
     ensures many { result ≡ Err faults.TooManyLeaves
         → entry_limit < length (trimmed (map entry_value nodes.now)) }
+    ensures long { (f : WireFault) → result ≡ Err (faults.Wire f) → f.kind ≡ TooLong }
     ensures not_blank { result ≢ Err faults.LastBlank }
 {
     encode_trimmed(alloc, trim(nodes))

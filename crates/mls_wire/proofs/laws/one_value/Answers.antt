@@ -6,3 +6,6 @@ returns-clause-once g c = laws.one_value g.T.Decode.spelling g.T.Decode.reading 
 
 pub returns-clause-whole : goal.returns-clause-whole
 returns-clause-whole g c = laws.no_prefix g.T.Decode.spelling g.T.Decode.reading g.met.T.Decode.exact
+
+pub returns-clause-reading : goal.returns-clause-reading
+returns-clause-reading g c = laws.one_reading g.T.Decode.spelling g.T.Decode.reading g.met.T.Decode.exact

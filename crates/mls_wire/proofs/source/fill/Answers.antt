@@ -28,4 +28,5 @@ loop-at-preserved g c =
       search rules,
       subst (Consumes _ _) (ap (λ l. take from c.loop-at.into ++ l) (sym part) ∙ joined) (Consumes-trans _ _ _ _ _ c.loop-at.invariant.2 c.in_ok-n.ensures.bytes.0),
       search rules,
+      search rules,
     )

@@ -24,3 +24,4 @@ pub mod RisingCodes
 pub mod OwnLeaves
 pub mod Walks
 pub mod Resolutions
+pub mod Contents

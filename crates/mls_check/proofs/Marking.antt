@@ -1,12 +1,11 @@
 -- Marks of reached parents, through a walk halves first.
-use Rattle.std.proofs.Common.{◌≡◌, ◌≢◌, ℕ, ◌+◌, ◌*◌, ◌<◌, Bool, true, false, List, Option, Some, None, Result, Ok, Err, refl, sym, ap, ◌∙◌, subst, arith, inl, inr, length, IsTrue, is_some, IfOk, get_or, replicate}
+use Rattle.std.proofs.Common.{◌≡◌, ◌≢◌, ℕ, ◌+◌, ◌*◌, ◌<◌, Bool, true, List, Option, Some, None, Result, Ok, Err, refl, sym, ap, ◌∙◌, subst, arith, inl, inr, length, IsTrue, is_some, IfOk}
 use Rattle.std.specs.Prelude.{◌↔◌, slice_set}
 use Rattle.std.proofs.Common.{get_or-set_same, get_or-set_other}
-use Rattle.std.proofs.lemmas.List.{get_or-replicate, get_or_past, length-replicate}
 use Rattle.std.proofs.lemmas.Option.{same_Some, none-some}
-use Rattle.std.proofs.lemmas.Bool.{cases_order, cases_lt, false≢true}
+use Rattle.std.proofs.lemmas.Bool.{cases_order, cases_lt}
 use Rattle.mls_nodes.specs.declared.parent.ParentNode.{ParentNode}
-use Rattle.mls_tree.specs.Tree.{Tree, leaf, branch, leaf_count, Subtree, subtree_at, root_place, node_at, entry_of, root_entry}
+use Rattle.mls_tree.specs.Tree.{Tree, leaf, branch, leaf_count, Subtree, subtree_at, root_place, root_entry}
 use Rattle.mls_tree.proofs.Trees.{subtree_at-stands, subtree_at-root, subtree_at-nested, subtree_at-in_left, subtree_at-in_right}
 use Rattle.mls_check.specs.FirstFailure.{IsFirstFailureIn}
 use Rattle.mls_tree.specs.Parts.{HasChildren, parent_of}

@@ -1,6 +1,8 @@
 //! Whether the leaves of a tree may be members of a group (RFC 9420, 7.3).
 
-ghost use Rattle.std.specs.Prelude.{◌≡◌, ℕ, true, IfOk, IfErr, OnOk};
+ghost use Rattle.std.specs.Prelude.{◌≡◌, ℕ, ◌≤◌, true, length, IfOk, IfErr, IfSome, IsErr, OnOk};
+ghost use Rattle.mls_wire.specs.Limits.{vector_limit};
+ghost use Rattle.mls_nodes.specs.Signed.{leaf_tbs};
 ghost use Rattle.mls_tree.specs.Tree.{leaf_at};
 ghost use Rattle.mls_check.specs.Signatures.{Meaning};
 ghost use Rattle.mls_check.specs.Members.{Members, IsMemberFault, FindsFailing, supports_own_extensions, supports_required, is_leaf_signed};
@@ -10,9 +12,9 @@ use crate::requirements::RisingRequirements;
 use crate::signature_keys::first_repeated_signature_key;
 use crate::signatures::{OutOfMemory, SignatureCheck, signed};
 use crate::support::{supports_own_extensions, supports_required};
-use mls_nodes::{LeafNode, RequiredCapabilities, leaf_tbs};
+use mls_nodes::{LeafNode, RequiredCapabilities, leaf_tbs, leaf_tbs_len};
 use mls_tree::PublicTree;
-use mls_wire::{CodecFault, Opaque};
+use mls_wire::{CodecFault, MAX_BODY, Opaque};
 use std::alloc::Global;
 use thiserror::Error;
 
@@ -152,7 +154,8 @@ fn first_unsigned_leaf(
 }
 
 /// Whether the leaf of this index has signed its LeafNodeTBS in the group of this id (RFC 9420, 7.2), as the checker
-/// takes it. The group's id and the index count only where the leaf comes from an Update or a Commit.
+/// takes it. The group's id and the index count only where the leaf comes from an Update or a Commit. A leaf whose
+/// LeafNodeTBS is too long for a SignContent has not signed it, which is judged before memory is taken.
 #[tactic(auto, unfolding(crate::specs::Members::is_leaf_signed))]
 pub fn is_leaf_signed(
     alloc: Global,
@@ -162,12 +165,17 @@ pub fn is_leaf_signed(
     leaf: &LeafNode,
     checker: &dyn SignatureCheck,
 ) -> Result<bool, OutOfMemory>
-    ensures { IfOk result
+    ensures good { IfOk result
         (λ good. good ≡ is_leaf_signed (meaning checker.now) suite group_id.now index leaf.now) }
+    ensures memory { IsErr result
+        → IfSome (leaf_tbs leaf.now group_id.now index) (λ tbs. length tbs ≤ vector_limit) }
 {
+    if leaf_tbs_len(leaf, group_id, index) > MAX_BODY as u64 {
+        return Ok(false);
+    }
     let tbs = match leaf_tbs(alloc, leaf, group_id, index) {
         Ok(tbs) => tbs,
-        Err(CodecFault::Wire(_)) => return Ok(false),
+        Err(CodecFault::Wire(_)) => unreachable!(),
         Err(CodecFault::OutOfMemory) => return Err(OutOfMemory),
     };
     signed(

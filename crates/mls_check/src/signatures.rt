@@ -1,11 +1,11 @@
 //! Signatures (RFC 9420, 5.1.2), which a checker that the caller hands in judges.
 
-ghost use Rattle.std.specs.Prelude.{◌≡◌, ℕ, List, Bool, true, IfOk};
+ghost use Rattle.std.specs.Prelude.{◌≡◌, ℕ, List, Bool, true, IfOk, IsErr, IsSome};
 ghost use Rattle.mls_check.specs.Signatures.{is_signed, sign_content};
 ghost use Rattle.mls_wire.specs.Reading.{seen};
 ghost use Rattle.mls_wire.specs.Writing.{Makes};
 
-use mls_wire::{CodecFault, Draft};
+use mls_wire::{CodecFault, Draft, MAX_BODY};
 use std::alloc::{AllocError, AllocFailed, Global};
 use thiserror::Error;
 
@@ -74,7 +74,8 @@ fn sign_content(alloc: Global, label: &str, content: &[u8]) -> Result<Vec<u8>, C
 }
 
 /// VerifyWithLabel (RFC 9420, 5.1.2): whether the checker takes `signature` as good for the bytes `tbs` under the label
-/// `label`, which begins with `MLS 1.0 `. Bytes that are too long for a SignContent count as not signed.
+/// `label`, which begins with `MLS 1.0 `. Bytes that are too long for a SignContent count as not signed, which is judged
+/// before memory is taken.
 pub fn signed(
     alloc: Global,
     checker: &dyn SignatureCheck,
@@ -84,13 +85,17 @@ pub fn signed(
     tbs: &[u8],
     signature: &[u8],
 ) -> Result<bool, OutOfMemory>
-    ensures { IfOk result
+    ensures good { IfOk result
         (λ good. good ≡ is_signed
         (meaning checker.now) suite key.now label.now tbs.now signature.now) }
+    ensures memory { IsErr result → IsSome (sign_content label.now tbs.now) }
 {
+    if label.len() > MAX_BODY || tbs.len() > MAX_BODY {
+        return Ok(false);
+    }
     match sign_content(alloc, label, tbs) {
         Ok(content) => Ok(checker.good(suite, key, content.as_slice(), signature)),
-        Err(CodecFault::Wire(_)) => Ok(false),
+        Err(CodecFault::Wire(_)) => unreachable!(),
         Err(CodecFault::OutOfMemory) => Err(OutOfMemory),
     }
 }

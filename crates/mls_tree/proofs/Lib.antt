@@ -21,3 +21,5 @@ pub mod Listings
 pub mod Lists
 pub mod Padding
 pub mod Filled
+pub mod Positions
+pub mod Replacing

@@ -1,5 +1,5 @@
 -- What stands at the places of a listing.
-use Rattle.std.proofs.Common.{◌≡◌, ℕ, zero, suc, ◌+◌, ◌*◌, ◌-◌, ◌/◌, ◌<◌, ◌≤◌, List, [], ◌∷◌, ◌++◌, length, map, Option, Some, None, refl, sym, ap, ◌∙◌, subst, inl, inr, arith, option_map}
+use Rattle.std.proofs.Common.{◌≡◌, ℕ, zero, suc, ◌+◌, ◌*◌, ◌-◌, ◌/◌, List, [], ◌∷◌, ◌++◌, length, map, Option, Some, None, refl, sym, ap, ◌∙◌, subst, inl, inr, arith, option_map}
 use Rattle.std.specs.Prelude.{slice_get}
 use Rattle.std.proofs.lemmas.Bool.{cases_lt, cases_order}
 use Rattle.std.proofs.lemmas.List.{length-map}
@@ -12,7 +12,6 @@ use Rattle.mls_nodes.specs.Value.{NodeValue, leaf_node, parent_node, entry_value
 use Rattle.mls_tree.specs.Tree.{Tree, leaf, branch, leaf_count, leaves_at, listing, leaf_entry, parent_entry}
 use Rattle.mls_tree.specs.Array.{IsNoLeaf, IsNoParent, FitsPlace, IsArrayOf, leaf_part, parent_part, tree_in}
 use Rattle.mls_tree.proofs.Arrays.{listing-array}
-use Rattle.mls_tree.proofs.Numbers.{leaves_at-le, leaves_at-low}
 use Rattle.mls_tree.proofs.Trees.{length-listing}
 use Rattle.mls_tree.proofs.Growing.{slice_get-append_left}
 

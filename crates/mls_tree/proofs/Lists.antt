@@ -1,17 +1,16 @@
 -- The new lists of the parents above a leaf: made from the lowest up, and taken from the top down.
-use Rattle.std.proofs.Common.{◌≡◌, ◌≢◌, ℕ, zero, suc, ◌+◌, ◌*◌, ◌-◌, ◌<◌, ◌≤◌, List, [], ◌∷◌, ◌++◌, Option, Some, None, refl, sym, ap, ◌∙◌, subst, arith, append_assoc, option_to_list, length, length-append, take, drop, get_or}
+use Rattle.std.proofs.Common.{◌≡◌, ◌≢◌, ℕ, zero, suc, ◌+◌, ◌*◌, ◌-◌, ◌<◌, ◌≤◌, List, [], ◌∷◌, ◌++◌, Option, Some, None, refl, sym, ap, ◌∙◌, subst, arith, append_assoc, option_to_list, length, take, drop, get_or, inl, inr, not, ltb-false}
 use Rattle.std.specs.Prelude.{slice_get, slice_set}
 use Rattle.mls_nodes.specs.declared.parent.ParentNode.{ParentNode}
 use Rattle.mls_nodes.specs.declared.node.Node.{Node}
 use Rattle.mls_tree.specs.Tree.{leaf_count, leaves_at}
 use Rattle.mls_tree.specs.Array.{parent_part, tree_in}
-use Rattle.std.specs.Prelude.{◌==◌, if◌then◌else◌, Bool, true, false, ◌||◌, IsTrue, nat_lt}
-use Rattle.mls_tree.specs.declared.error.TreeError.{TreeError}
-use Rattle.mls_tree.specs.declared.error.TreeError.TheVariants.{NoSuchNode, TooManyLeaves, BadShape, OutOfMemory}
+use Rattle.std.specs.Prelude.{◌==◌, if◌then◌else◌, Bool, true, false, ◌||◌, nat_lt}
+use Rattle.std.proofs.lemmas.Bool.{cases_lt}
 use Rattle.std.specs.List.{list_any}
 use Rattle.mls_tree.specs.Changes.{with_unmerged, insert_before, insert_number, is_overfilled, is_overfilled_above}
-use Rattle.mls_tree.specs.NewLists.{new_list, new_lists, with_new_list, IsListRefusal}
-use Rattle.mls_tree.proofs.Choices.{below, from}
+use Rattle.mls_tree.specs.NewLists.{new_list, new_lists, with_new_list}
+use Rattle.mls_tree.proofs.Choices.{below, from, not_less, is_less}
 use Rattle.mls_tree.proofs.Numbers.{leaves_at-positive}
 use Rattle.mls_tree.proofs.Arrays.{tree_in-same, slice_get-set_other}
 use Rattle.mls_tree.proofs.Walking.{tree_in-split, near-count}
@@ -97,36 +96,73 @@ insert_before-length i (x ∷ xs) = insert_before-either i x xs (nat_lt x i) (in
 pub insert_number-absent : (i : ℕ) (xs : List ℕ) → list_any (λ x. x == i) xs ≡ false → length (insert_number i xs) ≡ suc (length xs)
 insert_number-absent i xs e = ap (λ (b : Bool). length (if b then xs else insert_before i xs)) e ∙ insert_before-length i xs
 
--- a full list is full in a larger tree
-pub or_left : (a b : Bool) → IsTrue a → IsTrue (a || b)
-or_left true b h = h
-or_left false b h = absurd (cc)
+-- which list is full
+pub is_overfilled-room : (i : ℕ) (p : ParentNode) → is_overfilled i (Some p) ≡ false → length (insert_number i p.unmerged) ≤ 1048576
+is_overfilled-room i p e = ltb-false 1048576 (length (insert_number i p.unmerged)) e
 
-pub or_right : (a b : Bool) → IsTrue b → IsTrue (a || b)
-or_right true b h = refl
-or_right false b h = h
+insert_number-present : (i : ℕ) (xs : List ℕ) → list_any (λ x. x == i) xs ≡ true → insert_number i xs ≡ xs
+insert_number-present i xs e = ap (λ (b : Bool). if b then xs else insert_before i xs) e
 
-pub or_false : (a b : Bool) → a ≡ false → b ≡ false → (a || b) ≡ false
-or_false true b p q = p
-or_false false b p q = q
+-- of a full list it is full of others, of a shorter one it isn't
+pub is_overfilled-full : (i : ℕ) (p : ParentNode) (xs : List ℕ) (has : Bool) → xs ≡ p.unmerged → length xs ≡ 1048576 → has ≡ list_any (λ x. x == i) xs
+    → not has ≡ is_overfilled i (Some p)
+is_overfilled-full i p xs true same full e =
+    let has : list_any (λ x. x == i) p.unmerged ≡ true = ap (λ v. list_any (λ x. x == i) v) (sym same) ∙ sym e in
+    sym (not_less 1048576 _ (omega (arith, ap length (insert_number-present i p.unmerged has), ap length same)))
+is_overfilled-full i p xs false same full e =
+    let none : list_any (λ x. x == i) p.unmerged ≡ false = ap (λ v. list_any (λ x. x == i) v) (sym same) ∙ sym e in
+    sym (is_less 1048576 _ (omega (arith, insert_number-absent i p.unmerged none, ap length same)))
 
-pub IsListRefusal-map : (e : TreeError) (P Q : Type 0) → (P → Q) → IsListRefusal e P → IsListRefusal e Q
-IsListRefusal-map TooManyLeaves P Q f h = f h
-IsListRefusal-map OutOfMemory P Q f h = h
-IsListRefusal-map NoSuchNode P Q f h = h
-IsListRefusal-map BadShape P Q f h = h
+insert_number-by : (i : ℕ) (xs : List ℕ) (b : Bool) → list_any (λ x. x == i) xs ≡ b → length (insert_number i xs) ≤ suc (length xs)
+insert_number-by i xs true e = omega (arith, ap length (insert_number-present i xs e))
+insert_number-by i xs false e = omega (arith, insert_number-absent i xs e)
 
-pub IsListRefusal-no_such : (e : TreeError) (P : Type 0) → IsListRefusal e P → e ≡ NoSuchNode → ⊥
-IsListRefusal-no_such TooManyLeaves P h q = cc
-IsListRefusal-no_such OutOfMemory P h q = cc
-IsListRefusal-no_such NoSuchNode P h q = h
-IsListRefusal-no_such BadShape P h q = h
+pub is_overfilled-short : (i : ℕ) (p : ParentNode) (xs : List ℕ) → xs ≡ p.unmerged → length xs < 1048576 → is_overfilled i (Some p) ≡ false
+is_overfilled-short i p xs same low = not_less 1048576 _ (omega (arith, insert_number-by i p.unmerged _ refl, ap length same))
 
-pub IsListRefusal-full : (e : TreeError) (P : Type 0) → IsListRefusal e P → e ≡ TooManyLeaves → P
-IsListRefusal-full TooManyLeaves P h q = h
-IsListRefusal-full OutOfMemory P h q = absurd (cc)
-IsListRefusal-full NoSuchNode P h q = absurd h
-IsListRefusal-full BadShape P h q = absurd h
+-- a test of two lists of which one is known
+or_above : (a b : Bool) → b ≡ true → (a || b) ≡ true
+or_above true b e = refl
+or_above false b e = e
+
+or_below : (a b : Bool) → b ≡ false → (a || b) ≡ a
+or_below true b e = refl
+or_below false b e = e
+
+or_both : (a b : Bool) → (a || b) ≡ false → (a ≡ false) × (b ≡ false)
+or_both true b e = absurd (cc)
+or_both false b e = (refl, e)
+
+-- whether a list above a leaf is full, by the parent and the half with the leaf
+module _ (xs : List (Option Node)) (first half level : ℕ) (deep : level ≢ 0) (e : half ≡ leaves_at (level - 1)) (i : ℕ) where
+  pub overfilled-here : is_overfilled i (parent_part (slice_get xs (2 * (first + half) - 1))) ≡ true → is_overfilled_above first (tree_in xs level first) i ≡ true
+  overfilled-here full =
+      elim (cases_lt i (first + half)) [
+        | inl lt ↦ overfilled-left xs first half level deep e i lt ∙ or_above _ _ full
+        | inr ge ↦ overfilled-right xs first half level deep e i ge ∙ or_above _ _ full
+      ]
+
+  pub overfilled-near : is_overfilled i (parent_part (slice_get xs (2 * (first + half) - 1))) ≡ false → i < first + half
+      → is_overfilled_above first (tree_in xs (level - 1) first) i ≡ is_overfilled_above first (tree_in xs level first) i
+  overfilled-near room lt = sym (overfilled-left xs first half level deep e i lt ∙ or_below _ _ room)
+
+  pub overfilled-far : is_overfilled i (parent_part (slice_get xs (2 * (first + half) - 1))) ≡ false → first + half ≤ i
+      → is_overfilled_above (first + half) (tree_in xs (level - 1) (first + half)) i ≡ is_overfilled_above first (tree_in xs level first) i
+  overfilled-far room ge = sym (overfilled-right xs first half level deep e i ge ∙ or_below _ _ room)
+
+  module _ (none : is_overfilled_above first (tree_in xs level first) i ≡ false) where
+    pub room-here : is_overfilled i (parent_part (slice_get xs (2 * (first + half) - 1))) ≡ false
+    room-here =
+        elim (cases_lt i (first + half)) [
+          | inl lt ↦ (or_both _ _ (sym (overfilled-left xs first half level deep e i lt) ∙ none)).1
+          | inr ge ↦ (or_both _ _ (sym (overfilled-right xs first half level deep e i ge) ∙ none)).1
+        ]
+
+    pub room-near : i < first + half → is_overfilled_above first (tree_in xs (level - 1) first) i ≡ false
+    room-near lt = overfilled-near room-here lt ∙ none
+
+    pub room-far : first + half ≤ i → is_overfilled_above (first + half) (tree_in xs (level - 1) (first + half)) i ≡ false
+    room-far ge = overfilled-far room-here ge ∙ none
 
 with_new_list-either : (p : ParentNode) (b : Bool) (xs : List ℕ)
     → with_new_list (Some p) (if b then None else Some xs) ≡ Some (record p { unmerged = if b then p.unmerged else xs })

@@ -77,6 +77,9 @@ Memory-not_Bad h = cc
 pub Memory-not_TooMany : OutOfMemory ≡ TooManyLeaves → ⊥
 Memory-not_TooMany h = cc
 
+pub TooMany-not_NoSuch : TooManyLeaves ≡ NoSuchNode → ⊥
+TooMany-not_NoSuch h = cc
+
 pub Memory-not_NoSuch : OutOfMemory ≡ NoSuchNode → ⊥
 Memory-not_NoSuch h = cc
 

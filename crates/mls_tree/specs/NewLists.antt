@@ -4,8 +4,6 @@ use Rattle.std.specs.List.{list_any}
 use Rattle.mls_nodes.specs.declared.parent.ParentNode.{ParentNode}
 use Rattle.mls_tree.specs.Tree.{Tree, leaf, branch, leaf_count}
 use Rattle.mls_tree.specs.Changes.{insert_before}
-use Rattle.mls_tree.specs.declared.error.TreeError.{TreeError}
-use Rattle.mls_tree.specs.declared.error.TreeError.TheVariants.{NoSuchNode, TooManyLeaves, BadShape, OutOfMemory}
 
 -- a list with i in it, where it didn't have it
 abbrev pub changed_list : ℕ → List ℕ → Option (List ℕ)
@@ -27,10 +25,3 @@ abbrev pub with_new_list : Option ParentNode → Option (List ℕ) → Option Pa
 with_new_list None list = None
 with_new_list (Some p) None = Some p
 with_new_list (Some p) (Some list) = Some (record p { unmerged = list })
-
--- the lists were not made for want of memory, or since one of them is full
-abbrev pub IsListRefusal : TreeError → Type 0 → Type 0
-IsListRefusal TooManyLeaves full = full
-IsListRefusal OutOfMemory full = Unit {0}
-IsListRefusal NoSuchNode full = ⊥
-IsListRefusal BadShape full = ⊥

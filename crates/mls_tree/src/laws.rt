@@ -1,14 +1,35 @@
 //! Laws of trees.
-ghost use Rattle.std.specs.Prelude.{◌≡◌, ℕ, ◌+◌};
+ghost use Rattle.std.specs.Prelude.{◌≡◌, ℕ, ◌+◌, ◌*◌, ◌%◌, ◌<◌, ◌↔◌, None, Option, IsSome, length, slice_get, slice_set, unwrap_or};
 ghost use Rattle.mls_nodes.specs.declared.leaf.LeafNode.{LeafNode};
+ghost use Rattle.mls_nodes.specs.declared.parent.ParentNode.{ParentNode};
 ghost use Rattle.mls_tree.specs.RatchetTree.{RatchetTree};
-ghost use Rattle.mls_tree.specs.Tree.{Tree, listing, member_count, leaves_among};
+ghost use Rattle.mls_tree.specs.Tree.{Tree, leaf_count, listing, leaf_entry, parent_entry, subtree_at, node_at, leaf_at, IsParentPlace, member_count, leaves_among};
 ghost use Rattle.mls_tree.specs.Blanks.{first_blank_leaf, next_blank_leaf, AreSetBelow};
-ghost use Rattle.mls_tree.specs.Changes.{add, added_leaf};
+ghost use Rattle.mls_tree.specs.Changes.{put_leaf, put_parent, add, added_leaf};
 
 /// A list of nodes is the listing of at most one tree.
 pub fn one_tree()
     ensures one { (s t : RatchetTree) → listing s.tree ≡ listing t.tree → s ≡ t }
+{}
+
+/// A place is a position in the listing (RFC 9420, Appendix C): the node at a place is the entry there, leaf `i` is the entry at place
+/// `2 * i`, the parents are at the odd places, and a tree has a place for each entry and no other.
+pub fn places_are_positions()
+    ensures nodes { (t : Tree) (p : ℕ) → node_at t p ≡ unwrap_or (slice_get (listing t) p) None }
+    ensures leaves { (t : Tree) (i : ℕ) → leaf_entry (leaf_at 0 t i)
+        ≡ unwrap_or (slice_get (listing t) (2 * i)) None }
+    ensures parents { (t : Tree) (p : ℕ) → IsParentPlace t p
+        ↔ ((p < length (listing t)) × (p % 2 ≡ 1)) }
+    ensures places { (t : Tree) (p : ℕ) → IsSome (subtree_at 0 t p) ↔ (p < length (listing t)) }
+    ensures count { (t : Tree) → length (listing t) + 1 ≡ 2 * leaf_count t }
+{}
+
+/// A node that is replaced is one entry of the listing: leaf `i` the entry at place `2 * i`, a parent that at its own place.
+pub fn one_entry_is_replaced()
+    ensures leaf { (t : Tree) (i : ℕ) (x : Option LeafNode) → i < leaf_count t
+        → listing (put_leaf 0 t i x) ≡ slice_set (listing t) (2 * i) (leaf_entry x) }
+    ensures parent { (t : Tree) (p : ℕ) (x : Option ParentNode) → IsParentPlace t p
+        → listing (put_parent 0 t p x) ≡ slice_set (listing t) p (parent_entry x) }
 {}
 
 /// A tree has as many members as its listing has leaves.

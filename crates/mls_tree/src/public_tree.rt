@@ -16,7 +16,7 @@ use crate::paths::{push_copath, push_direct_path, push_filtered_direct_path};
 use crate::places::level_inside;
 use crate::resolution::push_resolution;
 use crate::sizes::{height_of, height_of_length, leaves_of};
-use crate::unmerged::{push_new_lists, put_lists};
+use crate::unmerged::{is_overfilled_above, push_new_lists, put_lists};
 use mls_nodes::{LeafNode, Node, ParentNode};
 use std::alloc::Global;
 use std::marker::Model;
@@ -291,17 +291,16 @@ impl PublicTree {
     }
 
     /// Puts a leaf's index into the list of unmerged leaves of each set parent above it, before the first entry that is not less (RFC 9420,
-    /// 12.1.1). A list that has the index stays. `NoSuchNode` where the tree has no such leaf, `TooManyLeaves` only where a list would get
-    /// more than 1,048,576 entries. All new lists are made before one is put in place.
+    /// 12.1.1). A list that has the index stays. `NoSuchNode` where the tree has no such leaf, else `TooManyLeaves` where a list without
+    /// the index has 1,048,576 entries: both are judged before any memory is taken. All new lists are made before one is put in place.
     pub fn add_unmerged(&mut self, alloc: Global, index: u32) -> Result<(), TreeError>
         ensures ok { OnOk result (self.new.tree ≡ enter_unmerged self.old.tree index) }
         ensures err { OnErr result (self.new ≡ self.old) }
 
         ensures no_such_node { (result ≡ Err TreeError.NoSuchNode)
             ↔ (leaf_count self.old.tree ≤ index) }
-        ensures too_many_leaves { result ≡ Err TreeError.TooManyLeaves
-            → (index < leaf_count self.old.tree) × IsOverfull self.old.tree index }
-        ensures overfull { IsOverfull self.old.tree index → IsErr result }
+        ensures too_many_leaves { (result ≡ Err TreeError.TooManyLeaves)
+            ↔ ((index < leaf_count self.old.tree) × IsOverfull self.old.tree index) }
         ensures else_memory { IfErr result
             (λ e. (e ≡ TreeError.NoSuchNode) ⊎ (e ≡ TreeError.TooManyLeaves)
             ⊎ (e ≡ TreeError.OutOfMemory)) }
@@ -310,6 +309,9 @@ impl PublicTree {
             return Err(TreeError::NoSuchNode);
         }
         let height = self.height;
+        if is_overfilled_above(self.nodes.as_slice(), height, 0, index) {
+            return Err(TreeError::TooManyLeaves);
+        }
         let mut lists = Vec::new(alloc);
         push_new_lists(&mut lists, alloc, self.nodes.as_slice(), height, 0, index)?;
         put_lists(self.nodes.as_mut_slice(), &mut lists, height, 0, index);

@@ -1,20 +1,51 @@
-//! A leaf's index put into the lists of unmerged leaves above it (RFC 9420, 12.1.1): all new lists are made, which may want memory,
-//! before the first is put in place.
+//! A leaf's index put into the lists of unmerged leaves above it (RFC 9420, 12.1.1): whether a list is full is judged first, and then all
+//! new lists are made, which may want memory, before one of them is put in place.
 //!
 //! Each walk is over a subtree given by its height `level` and the index of its first leaf `first`, and goes at most 20 halves deep.
-ghost use Rattle.std.specs.Prelude.{◌≡◌, ℕ, ◌≤◌, ◌<◌, ◌+◌, ◌*◌, ◌-◌, ◌++◌, Some, false, length, take, drop, insert, All, slice_get, OnOk, IsOk, IfOk, IfErr, IfSome, IsTrue};
+ghost use Rattle.std.specs.Prelude.{◌≡◌, ℕ, ◌≤◌, ◌<◌, ◌+◌, ◌*◌, ◌-◌, ◌++◌, Some, false, length, take, drop, insert, All, slice_get, option_copied, OnOk, IfOk, IfSome};
 ghost use Rattle.mls_nodes.specs.Limits.{leaf_limit};
 ghost use Rattle.mls_tree.specs.Tree.{leaves_at};
 ghost use Rattle.mls_tree.specs.Array.{tree_in, ChangesWithin, parent_part, IsNoLeaf};
-ghost use Rattle.mls_tree.specs.Changes.{change_above, insert_before, insert_number, with_unmerged, is_overfilled_above};
-ghost use Rattle.mls_tree.specs.NewLists.{changed_list, new_lists, with_new_list, IsListRefusal};
+ghost use Rattle.mls_tree.specs.Changes.{change_above, insert_before, insert_number, with_unmerged, is_overfilled, is_overfilled_above};
+ghost use Rattle.mls_tree.specs.NewLists.{changed_list, new_lists, with_new_list};
 
 use crate::entries::as_parent;
-use crate::error::TreeError;
 use crate::sizes::leaves_of;
-use mls_nodes::{MAX_UNMERGED, Node, Unmerged};
-use std::alloc::Global;
+use mls_nodes::{MAX_UNMERGED, Node, ParentNode, Unmerged};
+use std::alloc::{AllocError, Global};
 use std::mem;
+
+// Whether a set parent's list is full and doesn't have a leaf's index.
+fn is_overfilled(parent: Option<&ParentNode>, leaf: u32) -> bool
+    ensures { result ≡ is_overfilled leaf (option_copied parent.entry) }
+{
+    let Some(parent) = parent else {
+        return false;
+    };
+    let list = parent.unmerged.as_slice();
+    list.len() == MAX_UNMERGED && !list.contains(&leaf)
+}
+
+/// Whether the list of a set parent above a leaf is full and doesn't have the leaf's index.
+pub(crate) fn is_overfilled_above(nodes: &[Option<Node>], level: u32, first: u32, leaf: u32) -> bool
+    requires low { level ≤ 20 }
+    requires inside { first + leaves_at level ≤ leaf_limit }
+    requires long { 2 * (first + leaves_at level) ≤ length nodes.now + 1 }
+    ensures { result ≡ is_overfilled_above first (tree_in nodes.now level first) leaf }
+{
+    if level == 0 {
+        return false;
+    }
+    let middle = first + leaves_of(level - 1);
+    if is_overfilled(as_parent(&nodes[2 * middle as usize - 1]), leaf) {
+        return true;
+    }
+    if leaf < middle {
+        is_overfilled_above(nodes, level - 1, first, leaf)
+    } else {
+        is_overfilled_above(nodes, level - 1, middle, leaf)
+    }
+}
 
 // How many entries at the front of a list are less than a number: where it goes.
 pub(crate) fn insertion_point(items: &[u32], number: u32) -> usize
@@ -32,18 +63,13 @@ pub(crate) fn insertion_point(items: &[u32], number: u32) -> usize
 }
 
 // The list with a number put into it, unless the list has it.
-fn with_number(alloc: Global, list: &Unmerged, number: u32) -> Result<Option<Unmerged>, TreeError>
-    ensures made { IfOk result (λ new. new ≡ changed_list number list.now) }
-    ensures fits { IsOk result → length (insert_number number list.now) ≤ leaf_limit }
-    ensures refused { IfErr result
-        (λ e. IsListRefusal e (leaf_limit < length (insert_number number list.now))) }
+fn with_number(alloc: Global, list: &Unmerged, number: u32) -> Result<Option<Unmerged>, AllocError>
+    requires { length (insert_number number list.now) ≤ leaf_limit }
+    ensures { IfOk result (λ new. new ≡ changed_list number list.now) }
 {
     let list = list.as_slice();
     if list.contains(&number) {
         return Ok(None);
-    }
-    if list.len() == MAX_UNMERGED {
-        return Err(TreeError::TooManyLeaves);
     }
     let at = insertion_point(list, number);
     let mut items = Vec::with_capacity(alloc, list.len() + 1)?;
@@ -64,17 +90,13 @@ pub(crate) fn push_new_lists(
     level: u32,
     first: u32,
     leaf: u32,
-) -> Result<(), TreeError>
+) -> Result<(), AllocError>
     requires low { level ≤ 20 }
     requires inside { first + leaves_at level ≤ leaf_limit }
     requires long { 2 * (first + leaves_at level) ≤ length nodes.now + 1 }
-    ensures made { OnOk result
+    requires fits { is_overfilled_above first (tree_in nodes.now level first) leaf ≡ false }
+    ensures { OnOk result
         (out.new.items ≡ out.old.items ++ new_lists first (tree_in nodes.now level first) leaf) }
-    ensures fits { OnOk result
-        (is_overfilled_above first (tree_in nodes.now level first) leaf ≡ false) }
-    ensures refused { IfErr result
-        (λ e. IsListRefusal e
-        (IsTrue (is_overfilled_above first (tree_in nodes.now level first) leaf))) }
 {
     if level == 0 {
         return Ok(());

@@ -1,0 +1,53 @@
+-- Which contents have a SignContent: those within the limit of a vector.
+use Rattle.std.proofs.Common.{◌≡◌, ℕ, ◌<◌, ◌≤◌, List, length, Option, Some, None, IsSome, false, refl, ap, ◌∙◌, subst, inl, inr, arith}
+use Rattle.std.specs.Prelude.{◌⊎◌, codes, option_map}
+use Rattle.mls_wire.specs.Spelling.{◌⊕◌, vector}
+use Rattle.mls_wire.specs.Joined.{no_left, no_right}
+use Rattle.mls_wire.specs.Sizes.{some_size, vector_some}
+use Rattle.mls_wire.specs.Vectors.{vector_within}
+use Rattle.mls_nodes.specs.declared.leaf.LeafNode.{LeafNode}
+use Rattle.mls_nodes.specs.Signed.{leaf_tbs}
+use Rattle.mls_check.specs.Signatures.{Meaning, sign_content, is_good, is_signed, is_signed_text}
+use Rattle.mls_check.specs.Members.{is_leaf_signed}
+
+both_there : (a b : Option (List ℕ)) → IsSome a → IsSome b → IsSome (a ⊕ b)
+unfolding ◌⊕◌
+both_there None b h k = absurd cc
+both_there (Some x) None h k = absurd cc
+both_there (Some x) (Some y) h k = refl
+
+-- a label and a content within the limit
+pub sign_content-within : (label tbs : List ℕ) → length label ≤ 1073741823 → length tbs ≤ 1073741823 → IsSome (sign_content label tbs)
+unfolding sign_content
+sign_content-within label tbs a b = both_there (vector label) (vector tbs) (vector_some label a) (vector_some tbs b)
+
+pub sign_content-there : (label tbs : List ℕ) → length label ≤ 1073741823 → length tbs ≤ 1073741823 → sign_content label tbs ≡ None → ⊥
+sign_content-there label tbs a b none = let there = subst (λ o. IsSome o) none (sign_content-within label tbs a b) in cc
+
+no_vector_by : (s : List ℕ) → 1073741823 < length s → (o : Option (List ℕ)) → vector s ≡ o → vector s ≡ None
+no_vector_by s over None e = e
+no_vector_by s over (Some front) e = let within = vector_within s front e in absurd (omega arith)
+
+no_vector : (s : List ℕ) → 1073741823 < length s → vector s ≡ None
+no_vector s over = no_vector_by s over (vector s) refl
+
+-- one of which is over it
+sign_content-over : (label tbs : List ℕ) → (1073741823 < length label) ⊎ (1073741823 < length tbs) → sign_content label tbs ≡ None
+unfolding sign_content
+sign_content-over label tbs (inl over) = no_left (vector label) (vector tbs) (no_vector label over)
+sign_content-over label tbs (inr over) = no_right (vector label) (vector tbs) (no_vector tbs over)
+
+module _ (G : Meaning) (suite : ℕ) (key label signature : List ℕ) where
+  pub is_signed-over : (tbs : List ℕ) → (1073741823 < length label) ⊎ (1073741823 < length tbs) → is_signed G suite key label tbs signature ≡ false
+  is_signed-over tbs over = ap (is_good G suite key signature) (sign_content-over label tbs over)
+
+  pub is_signed_text-over : (text : Option (List ℕ)) (n : ℕ) → option_map length text ≡ Some n → 1073741823 < n → is_signed_text G suite key label text signature ≡ false
+  is_signed_text-over text n long over =
+      let t = some_size text n long in
+      ap (λ o. is_signed_text G suite key label o signature) t.1 ∙ is_signed-over t.0 (inr (omega (arith, t.2)))
+
+-- a leaf whose LeafNodeTBS is over it
+pub is_leaf_signed-over : (G : Meaning) (suite : ℕ) (group_id : List ℕ) (i : ℕ) (x : LeafNode) (n : ℕ)
+    → option_map length (leaf_tbs x group_id i) ≡ Some n → 1073741823 < n → is_leaf_signed G suite group_id i x ≡ false
+unfolding is_leaf_signed
+is_leaf_signed-over G suite group_id i x n long over = is_signed_text-over G suite x.signature_key (codes "MLS 1.0 LeafNodeTBS") x.signature (leaf_tbs x group_id i) n long over

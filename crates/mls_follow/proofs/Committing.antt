@@ -1,0 +1,120 @@
+-- What the parts of the rules for a commit say of the whole commit.
+use Rattle.std.proofs.Common.{◌≡◌, ◌≢◌, ◌∙◌, ◌++◌, ℕ, List, true, Option, Some, None, IsSome, refl, ap}
+use Rattle.std.specs.Prelude.{option_map, option_and_then, is_some, nat_lt}
+use Rattle.mls_nodes.specs.declared.required_capabilities.RequiredCapabilities.{RequiredCapabilities}
+use Rattle.mls_tree.specs.Tree.{Tree, leaf_at}
+use Rattle.mls_hash.specs.Hashing.{hash_of}
+use Rattle.mls_check.specs.Distinct.{has_distinct_keys}
+use Rattle.mls_check.specs.Members.{Members, IsMemberFault, member_fault}
+use Rattle.mls_check.specs.Signatures.{Meaning}
+use Rattle.mls_check.specs.declared.members.MemberFault.{MemberFault}
+use Rattle.mls_check.specs.declared.members.MemberFault.TheVariants as members
+use Rattle.mls_check.proofs.FirstFault.{fault-first, members-faultless}
+use Rattle.mls_msgs.specs.declared.commit.Commit.{Commit}
+use Rattle.mls_msgs.specs.declared.commit.UpdatePath.{UpdatePath}
+use Rattle.mls_apply.specs.declared.fault.ApplyFault.{ApplyFault}
+use Rattle.mls_apply.specs.declared.item.ListItem.{ListItem}
+use Rattle.mls_apply.specs.Items.{resolved}
+use Rattle.mls_apply.specs.ListRules.{list_rules, list_refusal}
+use Rattle.mls_apply.specs.Outcome.{Grown, outcome, without_adds, with_members, new_members}
+use Rattle.mls_apply.specs.PathRules.{path_rules, path_refusal}
+use Rattle.mls_apply.specs.Rules.{Rule, first_failing, renamed}
+use Rattle.mls_apply.proofs.RuleLists.{first_failing-left, first_failing-right, first_failing-renamed}
+use Rattle.mls_follow.specs.State.{State, last_epoch}
+use Rattle.mls_follow.specs.Rules.{refusal_of, commit_refusal, items_rules, inline_rules, outcome_rules, path_rules_of, member_refusal, member_rules, tree_rules, resulting}
+use Rattle.mls_follow.specs.Judging.{Refuses}
+use Rattle.mls_follow.specs.declared.refusal.Refusal.{Refusal}
+use Rattle.mls_follow.specs.declared.refusal.Refusal.TheVariants.{TooManyLeaves, Member}
+
+-- a list has no outcome where an Update or a Remove meets a leaf that isn't set
+pub no_outcome : (items : List ListItem) (t : Tree) → without_adds items t ≡ None → outcome items t ≡ None
+unfolding outcome
+no_outcome items t e = ap (option_and_then (with_members (new_members items))) e
+
+-- a commit in an epoch that has a next one, whose list is resolved
+module _ (G : Meaning) (s : State) (required : RequiredCapabilities) (i : ℕ) (c : Commit) (later : nat_lt s.context.epoch last_epoch ≡ true)
+    (items : List ListItem) (r : resolved i s.known c.proposals ≡ Some items) where
+  -- the rules for the list, and for what follows it
+  of_list : List (Rule Refusal)
+  of_list = renamed refusal_of (list_rules i items (is_some c.path))
+
+  of_outcome : List (Rule Refusal)
+  of_outcome = outcome_rules G s required i c.path (outcome items s.tree)
+
+  -- its rules are those for its list
+  whole : commit_refusal G s required i c ≡ first_failing (items_rules G s required i c (Some items))
+  unfolding commit_refusal
+  whole = rw (later, r) refl
+
+  module _ (inline : first_failing (inline_rules G s i c) ≡ None) where
+    past_inline : commit_refusal G s required i c ≡ first_failing (of_list ++ of_outcome)
+    unfolding of_list of_outcome
+    past_inline = whole ∙ first_failing-right (inline_rules G s i c) (of_list ++ of_outcome) inline
+
+    -- its list fails a rule
+    pub list_failed : (e : ApplyFault) → list_refusal i items (is_some c.path) ≡ Some e → commit_refusal G s required i c ≡ Some (refusal_of e)
+    unfolding of_list list_refusal
+    list_failed e f =
+        past_inline
+        ∙ first_failing-left of_list of_outcome (refusal_of e) (first_failing-renamed refusal_of (list_rules i items (is_some c.path)) ∙ ap (option_map refusal_of) f)
+
+    module _ (kept : list_refusal i items (is_some c.path) ≡ None) where
+      past_list : commit_refusal G s required i c ≡ first_failing (outcome_rules G s required i c.path (outcome items s.tree))
+      unfolding of_list of_outcome list_refusal
+      past_list =
+          past_inline
+          ∙ first_failing-right of_list of_outcome (first_failing-renamed refusal_of (list_rules i items (is_some c.path)) ∙ ap (option_map refusal_of) kept)
+
+      -- the list has no outcome
+      pub outcome_failed : outcome items s.tree ≡ None → commit_refusal G s required i c ≡ Some TooManyLeaves
+      outcome_failed o = past_list ∙ ap (λ (x : Option Grown). first_failing (outcome_rules G s required i c.path x)) o
+
+      module _ (g : Grown) (o : outcome items s.tree ≡ Some g) where
+        past_outcome : commit_refusal G s required i c
+            ≡ first_failing (path_rules_of (hash_of s.context.cipher_suite) g i c.path ++ tree_rules G s required (resulting (hash_of s.context.cipher_suite) g i c.path))
+        past_outcome = past_list ∙ ap (λ (x : Option Grown). first_failing (outcome_rules G s required i c.path x)) o
+
+        -- its path fails a rule
+        pub path_failed : (e : Refusal) → first_failing (path_rules_of (hash_of s.context.cipher_suite) g i c.path) ≡ Some e → commit_refusal G s required i c ≡ Some e
+        path_failed e f =
+            past_outcome
+            ∙ first_failing-left (path_rules_of (hash_of s.context.cipher_suite) g i c.path) (tree_rules G s required (resulting (hash_of s.context.cipher_suite) g i c.path)) e f
+
+        -- what is left is to judge the tree
+        pub past_path : (t : Tree) → first_failing (path_rules_of (hash_of s.context.cipher_suite) g i c.path) ≡ None
+            → resulting (hash_of s.context.cipher_suite) g i c.path ≡ Some t → commit_refusal G s required i c ≡ first_failing (tree_rules G s required (Some t))
+        past_path t f e =
+            past_outcome
+            ∙ first_failing-right (path_rules_of (hash_of s.context.cipher_suite) g i c.path) (tree_rules G s required (resulting (hash_of s.context.cipher_suite) g i c.path)) f
+            ∙ ap (λ (x : Option Tree). first_failing (tree_rules G s required x)) e
+
+-- a path of a member is judged by its rules alone
+pub path_word : (H : List ℕ → List ℕ) (g : Grown) (i : ℕ) (path : UpdatePath) → IsSome (leaf_at 0 g.tree i)
+    → first_failing (path_rules_of H g i (Some path)) ≡ option_map refusal_of (path_refusal H g i path)
+unfolding path_refusal
+path_word H g i path set = first_failing-renamed refusal_of (path_rules H g i path) ∙ rw set refl
+
+-- the tree after a commit, whose keys are distinct
+module _ (G : Meaning) (s : State) (required : RequiredCapabilities) (t : Tree) (distinct : has_distinct_keys t ≡ true) where
+  of_members : first_failing (tree_rules G s required (Some t)) ≡ first_failing (member_rules (member_fault G s.context.cipher_suite s.context.group_id required t))
+  of_members = rw distinct refl
+
+  pub tree_kept : Members G s.context.cipher_suite s.context.group_id required t → first_failing (tree_rules G s required (Some t)) ≡ None
+  tree_kept h =
+      of_members
+      ∙ ap (λ (o : Option MemberFault). first_failing (member_rules o)) ((members-faultless G s.context.cipher_suite s.context.group_id required t).0 h)
+
+  stranger : (f : MemberFault) → f ≢ members.OutOfMemory → IsMemberFault G s.context.cipher_suite s.context.group_id required t f
+      → first_failing (tree_rules G s required (Some t)) ≡ Some (Member f)
+  stranger f own h =
+      of_members
+      ∙ ap (λ (o : Option MemberFault). first_failing (member_rules o)) ((fault-first G s.context.cipher_suite s.context.group_id required t f own).0 h)
+
+  pub tree_failed : (f : MemberFault) → IsMemberFault G s.context.cipher_suite s.context.group_id required t f
+      → Refuses (first_failing (tree_rules G s required (Some t))) (member_refusal f)
+  tree_failed (members.ExtensionUnlisted i) h = λ _. stranger (members.ExtensionUnlisted i) (λ e. cc) h
+  tree_failed (members.RequirementUnmet i) h = λ _. stranger (members.RequirementUnmet i) (λ e. cc) h
+  tree_failed (members.CredentialUnsupported i) h = λ _. stranger (members.CredentialUnsupported i) (λ e. cc) h
+  tree_failed (members.SignatureKeyRepeated i) h = λ _. stranger (members.SignatureKeyRepeated i) (λ e. cc) h
+  tree_failed (members.LeafSignature i) h = λ _. stranger (members.LeafSignature i) (λ e. cc) h
+  tree_failed members.OutOfMemory h = λ own. absurd (own refl)

@@ -1,0 +1,73 @@
+-- There is an answer to any bytes.
+use Rattle.std.proofs.Common.{◌≡◌, ◌∙◌, ℕ, List, length, Bool, true, false, Option, Some, None, Result, Ok, Err, refl, sym, inl, inr, arith}
+use Rattle.std.specs.Prelude.{nat_le}
+use Rattle.std.proofs.lemmas.Bool.{false≢true}
+use Rattle.std.proofs.lemmas.Bool.Decides.{nat_tests}
+use Rattle.std.proofs.lemmas.Option.{none-some}
+use Rattle.mls_nodes.specs.declared.required_capabilities.RequiredCapabilities.{RequiredCapabilities}
+use Rattle.mls_check.specs.Signatures.{Meaning}
+use Rattle.mls_msgs.specs.Message.{message}
+use Rattle.mls_msgs.specs.MessageExact.{message_takes, message_again}
+use Rattle.mls_msgs.specs.MessageParsing.{message_at}
+use Rattle.mls_msgs.specs.declared.message.Message.{Message}
+use Rattle.mls_apply.specs.Rules.{first_failing}
+use Rattle.mls_wire.specs.Limits.{input_limit}
+use Rattle.mls_nodes.specs.Requirements.{Requires}
+use Rattle.mls_follow.specs.State.{State, Spells}
+use Rattle.mls_follow.specs.Rules.{message_rules}
+use Rattle.mls_follow.specs.Judging.{SpellNothing}
+use Rattle.mls_follow.specs.Runs.{IsAnswered, IsHeld, SomeAnswer}
+use Rattle.mls_follow.specs.declared.refusal.Refusal.{Refusal}
+use Rattle.mls_follow.specs.declared.refusal.Refusal.TheVariants.{Malformed, OutOfMemory}
+use Rattle.mls_follow.specs.declared.taken.Taken.{Taken}
+use Rattle.mls_follow.proofs.Spellings.{put_back}
+use Rattle.mls_follow.proofs.OwnRules.{of_message}
+use Rattle.mls_follow.proofs.Advancing.{next_there}
+
+module _ (G : Meaning) (s : State) (required : RequiredCapabilities) (bytes : List ℕ) (held : IsHeld s) (requires : Requires s.context required) where
+  abbrev Answered : Type 0
+  Answered = IsAnswered G s bytes
+
+  same_error : (e f : Refusal) → ◌≡◌ {A = Result Taken Refusal} (Err e) (Err f) → e ≡ f
+  same_error e f h = cc
+
+  -- the bytes spell no message
+  malformed : SpellNothing bytes → Answered
+  malformed none = (
+    Err Malformed,
+    s,
+    record {
+      takes = (refl, λ own. inl (refl, none));
+      memory = λ e. (let bad = same_error Malformed OutOfMemory e in absurd cc);
+    },
+  )
+
+  -- they spell this one
+  judged : (m : Message) → Spells m bytes → (o : Option Refusal) → first_failing (message_rules G s required m) ≡ o → Answered
+  judged m spelled None kept =
+      let step = next_there s held G required m (put_back (message m) bytes spelled.spelled) kept in (
+        Ok step.step.taken,
+        step.step.state,
+        record {
+          takes = (record { message = m; spelled = spelled; required = required; requires = requires; kept = kept }, record { message = m; spelled = spelled; after = step.is });
+          memory = λ e. absurd cc;
+        },
+      )
+  judged m spelled (Some e) fails = (
+    Err e,
+    s,
+    record {
+      takes = (refl, λ own. inr (record { message = m; spelled = spelled; required = required; requires = requires; fails = fails }));
+      memory = λ h. (of_message G s required m).own e fails (same_error e OutOfMemory h);
+    },
+  )
+
+  read : (o : Option Message) → message_at bytes ≡ o → (b : Bool) → nat_le (length bytes) input_limit ≡ b → Answered
+  read None e b f = malformed (λ m h. none-some m (sym e ∙ message_again m bytes h.spelled))
+  read (Some m) e false f =
+      malformed (λ n h. let le = h.bounded in let t : nat_le (length bytes) input_limit ≡ true = grind (arith, nat_tests) in false≢true (sym f ∙ t))
+  read (Some m) e true f =
+      judged m (record { spelled = message_takes bytes m e; bounded = grind (arith, nat_tests) }) (first_failing (message_rules G s required m)) refl
+
+pub an_answer : SomeAnswer
+an_answer G s required bytes held requires = read G s required bytes held requires (message_at bytes) refl (nat_le (length bytes) input_limit) refl

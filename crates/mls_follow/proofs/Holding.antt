@@ -1,0 +1,71 @@
+-- A follower starts in a state that it may hold, and after any run it is in one.
+use Rattle.std.proofs.Common.{◌≡◌, ◌∙◌, ℕ, List, [], ◌∷◌, Option, Result, Ok, Err, IsSome, sym, ap, subst}
+use Rattle.std.proofs.lemmas.List.Elements.{All-nil}
+use Rattle.std.proofs.lemmas.Option.{same_Some}
+use Rattle.mls_nodes.specs.Requirements.{Requires, FindsRequirements, extension_of}
+use Rattle.mls_nodes.specs.declared.extension.Extension.{Extension}
+use Rattle.mls_nodes.specs.declared.required_capabilities.RequiredCapabilities.{RequiredCapabilities}
+use Rattle.mls_tree.specs.RatchetTree.{RatchetTree}
+use Rattle.mls_tree.specs.TreeHash.{tree_hash}
+use Rattle.mls_hash.specs.Hashing.{hash_of}
+use Rattle.mls_check.specs.Signatures.{Meaning}
+use Rattle.mls_msgs.specs.Layout.{proposal}
+use Rattle.mls_msgs.specs.Message.{message}
+use Rattle.mls_msgs.specs.declared.group_info.GroupInfo.{GroupInfo}
+use Rattle.mls_follow.specs.State.{State}
+use Rattle.mls_follow.specs.Next.{Step, next}
+use Rattle.mls_follow.specs.Judging.{IsAcceptable, IsNext}
+use Rattle.mls_follow.specs.Runs.{Takes, Call, IsRun, IsHeld, RunsAreAnswered}
+use Rattle.mls_follow.specs.Start.{IsStart}
+use Rattle.mls_follow.specs.declared.refusal.Refusal.{Refusal}
+use Rattle.mls_follow.specs.declared.taken.Taken.{Taken}
+use Rattle.mls_follow.proofs.Advancing.{Leads, next_there}
+use Rattle.mls_follow.proofs.Answering.{one_message}
+use Rattle.mls_follow.proofs.Deciding.{an_answer}
+use Rattle.mls_follow.proofs.Spellings.{put_back}
+
+-- a state that a follower may hold, whose group's requirements can be read
+record IsSteady (s : State) : Type 0 where
+  held : IsHeld s
+  required : RequiredCapabilities
+  requires : Requires s.context required
+
+-- it starts in one
+start_steady : (G : Meaning) (info : GroupInfo) (handed : Option RatchetTree) (s : State) → IsStart G info handed s → IsSteady s
+start_steady G info handed s h =
+    let valid = h.has_signer.has_members.valid_tree in
+    subst IsSteady (sym h.state) (record {
+      held = record {
+        shape = h.tree.shape;
+        tree = put_back (tree_hash (hash_of info.context.cipher_suite) 0 h.tree.tree) info.context.tree_hash valid.valid.hashed;
+        known = All-nil (λ k. IsSome (proposal k.proposal));
+      };
+      required = h.has_signer.required;
+      requires = valid.readable.requires;
+    })
+
+module _ (G : Meaning) (s : State) (steady : IsSteady s) (bytes : List ℕ) where
+  -- the extensions of the group stay
+  kept_requirements : (t : State) → t.context.extensions ≡ s.context.extensions → Requires t.context steady.required
+  kept_requirements t e = subst (λ (es : List Extension). FindsRequirements (extension_of 3 es) (Ok steady.required)) (sym e) steady.requires
+
+  -- what is accepted leads to one
+  accepted_steady : (step : Step) → IsAcceptable G s bytes → IsNext s bytes step → IsSteady step.state
+  accepted_steady step a n =
+      let l : Leads s steady.held (next s a.message) = next_there s steady.held G a.required a.message (put_back (message a.message) bytes a.spelled.spelled) a.kept in
+      let same = same_Some l.step step (sym l.is ∙ ap (next s) (one_message a.message n.message bytes a.spelled n.spelled) ∙ n.after) in
+      subst (λ (t : Step). IsSteady t.state) same (record { held = l.still; required = steady.required; requires = kept_requirements l.step.state l.extensions })
+
+  taken_steady : (answer : Result Taken Refusal) (new : State) → Takes G s bytes answer new → IsSteady new
+  taken_steady (Ok taken) new h = accepted_steady (record { taken = taken; state = new }) h.0 h.1
+  taken_steady (Err e) new h = subst IsSteady (sym h.0) steady
+
+run_steady : (G : Meaning) (s : State) (calls : List Call) (new : State) → IsSteady s → IsRun G s calls new → IsSteady new
+run_steady G s [] new steady h = subst IsSteady (sym h) steady
+run_steady G s (call ∷ calls) new steady h =
+    run_steady G h.0 calls new (taken_steady G s steady call.bytes call.answer h.0 h.1) h.2
+
+pub run_answered : RunsAreAnswered
+run_answered G info handed first last calls bytes start run =
+    let steady = run_steady G first calls last (start_steady G info handed first start) run in
+    an_answer G last steady.required bytes steady.held steady.requires

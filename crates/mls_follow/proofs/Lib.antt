@@ -1,0 +1,16 @@
+pub mod Folding
+pub mod Answering
+pub mod Taking
+pub mod Committing
+pub mod Spelled
+pub mod Staying
+pub mod Starting
+pub mod InlineProposals
+pub mod Hashing
+pub mod Spellings
+pub mod SpelledTrees
+pub mod SpelledCommits
+pub mod OwnRules
+pub mod Advancing
+pub mod Deciding
+pub mod Holding

@@ -1,0 +1,265 @@
+-- Every node of a tree has a spelling, so the tree has a hash; and a commit keeps that.
+use Rattle.std.proofs.Common.{◌≡◌, ◌∙◌, sym, ℕ, zero, suc, ◌+◌, ◌≤◌, List, [], ◌∷◌, length, Bool, true, false, Option, Some, None, IsSome, refl, ap, subst, arith}
+use Rattle.std.specs.Prelude.{if◌then◌else◌, nat_lt, ◌||◌, All, option_map, option_and_then}
+use Rattle.std.specs.Int.{w8, w32}
+use Rattle.std.proofs.lemmas.Option.{none-some, same_Some, option_and_then_some}
+use Rattle.std.proofs.lemmas.List.Elements.{All-head, All-tail}
+use Rattle.mls_wire.specs.Sizes.{vector_some}
+use Rattle.mls_wire.specs.Spelling.{◌⊕◌, number, vector, optional}
+use Rattle.mls_nodes.specs.Layout as layout
+use Rattle.mls_nodes.specs.declared.leaf.LeafNode.{LeafNode}
+use Rattle.mls_nodes.specs.declared.parent.ParentNode.{ParentNode}
+use Rattle.mls_tree.specs.Tree.{Tree, leaf, branch, height, leaf_count, IsPerfect}
+use Rattle.mls_tree.specs.TreeHash.{tree_hash, hash_of_parent, leaf_hash_input, parent_hash_input}
+use Rattle.mls_tree.specs.Blanks.{first_blank_leaf}
+use Rattle.mls_tree.specs.Paths.{resolution}
+use Rattle.mls_tree.specs.Changes.{put_leaf, change_above, clear_path, has_set_leaf, shrink, blank_tree, grow, update, remove, with_unmerged, is_overfilled, is_overfilled_above, enter_unmerged, add, added_leaf, grown_for}
+use Rattle.mls_tree.proofs.Kept.{either}
+use Rattle.mls_hash.specs.ParentHash as parents
+use Rattle.mls_apply.specs.Merge.{Handed, handed, handed_by, path_parent, path_hash, merged_from, hashes_from, behind}
+use Rattle.mls_follow.proofs.Spellings.{put_back, both_spelled, left_spelled, right_spelled, number_spelled, none_unmerged, parent_spelled, entered_spelled}
+
+-- each node has a spelling
+abbrev pub IsSpelled : Tree → Type 0
+IsSpelled (leaf x) = IsSome (optional layout.leaf x)
+IsSpelled (branch l p r) = IsSpelled l × IsSome (optional layout.parent p) × IsSpelled r
+
+pub blank_parent : IsSome (optional layout.parent None)
+unfolding optional
+blank_parent = refl
+
+pub set_leaf_spelled : (x : LeafNode) → IsSome (layout.leaf x) → IsSome (optional layout.leaf (Some x))
+unfolding optional
+set_leaf_spelled x h = both_spelled (Some (1 ∷ [])) (layout.leaf x) refl h
+
+blank_leaf_spelled : IsSome (optional layout.leaf None)
+unfolding optional
+blank_leaf_spelled = refl
+
+-- ---- hashes
+
+-- a tree whose hash exists has nodes with spellings
+mapped_some : (H : List ℕ → List ℕ) (o : Option (List ℕ)) → IsSome (option_map H o) → IsSome o
+mapped_some H None h = h
+mapped_some H (Some x) h = refl
+
+parts_some : (H : List ℕ → List ℕ) (p : Option ParentNode) (a b : Option (List ℕ)) → IsSome (hash_of_parent H p a b)
+    → IsSome a × IsSome (optional layout.parent p) × IsSome b
+parts_some H p None b h = absurd (cc)
+parts_some H p (Some x) None h = absurd (cc)
+parts_some H p (Some x) (Some y) h =
+    let whole = mapped_some H (parent_hash_input p x y) h in
+    (refl, left_spelled (optional layout.parent p) (vector x ⊕ vector y) (right_spelled (number w8 2) (optional layout.parent p ⊕ vector x ⊕ vector y) whole), refl)
+
+pub hashed_spelled : (H : List ℕ → List ℕ) (first : ℕ) (t : Tree) → IsSome (tree_hash H first t) → IsSpelled t
+hashed_spelled H first (leaf x) h =
+    right_spelled (number w32 first) (optional layout.leaf x) (right_spelled (number w8 1) (number w32 first ⊕ optional layout.leaf x) (mapped_some H (leaf_hash_input first x) h))
+hashed_spelled H first (branch l p r) h =
+    let parts = parts_some H p (tree_hash H first l) (tree_hash H (first + leaf_count l) r) h in
+    (hashed_spelled H first l parts.0, parts.1, hashed_spelled H (first + leaf_count l) r parts.2)
+
+-- a hash that has a spelling as a vector
+record IsHashed (o : Option (List ℕ)) : Type 0 where
+  hash : List ℕ
+  is : o ≡ Some hash
+  short : length hash ≤ 1073741823
+
+module _ (H : List ℕ → List ℕ) (short : (m : List ℕ) → length (H m) ≤ 1073741823) where
+  hash_made : (o : Option (List ℕ)) → IsSome o → IsHashed (option_map H o)
+  hash_made None h = absurd (cc)
+  hash_made (Some x) h = record { hash = H x; is = refl; short = short x }
+
+  hashed : (first : ℕ) (t : Tree) → first + leaf_count t ≤ 4294967296 → IsSpelled t → IsHashed (tree_hash H first t)
+  hashed first (leaf x) few h =
+      hash_made (leaf_hash_input first x)
+      (both_spelled (number w8 1) (number w32 first ⊕ optional layout.leaf x) (number_spelled w8 1 (omega arith))
+      (both_spelled (number w32 first) (optional layout.leaf x) (number_spelled w32 first (omega arith)) h))
+  hashed first (branch l p r) few h =
+      let a = hashed first l (omega arith) h.0 in
+      let b = hashed (first + leaf_count l) r (omega arith) h.2 in
+      rw (a.is, b.is) (hash_made (parent_hash_input p a.hash b.hash)
+      (both_spelled (number w8 2) (optional layout.parent p ⊕ vector a.hash ⊕ vector b.hash) (number_spelled w8 2 (omega arith))
+      (both_spelled (optional layout.parent p) (vector a.hash ⊕ vector b.hash) h.1
+      (both_spelled (vector a.hash) (vector b.hash) (vector_some a.hash a.short) (vector_some b.hash b.short)))))
+
+  pub tree_hashed : (t : Tree) → leaf_count t ≤ 4294967296 → IsSpelled t → IsSome (tree_hash H 0 t)
+  tree_hashed t few h = let a = hashed 0 t (omega arith) h in put_back (tree_hash H 0 t) a.hash a.is
+
+-- ---- changes
+
+pub IsSpelled-put_leaf : (first : ℕ) (t : Tree) (i : ℕ) (x : Option LeafNode) → IsSome (optional layout.leaf x) → IsSpelled t → IsSpelled (put_leaf first t i x)
+IsSpelled-put_leaf first (leaf y) i x s h = s
+IsSpelled-put_leaf first (branch l p r) i x s h =
+    either IsSpelled (nat_lt i (first + leaf_count l)) (branch (put_leaf first l i x) p r) (branch l p (put_leaf (first + leaf_count l) r i x))
+    (IsSpelled-put_leaf first l i x s h.0, h.1, h.2) (h.0, h.1, IsSpelled-put_leaf (first + leaf_count l) r i x s h.2)
+
+pub IsSpelled-clear : (first : ℕ) (t : Tree) (i : ℕ) → IsSpelled t → IsSpelled (change_above (λ _. None) first t i)
+IsSpelled-clear first (leaf x) i h = h
+IsSpelled-clear first (branch l p r) i h =
+    either IsSpelled (nat_lt i (first + leaf_count l)) (branch (change_above (λ _. None) first l i) None r) (branch l None (change_above (λ _. None) (first + leaf_count l) r i))
+    (IsSpelled-clear first l i h.0, blank_parent, h.2) (h.0, blank_parent, IsSpelled-clear (first + leaf_count l) r i h.2)
+
+either_false : (a b : Bool) → (a || b) ≡ false → (a ≡ false) × (b ≡ false)
+either_false true b e = absurd (cc)
+either_false false b e = (refl, e)
+
+pub IsSpelled-enter : (first : ℕ) (t : Tree) (i : ℕ) → IsSome (number w32 i) → is_overfilled_above first t i ≡ false → IsSpelled t
+    → IsSpelled (change_above (with_unmerged i) first t i)
+IsSpelled-enter first (leaf x) i n room h = h
+IsSpelled-enter first (branch l p r) i n room h =
+    let rooms = either_false (if nat_lt i (first + leaf_count l) then is_overfilled_above first l i else is_overfilled_above (first + leaf_count l) r i) (is_overfilled i p) room in
+    go (nat_lt i (first + leaf_count l)) (IsSpelled-enter first l i n) (IsSpelled-enter (first + leaf_count l) r i n) rooms.0 (entered_spelled i p n rooms.1 h.1)
+  where
+    go : (b : Bool) → (is_overfilled_above first l i ≡ false → IsSpelled l → IsSpelled (change_above (with_unmerged i) first l i))
+        → (is_overfilled_above (first + leaf_count l) r i ≡ false → IsSpelled r → IsSpelled (change_above (with_unmerged i) (first + leaf_count l) r i))
+        → (if b then is_overfilled_above first l i else is_overfilled_above (first + leaf_count l) r i) ≡ false → IsSome (optional layout.parent (with_unmerged i p))
+        → IsSpelled (if b then branch (change_above (with_unmerged i) first l i) (with_unmerged i p) r else branch l (with_unmerged i p) (change_above (with_unmerged i) (first + leaf_count l) r i))
+    go true in_left in_right room s = (in_left room h.0, s, h.2)
+    go false in_left in_right room s = (h.0, s, in_right room h.2)
+
+IsSpelled-blank_tree : (k : ℕ) → IsSpelled (blank_tree k)
+IsSpelled-blank_tree zero = blank_leaf_spelled
+IsSpelled-blank_tree (suc k) = (IsSpelled-blank_tree k, blank_parent, IsSpelled-blank_tree k)
+
+pub IsSpelled-grow : (t : Tree) → IsSpelled t → IsSpelled (grow t)
+IsSpelled-grow t h = (h, blank_parent, IsSpelled-blank_tree (height t))
+
+pub IsSpelled-shrink : (t : Tree) → IsSpelled t → IsSpelled (shrink t)
+IsSpelled-shrink (leaf x) h = h
+IsSpelled-shrink (branch l p r) h = either IsSpelled (has_set_leaf r) (branch l p r) (shrink l) h (IsSpelled-shrink l h.0)
+
+pub IsSpelled-update : (t : Tree) (i : ℕ) (x : LeafNode) → IsSome (layout.leaf x) → IsSpelled t → IsSpelled (update t i x)
+IsSpelled-update t i x s h = IsSpelled-clear 0 (put_leaf 0 t i (Some x)) i (IsSpelled-put_leaf 0 t i (Some x) (set_leaf_spelled x s) h)
+
+pub IsSpelled-remove : (t : Tree) (i : ℕ) → IsSpelled t → IsSpelled (remove t i)
+IsSpelled-remove t i h =
+    IsSpelled-shrink (clear_path (put_leaf 0 t i None) i) (IsSpelled-clear 0 (put_leaf 0 t i None) i (IsSpelled-put_leaf 0 t i None blank_leaf_spelled h))
+
+IsSpelled-grown : (t : Tree) (o : Option ℕ) → IsSpelled t → IsSpelled (grown_for o t)
+IsSpelled-grown t None h = IsSpelled-grow t h
+IsSpelled-grown t (Some j) h = h
+
+pub IsSpelled-add : (t : Tree) (x : LeafNode) → IsSome (layout.leaf x) → IsSome (number w32 (added_leaf t))
+    → is_overfilled_above 0 (grown_for (first_blank_leaf 0 t) t) (added_leaf t) ≡ false → IsSpelled t → IsSpelled (add t x)
+IsSpelled-add t x s n room h =
+    IsSpelled-put_leaf 0 (enter_unmerged (grown_for (first_blank_leaf 0 t) t) (added_leaf t)) (added_leaf t) (Some x) (set_leaf_spelled x s)
+    (IsSpelled-enter 0 (grown_for (first_blank_leaf 0 t) t) (added_leaf t) n room (IsSpelled-grown t (first_blank_leaf 0 t) h))
+
+-- ---- a path
+
+-- the keys that are handed down
+abbrev pub AreKeys : List (List ℕ) → Type 0
+AreKeys keys = All (λ k. IsSome (vector k)) keys
+
+-- what is handed down has spellings
+record IsHanded (n : Handed) : Type 0 where
+  parent : IsSome (optional layout.parent n.parent)
+  hash : length n.hash ≤ 1073741823
+  keys : AreKeys n.keys
+
+module _ (H : List ℕ → List ℕ) (short : (m : List ℕ) → length (H m) ≤ 1073741823) where
+  mapped_short : (o : Option (List ℕ)) (h : List ℕ) → option_map H o ≡ Some h → length h ≤ 1073741823
+  mapped_short None h e = absurd (none-some h e)
+  mapped_short (Some x) h e = subst (λ (y : List ℕ). length y ≤ 1073741823) (same_Some (H x) h e) (short x)
+
+  hash_short : (p : ParentNode) (first : ℕ) (away : Tree) (h : List ℕ) → path_hash H p first away ≡ Some h → length h ≤ 1073741823
+  hash_short p first away h e =
+      option_and_then_some (λ original. option_map H (parents.parent_hash_input p original)) (tree_hash H first away) h e
+      (λ original a b. mapped_short (parents.parent_hash_input p original) h b)
+
+  path_parent_spelled : (key hash : List ℕ) → IsSome (vector key) → length hash ≤ 1073741823 → IsSome (optional layout.parent (Some (path_parent key hash)))
+  unfolding optional
+  path_parent_spelled key hash k l =
+      both_spelled (Some (1 ∷ [])) (layout.parent (path_parent key hash)) refl (parent_spelled key hash [] k (vector_some hash l) none_unmerged)
+
+  made_handed : (key hash : List ℕ) (keys : List (List ℕ)) (o : Option (List ℕ)) → ((h : List ℕ) → o ≡ Some h → length h ≤ 1073741823)
+      → IsSome (optional layout.parent (Some (path_parent key hash))) → AreKeys keys
+      → (n : Handed) → option_map (λ h. record { parent = Some (path_parent key hash); hash = h; keys = keys }) o ≡ Some n → IsHanded n
+  made_handed key hash keys None l s ks n e = absurd (none-some n e)
+  made_handed key hash keys (Some h) l s ks n e =
+      subst IsHanded (same_Some (record { parent = Some (path_parent key hash); hash = h; keys = keys }) n e) (record { parent = s; hash = l h refl; keys = ks })
+
+  handed_spelled : (places : List ℕ) (first : ℕ) (away : Tree) (hash : List ℕ) (keys : List (List ℕ)) (n : Handed) → length hash ≤ 1073741823 → AreKeys keys
+      → handed_by H places first away hash keys ≡ Some n → IsHanded n
+  handed_spelled [] first away hash keys n l ks e =
+      subst IsHanded (same_Some (record { parent = None; hash = hash; keys = keys }) n e) (record { parent = blank_parent; hash = l; keys = ks })
+  handed_spelled (p ∷ ps) first away hash [] n l ks e = absurd (none-some n e)
+  handed_spelled (p ∷ ps) first away hash (key ∷ keys) n l ks e =
+      made_handed key hash keys (path_hash H (path_parent key hash) first away) (λ h q. hash_short (path_parent key hash) first away h q)
+      (path_parent_spelled key hash (All-head (λ k. IsSome (vector k)) key keys ks) l) (All-tail (λ k. IsSome (vector k)) key keys ks) n e
+
+  -- a tree, as high as another one and perfect where that one is, whose nodes have spellings
+  pub record IsMerged (t u : Tree) : Type 0 where
+    pub spelled : IsSpelled u
+    pub as_high : height u ≡ height t
+    pub perfect : IsPerfect t → IsPerfect u
+
+  module _ (leaves i : ℕ) (x : LeafNode) (s : IsSome (layout.leaf x)) where
+    rebuilt : (whole : Tree) (made : Tree → Tree) (below : Tree) (o : Option Tree) → ((u : Tree) → IsMerged below u → IsMerged whole (made u))
+        → ((u : Tree) → o ≡ Some u → IsMerged below u) → (v : Tree) → option_map made o ≡ Some v → IsMerged whole v
+    rebuilt whole made below None up each v e = absurd (none-some v e)
+    rebuilt whole made below (Some u) up each v e = subst (IsMerged whole) (same_Some (made u) v e) (up u (each u refl))
+
+    pub merged_spelled : (first : ℕ) (t : Tree) (hash : List ℕ) (keys : List (List ℕ)) (u : Tree) → length hash ≤ 1073741823 → AreKeys keys → IsSpelled t
+        → merged_from H leaves first t i x hash keys ≡ Some u → IsMerged t u
+    merged_spelled first (leaf y) hash keys u l ks h e =
+        subst (IsMerged (leaf y)) (same_Some (leaf (Some x)) u e) (record { spelled = set_leaf_spelled x s; as_high = refl; perfect = λ p. tt })
+    merged_spelled first (branch a p b) hash keys u l ks h e =
+        go (nat_lt i (first + leaf_count a)) (λ m g v. merged_spelled first a m g v) (λ m g v. merged_spelled (first + leaf_count a) b m g v) e
+      where
+        go : (c : Bool)
+            → ((m : List ℕ) (g : List (List ℕ)) (v : Tree) → length m ≤ 1073741823 → AreKeys g → IsSpelled a → merged_from H leaves first a i x m g ≡ Some v → IsMerged a v)
+            → ((m : List ℕ) (g : List (List ℕ)) (v : Tree) → length m ≤ 1073741823 → AreKeys g → IsSpelled b → merged_from H leaves (first + leaf_count a) b i x m g ≡ Some v → IsMerged b v)
+            → (if c
+            then option_and_then (λ n. option_map (λ t. branch t n.parent b) (merged_from H leaves first a i x n.hash n.keys)) (handed H leaves (first + leaf_count a) b hash keys)
+            else option_and_then (λ n. option_map (λ t. branch a n.parent t) (merged_from H leaves (first + leaf_count a) b i x n.hash n.keys)) (handed H leaves first a hash keys)) ≡ Some u
+            → IsMerged (branch a p b) u
+        go true in_left in_right e =
+            option_and_then_some (λ n. option_map (λ t. branch t n.parent b) (merged_from H leaves first a i x n.hash n.keys)) (handed H leaves (first + leaf_count a) b hash keys) u e
+            (λ n f g.
+            let k = handed_spelled (resolution leaves (first + leaf_count a) b) (first + leaf_count a) b hash keys n l ks f in
+            rebuilt (branch a p b) (λ t. branch t n.parent b) a (merged_from H leaves first a i x n.hash n.keys)
+            (λ v m. record { spelled = (m.spelled, k.parent, h.2); as_high = ap suc m.as_high; perfect = λ p. (m.as_high ∙ p.0, m.perfect p.1, p.2) })
+            (λ v q. in_left n.hash n.keys v k.hash k.keys h.0 q) u g)
+        go false in_left in_right e =
+            option_and_then_some (λ n. option_map (λ t. branch a n.parent t) (merged_from H leaves (first + leaf_count a) b i x n.hash n.keys)) (handed H leaves first a hash keys) u e
+            (λ n f g.
+            let k = handed_spelled (resolution leaves first a) first a hash keys n l ks f in
+            rebuilt (branch a p b) (λ t. branch a n.parent t) b (merged_from H leaves (first + leaf_count a) b i x n.hash n.keys)
+            (λ v m. record { spelled = (h.0, k.parent, m.spelled); as_high = refl; perfect = λ p. (p.0 ∙ sym m.as_high, p.1, m.perfect p.2) })
+            (λ v q. in_right n.hash n.keys v k.hash k.keys h.2 q) u g)
+
+-- where a path has the hashes expected, there is a tree
+module _ (H : List ℕ → List ℕ) (leaves i : ℕ) (x : LeafNode) where
+  both_there : {A B : Type 0} (f : A → Option B) (g : A → Option Tree) (o : Option A) → ((a : A) → IsSome (f a) → IsSome (g a))
+      → IsSome (option_and_then f o) → IsSome (option_and_then g o)
+  both_there f g None each h = h
+  both_there f g (Some a) each h = each a h
+
+  mapped_there : {A B : Type 0} (f : A → A) (g : B → B) (a : Option A) (b : Option B) → (IsSome a → IsSome b) → IsSome (option_map f a) → IsSome (option_map g b)
+  mapped_there f g None b each h = absurd (cc)
+  mapped_there {B} f g (Some x) None each h = let bad : IsSome {T = B} None = each refl in absurd cc
+  mapped_there f g (Some x) (Some y) each h = refl
+
+  pub merged_there : (first : ℕ) (t : Tree) (hash : List ℕ) (keys : List (List ℕ)) → IsSome (hashes_from H leaves first t i hash keys)
+      → IsSome (merged_from H leaves first t i x hash keys)
+  merged_there first (leaf y) hash keys h = refl
+  merged_there first (branch a p b) hash keys h =
+      go (nat_lt i (first + leaf_count a)) (λ m g. merged_there first a m g) (λ m g. merged_there (first + leaf_count a) b m g) h
+    where
+      go : (c : Bool) → ((m : List ℕ) (g : List (List ℕ)) → IsSome (hashes_from H leaves first a i m g) → IsSome (merged_from H leaves first a i x m g))
+          → ((m : List ℕ) (g : List (List ℕ)) → IsSome (hashes_from H leaves (first + leaf_count a) b i m g) → IsSome (merged_from H leaves (first + leaf_count a) b i x m g))
+          → IsSome (if c
+          then option_and_then (λ n. option_map (behind n.parent hash) (hashes_from H leaves first a i n.hash n.keys)) (handed H leaves (first + leaf_count a) b hash keys)
+          else option_and_then (λ n. option_map (behind n.parent hash) (hashes_from H leaves (first + leaf_count a) b i n.hash n.keys)) (handed H leaves first a hash keys))
+          → IsSome (if c
+          then option_and_then (λ n. option_map (λ t. branch t n.parent b) (merged_from H leaves first a i x n.hash n.keys)) (handed H leaves (first + leaf_count a) b hash keys)
+          else option_and_then (λ n. option_map (λ t. branch a n.parent t) (merged_from H leaves (first + leaf_count a) b i x n.hash n.keys)) (handed H leaves first a hash keys))
+      go true in_left in_right h =
+          both_there (λ n. option_map (behind n.parent hash) (hashes_from H leaves first a i n.hash n.keys)) (λ n. option_map (λ t. branch t n.parent b) (merged_from H leaves first a i x n.hash n.keys))
+          (handed H leaves (first + leaf_count a) b hash keys)
+          (λ n. mapped_there (behind n.parent hash) (λ t. branch t n.parent b) (hashes_from H leaves first a i n.hash n.keys) (merged_from H leaves first a i x n.hash n.keys) (in_left n.hash n.keys)) h
+      go false in_left in_right h =
+          both_there (λ n. option_map (behind n.parent hash) (hashes_from H leaves (first + leaf_count a) b i n.hash n.keys)) (λ n. option_map (λ t. branch a n.parent t) (merged_from H leaves (first + leaf_count a) b i x n.hash n.keys))
+          (handed H leaves first a hash keys)
+          (λ n. mapped_there (behind n.parent hash) (λ t. branch a n.parent t) (hashes_from H leaves (first + leaf_count a) b i n.hash n.keys) (merged_from H leaves (first + leaf_count a) b i x n.hash n.keys) (in_right n.hash n.keys)) h

@@ -1,0 +1,132 @@
+-- The committer's leaf stays set under its own commit's proposals.
+use Rattle.std.proofs.Common.{◌≡◌, ◌≢◌, ◌∙◌, ℕ, ◌+◌, List, [], ◌∷◌, Bool, true, false, Option, Some, None, IsSome, refl, sym, ap, subst, arith}
+use Rattle.std.specs.Prelude.{MatchOption, is_some, not, ◌||◌, ◌==◌, nat_le, length, if◌then◌else◌, option_and_then, option_map}
+use Rattle.std.specs.List.{list_any}
+use Rattle.std.proofs.lemmas.Bool.{false≢true}
+use Rattle.std.proofs.lemmas.Bool.Decides.{nat_tests}
+use Rattle.std.proofs.lemmas.Option.{none-some, same_Some, option_and_then_some, cond_some}
+use Rattle.mls_nodes.specs.declared.leaf.LeafNode.{LeafNode}
+use Rattle.mls_msgs.specs.declared.proposal.Proposal.{Proposal}
+use Rattle.mls_msgs.specs.declared.proposal.Proposal.TheVariants.{Add, Update, Remove}
+use Rattle.mls_tree.specs.Tree.{Tree, height, leaf_at, leaf_count, member_count}
+use Rattle.mls_tree.specs.Blanks.{first_blank_leaf, IsFirstBlank, AllLeavesSet}
+use Rattle.mls_tree.specs.Changes.{put_leaf, clear_path, update, remove, grow, add, add_at, added_leaf, grown_for, number_or, blank_tree, is_overfilled_above}
+use Rattle.mls_tree.proofs.Added.{leaf_at-add_at_other}
+use Rattle.mls_tree.proofs.FirstBlanks.{first_blank_leaf-leftmost}
+use Rattle.mls_tree.proofs.Trees.{leaf_count-positive}
+use Rattle.mls_tree.proofs.Kept.{leaf_at-put_leaf_other, leaf_at-change_above, leaf_at-shrink, leaf_at-grow}
+use Rattle.mls_apply.proofs.Leaves.{leaf_inside}
+use Rattle.mls_apply.specs.declared.item.ListItem.{ListItem}
+use Rattle.mls_apply.specs.ListRules.{list_refusal, is_leaf_number, replaced_leaf, removed_leaf, has_no_update_by, has_no_remove_of, concern_once, needs_path}
+use Rattle.mls_nodes.specs.Limits.{leaf_limit}
+use Rattle.mls_apply.specs.Outcome.{Grown, outcome, with_members, new_members, after_leaf, after_adds, after_update, after_updates, after_remove, after_removes}
+use Rattle.mls_apply.specs.Rules.{Rule, rule, first_failing}
+use Rattle.mls_apply.specs.declared.fault.ApplyFault.{ApplyFault}
+use Rattle.mls_apply.specs.declared.fault.ApplyFault.TheVariants.{UpdateByCommitter, RemovesCommitter, SameLeafTwice, PathMissing}
+
+other : (j i : ℕ) → (j == i) ≡ false → i ≢ j
+other j i f e = grind (arith, nat_tests)
+
+-- another leaf is changed
+changed_other : (t : Tree) (i j : ℕ) (x : Option LeafNode) → IsSome (leaf_at 0 t j) → (j == i) ≡ false → leaf_at 0 (clear_path (put_leaf 0 t j x) j) i ≡ leaf_at 0 t i
+changed_other t i j x set away =
+    leaf_at-change_above (λ _. None) 0 (put_leaf 0 t j x) j i ∙ leaf_at-put_leaf_other 0 t j i x (omega arith) (omega (arith, leaf_inside t j set)) (other j i away)
+
+either_false : (a b : Bool) → not (a || b) ≡ true → (a ≡ false) × (not b ≡ true)
+either_false true b e = absurd (false≢true e)
+either_false false b e = (refl, e)
+
+after_update-stays : (i sender : ℕ) (p : Proposal) (t u : Tree) → is_leaf_number (replaced_leaf sender p) i ≡ false → after_update sender p t ≡ Some u → IsSome (leaf_at 0 t i) → IsSome (leaf_at 0 u i)
+after_update-stays i sender (Add k) t u away e set = subst (λ (v : Tree). IsSome (leaf_at 0 v i)) (same_Some t u e) set
+after_update-stays i sender (Remove k) t u away e set = subst (λ (v : Tree). IsSome (leaf_at 0 v i)) (same_Some t u e) set
+after_update-stays i sender (Update x) t u away e set =
+    let parts = cond_some (is_some (leaf_at 0 t sender)) (update t sender x) u e in
+    subst (λ (v : Tree). IsSome (leaf_at 0 v i)) parts.1 (ap is_some (changed_other t i sender (Some x) parts.0 away) ∙ set)
+
+after_remove-stays : (i : ℕ) (p : Proposal) (t u : Tree) → is_leaf_number (removed_leaf p) i ≡ false → after_remove p t ≡ Some u → IsSome (leaf_at 0 t i) → IsSome (leaf_at 0 u i)
+after_remove-stays i (Add k) t u away e set = subst (λ (v : Tree). IsSome (leaf_at 0 v i)) (same_Some t u e) set
+after_remove-stays i (Update x) t u away e set = subst (λ (v : Tree). IsSome (leaf_at 0 v i)) (same_Some t u e) set
+after_remove-stays i (Remove j) t u away e set =
+    let parts = cond_some (is_some (leaf_at 0 t j)) (remove t j) u e in
+    subst (λ (v : Tree). IsSome (leaf_at 0 v i)) parts.1
+    (ap is_some (leaf_at-shrink 0 (clear_path (put_leaf 0 t j None) j) i ∙ changed_other t i j None parts.0 away) ∙ set)
+
+pub updates_stay : (i : ℕ) (items : List ListItem) (t u : Tree) → not (list_any (λ x. is_leaf_number (replaced_leaf x.sender x.proposal) i) items) ≡ true → after_updates items t ≡ Some u
+    → IsSome (leaf_at 0 t i) → IsSome (leaf_at 0 u i)
+unfolding after_updates
+updates_stay i [] t u none e set = subst (λ (v : Tree). IsSome (leaf_at 0 v i)) (same_Some t u e) set
+updates_stay i (x ∷ xs) t u none e set =
+    let n = either_false (is_leaf_number (replaced_leaf x.sender x.proposal) i) (list_any (λ x. is_leaf_number (replaced_leaf x.sender x.proposal) i) xs) none in
+    option_and_then_some (after_updates xs) (after_update x.sender x.proposal t) u e
+    (λ v a b. updates_stay i xs v u n.1 b (after_update-stays i x.sender x.proposal t v n.0 a set))
+
+pub removes_stay : (i : ℕ) (items : List ListItem) (t u : Tree) → not (list_any (λ x. is_leaf_number (removed_leaf x.proposal) i) items) ≡ true → after_removes items t ≡ Some u
+    → IsSome (leaf_at 0 t i) → IsSome (leaf_at 0 u i)
+unfolding after_removes
+removes_stay i [] t u none e set = subst (λ (v : Tree). IsSome (leaf_at 0 v i)) (same_Some t u e) set
+removes_stay i (x ∷ xs) t u none e set =
+    let n = either_false (is_leaf_number (removed_leaf x.proposal) i) (list_any (λ x. is_leaf_number (removed_leaf x.proposal) i) xs) none in
+    option_and_then_some (after_removes xs) (after_remove x.proposal t) u e
+    (λ v a b. removes_stay i xs v u n.1 b (after_remove-stays i x.proposal t v n.0 a set))
+
+-- ---- Adds
+
+module _ (i : ℕ) (t : Tree) (x : LeafNode) (set : IsSome (leaf_at 0 t i)) where
+  beside : (o : Option ℕ) → MatchOption o (AllLeavesSet t) (λ j. IsFirstBlank t j)
+      → IsSome (leaf_at 0 (add_at (grown_for o t) (number_or (leaf_count t) o) x) i)
+  beside None h =
+      let within = leaf_inside t i set in
+      ap is_some (leaf_at-add_at_other (grow t) (leaf_count t) i x (omega (arith, leaf_count-positive (blank_tree (height t)))) (λ e. omega (arith, within, e)) ∙ leaf_at-grow t i) ∙ set
+  beside (Some j) h =
+      ap is_some (leaf_at-add_at_other t j i x h.inside (λ e. false≢true (sym (ap is_some (ap (λ k. leaf_at 0 t k) e ∙ h.blank)) ∙ set))) ∙ set
+
+  add-stays : IsSome (leaf_at 0 (add t x) i)
+  add-stays = beside (first_blank_leaf 0 t) (first_blank_leaf-leftmost t)
+
+unless : (b : Bool) (o : Option Grown) (g : Grown) → (if b then None else o) ≡ Some g → o ≡ Some g
+unless true o g e = absurd (none-some g e)
+unless false o g e = e
+
+where_so : (b : Bool) (o : Option Grown) (g : Grown) → (if b then o else None) ≡ Some g → o ≡ Some g
+where_so true o g e = e
+where_so false o g e = absurd (none-some g e)
+
+mapped : (j : ℕ) (o : Option Grown) (g : Grown) → option_map (after_leaf j) o ≡ Some g → (h : Grown) × (o ≡ Some h) × (h.tree ≡ g.tree)
+mapped j None g e = absurd (none-some g e)
+mapped j (Some h) g e = (h, refl, ap (λ (v : Grown). v.tree) (same_Some (after_leaf j h) g e))
+
+pub adds_stay : (i : ℕ) (xs : List LeafNode) (t : Tree) (g : Grown) → after_adds xs t ≡ Some g → IsSome (leaf_at 0 t i) → IsSome (leaf_at 0 g.tree i)
+unfolding after_adds
+adds_stay i [] t g e set = subst (λ (v : Grown). IsSome (leaf_at 0 v.tree i)) (same_Some (record { tree = t; added = [] }) g e) set
+adds_stay i (x ∷ xs) t g e set =
+    let m = mapped (added_leaf t) (after_adds xs (add t x)) g (unless (is_overfilled_above 0 (grown_for (first_blank_leaf 0 t) t) (added_leaf t)) (option_map (after_leaf (added_leaf t)) (after_adds xs (add t x))) g e) in
+    subst (λ (v : Tree). IsSome (leaf_at 0 v i)) m.2 (adds_stay i xs (add t x) m.0 m.1 (add-stays i t x set))
+
+-- ---- the whole list
+
+holds : {E : Type 0} (b : Bool) (o : Option E) (x : E) → (if b then o else Some x) ≡ None → (b ≡ true) × (o ≡ None)
+holds true o x e = (refl, e)
+holds false o x e = absurd (none-some x (sym e))
+
+abbrev list_rest : ℕ → List ListItem → Bool → List (Rule ApplyFault)
+list_rest i items has_path = rule RemovesCommitter (has_no_remove_of i items) ∷ rule SameLeafTwice (concern_once items) ∷ rule PathMissing (has_path || not (needs_path items)) ∷ []
+
+kept_parts : (i : ℕ) (items : List ListItem) (has_path : Bool) → list_refusal i items has_path ≡ None
+    → (has_no_update_by i items ≡ true) × (has_no_remove_of i items ≡ true)
+unfolding list_refusal
+kept_parts i items has_path kept =
+    let first = holds (has_no_update_by i items) (first_failing (list_rest i items has_path)) UpdateByCommitter kept in
+    let second = holds (has_no_remove_of i items) (first_failing (rule SameLeafTwice (concern_once items) ∷ rule PathMissing (has_path || not (needs_path items)) ∷ [])) RemovesCommitter first.1 in
+    (first.0, second.0)
+
+-- the committer's leaf stays set
+pub committer_stays : (i : ℕ) (items : List ListItem) (has_path : Bool) (t : Tree) (g : Grown)
+    → list_refusal i items has_path ≡ None → outcome items t ≡ Some g → IsSome (leaf_at 0 t i) → IsSome (leaf_at 0 g.tree i)
+unfolding outcome with_members has_no_update_by has_no_remove_of
+committer_stays i items has_path t g kept made set =
+    let parts = kept_parts i items has_path kept in
+    option_and_then_some (with_members (new_members items)) (option_and_then (after_removes items) (after_updates items t)) g made
+    (λ w a b. option_and_then_some (after_removes items) (after_updates items t) w a
+    (λ v c d. adds_stay i (new_members items) w g
+    (where_so (nat_le (member_count w + length (new_members items)) leaf_limit) (after_adds (new_members items) w) g b)
+    (removes_stay i items v w parts.1 d (updates_stay i items t v parts.0 c set))))

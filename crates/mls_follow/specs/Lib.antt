@@ -1,0 +1,9 @@
+pub mod State
+pub mod Seen
+pub mod Rules
+pub mod Transcript
+pub mod Next
+pub mod Judging
+pub mod Start
+pub mod Numbers
+pub mod Runs

@@ -1,0 +1,182 @@
+//! The follower.
+
+ghost use Rattle.std.specs.Prelude.{◌≡◌, ◌≢◌, ℕ, List, IsSome, IfOk, IfErr, OnOk, OnErr};
+ghost use Rattle.mls_msgs.specs.Message.{message as message_spelling};
+ghost use Rattle.mls_nodes.specs.Requirements.{Requires};
+ghost use Rattle.mls_follow.specs.State.{Spells};
+ghost use Rattle.mls_follow.specs.Seen.{state_of, group_state, boxed_checker_of};
+ghost use Rattle.mls_follow.specs.Judging.{IsAcceptable, IsNext, IsFirstRefusal};
+ghost use Rattle.mls_follow.specs.Runs.{Takes};
+ghost use Rattle.mls_follow.specs.Start.{IsStart, IsStartFault, first_state};
+
+use crate::frame::read_message;
+use crate::group::Group;
+use crate::refusal::Refusal;
+use crate::start::{Judged, StartRefused, followed_suite, judge, judge_own};
+use crate::taken::Taken;
+use mls_apply::KnownProposal;
+use mls_check::SignatureCheck;
+use mls_hash::Suite;
+use mls_msgs::{GroupInfo, Message};
+use mls_nodes::GroupContext;
+use mls_tree::{HashValue, PublicTree};
+use std::alloc::Global;
+
+/// A follower of a group: the group's public state, and the checker of signatures that it asks.
+#[derive(Drop)]
+pub struct Follower {
+    group: Group,
+    checker: Box<dyn SignatureCheck>,
+    alloc: Global,
+}
+
+/// The group of a group info, with its tree, and with no known proposals.
+fn first_group(
+    alloc: Global,
+    suite: Suite,
+    info: GroupInfo,
+    tree: PublicTree,
+    judged: Judged,
+) -> Group
+    requires suite_of_context { suite ≡ info.context.cipher_suite }
+    requires required { Requires info.context judged.required }
+    ensures { group_state result ≡ first_state info tree judged.interim }
+{
+    Group {
+        context: info.context,
+        tree,
+        interim: judged.interim,
+        known: Vec::new(alloc),
+        suite,
+        required: judged.required,
+    }
+}
+
+impl Follower {
+    /// A follower of the group of a group info (RFC 9420, 12.4.3), with the tree handed in, or else the one
+    /// in the info, which then isn't read. These are asked, in this order:
+    ///
+    /// 1. The version is 1.
+    /// 2. The cipher suite is 1, 2 or 3.
+    /// 3. There is a tree.
+    /// 4. What the group requires of its members can be read.
+    /// 5. The tree is valid ([`mls_check::validate_tree`]).
+    /// 6. Its leaves are members ([`mls_check::validate_members`]).
+    /// 7. The signer's leaf is set.
+    /// 8. The signer has signed the info.
+    ///
+    /// Where one fails the first is answered, and all that was handed in comes back as it was, as it does
+    /// where memory runs out.
+    pub fn start(
+        alloc: Global,
+        info: GroupInfo,
+        tree: Option<PublicTree>,
+        checker: Box<dyn SignatureCheck>,
+    ) -> Result<Follower, StartRefused>
+        ensures started { IfOk result (λ f. IsStart (meaning checker) info tree (state_of f)) }
+        ensures checker { IfOk result (λ f. meaning (boxed_checker_of f) ≡ meaning checker) }
+        ensures refused { IfErr result (λ r. IsStartFault (meaning checker) info tree r.fault) }
+        ensures handed_back { IfErr result (λ r. (r.info ≡ info) × (r.tree ≡ tree) × (r.checker
+            ≡ checker)) }
+    {
+        let suite = match followed_suite(&info) {
+            Ok(suite) => suite,
+            Err(fault) => {
+                return Err(StartRefused {
+                    fault,
+                    info,
+                    tree,
+                    checker,
+                });
+            }
+        };
+        match tree {
+            Some(tree) => match judge(alloc, suite, &info, &tree, checker.as_ref()) {
+                Ok(judged) => Ok(Follower {
+                    group: first_group(alloc, suite, info, tree, judged),
+                    checker,
+                    alloc,
+                }),
+                Err(fault) => Err(StartRefused {
+                    fault,
+                    info,
+                    tree: Some(tree),
+                    checker,
+                }),
+            },
+            None => match judge_own(alloc, suite, &info, checker.as_ref()) {
+                Ok((tree, judged)) => Ok(Follower {
+                    group: first_group(alloc, suite, info, tree, judged),
+                    checker,
+                    alloc,
+                }),
+                Err(fault) => Err(StartRefused {
+                    fault,
+                    info,
+                    tree: None,
+                    checker,
+                }),
+            },
+        }
+    }
+
+    /// The group's context (RFC 9420, 8.1).
+    pub fn context(&self) -> &GroupContext
+        ensures { result.now ≡ (state_of self.now).context }
+    {
+        &self.group.context
+    }
+
+    /// The group's tree (RFC 9420, 4.1).
+    pub fn tree(&self) -> &PublicTree
+        ensures { result.now.tree ≡ (state_of self.now).tree }
+    {
+        &self.group.tree
+    }
+
+    /// The interim transcript hash (RFC 9420, 8.2).
+    pub fn interim(&self) -> &HashValue
+        ensures { result.now ≡ (state_of self.now).interim }
+    {
+        &self.group.interim
+    }
+
+    /// The proposals of the present epoch (RFC 9420, 12.4), in the order in which they were accepted.
+    pub fn known(&self) -> &[KnownProposal]
+        ensures { result.now ≡ (state_of self.now).known }
+    {
+        self.group.known.as_slice()
+    }
+
+    /// Takes a message that was read from bytes.
+    fn take_message(&mut self, message: &Message) -> Result<Taken, Refusal>
+        requires { IsSome (message_spelling message.now) }
+        ensures takes { (bytes : List ℕ) → Spells message.now bytes
+            → Takes (meaning (boxed_checker_of self.old)) (state_of self.old) bytes result
+            (state_of self.new) }
+        ensures checker { meaning (boxed_checker_of self.new)
+            ≡ meaning (boxed_checker_of self.old) }
+    {
+        self.group.take(self.alloc, self.checker.as_ref(), message)
+    }
+
+    /// Takes one message (RFC 9420, 6): it is accepted where it keeps every rule, and else refused for the
+    /// first one that it fails, or for want of memory. A refused message changes nothing.
+    pub fn take(&mut self, bytes: &[u8]) -> Result<Taken, Refusal>
+        ensures accepted { OnOk result (IsAcceptable (meaning (boxed_checker_of self.old))
+            (state_of self.old) bytes.now) }
+        ensures next { IfOk result (λ taken. IsNext (state_of self.old) bytes.now
+            (record { taken = taken; state = state_of self.new })) }
+        ensures refused { IfErr result (λ e. e ≢ Refusal.OutOfMemory
+            → IsFirstRefusal (meaning (boxed_checker_of self.old)) (state_of self.old)
+            bytes.now e) }
+        ensures stays { OnErr result (state_of self.new ≡ state_of self.old) }
+        ensures checker { meaning (boxed_checker_of self.new)
+            ≡ meaning (boxed_checker_of self.old) }
+    {
+        let message = read_message(self.alloc, bytes)?;
+        let answer = self.take_message(&message);
+        drop(message);
+        answer
+    }
+}

@@ -1,0 +1,71 @@
+//! The rules for a proposal that is sent on its own (RFC 9420, 12.1 and 12.4).
+
+ghost use Rattle.std.specs.Prelude.{◌≡◌, Some, None, IsSome, IfOk, IfErr, OnOk};
+ghost use Rattle.mls_tree.specs.Tree.{leaf_at};
+ghost use Rattle.mls_apply.specs.Rules.{first_failing};
+ghost use Rattle.mls_follow.specs.Judging.{Refuses};
+ghost use Rattle.mls_follow.specs.Seen.{group_state};
+ghost use Rattle.mls_follow.specs.Rules.{offer_rules, reference_of};
+
+use crate::group::Group;
+use crate::refusal::Refusal;
+use mls_apply::{check_proposal, find_known};
+use mls_check::SignatureCheck;
+use mls_hash::{Suite, ref_hash};
+use mls_msgs::{Authenticated, PROPOSAL_REFERENCE_LABEL, Proposal, encode_authenticated};
+use mls_tree::HashValue;
+use mls_wire::CodecFault;
+use std::alloc::{AllocError, Global};
+
+/// The reference of a proposal's message (RFC 9420, 5.2). `None` where the message is too long for one.
+fn reference_of(
+    alloc: Global,
+    group: &Group,
+    auth: &Authenticated,
+) -> Result<Option<HashValue>, AllocError>
+    ensures { IfOk result (λ reference. reference ≡ reference_of group.now.context auth.now) }
+{
+    let value = match encode_authenticated(alloc, auth) {
+        Ok(value) => value,
+        Err(CodecFault::Wire(_)) => return Ok(None),
+        Err(CodecFault::OutOfMemory) => return Err(AllocError),
+    };
+    Ok(ref_hash(group.suite, PROPOSAL_REFERENCE_LABEL, value.as_slice()).ok())
+}
+
+/// The reference of a member's proposal, where the proposal is new and keeps the rules for it.
+#[tactic(auto, unfolding(crate::specs::Rules::is_new_proposal, mls_apply::specs::Proposals::checked_refusal))]
+pub(crate) fn check_offer(
+    alloc: Global,
+    group: &Group,
+    checker: &dyn SignatureCheck,
+    auth: &Authenticated,
+    sender: u32,
+    proposal: &Proposal,
+) -> Result<HashValue, Refusal>
+    requires member { IsSome (leaf_at 0 group.now.tree.tree sender) }
+    ensures kept { OnOk result (first_failing
+        (offer_rules (meaning checker.now) (group_state group.now) auth.now sender proposal.now)
+        ≡ None) }
+    ensures reference { IfOk result (λ reference. reference_of group.now.context auth.now
+        ≡ Some reference) }
+    ensures refused { IfErr result (Refuses (first_failing
+        (offer_rules (meaning checker.now) (group_state group.now) auth.now sender proposal.now))) }
+{
+    let Some(reference) = reference_of(alloc, group, auth)? else {
+        return Err(Refusal::AlreadyKnown);
+    };
+    if find_known(group.known.as_slice(), reference.as_slice()).is_some() {
+        return Err(Refusal::AlreadyKnown);
+    }
+    check_proposal(
+        alloc,
+        group.suite,
+        &group.context,
+        &group.tree,
+        sender,
+        proposal,
+        checker,
+    )?;
+    Ok(reference)
+}

@@ -1,0 +1,321 @@
+//! What a follower starts from, and why it doesn't (RFC 9420, 12.4.3.1).
+
+ghost use Rattle.std.specs.Prelude.{◌≡◌, ◌≢◌, ℕ, List, Option, None, Some, IfOk, IfErr, OnOk};
+ghost use Rattle.mls_check.specs.Signatures.{Meaning};
+ghost use Rattle.mls_tree.specs.RatchetTree.{RatchetTree};
+ghost use Rattle.mls_nodes.specs.Requirements.{Requires, HasNoRequirements};
+ghost use Rattle.mls_follow.specs.Start.{UsesTree, UsesNoTree, IsFollowed, IsStart, IsStartFault, StartsWith, FailsWith, IsSignedIn, FailsSigned, first_state, is_info_signed};
+
+use crate::transcript::interim_hash;
+use mls_check::{
+    MemberFault, OutOfMemory, SignatureCheck, TreeFault, signed, validate_members, validate_tree,
+};
+use mls_hash::Suite;
+use mls_msgs::{GROUP_INFO_LABEL, GroupInfo, info_tbs};
+use mls_nodes::{LeafNode, NodeFault, RequiredCapabilities, find_extension, requirements};
+use mls_tree::{HashValue, PublicTree};
+use mls_wire::CodecFault;
+use std::alloc::{AllocError, Global};
+use thiserror::Error;
+
+/// The type of the extension that holds a ratchet tree (RFC 9420, 12.4.3.3).
+const RATCHET_TREE: u16 = 2;
+
+/// Why a group can't be followed from a group info: the first check that fails, in this order.
+#[derive(Clone, Copy, Debug, PartialEq, Eq, Error)]
+pub enum StartFault {
+    /// The group's version isn't 1 (RFC 9420, 6).
+    #[error("the version is not followed")]
+    UnsupportedVersion,
+    /// The group's cipher suite isn't 1, 2 or 3 (RFC 9420, 17.1).
+    #[error("the cipher suite is not followed")]
+    UnsupportedSuite,
+    /// No tree was handed in, and the info has no extension of type 2, or the first one can't be read (RFC
+    /// 9420, 12.4.3.3).
+    #[error("there is no tree")]
+    NoTree,
+    /// The group's required capabilities can't be read (RFC 9420, 11.1).
+    #[error("the required capabilities can't be read")]
+    RequirementsUnreadable,
+    /// The tree isn't valid, for this fault (RFC 9420, 7.9.2 and 12.4.3.1).
+    #[error("{0}")]
+    Tree(TreeFault),
+    /// The tree's leaves are no members of the group, for this fault (RFC 9420, 7.3).
+    #[error("{0}")]
+    Member(MemberFault),
+    /// The signer's leaf isn't set (RFC 9420, 12.4.3).
+    #[error("the signer is no member")]
+    SignerNotMember,
+    /// The signer has not signed the group info (RFC 9420, 12.4.3).
+    #[error("the group info's signature is not good")]
+    InfoSignature,
+    /// An allocation was refused. It says nothing of the group info.
+    #[error("out of memory")]
+    OutOfMemory,
+}
+
+impl StartFault {
+    ghost use Rattle.std.specs.Prelude.{◌≡◌};
+    ghost use Rattle.mls_follow.specs.Numbers.{start_number_of};
+
+    /// The number by which reports name the fault: 0 for want of memory, else that of the check in the order
+    /// above, from 1 on.
+    pub fn number(&self) -> u8
+        ensures { result ≡ start_number_of self.now }
+    {
+        match self {
+            StartFault::OutOfMemory => 0,
+            StartFault::UnsupportedVersion => 1,
+            StartFault::UnsupportedSuite => 2,
+            StartFault::NoTree => 3,
+            StartFault::RequirementsUnreadable => 4,
+            StartFault::Tree(_) => 5,
+            StartFault::Member(_) => 6,
+            StartFault::SignerNotMember => 7,
+            StartFault::InfoSignature => 8,
+        }
+    }
+}
+
+impl From<AllocError> for StartFault {
+    ghost use Rattle.std.specs.Prelude.{◌≡◌};
+    ghost use Rattle.mls_follow.specs.declared.start.StartFault.TheVariants.{OutOfMemory};
+
+    ghost from_gives = { λ _ e. e ≡ OutOfMemory };
+
+    fn from(_error: AllocError) -> StartFault {
+        StartFault::OutOfMemory
+    }
+}
+
+impl From<OutOfMemory> for StartFault {
+    ghost use Rattle.std.specs.Prelude.{◌≡◌};
+    ghost use Rattle.mls_follow.specs.declared.start.StartFault.TheVariants as faults;
+
+    ghost from_gives = { λ _ e. e ≡ faults.OutOfMemory };
+
+    fn from(_memory: OutOfMemory) -> StartFault {
+        StartFault::OutOfMemory
+    }
+}
+
+impl From<TreeFault> for StartFault {
+    ghost use Rattle.std.specs.Prelude.{◌≡◌};
+    ghost use Rattle.mls_follow.specs.Start.{tree_fault_of};
+
+    ghost from_gives = { λ fault e. e ≡ tree_fault_of fault };
+
+    fn from(fault: TreeFault) -> StartFault {
+        match fault {
+            TreeFault::OutOfMemory => StartFault::OutOfMemory,
+            _ => StartFault::Tree(fault),
+        }
+    }
+}
+
+impl From<MemberFault> for StartFault {
+    ghost use Rattle.std.specs.Prelude.{◌≡◌};
+    ghost use Rattle.mls_follow.specs.Start.{member_fault_of};
+
+    ghost from_gives = { λ fault e. e ≡ member_fault_of fault };
+
+    fn from(fault: MemberFault) -> StartFault {
+        match fault {
+            MemberFault::OutOfMemory => StartFault::OutOfMemory,
+            _ => StartFault::Member(fault),
+        }
+    }
+}
+
+/// A refused start, with all that was handed in, as it was.
+#[derive(Drop)]
+pub struct StartRefused {
+    /// The first check that failed.
+    pub fault: StartFault,
+    /// The group info.
+    pub info: GroupInfo,
+    /// The tree, where one was handed in.
+    pub tree: Option<PublicTree>,
+    /// The checker of signatures.
+    pub checker: Box<dyn SignatureCheck>,
+}
+
+/// What is found of a group info that a follower starts from.
+#[derive(Drop)]
+pub(crate) struct Judged {
+    pub(crate) required: RequiredCapabilities,
+    pub(crate) interim: HashValue,
+}
+
+/// The cipher suite of a group info whose version and suite are followed.
+pub(crate) fn followed_suite(info: &GroupInfo) -> Result<Suite, StartFault>
+    ensures followed { OnOk result (IsFollowed info.now) }
+    ensures suite { IfOk result (λ suite. suite ≡ info.now.context.cipher_suite) }
+    ensures refused { IfErr result (λ e. (G : Meaning) (handed : Option RatchetTree)
+        → IsStartFault G info.now handed e) }
+{
+    if info.context.version != 1 {
+        return Err(StartFault::UnsupportedVersion);
+    }
+    match Suite::from_u16(info.context.cipher_suite) {
+        Ok(suite) => Ok(suite),
+        Err(_) => Err(StartFault::UnsupportedSuite),
+    }
+}
+
+/// The tree in a group info's first extension of type 2.
+fn tree_in(alloc: Global, info: &GroupInfo) -> Result<PublicTree, StartFault>
+    ensures tree { IfOk result (UsesTree None info.now.extensions) }
+    ensures none { IfErr result (λ e. e ≢ StartFault.OutOfMemory → (e ≡ StartFault.NoTree)
+        × UsesNoTree None info.now.extensions) }
+{
+    let Some(body) = find_extension(info.extensions.as_slice(), RATCHET_TREE) else {
+        return Err(StartFault::NoTree);
+    };
+    match PublicTree::decode(alloc, body.as_slice()) {
+        Ok(tree) => Ok(tree),
+        Err(NodeFault::OutOfMemory) => Err(StartFault::OutOfMemory),
+        Err(_) => Err(StartFault::NoTree),
+    }
+}
+
+/// What the group of an info requires of its members.
+fn required_of(alloc: Global, info: &GroupInfo) -> Result<RequiredCapabilities, StartFault>
+    ensures required { IfOk result (Requires info.now.context) }
+    ensures none { IfErr result (λ e. e ≢ StartFault.OutOfMemory → (e
+        ≡ StartFault.RequirementsUnreadable)
+        × HasNoRequirements info.now.context) }
+{
+    match requirements(alloc, &info.context) {
+        Ok(required) => Ok(required),
+        Err(CodecFault::OutOfMemory) => Err(StartFault::OutOfMemory),
+        Err(CodecFault::Wire(_)) => Err(StartFault::RequirementsUnreadable),
+    }
+}
+
+/// Whether a leaf has signed the group info.
+#[tactic(auto, unfolding(crate::specs::Start::is_info_signed))]
+fn is_info_signed(
+    alloc: Global,
+    info: &GroupInfo,
+    signer: &LeafNode,
+    checker: &dyn SignatureCheck,
+) -> Result<bool, OutOfMemory>
+    ensures { IfOk result (λ good. good ≡ is_info_signed
+        (meaning checker.now) info.now signer.now) }
+{
+    let tbs = match info_tbs(alloc, info) {
+        Ok(tbs) => tbs,
+        Err(CodecFault::Wire(_)) => return Ok(false),
+        Err(CodecFault::OutOfMemory) => return Err(OutOfMemory),
+    };
+    signed(
+        alloc,
+        checker,
+        info.context.cipher_suite,
+        signer.signature_key.as_slice(),
+        GROUP_INFO_LABEL,
+        tbs.as_slice(),
+        info.signature.as_slice(),
+    )
+}
+
+/// Whether the leaf of a group info's signer is set and has signed it.
+fn check_signer(
+    alloc: Global,
+    info: &GroupInfo,
+    tree: &PublicTree,
+    checker: &dyn SignatureCheck,
+) -> Result<(), StartFault>
+    ensures signed { OnOk result (IsSignedIn (meaning checker.now) info.now tree.now) }
+    ensures refused { IfErr result (FailsSigned (meaning checker.now) info.now tree.now) }
+{
+    let Some(signer) = tree.leaf(info.signer) else {
+        return Err(StartFault::SignerNotMember);
+    };
+    if !is_info_signed(alloc, info, signer, checker)? {
+        return Err(StartFault::InfoSignature);
+    }
+    Ok(())
+}
+
+/// The interim transcript hash of a group info that is followed, where a follower starts with this tree.
+fn judged_interim(
+    alloc: Global,
+    suite: Suite,
+    info: &GroupInfo,
+    required: &RequiredCapabilities,
+    tree: &PublicTree,
+    checker: &dyn SignatureCheck,
+) -> Result<HashValue, StartFault>
+    requires followed { IsFollowed info.now }
+    requires suite_of_context { suite ≡ info.now.context.cipher_suite }
+    requires required { Requires info.now.context required.now }
+    ensures started { IfOk result (StartsWith (meaning checker.now) info.now tree.now) }
+    ensures refused { IfErr result (FailsWith (meaning checker.now) info.now tree.now) }
+{
+    validate_tree(alloc, suite, &info.context, tree)?;
+    let group_id = &info.context.group_id;
+    validate_members(
+        alloc,
+        info.context.cipher_suite,
+        group_id,
+        required,
+        tree,
+        checker,
+    )?;
+    check_signer(alloc, info, tree, checker)?;
+    let confirmed = info.context.confirmed.as_slice();
+    Ok(interim_hash(alloc, suite, confirmed, &info.confirmation_tag)?)
+}
+
+/// What is found of a group info that is followed, where a follower starts with this tree: the group's
+/// requirements are read, the tree is validated, its leaves are judged as members, and then the info's
+/// signature.
+pub(crate) fn judge(
+    alloc: Global,
+    suite: Suite,
+    info: &GroupInfo,
+    tree: &PublicTree,
+    checker: &dyn SignatureCheck,
+) -> Result<Judged, StartFault>
+    requires followed { IsFollowed info.now }
+    requires suite_of_context { suite ≡ info.now.context.cipher_suite }
+    ensures required { IfOk result (λ judged. Requires info.now.context judged.required) }
+    ensures started { IfOk result (λ judged. StartsWith
+        (meaning checker.now) info.now tree.now judged.interim) }
+    ensures refused { IfErr result (FailsWith (meaning checker.now) info.now tree.now) }
+{
+    let required = required_of(alloc, info)?;
+    match judged_interim(alloc, suite, info, &required, tree, checker) {
+        Ok(interim) => Ok(Judged { required, interim }),
+        Err(fault) => {
+            drop(required);
+            Err(fault)
+        }
+    }
+}
+
+/// The same of the tree in the group info, with that tree.
+pub(crate) fn judge_own(
+    alloc: Global,
+    suite: Suite,
+    info: &GroupInfo,
+    checker: &dyn SignatureCheck,
+) -> Result<(PublicTree, Judged), StartFault>
+    requires followed { IsFollowed info.now }
+    requires suite_of_context { suite ≡ info.now.context.cipher_suite }
+    ensures required { IfOk result (λ found. Requires info.now.context found.1.required) }
+    ensures started { IfOk result (λ found. IsStart (meaning checker.now) info.now None
+        (first_state info.now found.0 found.1.interim)) }
+    ensures refused { IfErr result (IsStartFault (meaning checker.now) info.now None) }
+{
+    let tree = tree_in(alloc, info)?;
+    match judge(alloc, suite, info, &tree, checker) {
+        Ok(judged) => Ok((tree, judged)),
+        Err(fault) => {
+            drop(tree);
+            Err(fault)
+        }
+    }
+}

@@ -1,0 +1,75 @@
+//! Transcript hashes (RFC 9420, 8.2), and the tree hash of a whole tree.
+
+ghost use Rattle.std.specs.Prelude.{◌≡◌, ◌≤◌, Some, IsSome, IfOk, length};
+ghost use Rattle.mls_hash.specs.Hashing.{hash_of};
+ghost use Rattle.mls_msgs.specs.Signed.{confirmed_input};
+ghost use Rattle.mls_tree.specs.TreeHash.{tree_hash};
+ghost use Rattle.mls_follow.specs.Transcript.{confirmed_hash, interim_hash};
+
+use mls_hash::{HashFault, Suite, hash, tree_hash};
+use mls_msgs::{Authenticated, confirmed_input};
+use mls_tree::{HashValue, PublicTree};
+use mls_wire::{CodecFault, Opaque, Writer};
+use std::alloc::{AllocError, Global};
+
+/// The confirmed transcript hash after a commit, by the interim one before it.
+#[tactic(auto, unfolding(crate::specs::Transcript::confirmed_hash))]
+pub(crate) fn confirmed_hash(
+    alloc: Global,
+    suite: Suite,
+    interim: &HashValue,
+    auth: &Authenticated,
+) -> Result<HashValue, AllocError>
+    requires { IsSome (confirmed_input auth.now) }
+    ensures { IfOk result (λ h. confirmed_hash (hash_of suite) interim.now auth.now ≡ Some h) }
+{
+    match confirmed_input(alloc, auth) {
+        Ok(input) => Ok(hash(suite, interim.as_slice(), input.as_slice())),
+        Err(CodecFault::OutOfMemory) => Err(AllocError),
+        Err(CodecFault::Wire(_)) => unreachable!(),
+    }
+}
+
+/// The interim transcript hash that follows a confirmed one, by the confirmation tag of the commit.
+pub(crate) fn interim_hash(
+    alloc: Global,
+    suite: Suite,
+    confirmed: &[u8],
+    tag: &Opaque,
+) -> Result<HashValue, AllocError>
+    ensures { IfOk result (λ h. interim_hash (hash_of suite) confirmed.now (Some tag.now)
+        ≡ Some h) }
+{
+    let mut writer = Writer::new(alloc);
+    match writer.write_vec(tag.as_slice()) {
+        Ok(()) => Ok(hash(suite, confirmed, writer.bytes())),
+        Err(CodecFault::OutOfMemory) => Err(AllocError),
+        Err(CodecFault::Wire(_)) => unreachable!(),
+    }
+}
+
+/// The tree hash of a whole tree (RFC 9420, 7.8).
+pub(crate) fn whole_hash(
+    alloc: Global,
+    suite: Suite,
+    tree: &PublicTree,
+) -> Result<HashValue, AllocError>
+    ensures { IfOk result (λ h. tree_hash (hash_of suite) 0 tree.now.tree ≡ Some h) }
+{
+    match tree_hash(alloc, suite, tree, tree.leaf_count() - 1) {
+        Ok(hash) => Ok(hash),
+        Err(HashFault::OutOfMemory) => Err(AllocError),
+        Err(_) => unreachable!(),
+    }
+}
+
+/// The bytes of a hash.
+pub(crate) fn opaque_of(alloc: Global, hash: &HashValue) -> Result<Opaque, AllocError>
+    ensures { IfOk result (λ o. o ≡ hash.now) }
+{
+    match Opaque::copy(alloc, hash.as_slice()) {
+        Ok(bytes) => Ok(bytes),
+        Err(CodecFault::OutOfMemory) => Err(AllocError),
+        Err(CodecFault::Wire(_)) => unreachable!(),
+    }
+}

@@ -1,3 +1,5 @@
 pub mod Listings
 pub mod Lines
 pub mod Outcomes
+pub mod Replaying
+pub mod Answered

@@ -8,17 +8,21 @@ use Rattle.clap.specs.declared.builder.ArgAction.TheVariants.{SetTrue}
 abbrev pub word_rule : Text → Rule
 word_rule name = record (new_rule name) { required = true }
 
--- a file that an option of this name may name
+-- a file that an option of this name may name; help has one name for its value
 abbrev pub file_rule : Text → Rule
-file_rule name = record (new_rule name) { long = Some name }
+file_rule name = record (new_rule name) { long = Some name; value_names = 1 }
 
 -- a file that an option of this name has to name
 abbrev pub needed_rule : Text → Rule
-needed_rule name = record (new_rule name) { long = Some name; required = true }
+needed_rule name = record (file_rule name) { required = true }
 
 -- an option without a value
 abbrev pub flag_rule : Text → Rule
 flag_rule name = record (new_rule name) { long = Some name; action = Some SetTrue }
+
+-- the options `--trust` and `--receipts FILE`, of which one has to be given
+abbrev pub with_checker : App → App
+with_checker a = with_rule (with_rule a (flag_rule (codes "trust"))) (file_rule (codes "receipts"))
 
 -- `show KIND FILE`
 abbrev pub show_app : App
@@ -31,17 +35,39 @@ show_app =
 -- `validate-tree --context FILE --tree FILE`, and one of `--trust` and `--receipts FILE`
 abbrev pub validate_tree_app : App
 validate_tree_app =
-    with_rule (with_rule (with_rule (with_rule
+    with_checker (with_rule (with_rule
     (new_app (codes "validate-tree"))
     (needed_rule (codes "context")))
     (needed_rule (codes "tree")))
-    (flag_rule (codes "trust")))
-    (file_rule (codes "receipts"))
 
--- the program: one of its subcommands has to be given
+-- `validate --info FILE [--tree FILE]`, and one of `--trust` and `--receipts FILE`
+abbrev pub validate_app : App
+validate_app =
+    with_checker (with_rule (with_rule
+    (new_app (codes "validate"))
+    (needed_rule (codes "info")))
+    (file_rule (codes "tree")))
+
+-- `replay --info FILE [--tree FILE] --log FILE`, and one of `--trust` and `--receipts FILE`
+abbrev pub replay_app : App
+replay_app =
+    with_checker (with_rule (with_rule (with_rule
+    (new_app (codes "replay"))
+    (needed_rule (codes "info")))
+    (file_rule (codes "tree")))
+    (needed_rule (codes "log")))
+
+-- the program without its subcommands: it tells its version, and one of them has to be given
+abbrev pub bare_app : App
+bare_app =
+    on_top (λ s. record s { has_version = true; subcommand_required = true })
+    (new_app (codes "mlscheck"))
+
+-- the program
 abbrev pub mlscheck_app : App
 mlscheck_app =
-    with_subcommand (with_subcommand
-    (on_top (λ s. record s { subcommand_required = true }) (new_app (codes "mlscheck")))
+    with_subcommand (with_subcommand (with_subcommand (with_subcommand bare_app
     show_app.top)
-    validate_tree_app.top
+    validate_tree_app.top)
+    validate_app.top)
+    replay_app.top

@@ -1,4 +1,4 @@
--- How a fault is told in a report.
+-- How a fault is told in a report. Numbers in parentheses are sections of RFC 9420.
 use Rattle.std.specs.Prelude.{ℕ, List, ◌++◌, codes}
 use Rattle.std.specs.Fmt.{decimal}
 use Rattle.mls_wire.specs.declared.fault.WireFault.{WireFault}
@@ -6,6 +6,12 @@ use Rattle.mls_wire.specs.declared.fault.WireFaultKind.{WireFaultKind}
 use Rattle.mls_wire.specs.declared.fault.WireFaultKind.TheVariants as kind
 use Rattle.mls_nodes.specs.declared.fault.NodeFault.{NodeFault}
 use Rattle.mls_nodes.specs.declared.fault.NodeFault.TheVariants as fault
+use Rattle.mls_check.specs.declared.members.MemberFault.{MemberFault}
+use Rattle.mls_check.specs.declared.members.MemberFault.TheVariants as members
+use Rattle.mls_check.specs.declared.valid.TreeFault.{TreeFault}
+use Rattle.mls_check.specs.declared.valid.TreeFault.TheVariants as trees
+use Rattle.mls_follow.specs.declared.start.StartFault.{StartFault}
+use Rattle.mls_follow.specs.declared.start.StartFault.TheVariants as starts
 
 -- what is wrong with bytes that can't be read; a tag that stands for nothing is told by its value
 abbrev pub wire_kind_text : WireFaultKind → List ℕ
@@ -30,3 +36,44 @@ node_fault_text fault.LastBlank = codes "LastBlank"
 node_fault_text fault.EmptyTree = codes "EmptyTree"
 node_fault_text fault.TooManyLeaves = codes "TooManyLeaves"
 node_fault_text fault.OutOfMemory = codes "OutOfMemory"
+
+-- why a tree is not valid, by number and name, with the place (7.8, 7.9.2 and 12.4.3.1)
+abbrev pub tree_fault_text : TreeFault → List ℕ
+tree_fault_text trees.HashDiffers = codes "1 HashDiffers"
+tree_fault_text (trees.UnmergedUnsorted place) = codes "2 UnmergedUnsorted " ++ decimal place
+tree_fault_text (trees.UnmergedUnsound place) = codes "3 UnmergedUnsound " ++ decimal place
+tree_fault_text (trees.KeyRepeated place) = codes "4 KeyRepeated " ++ decimal place
+tree_fault_text (trees.ParentHashInvalid place) = codes "5 ParentHashInvalid " ++ decimal place
+tree_fault_text trees.OutOfMemory = codes "OutOfMemory"
+
+-- why the leaves are no members, by number and name, with the leaf (7.3)
+abbrev pub member_fault_text : MemberFault → List ℕ
+member_fault_text (members.ExtensionUnlisted leaf) = codes "1 ExtensionUnlisted " ++ decimal leaf
+member_fault_text (members.RequirementUnmet leaf) = codes "2 RequirementUnmet " ++ decimal leaf
+member_fault_text (members.CredentialUnsupported leaf) =
+    codes "3 CredentialUnsupported " ++ decimal leaf
+member_fault_text (members.SignatureKeyRepeated leaf) =
+    codes "4 SignatureKeyRepeated " ++ decimal leaf
+member_fault_text (members.LeafSignature leaf) = codes "5 LeafSignature " ++ decimal leaf
+member_fault_text members.OutOfMemory = codes "OutOfMemory"
+
+-- the number of a fault of members; 0 for want of memory
+abbrev pub member_number : MemberFault → ℕ
+member_number (members.ExtensionUnlisted leaf) = 1
+member_number (members.RequirementUnmet leaf) = 2
+member_number (members.CredentialUnsupported leaf) = 3
+member_number (members.SignatureKeyRepeated leaf) = 4
+member_number (members.LeafSignature leaf) = 5
+member_number members.OutOfMemory = 0
+
+-- why no follower starts, by number and name, with the fault of the tree or of the members (12.4.3.1)
+abbrev pub start_fault_text : StartFault → List ℕ
+start_fault_text starts.UnsupportedVersion = codes "1 UnsupportedVersion"
+start_fault_text starts.UnsupportedSuite = codes "2 UnsupportedSuite"
+start_fault_text starts.NoTree = codes "3 NoTree"
+start_fault_text starts.RequirementsUnreadable = codes "4 RequirementsUnreadable"
+start_fault_text (starts.Tree fault) = codes "5 Tree " ++ tree_fault_text fault
+start_fault_text (starts.Member fault) = codes "6 Member " ++ member_fault_text fault
+start_fault_text starts.SignerNotMember = codes "7 SignerNotMember"
+start_fault_text starts.InfoSignature = codes "8 InfoSignature"
+start_fault_text starts.OutOfMemory = codes "OutOfMemory"

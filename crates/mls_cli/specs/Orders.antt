@@ -1,14 +1,14 @@
 -- The order that a command line gives.
-use Rattle.std.specs.Prelude.{List, [], ◌≡◌, ◌≢◌, Option, Some, None, codes}
+use Rattle.std.specs.Prelude.{List, [], ◌∷◌, ◌≡◌, ◌≢◌, ◌⊎◌, Option, Some, None, codes}
 use Rattle.clap.specs.Words.{Text, Row, first_of, fault_of, subcommand_of, IsAmong}
-use Rattle.clap.specs.declared.error.kind.ErrorKind.TheVariants.{DisplayHelp}
+use Rattle.clap.specs.declared.error.kind.ErrorKind.TheVariants.{DisplayHelp, DisplayVersion}
 use Rattle.mls_cli.specs.Commands.{mlscheck_app}
 use Rattle.mls_cli.specs.declared.order.Checker.{Checker}
 use Rattle.mls_cli.specs.declared.order.Checker.TheVariants as checker
 use Rattle.mls_cli.specs.declared.order.Order.{Order}
 use Rattle.mls_cli.specs.declared.order.Order.TheVariants as order
 use Rattle.mls_cli.specs.declared.order.OrderFault.{OrderFault}
-use Rattle.mls_cli.specs.declared.order.OrderFault.TheVariants.{Help, Memory}
+use Rattle.mls_cli.specs.declared.order.OrderFault.TheVariants.{Help, Usage, Memory}
 use Rattle.mls_cli.specs.declared.show.ShowKind.{ShowKind}
 use Rattle.mls_cli.specs.declared.show.ShowKind.TheVariants as kind
 
@@ -35,6 +35,17 @@ IsValidateTree rows context tree c =
     (first_of (codes "context") rows ≡ Some context) × (first_of (codes "tree") rows ≡ Some tree)
     × IsChecker (first_of (codes "trust") rows) (first_of (codes "receipts") rows) c
 
+-- the options of `validate` are these
+abbrev pub IsValidate : List Row → Text → Option Text → Checker → Type 0
+IsValidate rows info tree c =
+    (first_of (codes "info") rows ≡ Some info) × (first_of (codes "tree") rows ≡ tree)
+    × IsChecker (first_of (codes "trust") rows) (first_of (codes "receipts") rows) c
+
+-- the options of `replay` are these
+abbrev pub IsReplay : List Row → Text → Option Text → Text → Checker → Type 0
+IsReplay rows info tree log c =
+    IsValidate rows info tree c × (first_of (codes "log") rows ≡ Some log)
+
 -- the order is what clap found: a subcommand's name, and the values of its arguments
 abbrev pub IsOrder : Option (Text × List Row) → Order → Type 0
 IsOrder found (order.Show k file) =
@@ -42,6 +53,10 @@ IsOrder found (order.Show k file) =
 IsOrder found (order.ValidateTree context tree c) =
     (rows : List Row) × (found ≡ Some (codes "validate-tree", rows))
     × IsValidateTree rows context tree c
+IsOrder found (order.Validate info tree c) =
+    (rows : List Row) × (found ≡ Some (codes "validate", rows)) × IsValidate rows info tree c
+IsOrder found (order.Replay info tree log c) =
+    (rows : List Row) × (found ≡ Some (codes "replay", rows)) × IsReplay rows info tree log c
 
 -- clap refuses none of the words, and what it finds in them is the order
 pub record IsOrderOf (words : List Text) (o : Order) : Type 0 where
@@ -52,11 +67,24 @@ pub record IsOrderOf (words : List Text) (o : Order) : Type 0 where
 abbrev pub Refuses : {A : Type 0} → (A → Type 0) → OrderFault → Type 0
 Refuses {A} P e = e ≢ Memory → (x : A) → P x → ⊥
 
--- help is answered
+-- help or the version is answered
 abbrev pub IsHelp : OrderFault → Type 0
 IsHelp (Help text) = Unit {0}
 IsHelp _ = ⊥
 
--- help is among what clap may answer to the words
+-- a usage fault is answered
+abbrev pub IsUsage : OrderFault → Type 0
+IsUsage (Usage text) = Unit {0}
+IsUsage _ = ⊥
+
+-- help or the version is among what clap may answer to the words
 abbrev pub AsksForHelp : List Text → Type 0
-AsksForHelp words = IsAmong DisplayHelp (fault_of mlscheck_app words)
+AsksForHelp words =
+    IsAmong DisplayHelp (fault_of mlscheck_app words)
+    ⊎ IsAmong DisplayVersion (fault_of mlscheck_app words)
+
+-- help is all that clap may answer to the words, or the version is
+abbrev pub AsksForHelpAlone : List Text → Type 0
+AsksForHelpAlone words =
+    (fault_of mlscheck_app words ≡ DisplayHelp ∷ [])
+    ⊎ (fault_of mlscheck_app words ≡ DisplayVersion ∷ [])

@@ -1,7 +1,6 @@
 -- The report `validate-tree`: one line, the first that applies. Numbers in parentheses are sections of
 -- RFC 9420.
 use Rattle.std.specs.Prelude.{ℕ, ◌≤◌, List, [], ◌++◌, length, codes, Option, Some, ◌≡◌, ◌≢◌, ◌⊎◌}
-use Rattle.std.specs.Fmt.{decimal}
 use Rattle.std.specs.Io.KnownBytes.{Appends}
 use Rattle.mls_wire.specs.Devices.{AppendsPrefix}
 use Rattle.mls_wire.specs.Limits.{input_limit}
@@ -20,6 +19,7 @@ use Rattle.mls_check.specs.declared.members.MemberFault.{MemberFault}
 use Rattle.mls_check.specs.declared.members.MemberFault.TheVariants as members
 use Rattle.mls_check.specs.declared.valid.TreeFault.{TreeFault}
 use Rattle.mls_check.specs.declared.valid.TreeFault.TheVariants as trees
+use Rattle.mls_cli.specs.FaultText.{tree_fault_text, member_fault_text}
 use Rattle.mls_cli.specs.ReadAll.{ReadsAll}
 use Rattle.mls_cli.specs.Texts.{IsOneLine, hex_text}
 use Rattle.mls_cli.specs.declared.outcome.Verdict.{Verdict}
@@ -44,26 +44,6 @@ pub record IsFaultLine (head text : List ℕ) (verdict : Verdict) : Type 0 where
   pub one_line : IsOneLine fault
   pub text_is : text ≡ head ++ (fault ++ codes "\n")
   pub verdict_is : verdict ≡ No
-
--- why a tree is not valid, by number and name, with the place (7.8, 7.9.2 and 12.4.3.1)
-abbrev pub tree_fault_text : TreeFault → List ℕ
-tree_fault_text trees.HashDiffers = codes "1 HashDiffers"
-tree_fault_text (trees.UnmergedUnsorted place) = codes "2 UnmergedUnsorted " ++ decimal place
-tree_fault_text (trees.UnmergedUnsound place) = codes "3 UnmergedUnsound " ++ decimal place
-tree_fault_text (trees.KeyRepeated place) = codes "4 KeyRepeated " ++ decimal place
-tree_fault_text (trees.ParentHashInvalid place) = codes "5 ParentHashInvalid " ++ decimal place
-tree_fault_text trees.OutOfMemory = codes "OutOfMemory"
-
--- why the leaves are no members, by number and name, with the leaf (7.3)
-abbrev pub member_fault_text : MemberFault → List ℕ
-member_fault_text (members.ExtensionUnlisted leaf) = codes "1 ExtensionUnlisted " ++ decimal leaf
-member_fault_text (members.RequirementUnmet leaf) = codes "2 RequirementUnmet " ++ decimal leaf
-member_fault_text (members.CredentialUnsupported leaf) =
-    codes "3 CredentialUnsupported " ++ decimal leaf
-member_fault_text (members.SignatureKeyRepeated leaf) =
-    codes "4 SignatureKeyRepeated " ++ decimal leaf
-member_fault_text (members.LeafSignature leaf) = codes "5 LeafSignature " ++ decimal leaf
-member_fault_text members.OutOfMemory = codes "OutOfMemory"
 
 -- the leaves are members of the group, and the report tells the tree's hash, which is the context's
 pub record IsMembersReport (G : Meaning) (c : GroupContext) (r : RequiredCapabilities)

@@ -1,12 +1,48 @@
 //! The program's subcommands and their arguments.
 
-ghost use Rattle.std.specs.Prelude.{◌≡◌, IfOk, false};
-ghost use Rattle.clap.specs.Words.{app_of, rule_of, with_rule};
+ghost use Rattle.std.specs.Prelude.{◌≡◌, IfOk, false, codes};
+ghost use Rattle.clap.specs.Words.{app_of, rule_of, with_rule, with_subcommand};
 ghost use Rattle.clap.specs.declared.builder.command.Command.TheViews.{out-Command as fields_of};
-ghost use Rattle.mls_cli.specs.Commands.{word_rule, file_rule, needed_rule, flag_rule, show_app, validate_tree_app, mlscheck_app};
+ghost use Rattle.mls_cli.specs.Commands as specs;
+ghost use Rattle.mls_cli.specs.Commands.{word_rule, file_rule, needed_rule, flag_rule, show_app, validate_tree_app, validate_app, replay_app, bare_app, mlscheck_app};
 
 use clap::{Arg, ArgAction, Command};
 use std::alloc::{AllocError, Global};
+
+/// The program's version.
+const VERSION: &str = "0.1.0";
+
+/// What the exit status says.
+const STATUSES: &str = "\
+Exit status:
+  0  yes, or help is shown
+  1  no: something can't be read, is refused, or is broken off
+  2  the command line is none of these forms
+  3  a fault of reading, of writing, or of memory
+
+Example:
+  mlscheck show tree examples/one-leaf.tree";
+
+/// The options of who judges signatures, in help.
+const SIGNATURES: &str = "Signatures (give one of these)";
+
+const SHOW_HELP: &str = "\
+Example:
+  mlscheck show tree examples/one-leaf.tree";
+
+const VALIDATE_TREE_HELP: &str = "\
+Example:
+  mlscheck validate-tree --context examples/one-leaf.context \\
+      --tree examples/one-leaf.tree --trust";
+
+const VALIDATE_HELP: &str = "\
+Example:
+  mlscheck validate --info examples/one-leaf.info --trust";
+
+const REPLAY_HELP: &str = "\
+Example:
+  mlscheck replay --info examples/real/epoch-1.info --log examples/real/handshakes.log \\
+      --receipts examples/real/receipts.txt";
 
 /// An argument that is told by its place, and has to be there.
 fn word<'a>(alloc: Global, name: &'a str, help: &'a str) -> Arg<'a>
@@ -21,7 +57,10 @@ fn file<'a>(alloc: Global, name: &'a str, help: &'a str) -> Arg<'a>
     ensures rule { rule_of result ≡ file_rule name.entry.now }
     ensures own { result.global ≡ false }
 {
-    Arg::new(alloc, name).long(name).help(help)
+    Arg::new(alloc, name)
+        .long(name)
+        .value_name("FILE")
+        .help(help)
 }
 
 /// A file that an option has to name.
@@ -29,7 +68,7 @@ fn needed<'a>(alloc: Global, name: &'a str, help: &'a str) -> Arg<'a>
     ensures rule { rule_of result ≡ needed_rule name.entry.now }
     ensures own { result.global ≡ false }
 {
-    Arg::new(alloc, name).long(name).required(true).help(help)
+    file(alloc, name, help).required(true)
 }
 
 /// An option without a value.
@@ -61,8 +100,21 @@ fn show_command<'a>(alloc: Global) -> Result<Command<'a>, AllocError>
 {
     Command::new(alloc, "show")
         .about("Prints what a file holds")
+        .after_help(SHOW_HELP)
         .arg(word(alloc, "KIND", "What the file holds: tree, info or message"))?
         .arg(word(alloc, "FILE", "The file's path"))
+}
+
+/// The command with the two options of who judges signatures, in a group of help that says to give one.
+fn with_checker<'a>(alloc: Global, command: Command<'a>) -> Result<Command<'a>, AllocError>
+    requires { (fields_of command).has_globals ≡ false }
+    ensures app { IfOk result (λ r. app_of r ≡ specs.with_checker (app_of command.entry)) }
+    ensures own { IfOk result (λ r. (fields_of r).has_globals ≡ false) }
+{
+    let trust = flag(alloc, "trust", "Takes every signature as good");
+    let receipts = file(alloc, "receipts", "The path of the list of good signatures");
+    let command = with(command, trust.help_heading(SIGNATURES))?;
+    with(command, receipts.help_heading(SIGNATURES))
 }
 
 /// `validate-tree --context FILE --tree FILE`, and one of `--trust` and `--receipts FILE`.
@@ -70,22 +122,85 @@ fn validate_tree_command<'a>(alloc: Global) -> Result<Command<'a>, AllocError>
     ensures app { IfOk result (λ c. app_of c ≡ validate_tree_app) }
     ensures own { IfOk result (λ c. (fields_of c).has_globals ≡ false) }
 {
-    let command = Command::new(alloc, "validate-tree").about(
-        "Checks a tree against a group context",
+    let command = Command::new(alloc, "validate-tree")
+        .about("Checks a tree against a group context")
+        .after_help(VALIDATE_TREE_HELP);
+    let context = needed(alloc, "context", "The group context's path");
+    let command = with(command, context)?;
+    let tree = needed(alloc, "tree", "The ratchet tree's path");
+    let command = with(command, tree)?;
+    with_checker(alloc, command)
+}
+
+/// The command with the files of a group's start: its info, and its tree where the info holds none.
+fn with_start<'a>(alloc: Global, command: Command<'a>) -> Result<Command<'a>, AllocError>
+    requires { (fields_of command).has_globals ≡ false }
+    ensures app { IfOk result
+        (λ r. app_of r ≡ with_rule (with_rule (app_of command.entry)
+        (needed_rule (codes "info"))) (file_rule (codes "tree"))) }
+    ensures own { IfOk result (λ r. (fields_of r).has_globals ≡ false) }
+{
+    let info = needed(alloc, "info", "The group info's path");
+    let command = with(command, info)?;
+    let tree = file(
+        alloc,
+        "tree",
+        "The ratchet tree's path, where the info holds none",
     );
-    let command = with(
-        command,
-        needed(alloc, "context", "The group context's path"),
-    )?;
-    let command = with(command, needed(alloc, "tree", "The ratchet tree's path"))?;
-    let command = with(
-        command,
-        flag(alloc, "trust", "Takes every signature as good"),
-    )?;
-    with(
-        command,
-        file(alloc, "receipts", "The path of the list of good signatures"),
-    )
+    with(command, tree)
+}
+
+/// `validate --info FILE [--tree FILE]`, and one of `--trust` and `--receipts FILE`.
+fn validate_command<'a>(alloc: Global) -> Result<Command<'a>, AllocError>
+    ensures app { IfOk result (λ c. app_of c ≡ validate_app) }
+    ensures own { IfOk result (λ c. (fields_of c).has_globals ≡ false) }
+{
+    let command = Command::new(alloc, "validate")
+        .about("Checks a group as its info shows it")
+        .after_help(VALIDATE_HELP);
+    let command = with_start(alloc, command)?;
+    with_checker(alloc, command)
+}
+
+/// `replay --info FILE [--tree FILE] --log FILE`, and one of `--trust` and `--receipts FILE`.
+fn replay_command<'a>(alloc: Global) -> Result<Command<'a>, AllocError>
+    ensures app { IfOk result (λ c. app_of c ≡ replay_app) }
+    ensures own { IfOk result (λ c. (fields_of c).has_globals ≡ false) }
+{
+    let command = Command::new(alloc, "replay")
+        .about("Follows a group through a log of its handshakes")
+        .after_help(REPLAY_HELP);
+    let command = with_start(alloc, command)?;
+    let log = needed(
+        alloc,
+        "log",
+        "The path of the handshakes, each behind its length",
+    );
+    let command = with(command, log)?;
+    with_checker(alloc, command)
+}
+
+/// The command with one subcommand more, the last.
+fn with_command<'a>(command: Command<'a>, sub: Command<'a>) -> Result<Command<'a>, AllocError>
+    requires command_own { (fields_of command).has_globals ≡ false }
+    requires sub_own { (fields_of sub).has_globals ≡ false }
+    ensures app { IfOk result
+        (λ r. app_of r ≡ with_subcommand (app_of command.entry) (app_of sub.entry).top) }
+    ensures own { IfOk result (λ r. (fields_of r).has_globals ≡ false) }
+{
+    command.subcommand(sub)
+}
+
+/// The program without its subcommands.
+fn bare_command<'a>(alloc: Global) -> Command<'a>
+    ensures app { app_of result ≡ bare_app }
+    ensures own { (fields_of result).has_globals ≡ false }
+{
+    Command::new(alloc, "mlscheck")
+        .about("Checks the public state of MLS groups (RFC 9420)")
+        .version(VERSION)
+        .after_help(STATUSES)
+        .subcommand_required(true)
 }
 
 /// The program with all of its subcommands.
@@ -93,11 +208,8 @@ pub(crate) fn mlscheck_command<'a>(alloc: Global) -> Result<Command<'a>, AllocEr
     ensures app { IfOk result (λ c. app_of c ≡ mlscheck_app) }
     ensures own { IfOk result (λ c. (fields_of c).has_globals ≡ false) }
 {
-    let show = show_command(alloc)?;
-    let validate_tree = validate_tree_command(alloc)?;
-    Command::new(alloc, "mlscheck")
-        .about("Checks the public state of MLS groups (RFC 9420)")
-        .subcommand_required(true)
-        .subcommand(show)?
-        .subcommand(validate_tree)
+    let command = with_command(bare_command(alloc), show_command(alloc)?)?;
+    let command = with_command(command, validate_tree_command(alloc)?)?;
+    let command = with_command(command, validate_command(alloc)?)?;
+    with_command(command, replay_command(alloc)?)
 }

@@ -1,9 +1,9 @@
 //! What a command line asks for.
 
-ghost use Rattle.std.specs.Prelude.{◌≡◌, ◌↔◌, IsTrue, IfOk, IfErr, codes, Some, option_map, map, string_bytes};
+ghost use Rattle.std.specs.Prelude.{◌≡◌, ◌≢◌, ◌↔◌, ◌⊎◌, IsTrue, IfOk, IfErr, codes, Some, option_map, map, string_bytes};
 ghost use Rattle.clap.specs.Values.{kind_of};
 ghost use Rattle.clap.specs.Words.{first_of, rows_of, found_of, subcommand_rows_of};
-ghost use Rattle.mls_cli.specs.Orders.{IsChecker, IsOrder, IsOrderOf, IsHelp, AsksForHelp, Refuses, kind_text};
+ghost use Rattle.mls_cli.specs.Orders.{IsChecker, IsOrder, IsOrderOf, IsHelp, IsUsage, AsksForHelp, AsksForHelpAlone, Refuses, kind_text};
 ghost use Rattle.mls_cli.specs.Status.{fault_status};
 
 use crate::command::mlscheck_command;
@@ -42,12 +42,32 @@ pub enum Order {
         /// Who judges signatures.
         checker: Checker,
     },
+    /// `validate`: say whether a group is in order as its info shows it.
+    Validate {
+        /// The file of the group info.
+        info: FileName,
+        /// The file of the ratchet tree, where one is named.
+        tree: Option<FileName>,
+        /// Who judges signatures.
+        checker: Checker,
+    },
+    /// `replay`: follow a group from its info through a log of handshakes.
+    Replay {
+        /// The file of the group info.
+        info: FileName,
+        /// The file of the ratchet tree, where one is named.
+        tree: Option<FileName>,
+        /// The file of the log.
+        log: FileName,
+        /// Who judges signatures.
+        checker: Checker,
+    },
 }
 
 /// Why a command line gives no order.
 #[derive(Debug, Drop, Error)]
 pub enum OrderFault {
-    /// It asks for help, which is this text.
+    /// It asks for help or for the version, which is this text.
     #[error("{0}")]
     Help(String),
     /// It is none of the forms that the program knows. The text says why.
@@ -59,7 +79,7 @@ pub enum OrderFault {
 }
 
 impl OrderFault {
-    /// The exit status of a command line that gives no order: 0 for help, 2 for a usage fault, 3 for
+    /// The exit status of a command line that gives no order: 0 for help and the version, 2 for a usage fault, 3 for
     /// want of memory.
     pub fn status(&self) -> u8
         ensures { result ≡ fault_status self.now }
@@ -85,12 +105,15 @@ impl From<AllocError> for OrderFault {
 /// What a refusal of clap is.
 fn refusal(alloc: Global, error: &Error) -> OrderFault
     ensures memory { kind_of error.now ≡ ErrorKind.OutOfMemory → result ≡ OrderFault.Memory }
-    ensures help { IsHelp result → kind_of error.now ≡ ErrorKind.DisplayHelp }
+    ensures help { IsHelp result → (kind_of error.now ≡ ErrorKind.DisplayHelp)
+        ⊎ (kind_of error.now ≡ ErrorKind.DisplayVersion) }
+    ensures usage { IsUsage result → (kind_of error.now ≢ ErrorKind.DisplayHelp)
+        × (kind_of error.now ≢ ErrorKind.DisplayVersion) }
 {
     match format!(in alloc; "{error}") {
         Ok(text) => match error.kind() {
             ErrorKind::OutOfMemory => OrderFault::Memory,
-            ErrorKind::DisplayHelp => OrderFault::Help(text),
+            ErrorKind::DisplayHelp | ErrorKind::DisplayVersion => OrderFault::Help(text),
             _ => OrderFault::Usage(text),
         },
         Err(_) => OrderFault::Memory,
@@ -124,6 +147,21 @@ fn file_of(alloc: Global, matches: &ArgMatches<'_>, id: &str) -> Result<FileName
     match value(matches, id) {
         Some(text) => Ok(FileName::new(alloc, text)?),
         None => Err(usage(alloc, "usage: a file is missing\n")),
+    }
+}
+
+/// The file that an argument may name.
+fn optional_file_of(
+    alloc: Global,
+    matches: &ArgMatches<'_>,
+    id: &str,
+) -> Result<Option<FileName>, OrderFault>
+    ensures file { IfOk result (λ f. first_of id.now (rows_of (found_of matches.now)) ≡ f) }
+    ensures memory { IfErr result (λ e. e ≡ OrderFault.Memory) }
+{
+    match value(matches, id) {
+        Some(text) => Ok(Some(FileName::new(alloc, text)?)),
+        None => Ok(None),
     }
 }
 
@@ -199,6 +237,44 @@ fn validate_tree_order(alloc: Global, matches: &ArgMatches<'_>) -> Result<Order,
     })
 }
 
+/// The order of `validate`.
+fn validate_order(alloc: Global, matches: &ArgMatches<'_>) -> Result<Order, OrderFault>
+    ensures order { IfOk result
+        (IsOrder (Some (codes "validate", rows_of (found_of matches.now)))) }
+    ensures refused { IfErr result
+        (Refuses (IsOrder (Some (codes "validate", rows_of (found_of matches.now))))) }
+    ensures own { IfErr result (λ e. IsHelp e → ⊥) }
+{
+    let checker = chosen_checker(alloc, matches)?;
+    let info = file_of(alloc, matches, "info")?;
+    let tree = optional_file_of(alloc, matches, "tree")?;
+    Ok(Order::Validate {
+        info,
+        tree,
+        checker,
+    })
+}
+
+/// The order of `replay`.
+fn replay_order(alloc: Global, matches: &ArgMatches<'_>) -> Result<Order, OrderFault>
+    ensures order { IfOk result
+        (IsOrder (Some (codes "replay", rows_of (found_of matches.now)))) }
+    ensures refused { IfErr result
+        (Refuses (IsOrder (Some (codes "replay", rows_of (found_of matches.now))))) }
+    ensures own { IfErr result (λ e. IsHelp e → ⊥) }
+{
+    let checker = chosen_checker(alloc, matches)?;
+    let info = file_of(alloc, matches, "info")?;
+    let tree = optional_file_of(alloc, matches, "tree")?;
+    let log = file_of(alloc, matches, "log")?;
+    Ok(Order::Replay {
+        info,
+        tree,
+        log,
+        checker,
+    })
+}
+
 /// The order that clap's matches give.
 fn read_order(alloc: Global, matches: &ArgMatches<'_>) -> Result<Order, OrderFault>
     ensures order { IfOk result (IsOrder (subcommand_rows_of matches.now)) }
@@ -208,6 +284,8 @@ fn read_order(alloc: Global, matches: &ArgMatches<'_>) -> Result<Order, OrderFau
     match matches.subcommand() {
         Some((name, inner)) if name == "show" => show_order(alloc, inner),
         Some((name, inner)) if name == "validate-tree" => validate_tree_order(alloc, inner),
+        Some((name, inner)) if name == "validate" => validate_order(alloc, inner),
+        Some((name, inner)) if name == "replay" => replay_order(alloc, inner),
         Some(_) => Err(usage(alloc, "usage: no such command\n")),
         None => Err(usage(alloc, "usage: a command is missing\n")),
     }
@@ -215,12 +293,14 @@ fn read_order(alloc: Global, matches: &ArgMatches<'_>) -> Result<Order, OrderFau
 
 /// The order of a command line, whose first word is the program's name.
 ///
-/// A word that asks for help is answered with `Help`, and any other command line that gives no
-/// order with `Usage`.
+/// Words that ask for help or for the version are answered with `Help`, and any others that give no order with
+/// `Usage`.
 pub fn order_of(alloc: Global, words: &[String]) -> Result<Order, OrderFault>
     ensures order { IfOk result (IsOrderOf (map string_bytes words.now)) }
     ensures refused { IfErr result (Refuses (IsOrderOf (map string_bytes words.now))) }
     ensures help { IfErr result (λ e. IsHelp e → AsksForHelp (map string_bytes words.now)) }
+    ensures usage { IfErr result
+        (λ e. IsUsage e → ¬ AsksForHelpAlone (map string_bytes words.now)) }
 {
     let command = mlscheck_command(alloc)?;
     match command.try_get_matches_from(words) {

@@ -2,11 +2,11 @@
 
 ghost use Rattle.std.specs.Prelude.{◌≡◌, ◌≢◌, ◌++◌, ◌↔◌, ◌⊎◌, false, true, [], Err, codes, IfOk, OnErr, IfErr, string_bytes};
 ghost use Rattle.std.specs.Io.KnownBytes.{Appends};
-ghost use Rattle.mls_cli.specs.ValidateTree as reports;
+ghost use Rattle.mls_cli.specs.FaultText as faults;
 ghost use Rattle.mls_cli.specs.ValidateTree.{IsFaultLine, IsRefusal, IsValidateTreeReport, IsMembersReport, IsNoMembersReport, IsValidTreeReport, IsInvalidTreeReport, IsJudgedReport, IsNoRequirementsReport, IsReadTreeReport, IsUnreadTreeReport, IsUsableReport, IsVersionReport, IsSuiteReport, ValidatesTree, ValidatesTreePart};
 ghost use Rattle.mls_cli.specs.Texts.{hex_text};
 
-use crate::fault_text::{node_fault_text, wire_fault_text};
+use crate::fault_text::{member_fault_text, node_fault_text, tree_fault_text, wire_fault_text};
 use crate::outcome::{RunFault, Verdict};
 use crate::read::read_all;
 use crate::report::Report;
@@ -29,43 +29,11 @@ fn refusal(alloc: Global, line: &str) -> Result<Report, AllocError>
     })
 }
 
-/// What fails first of a tree, by number, name and place.
-fn tree_fault_text(alloc: Global, fault: TreeFault) -> Result<String, AllocError>
-    ensures { IfOk result (λ text. string_bytes text ≡ reports.tree_fault_text fault) }
-{
-    match fault {
-        TreeFault::HashDiffers => String::from_str(alloc, "1 HashDiffers"),
-        TreeFault::UnmergedUnsorted(place) => format!(in alloc; "2 UnmergedUnsorted {place}"),
-        TreeFault::UnmergedUnsound(place) => format!(in alloc; "3 UnmergedUnsound {place}"),
-        TreeFault::KeyRepeated(place) => format!(in alloc; "4 KeyRepeated {place}"),
-        TreeFault::ParentHashInvalid(place) => format!(in alloc; "5 ParentHashInvalid {place}"),
-        TreeFault::OutOfMemory => String::from_str(alloc, "OutOfMemory"),
-    }
-}
-
-/// What fails first of the members, by number, name and leaf.
-fn member_fault_text(alloc: Global, fault: MemberFault) -> Result<String, AllocError>
-    ensures { IfOk result (λ text. string_bytes text ≡ reports.member_fault_text fault) }
-{
-    match fault {
-        MemberFault::ExtensionUnlisted(leaf) => format!(in alloc; "1 ExtensionUnlisted {leaf}"),
-        MemberFault::RequirementUnmet(leaf) => format!(in alloc; "2 RequirementUnmet {leaf}"),
-        MemberFault::CredentialUnsupported(leaf) => {
-            format!(in alloc; "3 CredentialUnsupported {leaf}")
-        }
-        MemberFault::SignatureKeyRepeated(leaf) => {
-            format!(in alloc; "4 SignatureKeyRepeated {leaf}")
-        }
-        MemberFault::LeafSignature(leaf) => format!(in alloc; "5 LeafSignature {leaf}"),
-        MemberFault::OutOfMemory => String::from_str(alloc, "OutOfMemory"),
-    }
-}
-
 /// The report of a tree that is refused.
 fn tree_refusal(alloc: Global, fault: TreeFault) -> Result<Report, RunFault>
     ensures report { IfOk result
         (λ r. (fault ≢ TreeFault.OutOfMemory)
-        × IsRefusal (codes "tree refused " ++ (reports.tree_fault_text fault ++ codes "\n"))
+        × IsRefusal (codes "tree refused " ++ (faults.tree_fault_text fault ++ codes "\n"))
         (string_bytes r.text) r.verdict) }
     ensures memory { IfErr result (λ e. e ≡ RunFault.Memory) }
 {
@@ -81,7 +49,7 @@ fn tree_refusal(alloc: Global, fault: TreeFault) -> Result<Report, RunFault>
 fn member_refusal(alloc: Global, fault: MemberFault) -> Result<Report, RunFault>
     ensures report { IfOk result
         (λ r. (fault ≢ MemberFault.OutOfMemory)
-        × IsRefusal (codes "members refused " ++ (reports.member_fault_text fault ++ codes "\n"))
+        × IsRefusal (codes "members refused " ++ (faults.member_fault_text fault ++ codes "\n"))
         (string_bytes r.text) r.verdict) }
     ensures memory { IfErr result (λ e. e ≡ RunFault.Memory) }
 {

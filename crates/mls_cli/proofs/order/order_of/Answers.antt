@@ -5,7 +5,7 @@ use Rattle.clap.specs.Values.{kind_of}
 use Rattle.clap.specs.declared.error.kind.ErrorKind.{ErrorKind}
 use Rattle.clap.proofs.OnLiterals.{clap_on_literals}
 use Rattle.mls_cli.specs.Commands.{mlscheck_app}
-use Rattle.mls_cli.specs.Orders.{IsOrder}
+use Rattle.mls_cli.specs.Orders.{IsOrder, IsUsage}
 use Rattle.mls_cli.proofs.order.order_of.Goals as goal
 
 -- the program's command is one whose matches and refusals clap gives as functions of the words
@@ -53,8 +53,40 @@ pub returns-in-Err-clause-help : goal.returns-in-Err-clause-help
 returns-in-Err-clause-help c help =
     let app_is = c.in_ok-command.ensures.app in
     let words : List Text = map string_bytes c.args.words.now in
-    let is_help = c.refusal.ensures.help help in
-    elim (c.in-Err.ensures.kinds (ap is_simple_and_free app_is ∙ app_is_free)) [
-      | inl memory ↦ cc
-      | inr among ↦ subst (λ (k : ErrorKind). IsAmong k (fault_of mlscheck_app words)) is_help (subst (λ (a : App). IsAmong (kind_of c.in-Err.error) (fault_of a words)) app_is among)
+    let kinds = c.in-Err.ensures.kinds (ap is_simple_and_free app_is ∙ app_is_free) in
+    elim (c.refusal.ensures.help help) [
+      | inl is_help ↦ inl (elim kinds [
+        | inl memory ↦ cc
+        | inr among ↦ subst (λ (k : ErrorKind). IsAmong k (fault_of mlscheck_app words)) is_help (subst (λ (a : App). IsAmong (kind_of c.in-Err.error) (fault_of a words)) app_is among)
+      ])
+      | inr is_version ↦ inr (elim kinds [
+        | inl memory ↦ cc
+        | inr among ↦ subst (λ (k : ErrorKind). IsAmong k (fault_of mlscheck_app words)) is_version (subst (λ (a : App). IsAmong (kind_of c.in-Err.error) (fault_of a words)) app_is among)
+      ])
     ]
+
+-- an error of which this is the only kind that may come has it
+only_one : (k only : ErrorKind) (kinds : Kinds) → IsAmong k kinds → kinds ≡ only ∷ [] → k ≡ only
+only_one k only kinds among is_one = elim (subst (λ (kinds : Kinds). IsAmong k kinds) is_one among) [ inl same ↦ same | inr none ↦ absurd none ]
+
+pub returns-in-Err-clause-usage : goal.returns-in-Err-clause-usage
+returns-in-Err-clause-usage c usage alone =
+    let app_is = c.in_ok-command.ensures.app in
+    let words : List Text = map string_bytes c.args.words.now in
+    let other = c.refusal.ensures.usage usage in
+    elim (c.in-Err.ensures.kinds (ap is_simple_and_free app_is ∙ app_is_free)) [
+      | inl memory ↦ subst IsUsage (c.refusal.ensures.memory memory) usage
+      | inr among ↦
+          let here = subst (λ (a : App). IsAmong (kind_of c.in-Err.error) (fault_of a words)) app_is among in
+          elim alone [
+            | inl only ↦ other.0 (only_one _ _ _ here only)
+            | inr only ↦ other.1 (only_one _ _ _ here only)
+          ]
+    ]
+
+pub returns-in-Ok-clause-usage : goal.returns-in-Ok-clause-usage
+returns-in-Ok-clause-usage c =
+    let app_is = c.in_ok-command.ensures.app in
+    let words : List Text = map string_bytes c.args.words.now in
+    let passes = ap (λ (a : App). fault_of a words) (sym app_is) ∙ c.in-Ok.ensures.kinds (ap is_simple_and_free app_is ∙ app_is_free) in
+    IfErr-weaker c.read_order.result _ _ (λ e own usage alone. elim alone [ inl only ↦ cc | inr only ↦ cc ]) c.read_order.ensures.own

@@ -1,0 +1,280 @@
+//! Carrying out an order: the files that it names are opened, and its report is made of them.
+
+ghost use Rattle.std.specs.Prelude.{◌≡◌, ◌↔◌, ◌⊎◌, false, true, None, Err, option_map, IfSome};
+ghost use Rattle.mls_cli.specs.Program.{opener, CarriesOut, CarriesShow, CarriesValidateTree, CarriesValidate, CarriesReplay, IsJudgedBy, IsOpened, LacksNamed, EndsUnread, EndsRefused};
+ghost use Rattle.mls_cli.specs.Judges.{judge_meaning};
+ghost use Rattle.mls_cli.specs.Starting.{has_failed};
+ghost use Rattle.mls_cli.specs.Judging.{IsJudgeFault};
+
+use crate::file_name::FileName;
+use crate::files::Files;
+use crate::judge::{Judge, JudgeFault};
+use crate::order::{Checker, Order};
+use crate::outcome::{RunFault, Verdict};
+use crate::read_judge::read_judge;
+use crate::receipts::run_unreadable_receipts;
+use crate::replay::run_replay;
+use crate::show::{ShowKind, run_show};
+use crate::validate::run_validate;
+use crate::validate_tree::run_validate_tree;
+use mls_check::SignatureCheck;
+use mls_wire::Sink;
+use std::alloc::Global;
+
+/// Shows a file.
+fn show<F: Files, K: Sink>(
+    alloc: Global,
+    kind: ShowKind,
+    file: &FileName,
+    files: &F,
+    out: &mut K,
+) -> Result<Verdict, RunFault>
+    requires { K.is_failed out.old ≡ false }
+    ensures carried { CarriesShow
+        (opener (F.gives files.now) (F.lacks files.now) F.File.left F.File.is_failed)
+        kind file.now (K.written out.old) (K.written out.new) result }
+    ensures write { (result ≡ Err RunFault.Write) ↔ (K.is_failed out.new ≡ true) }
+{
+    let Some(mut input) = files.open(file.as_str()) else {
+        return Err(RunFault::Read);
+    };
+    run_show(alloc, kind, &mut input, out)
+}
+
+/// Says whether a tree is that of a group context, and its leaves are members.
+fn validate_tree<F: Files, K: Sink>(
+    alloc: Global,
+    context: &FileName,
+    tree: &FileName,
+    files: &F,
+    checker: &dyn SignatureCheck,
+    out: &mut K,
+) -> Result<Verdict, RunFault>
+    requires { K.is_failed out.old ≡ false }
+    ensures carried { CarriesValidateTree
+        (opener (F.gives files.now) (F.lacks files.now) F.File.left F.File.is_failed)
+        (meaning checker.now) context.now tree.now (K.written out.old) (K.written out.new) result }
+    ensures write { (result ≡ Err RunFault.Write) ↔ (K.is_failed out.new ≡ true) }
+{
+    let Some(mut context) = files.open(context.as_str()) else {
+        return Err(RunFault::Read);
+    };
+    let Some(mut tree) = files.open(tree.as_str()) else {
+        return Err(RunFault::Read);
+    };
+    run_validate_tree(alloc, &mut context, &mut tree, checker, out)
+}
+
+/// Opens a file that may have no name.
+fn open_named<F: Files>(name: &Option<FileName>, files: &F) -> Option<Option<F::File>>
+    ensures given { IfSome result (IsOpened
+        (opener (F.gives files.now) (F.lacks files.now) F.File.left F.File.is_failed) name.now) }
+    ensures fresh { IfSome result
+        (λ file. has_failed (option_map F.File.is_failed file) ≡ false) }
+    ensures none { result ≡ None → LacksNamed
+        (opener (F.gives files.now) (F.lacks files.now) F.File.left F.File.is_failed) name.now }
+{
+    match name {
+        Some(name) => Some(Some(files.open(name.as_str())?)),
+        None => Some(None),
+    }
+}
+
+/// Says whether a group is in order as its info shows it.
+fn validate<F: Files, K: Sink>(
+    alloc: Global,
+    info: &FileName,
+    tree: &Option<FileName>,
+    files: &F,
+    judge: Judge,
+    out: &mut K,
+) -> Result<Verdict, RunFault>
+    requires { K.is_failed out.old ≡ false }
+    ensures carried { CarriesValidate
+        (opener (F.gives files.now) (F.lacks files.now) F.File.left F.File.is_failed)
+        (judge_meaning judge) info.now tree.now (K.written out.old) (K.written out.new) result }
+    ensures write { (result ≡ Err RunFault.Write) ↔ (K.is_failed out.new ≡ true) }
+{
+    let Some(mut info) = files.open(info.as_str()) else {
+        return Err(RunFault::Read);
+    };
+    let Some(mut tree) = open_named(tree, files) else {
+        return Err(RunFault::Read);
+    };
+    let Ok(checker) = Box::new(alloc, judge) else {
+        return Err(RunFault::Memory);
+    };
+    run_validate(alloc, &mut info, &mut tree, checker, out)
+}
+
+/// Follows a group from its info through a log of handshakes.
+fn replay<F: Files, K: Sink>(
+    alloc: Global,
+    info: &FileName,
+    tree: &Option<FileName>,
+    log: &FileName,
+    files: &F,
+    judge: Judge,
+    out: &mut K,
+) -> Result<Verdict, RunFault>
+    requires { K.is_failed out.old ≡ false }
+    ensures carried { CarriesReplay
+        (opener (F.gives files.now) (F.lacks files.now) F.File.left F.File.is_failed)
+        (judge_meaning judge) info.now tree.now log.now
+        (K.written out.old) (K.written out.new) result }
+    ensures write { (result ≡ Err RunFault.Write) ↔ (K.is_failed out.new ≡ true) }
+{
+    let Some(mut info) = files.open(info.as_str()) else {
+        return Err(RunFault::Read);
+    };
+    let Some(mut tree) = open_named(tree, files) else {
+        return Err(RunFault::Read);
+    };
+    let Some(mut log) = files.open(log.as_str()) else {
+        return Err(RunFault::Read);
+    };
+    let Ok(checker) = Box::new(alloc, judge) else {
+        return Err(RunFault::Memory);
+    };
+    run_replay(alloc, &mut info, &mut tree, &mut log, checker, out)
+}
+
+/// Says why nobody judges signatures.
+fn refuse<F: Files, K: Sink>(
+    alloc: Global,
+    checker: &Checker,
+    files: &F,
+    fault: JudgeFault,
+    out: &mut K,
+) -> Result<Verdict, RunFault>
+    requires out { K.is_failed out.old ≡ false }
+    requires fault { IsJudgeFault
+        (opener (F.gives files.now) (F.lacks files.now) F.File.left F.File.is_failed)
+        checker.now fault }
+    ensures ended { EndsUnread (opener (F.gives files.now) (F.lacks files.now) F.File.left F.File.is_failed)
+        checker.now (K.written out.old) (K.written out.new) result
+        ⊎ EndsRefused (opener (F.gives files.now) (F.lacks files.now) F.File.left F.File.is_failed)
+        checker.now (K.written out.old) (K.written out.new) result }
+    ensures write { (result ≡ Err RunFault.Write) ↔ (K.is_failed out.new ≡ true) }
+{
+    match fault {
+        JudgeFault::Lost(fault) => Err(fault),
+        JudgeFault::Refused(fault) => run_unreadable_receipts(alloc, fault, out),
+    }
+}
+
+/// Says whether a tree is that of a group context, and its leaves are members, by whom the order names.
+fn validate_tree_order<F: Files, K: Sink>(
+    alloc: Global,
+    context: &FileName,
+    tree: &FileName,
+    checker: &Checker,
+    files: &F,
+    out: &mut K,
+) -> Result<Verdict, RunFault>
+    requires { K.is_failed out.old ≡ false }
+    ensures carried { IsJudgedBy
+        (opener (F.gives files.now) (F.lacks files.now) F.File.left F.File.is_failed)
+        checker.now
+        (λ G. CarriesValidateTree
+        (opener (F.gives files.now) (F.lacks files.now) F.File.left F.File.is_failed)
+        G context.now tree.now (K.written out.old) (K.written out.new) result)
+        (K.written out.old) (K.written out.new) result }
+    ensures write { (result ≡ Err RunFault.Write) ↔ (K.is_failed out.new ≡ true) }
+{
+    match read_judge(alloc, checker, files) {
+        Ok(judge) => validate_tree(alloc, context, tree, files, &judge, out),
+        Err(fault) => refuse(alloc, checker, files, fault, out),
+    }
+}
+
+/// Says whether a group is in order as its info shows it, by whom the order names.
+fn validate_order<F: Files, K: Sink>(
+    alloc: Global,
+    info: &FileName,
+    tree: &Option<FileName>,
+    checker: &Checker,
+    files: &F,
+    out: &mut K,
+) -> Result<Verdict, RunFault>
+    requires { K.is_failed out.old ≡ false }
+    ensures carried { IsJudgedBy
+        (opener (F.gives files.now) (F.lacks files.now) F.File.left F.File.is_failed)
+        checker.now
+        (λ G. CarriesValidate
+        (opener (F.gives files.now) (F.lacks files.now) F.File.left F.File.is_failed)
+        G info.now tree.now (K.written out.old) (K.written out.new) result)
+        (K.written out.old) (K.written out.new) result }
+    ensures write { (result ≡ Err RunFault.Write) ↔ (K.is_failed out.new ≡ true) }
+{
+    match read_judge(alloc, checker, files) {
+        Ok(judge) => validate(alloc, info, tree, files, judge, out),
+        Err(fault) => refuse(alloc, checker, files, fault, out),
+    }
+}
+
+/// Follows a group from its info through a log of handshakes, by whom the order names.
+fn replay_order<F: Files, K: Sink>(
+    alloc: Global,
+    info: &FileName,
+    tree: &Option<FileName>,
+    log: &FileName,
+    checker: &Checker,
+    files: &F,
+    out: &mut K,
+) -> Result<Verdict, RunFault>
+    requires { K.is_failed out.old ≡ false }
+    ensures carried { IsJudgedBy
+        (opener (F.gives files.now) (F.lacks files.now) F.File.left F.File.is_failed)
+        checker.now
+        (λ G. CarriesReplay
+        (opener (F.gives files.now) (F.lacks files.now) F.File.left F.File.is_failed)
+        G info.now tree.now log.now (K.written out.old) (K.written out.new) result)
+        (K.written out.old) (K.written out.new) result }
+    ensures write { (result ≡ Err RunFault.Write) ↔ (K.is_failed out.new ≡ true) }
+{
+    match read_judge(alloc, checker, files) {
+        Ok(judge) => replay(alloc, info, tree, log, files, judge, out),
+        Err(fault) => refuse(alloc, checker, files, fault, out),
+    }
+}
+
+/// Carries out an order, and tells its report on `out`. The receipts are read first, where there are any; then the
+/// other files are opened, in the order of the command's words; then the report begins.
+///
+/// Receipts that can't be read are told by one line, `No`, and no other file is opened. `Read` comes where a file can't
+/// be opened, and then nothing is written, and where one fails; `Write` where the output fails. Then a prefix of the
+/// report may be written already. Want of memory comes before anything is written, but in `replay`, which tells its lines
+/// as it goes.
+pub fn carry_out<F: Files, K: Sink>(
+    alloc: Global,
+    order: &Order,
+    files: &F,
+    out: &mut K,
+) -> Result<Verdict, RunFault>
+    requires { K.is_failed out.old ≡ false }
+    ensures carried { CarriesOut
+        (opener (F.gives files.now) (F.lacks files.now) F.File.left F.File.is_failed)
+        order.now (K.written out.old) (K.written out.new) result }
+    ensures write { (result ≡ Err RunFault.Write) ↔ (K.is_failed out.new ≡ true) }
+{
+    match order {
+        Order::Show { kind, file } => show(alloc, *kind, file, files, out),
+        Order::ValidateTree {
+            context,
+            tree,
+            checker,
+        } => validate_tree_order(alloc, context, tree, checker, files, out),
+        Order::Validate {
+            info,
+            tree,
+            checker,
+        } => validate_order(alloc, info, tree, checker, files, out),
+        Order::Replay {
+            info,
+            tree,
+            log,
+            checker,
+        } => replay_order(alloc, info, tree, log, checker, files, out),
+    }
+}

@@ -1,0 +1,87 @@
+//! A note of how far a long report is, beside the report.
+
+ghost use Rattle.std.specs.Prelude.{◌≡◌};
+
+use mls_wire::{DeviceFault, Sink, write_all};
+use std::alloc::Global;
+
+/// After how many lines there is a note.
+const NOTED_LINES: u64 = 1000;
+
+/// A sink that hands on what it takes to another one, and notes beside it, for each thousand lines, how many messages
+/// were told so far. The notes are written over one another in one line. Whether a note could be written is not asked.
+#[derive(Drop)]
+pub struct Progress<K: Sink, N: Sink> {
+    out: K,
+    notes: N,
+    lines: u64,
+    noted: u64,
+    alloc: Global,
+}
+
+impl<K: Sink, N: Sink> Progress<K, N> {
+    /// A sink over another one, with its notes on a third.
+    pub fn new(alloc: Global, out: K, notes: N) -> Progress<K, N>
+        ensures written { ⟦<Progress<K, N> as Sink>⟧.written result ≡ K.written out }
+        ensures failed { ⟦<Progress<K, N> as Sink>⟧.is_failed result ≡ K.is_failed out }
+    {
+        Progress {
+            out,
+            notes,
+            lines: 0,
+            noted: 0,
+            alloc,
+        }
+    }
+
+    /// Writes a note over the last one.
+    fn note(&mut self)
+        ensures { self.new.out ≡ self.old.out }
+    {
+        let lines = self.lines;
+        if let Ok(text) = format!(in self.alloc; "\rmlscheck: {lines} messages") {
+            let _ = write_all(&mut self.notes, text.as_bytes());
+        }
+    }
+
+    /// Counts the lines that end in these bytes, and notes them where they are many.
+    fn count(&mut self, bytes: &[u8])
+        ensures { self.new.out ≡ self.old.out }
+    {
+        let ended = bytes.iter().filter(|byte| **byte == b'\n').count();
+        self.lines = self.lines.saturating_add(ended as u64);
+        if self.lines / NOTED_LINES > self.noted {
+            self.noted = self.lines / NOTED_LINES;
+            self.note();
+        }
+    }
+
+    /// Ends the line of the notes, where there is one.
+    pub fn finish(&mut self)
+        ensures written { ⟦<Progress<K, N> as Sink>⟧.written self.new
+            ≡ ⟦<Progress<K, N> as Sink>⟧.written self.old }
+        ensures failed { ⟦<Progress<K, N> as Sink>⟧.is_failed self.new
+            ≡ ⟦<Progress<K, N> as Sink>⟧.is_failed self.old }
+    {
+        if self.noted > 0 {
+            self.noted = 0;
+            let _ = write_all(&mut self.notes, b"\n");
+        }
+    }
+}
+
+impl<K: Sink, N: Sink> Sink for Progress<K, N> {
+    ghost written = { λ s. K.written s.out };
+
+    ghost is_failed = { λ s. K.is_failed s.out };
+
+    fn push(&mut self, bytes: &[u8]) -> Result<usize, DeviceFault> {
+        let n = self.out.push(bytes)?;
+        self.count(&bytes[..n]);
+        Ok(n)
+    }
+
+    fn failed(&self) -> bool {
+        self.out.failed()
+    }
+}

@@ -1,15 +1,18 @@
 //! Group contexts (RFC 9420, 8.1), their extensions, and what they require of members (11.1).
 
-use crate::support::{CONTEXT, answer_text, bytes, expect_text};
+use crate::support::{CONTEXT, bytes, expect_answers, expect_texts, text};
 use mls_nodes::{
-    decode_context, encode_context, read_context, read_extensions, requirements, write_context,
-    write_extensions,
+    decode_context, encode_context, find_extension, read_context, read_extensions, requirements,
+    write_context, write_extensions,
 };
 use mls_wire::{CodecFault, Reader, TryClone, Writer, bytes_of};
 use std::alloc::Global;
 use std::test::Fail;
 
-/// A context, copied and written, or why it can't be read.
+/// A context of epoch 7 with the extensions 3 and 1.
+const EPOCH_7: &str = "000100010147000000000000000701aa000b000303000000000102abcd";
+
+/// A context, copied and written.
 fn context_of(alloc: Global, input: &[u8]) -> Result<Vec<u8>, CodecFault> {
     let context = decode_context(alloc, input)?;
     let copy = context.try_clone(alloc);
@@ -20,44 +23,47 @@ fn context_of(alloc: Global, input: &[u8]) -> Result<Vec<u8>, CodecFault> {
     again
 }
 
-/// The context at the front, written.
+#[test]
+fn contexts_are_read_and_written(rt: HostRuntime) -> Result<(), Fail> {
+    let contexts = [(CONTEXT, CONTEXT), (EPOCH_7, EPOCH_7)];
+    expect_answers(&rt, rt.alloc(), context_of, &contexts)
+}
+
+/// The context at the front, and the extensions behind it, written.
 fn front_of(alloc: Global, input: &[u8]) -> Result<Vec<u8>, CodecFault> {
-    let context = read_context(alloc, &mut Reader::new(input))?;
+    let mut reader = Reader::new(input);
+    let context = read_context(alloc, &mut reader)?;
     let mut writer = Writer::new(alloc);
     let written = write_context(alloc, &context, &mut writer);
     drop(context);
     written?;
+    let extensions = read_extensions(alloc, &mut reader)?;
+    write_extensions(alloc, &extensions, &mut writer)?;
     Ok(writer.into_bytes())
 }
 
-/// The extensions at the front, written.
-fn extensions_of(alloc: Global, input: &[u8]) -> Result<Vec<u8>, CodecFault> {
-    let extensions = read_extensions(alloc, &mut Reader::new(input))?;
-    let mut writer = Writer::new(alloc);
-    let written = write_extensions(alloc, &extensions, &mut writer);
-    drop(extensions);
-    written?;
-    Ok(writer.into_bytes())
-}
-
-/// The context of the example group, and the same of epoch 7 with two extensions.
 #[test]
-fn contexts_are_read_and_written(rt: HostRuntime) -> Result<(), Fail> {
-    let alloc = rt.alloc();
-    let epoch_7 = "000100010147000000000000000701aa000b000303000000000102abcd";
-    for context in [CONTEXT, epoch_7] {
-        let again = context_of(alloc, bytes(alloc, context)?.as_slice());
-        expect_text(&rt, answer_text(alloc, again)?, context);
-        let front = front_of(alloc, bytes(alloc, context)?.as_slice());
-        expect_text(&rt, answer_text(alloc, front)?, context);
+fn contexts_in_the_middle_of_a_format(rt: HostRuntime) -> Result<(), Fail> {
+    let both = "000100010147000000000000000701aa0005000102abcd0b000303000000000102abcd";
+    let bare = "000100010147000000000000000020e32ab6a0a711ec8a732c3fad9263ed5fa61caf53fdf9b9690d\
+        c57271d8f110d7000000";
+    expect_answers(&rt, rt.alloc(), front_of, &[(both, both), (bare, bare)])
+}
+
+/// The data of the first extension of a type among three, of which two are of the type 7.
+fn extension_of(alloc: Global, kind: u16) -> Result<String, Fail> {
+    let input = bytes(alloc, "0c000701aa000301bb000701cc")?;
+    let extensions = read_extensions(alloc, &mut Reader::new(input.as_slice()))?;
+    match find_extension(extensions.as_slice(), kind) {
+        Some(body) => text(alloc, body.as_slice()),
+        None => Ok(String::from_str(alloc, "-")?),
     }
-    let extensions = extensions_of(alloc, bytes(alloc, "0b000303000000000102abcd")?.as_slice());
-    expect_text(
-        &rt,
-        answer_text(alloc, extensions)?,
-        "0b000303000000000102abcd",
-    );
-    Ok(())
+}
+
+#[test]
+fn extensions_by_their_types(rt: HostRuntime) -> Result<(), Fail> {
+    let kinds = [(7, "aa"), (3, "bb"), (5, "-")];
+    expect_texts(&rt, rt.alloc(), extension_of, &kinds)
 }
 
 /// What a context requires, copied and written, or why that can't be read.
@@ -71,20 +77,24 @@ fn required_of(alloc: Global, input: &[u8]) -> Result<Vec<u8>, CodecFault> {
     bytes_of(alloc, &copy?)
 }
 
-/// No extension of type 3, one with a truncated body, one, and two of which the first counts.
+/// No extension of type 3, one of another type, one with a truncated body, one, and two of which the first counts.
 #[test]
 fn requirements_are_those_of_the_first_extension(rt: HostRuntime) -> Result<(), Fail> {
-    let alloc = rt.alloc();
-    for (extensions, required) in [
-        ("00", "000000"),
-        ("0400010100", "000000"),
-        ("0400030100", "Truncated at 1"),
-        ("080003050000020002", "0000020002"),
-        ("1000030500000200020003050200090000", "0000020002"),
-    ] {
-        let context = format!(in alloc; "000100010147000000000000000701aa00{extensions}")?;
-        let found = required_of(alloc, bytes(alloc, context.as_str())?.as_slice());
-        expect_text(&rt, answer_text(alloc, found)?, required);
-    }
-    Ok(())
+    let contexts = [
+        ("000100010147000000000000000701aa0000", "000000"),
+        ("000100010147000000000000000701aa000400010100", "000000"),
+        (
+            "000100010147000000000000000701aa000400030100",
+            "Truncated at 1",
+        ),
+        (
+            "000100010147000000000000000701aa00080003050000020002",
+            "0000020002",
+        ),
+        (
+            "000100010147000000000000000701aa001000030500000200020003050200090000",
+            "0000020002",
+        ),
+    ];
+    expect_answers(&rt, rt.alloc(), required_of, &contexts)
 }

@@ -7,28 +7,53 @@
 //! - A file stands for each subject, and `support.rt` has what they share: bytes as hexadecimal text, the example
 //!   group's leaves and messages, and trees made of them.
 //! - Expected values are worked out by hand from the RFC's text, and are never what the libraries answered.
+//! - `real_trees.rt` and `real_messages.rt` have a group that another program made, whose signatures are true.
 #![tactic(auto)]
 
 #[cfg(test)]
+mod chains;
+#[cfg(test)]
+mod commits;
+#[cfg(test)]
 mod contexts;
 #[cfg(test)]
+mod follower;
+#[cfg(test)]
+mod group_reports;
+#[cfg(test)]
 mod hashes;
+#[cfg(test)]
+mod large_inputs;
 #[cfg(test)]
 mod leaves;
 #[cfg(test)]
 mod members;
 #[cfg(test)]
+mod message_fields;
+#[cfg(test)]
+mod message_parts;
+#[cfg(test)]
 mod messages;
+#[cfg(test)]
+mod node_fields;
 #[cfg(test)]
 mod orders;
 #[cfg(test)]
 mod paths;
+#[cfg(test)]
+mod program;
 #[cfg(test)]
 mod proposal_lists;
 #[cfg(test)]
 mod proposals;
 #[cfg(test)]
 mod ratchet_trees;
+#[cfg(test)]
+mod real_group;
+#[cfg(test)]
+mod real_messages;
+#[cfg(test)]
+mod real_trees;
 #[cfg(test)]
 mod show;
 #[cfg(test)]
@@ -37,6 +62,8 @@ mod single_checks;
 mod support;
 #[cfg(test)]
 mod tree;
+#[cfg(test)]
+mod tree_parts;
 #[cfg(test)]
 mod tree_reports;
 #[cfg(test)]

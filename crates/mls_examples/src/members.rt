@@ -1,9 +1,7 @@
 //! Whether the leaves of a tree may be members of a group (RFC 9420, 7.3), and the checkers of signatures (5.1.2).
 
-use crate::support::{LEAF, RECEIPT, SECOND_LEAF, bytes, put_leaf};
-use mls_check::{
-    Listed, MemberFault, ReceiptsFault, SignatureCheck, Trusting, signed, validate_members,
-};
+use crate::support::{LEAF, RECEIPT, SECOND_LEAF, bytes, expect_texts, put_leaf};
+use mls_check::{Listed, SignatureCheck, Trusting, signed, validate_members};
 use mls_nodes::RequiredCapabilities;
 use mls_tree::PublicTree;
 use mls_wire::{Opaque, read_all_of};
@@ -18,18 +16,40 @@ fn tree_with(alloc: Global, first: &str, second: &str) -> Result<PublicTree, Fai
     Ok(tree)
 }
 
-/// The first fault of two leaves in a group with these requirements.
-fn fault_of(
+/// What is found of the leaves of a tree in the example group: `members`, or the first fault.
+fn judged(
+    alloc: Global,
+    tree: &PublicTree,
+    required: &RequiredCapabilities,
+    checker: &dyn SignatureCheck,
+) -> Result<String, Fail> {
+    let group_id = Opaque::copy(alloc, &[0x47])?;
+    match validate_members(alloc, 1, &group_id, required, tree, checker) {
+        Ok(()) => Ok(String::from_str(alloc, "members")?),
+        Err(fault) => Ok(format!(in alloc; "{fault:?}")?),
+    }
+}
+
+/// What is found of two leaves where these capabilities are required.
+fn judged_leaves(
     alloc: Global,
     first: &str,
     second: &str,
     required: &str,
     checker: &dyn SignatureCheck,
-) -> Result<Option<MemberFault>, Fail> {
-    let group_id = Opaque::copy(alloc, &[0x47])?;
-    let required: RequiredCapabilities = read_all_of(alloc, bytes(alloc, required)?.as_slice())?;
+) -> Result<String, Fail> {
     let tree = tree_with(alloc, first, second)?;
-    Ok(validate_members(alloc, 1, &group_id, &required, &tree, checker).err())
+    let input = bytes(alloc, required)?;
+    let required = read_all_of(alloc, input.as_slice())?;
+    let found = judged(alloc, &tree, &required, checker);
+    drop(required);
+    found
+}
+
+/// What is found of two leaves where nothing is required.
+fn by_themselves(alloc: Global, leaves: (&str, &str)) -> Result<String, Fail> {
+    let (first, second) = leaves;
+    judged_leaves(alloc, first, second, "000000", &Trusting)
 }
 
 #[test]
@@ -39,107 +59,128 @@ fn leaves_by_themselves(rt: HostRuntime) -> Result<(), Fail> {
     let unsupporting = "01a101b100010141020001020001000000010000000000000000ffffffffffffffff0001c1";
     let certified =
         "01a101b100020201cc0200010200010000020002010000000000000000ffffffffffffffff0001c1";
+    let other_certified =
+        "01a001b000020201cb0200010200010000020002010000000000000000ffffffffffffffff0001c0";
     let same_key = "01a101b0000101410200010200010000020001010000000000000000ffffffffffffffff0001c1";
-    for (first, second, fault) in [
-        (LEAF, SECOND_LEAF, None),
-        (
-            unlisted,
-            SECOND_LEAF,
-            Some(MemberFault::ExtensionUnlisted(0)),
-        ),
-        (
-            SECOND_LEAF,
-            unlisted,
-            Some(MemberFault::ExtensionUnlisted(1)),
-        ),
-        (
-            LEAF,
-            unsupporting,
-            Some(MemberFault::CredentialUnsupported(1)),
-        ),
-        (LEAF, certified, Some(MemberFault::CredentialUnsupported(0))),
-        (LEAF, same_key, Some(MemberFault::SignatureKeyRepeated(0))),
-        (unlisted, same_key, Some(MemberFault::ExtensionUnlisted(0))),
-    ] {
-        assert!(rt; fault_of(rt.alloc(), first, second, "000000", &Trusting)? == fault);
-    }
-    Ok(())
+    let leaves = [
+        ((LEAF, SECOND_LEAF), "members"),
+        ((unlisted, SECOND_LEAF), "ExtensionUnlisted(0)"),
+        ((SECOND_LEAF, unlisted), "ExtensionUnlisted(1)"),
+        ((LEAF, unsupporting), "CredentialUnsupported(1)"),
+        ((LEAF, certified), "CredentialUnsupported(0)"),
+        ((other_certified, certified), "members"),
+        ((LEAF, same_key), "SignatureKeyRepeated(0)"),
+        ((unlisted, same_key), "ExtensionUnlisted(0)"),
+    ];
+    expect_texts(&rt, rt.alloc(), by_themselves, &leaves)
 }
 
-/// Requirements of extensions, proposals and credentials; leaf 0 lists the extension types 1 and 9.
-#[test]
-fn leaves_under_requirements(rt: HostRuntime) -> Result<(), Fail> {
+/// What is found of a leaf that lists the extension types 1 and 9, and another leaf, where these capabilities are
+/// required.
+fn under_requirements(alloc: Global, required: &str) -> Result<String, Fail> {
     let listing =
         "01a001b00001014002000102000102000900020001010000000000000000ffffffffffffffff0300090001c0";
-    for (required, fault) in [
-        ("0000020002", Some(MemberFault::RequirementUnmet(0))),
-        ("0000020001", None),
-        ("0200090000", Some(MemberFault::RequirementUnmet(1))),
-        ("02000502000700", None),
-        ("0200060000", Some(MemberFault::RequirementUnmet(0))),
-        ("0200000000", Some(MemberFault::RequirementUnmet(0))),
-        ("0002000800", Some(MemberFault::RequirementUnmet(0))),
-        ("0002000000", Some(MemberFault::RequirementUnmet(0))),
-    ] {
-        assert!(rt; fault_of(rt.alloc(), listing, SECOND_LEAF, required, &Trusting)? == fault);
-    }
-    Ok(())
+    judged_leaves(alloc, listing, SECOND_LEAF, required, &Trusting)
 }
 
-/// The first fault of both leaves where a file of receipts judges their signatures.
-fn fault_by(alloc: Global, receipts: &str) -> Result<Option<MemberFault>, Fail> {
+/// Of credentials, extensions and proposals; the extension types 1 to 5 and the proposal types 1 to 7 need no listing.
+#[test]
+fn leaves_under_requirements(rt: HostRuntime) -> Result<(), Fail> {
+    let requirements = [
+        ("0000020002", "RequirementUnmet(0)"),
+        ("0000020001", "members"),
+        ("0200090000", "RequirementUnmet(1)"),
+        ("02000502000700", "members"),
+        ("0200060000", "RequirementUnmet(0)"),
+        ("0200000000", "RequirementUnmet(0)"),
+        ("0002000800", "RequirementUnmet(0)"),
+        ("0002000000", "RequirementUnmet(0)"),
+        ("02000102000100", "members"),
+    ];
+    expect_texts(&rt, rt.alloc(), under_requirements, &requirements)
+}
+
+/// What is found of the leaves of members 0 and 1 where a file of receipts judges their signatures.
+fn by_receipts(alloc: Global, receipts: &str) -> Result<String, Fail> {
     let listed = Listed::read(alloc, receipts.as_bytes())?;
-    fault_of(alloc, LEAF, SECOND_LEAF, "000000", &listed)
+    judged_leaves(alloc, LEAF, SECOND_LEAF, "000000", &listed)
 }
 
 #[test]
 fn leaves_and_their_signatures(rt: HostRuntime) -> Result<(), Fail> {
-    for (receipts, fault) in [
-        ("", MemberFault::LeafSignature(0)),
-        (RECEIPT, MemberFault::LeafSignature(1)),
-    ] {
-        assert!(rt; fault_by(rt.alloc(), receipts)? == Some(fault));
-    }
-    Ok(())
+    let files = [("", "LeafSignature(0)"), (RECEIPT, "LeafSignature(1)")];
+    expect_texts(&rt, rt.alloc(), by_receipts, &files)
 }
 
-/// What is signed of leaf 0, with its label: the SignContent that `4d4c53..` (`MLS 1.0 LeafNodeTBS`) begins.
+/// What is found of the leaf of member 0 and another one where a file of receipts has a line for each.
+fn second_by_receipt(alloc: Global, second: (&str, &str)) -> Result<String, Fail> {
+    let (leaf, receipt) = second;
+    let receipts = format!(in alloc; "{RECEIPT}\n{receipt}\n")?;
+    let listed = Listed::read(alloc, receipts.as_bytes())?;
+    judged_leaves(alloc, LEAF, leaf, "000000", &listed)
+}
+
+/// Behind an updated leaf and a committed one stand the group's id and the leaf's index as they are signed: `014700000001`;
+/// then with the index 0, and with the group `48`.
+#[test]
+fn signatures_of_updates_and_commits(rt: HostRuntime) -> Result<(), Fail> {
+    let updated = "019101b1000101410200010200010000020001020001c1";
+    let committed = "018101b10001014102000102000100000200010301d10001c1";
+    let update = "4255a0145e05e55bd7deed6ba04b71d9204d09e90301e32238facbe20dd40e24";
+    let update_at_0 = "c9037248377da4751afe212ebb384103886fdaac95e900144b43a6cae63580c0";
+    let update_elsewhere = "6b320e9af8e12abf51ea761ef439de6120097b6606acfcdbfada3a61e32ea987";
+    let commit = "c00c7a0de22f2679dac3ba95e5f3a30186dd67803b6da1ee7006f09740dfbd60";
+    let commit_at_0 = "fe9c92743e98abe31643fc6a14059c63884aeff5f7010c00d091f7d7b780537e";
+    let leaves = [
+        ((updated, update), "members"),
+        ((updated, update_at_0), "LeafSignature(1)"),
+        ((updated, update_elsewhere), "LeafSignature(1)"),
+        ((committed, commit), "members"),
+        ((committed, commit_at_0), "LeafSignature(1)"),
+    ];
+    expect_texts(&rt, rt.alloc(), second_by_receipt, &leaves)
+}
+
+/// What is signed of leaf 0, with its label: the SignContent, which begins with `MLS 1.0 LeafNodeTBS`.
 const CONTENT: &str = "134d4c5320312e30204c6561664e6f6465544253\
     2501a001b0000101400200010200010000020001010000000000000000ffffffffffffffff00";
 
-/// Whether a signature of the content is good by the receipt of leaf 0's.
-fn is_good(alloc: Global, suite: u16, key: u8, signature: u8) -> Result<bool, Fail> {
+/// Whether a signature of the content is good by the receipt of leaf 0's, by its suite, key and signature.
+fn is_good(alloc: Global, arguments: (u16, u8, u8)) -> Result<String, Fail> {
+    let (suite, key, signature) = arguments;
     let content = bytes(alloc, CONTENT)?;
     let listed = Listed::read(alloc, RECEIPT.as_bytes())?;
-    Ok(listed.good(suite, &[key], content.as_slice(), &[signature]))
+    let good = listed.good(suite, &[key], content.as_slice(), &[signature]);
+    Ok(format!(in alloc; "{good}")?)
 }
 
 #[test]
 fn a_receipt_is_good_for_its_arguments_alone(rt: HostRuntime) -> Result<(), Fail> {
-    for (suite, key, signature, good) in [
-        (1, 0xb0, 0xc0, true),
-        (2, 0xb0, 0xc0, false),
-        (1, 0xb1, 0xc0, false),
-        (1, 0xb0, 0xc1, false),
-    ] {
-        assert!(rt; is_good(rt.alloc(), suite, key, signature)? == good);
-    }
-    Ok(())
+    let arguments = [
+        ((1, 0xb0, 0xc0), "true"),
+        ((2, 0xb0, 0xc0), "false"),
+        ((1, 0xb1, 0xc0), "false"),
+        ((1, 0xb0, 0xc1), "false"),
+    ];
+    expect_texts(&rt, rt.alloc(), is_good, &arguments)
 }
 
 /// Whether leaf 0's signature is good under a label by its receipt.
-fn is_signed(alloc: Global, label: &str) -> Result<bool, Fail> {
-    let tbs = "01a001b0000101400200010200010000020001010000000000000000ffffffffffffffff00";
-    let tbs = bytes(alloc, tbs)?;
+fn is_signed(alloc: Global, label: &str) -> Result<String, Fail> {
+    let unsigned = "01a001b0000101400200010200010000020001010000000000000000ffffffffffffffff00";
+    let tbs = bytes(alloc, unsigned)?;
     let listed = Listed::read(alloc, RECEIPT.as_bytes())?;
-    Ok(signed(alloc, &listed, 1, &[0xb0], label, tbs.as_slice(), &[0xc0])?)
+    let good = signed(alloc, &listed, 1, &[0xb0], label, tbs.as_slice(), &[0xc0])?;
+    Ok(format!(in alloc; "{good}")?)
 }
 
 #[test]
 fn signatures_under_a_label(rt: HostRuntime) -> Result<(), Fail> {
-    assert!(rt; is_signed(rt.alloc(), "MLS 1.0 LeafNodeTBS")?);
-    assert!(rt; !is_signed(rt.alloc(), "MLS 1.0 GroupInfoTBS")?);
-    Ok(())
+    let labels = [
+        ("MLS 1.0 LeafNodeTBS", "true"),
+        ("MLS 1.0 GroupInfoTBS", "false"),
+    ];
+    expect_texts(&rt, rt.alloc(), is_signed, &labels)
 }
 
 /// The digest of suite 3, a key of 64 bytes 11, a content of 16,384 bytes 5a and no signature.
@@ -153,10 +194,16 @@ fn long_arguments_have_receipts(rt: HostRuntime) -> Result<(), Fail> {
     Ok(())
 }
 
-/// Whether the signature of leaf 0 is good by a file of receipts.
-fn is_listed(alloc: Global, file: &str, content: &[u8]) -> Result<bool, ReceiptsFault> {
-    let listed = Listed::read(alloc, file.as_bytes())?;
-    Ok(listed.good(1, &[0xb0], content, &[0xc0]))
+/// Whether the signature of leaf 0 is good by a file of receipts, or why the file can't be read.
+fn is_listed(alloc: Global, file: &str) -> Result<String, Fail> {
+    let content = bytes(alloc, CONTENT)?;
+    match Listed::read(alloc, file.as_bytes()) {
+        Ok(listed) => {
+            let good = listed.good(1, &[0xb0], content.as_slice(), &[0xc0]);
+            Ok(format!(in alloc; "{good}")?)
+        }
+        Err(fault) => Ok(format!(in alloc; "{fault:?}")?),
+    }
 }
 
 /// Digits of either case, several lines, no line, a line of 63 digits, an empty line.
@@ -166,16 +213,13 @@ fn files_of_receipts(rt: HostRuntime) -> Result<(), Fail> {
         BD6F8DF8DCD01852D1C0A3E53B39DCB3BB86DDA462A62C39B9582A3907FE4C36\n";
     let short = "bd6f8df8dcd01852d1c0a3e53b39dcb3bb86dda462a62c39b9582a3907fe4c36\n\
         bd6f8df8dcd01852d1c0a3e53b39dcb3bb86dda462a62c39b9582a3907fe4c3\n";
-    let content = bytes(rt.alloc(), CONTENT)?;
-    for (file, answer) in [
-        (RECEIPT, Ok(true)),
-        (upper, Ok(true)),
-        (LONG_RECEIPT, Ok(false)),
-        ("", Ok(false)),
-        (short, Err(ReceiptsFault::BadLine(2))),
-        ("\n", Err(ReceiptsFault::BadLine(1))),
-    ] {
-        assert!(rt; is_listed(rt.alloc(), file, content.as_slice()) == answer);
-    }
-    Ok(())
+    let files = [
+        (RECEIPT, "true"),
+        (upper, "true"),
+        (LONG_RECEIPT, "false"),
+        ("", "false"),
+        (short, "BadLine(2)"),
+        ("\n", "BadLine(1)"),
+    ];
+    expect_texts(&rt, rt.alloc(), is_listed, &files)
 }

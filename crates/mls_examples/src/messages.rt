@@ -1,22 +1,26 @@
 //! Messages (RFC 9420, 6, 10, 12.1 and 12.4), and what is signed and hashed of them.
 
 use crate::support::{
-    COMMIT, COMMITTED, CONTEXT, GROUP_INFO, KEY_PACKAGE, PROPOSAL, PROPOSED, SECOND_LEAF,
-    answer_text, bytes, expect_text,
+    COMMIT, CONTEXT, GROUP_INFO, KEY_PACKAGE, PROPOSAL, PROPOSED_AUTH, answer_text, bytes,
+    expect_answers, expect_texts, text,
 };
 use mls_msgs::{
-    Authenticated, AuthenticatedParts, FramedContent, GroupInfo, KeyPackage, Message,
-    PublicMessage, PublicParts, confirmed_input, content_tbs, decode_authenticated, decode_message,
+    CONTENT_LABEL, GROUP_INFO_LABEL, GroupInfo, KEY_PACKAGE_LABEL, KeyPackage, Message,
+    PROPOSAL_REFERENCE_LABEL, confirmed_input, content_tbs, decode_authenticated, decode_message,
     decode_proposal, encode_authenticated, encode_message, encode_proposal, info_tbs, package_tbs,
 };
-use mls_nodes::decode_context;
+use mls_nodes::{GroupContext, decode_context};
 use mls_wire::{CodecFault, Opaque, TryClone, read_all_of};
 use std::alloc::Global;
 use std::test::Fail;
 
 /// A commit by a new member, with a path of one node and one ciphertext, and without a membership tag.
-const EXTERNAL: &str = "00010001014700000000000000000400030001018001b0000101400200010200010000\
-    02000103000001c00701d10401aa01bb01c601e1";
+const EXTERNAL: &str = "00010001014700000000000000000400030001018001b0000101400200010200010000020\
+    00103000001c00701d10401aa01bb01c601e1";
+
+/// The authenticated content of the commit, in a private message.
+const COMMITTED_AUTH: &str = "00020147000000000000000001000000000003220220419afc0a88fe171b793b004\
+    10d11c8121fb96fdfde7b5ced43d5912144a3a9f90001c601e1";
 
 /// A message, written again, or why it can't be read.
 fn message_of(alloc: Global, input: &[u8]) -> Result<Vec<u8>, CodecFault> {
@@ -26,72 +30,85 @@ fn message_of(alloc: Global, input: &[u8]) -> Result<Vec<u8>, CodecFault> {
     again
 }
 
-/// The same as text.
-fn message_text(alloc: Global, message: &str) -> Result<String, Fail> {
-    let input = bytes(alloc, message)?;
-    answer_text(alloc, message_of(alloc, input.as_slice()))
-}
-
 #[test]
 fn messages_are_read_and_written(rt: HostRuntime) -> Result<(), Fail> {
-    for message in [
-        GROUP_INFO,
-        PROPOSAL,
-        COMMIT,
-        EXTERNAL,
-        "00010002abcd",
-        "00010003",
-    ] {
-        expect_text(&rt, message_text(rt.alloc(), message)?, message);
-    }
-    Ok(())
+    let messages = [
+        (GROUP_INFO, GROUP_INFO),
+        (PROPOSAL, PROPOSAL),
+        (COMMIT, COMMIT),
+        (EXTERNAL, EXTERNAL),
+        ("00010002abcd", "00010002abcd"),
+        ("00010003", "00010003"),
+    ];
+    expect_answers(&rt, rt.alloc(), message_of, &messages)
 }
 
-/// What stands before the content of a public message of member 0.
-const BEFORE: &str = "0001000101470000000000000000010000000000";
-
-/// Other versions, wire formats, senders, contents, entries of a commit, and proposals that aren't read.
+/// Other versions, wire formats, senders, contents, entries of a commit, and proposals that aren't read; the proposal
+/// without its last byte, and with another one.
 #[test]
 fn other_messages_are_refused(rt: HostRuntime) -> Result<(), Fail> {
-    let alloc = rt.alloc();
-    for (before, behind, fault) in [
-        ("", "", "Truncated at 0"),
-        ("0001", "", "Truncated at 2"),
-        ("0002", "", "BadTag 2 at 0"),
-        ("0001", "0000", "BadTag 0 at 2"),
-        ("0001", "0006", "BadTag 6 at 2"),
-        ("00010001", "0147000000000000000005", "BadTag 5 at 14"),
-        (BEFORE, "04", "BadTag 4 at 20"),
-        (BEFORE, "030103", "BadTag 3 at 22"),
-        (BEFORE, "020000", "BadTag 0 at 21"),
-        (BEFORE, "020004", "BadTag 4 at 21"),
-        (BEFORE, "020007", "BadTag 7 at 21"),
-        (BEFORE, "020008", "BadTag 8 at 21"),
-        (BEFORE, "02000300000009", "Truncated at 27"),
-        (PROPOSAL, "00", "Trailing at 75"),
-    ] {
-        let message = format!(in alloc; "{before}{behind}")?;
-        expect_text(&rt, message_text(alloc, message.as_str())?, fault);
-    }
-    Ok(())
+    let messages = [
+        ("", "Truncated at 0"),
+        ("0001", "Truncated at 2"),
+        ("0002", "BadTag 2 at 0"),
+        ("00010000", "BadTag 0 at 2"),
+        ("00010006", "BadTag 6 at 2"),
+        ("000100010147000000000000000005", "BadTag 5 at 14"),
+        (
+            "000100010147000000000000000001000000000004",
+            "BadTag 4 at 20",
+        ),
+        (
+            "0001000101470000000000000000010000000000030103",
+            "BadTag 3 at 22",
+        ),
+        (
+            "0001000101470000000000000000010000000000020000",
+            "BadTag 0 at 21",
+        ),
+        (
+            "0001000101470000000000000000010000000000020004",
+            "BadTag 4 at 21",
+        ),
+        (
+            "0001000101470000000000000000010000000000020007",
+            "BadTag 7 at 21",
+        ),
+        (
+            "0001000101470000000000000000010000000000020008",
+            "BadTag 8 at 21",
+        ),
+        (
+            "000100010147000000000000000001000000000002000300000009",
+            "Truncated at 27",
+        ),
+        (
+            "00010001014700000000000000000100000000000200010001000101f101a101b100010141020001\
+            0200010000020001010000000000000000ffffffffffffffff0001c10001c901c801",
+            "Truncated at 73",
+        ),
+        (
+            "00010001014700000000000000000100000000000200010001000101f101a101b100010141020001\
+            0200010000020001010000000000000000ffffffffffffffff0001c10001c901c801c700",
+            "Trailing at 75",
+        ),
+    ];
+    expect_answers(&rt, rt.alloc(), message_of, &messages)
 }
 
-/// A message of another wire format, written.
-fn unread(alloc: Global, wire_format: u16) -> Result<Vec<u8>, CodecFault> {
+/// A message of another wire format, written, or why it can't be.
+fn unread(alloc: Global, wire_format: u16) -> Result<String, Fail> {
     let body = Opaque::copy(alloc, &[0xab])?;
     let message = Message::Unread { wire_format, body };
     let written = encode_message(alloc, &message);
     drop(message);
-    written
+    answer_text(alloc, written)
 }
 
 #[test]
 fn another_wire_format_is_not_written(rt: HostRuntime) -> Result<(), Fail> {
-    for (wire_format, written) in [(3, "00010003ab"), (9, "BadTag 9 at 2")] {
-        let answer = unread(rt.alloc(), wire_format);
-        expect_text(&rt, answer_text(rt.alloc(), answer)?, written);
-    }
-    Ok(())
+    let formats = [(3, "00010003ab"), (9, "BadTag 9 at 2")];
+    expect_texts(&rt, rt.alloc(), unread, &formats)
 }
 
 /// A proposal, copied and written.
@@ -107,17 +124,13 @@ fn proposal_of(alloc: Global, input: &[u8]) -> Result<Vec<u8>, CodecFault> {
 
 #[test]
 fn proposals_are_read_and_written(rt: HostRuntime) -> Result<(), Fail> {
-    let alloc = rt.alloc();
-    for (kind, body) in [
-        ("0001", KEY_PACKAGE),
-        ("0002", SECOND_LEAF),
-        ("0003", "00000009"),
-    ] {
-        let proposal = format!(in alloc; "{kind}{body}")?;
-        let again = proposal_of(alloc, bytes(alloc, proposal.as_str())?.as_slice());
-        expect_text(&rt, answer_text(alloc, again)?, proposal.as_str());
-    }
-    Ok(())
+    let add = "00010001000101f101a101b1000101410200010200010000020001010000000000000000ffffffffffff\
+        ffff0001c10001c9";
+    let update =
+        "000201a101b1000101410200010200010000020001010000000000000000ffffffffffffffff0001c1";
+    let remove = "000300000009";
+    let proposals = [(add, add), (update, update), (remove, remove)];
+    expect_answers(&rt, rt.alloc(), proposal_of, &proposals)
 }
 
 /// An authenticated content, written again, or why it can't be read.
@@ -128,52 +141,64 @@ fn authenticated_of(alloc: Global, input: &[u8]) -> Result<Vec<u8>, CodecFault> 
     again
 }
 
-/// What is signed of an authenticated content, without a context.
-fn signed_content(alloc: Global, input: &[u8]) -> Result<Vec<u8>, CodecFault> {
+#[test]
+fn authenticated_contents_are_read_and_written(rt: HostRuntime) -> Result<(), Fail> {
+    let contents = [
+        (PROPOSED_AUTH, PROPOSED_AUTH),
+        (COMMITTED_AUTH, COMMITTED_AUTH),
+        ("0003", "BadTag 3 at 0"),
+    ];
+    expect_answers(&rt, rt.alloc(), authenticated_of, &contents)
+}
+
+/// What is signed of an authenticated content.
+fn signed_of(
+    alloc: Global,
+    input: &[u8],
+    context: Option<&GroupContext>,
+) -> Result<Vec<u8>, CodecFault> {
     let auth = decode_authenticated(alloc, input)?;
-    let signed = content_tbs(alloc, &auth, None);
+    let signed = content_tbs(alloc, &auth, context);
     drop(auth);
     signed
 }
 
-#[test]
-fn authenticated_contents(rt: HostRuntime) -> Result<(), Fail> {
-    let alloc = rt.alloc();
-    for (format, content, tags) in [("0001", PROPOSED, "01c8"), ("0002", COMMITTED, "01c601e1")] {
-        let whole = format!(in alloc; "{format}{content}{tags}")?;
-        let again = authenticated_of(alloc, bytes(alloc, whole.as_str())?.as_slice());
-        expect_text(&rt, answer_text(alloc, again)?, whole.as_str());
-        let signed = signed_content(alloc, bytes(alloc, whole.as_str())?.as_slice());
-        let wanted = format!(in alloc; "0001{format}{content}")?;
-        expect_text(&rt, answer_text(alloc, signed)?, wanted.as_str());
-    }
-    Ok(())
+/// The same where no context is signed.
+fn signed_alone(alloc: Global, input: &[u8]) -> Result<Vec<u8>, CodecFault> {
+    signed_of(alloc, input, None)
 }
 
-/// What is signed of an authenticated content in a context.
-fn signed_in(alloc: Global, input: &[u8], context: &[u8]) -> Result<Vec<u8>, CodecFault> {
-    let auth = decode_authenticated(alloc, input)?;
-    let signed = match decode_context(alloc, context) {
-        Ok(context) => {
-            let signed = content_tbs(alloc, &auth, Some(&context));
-            drop(context);
-            signed
-        }
-        Err(fault) => Err(fault),
-    };
-    drop(auth);
-    signed
-}
-
-#[test]
-fn what_is_signed_in_a_context(rt: HostRuntime) -> Result<(), Fail> {
-    let alloc = rt.alloc();
-    let auth = bytes(alloc, format!(in alloc; "0001{PROPOSED}01c8")?.as_str())?;
+/// The same in the context of the example group.
+fn signed_in_context(alloc: Global, auth: &str) -> Result<String, Fail> {
+    let input = bytes(alloc, auth)?;
     let context = bytes(alloc, CONTEXT)?;
-    let signed = signed_in(alloc, auth.as_slice(), context.as_slice());
-    let wanted = format!(in alloc; "00010001{PROPOSED}{CONTEXT}")?;
-    expect_text(&rt, answer_text(alloc, signed)?, wanted.as_str());
-    Ok(())
+    let context = decode_context(alloc, context.as_slice())?;
+    let signed = signed_of(alloc, input.as_slice(), Some(&context));
+    drop(context);
+    text(alloc, signed?.as_slice())
+}
+
+/// Version 1, the wire format and the content; then the context.
+#[test]
+fn what_is_signed_of_a_content(rt: HostRuntime) -> Result<(), Fail> {
+    let alone =
+        "00010001014700000000000000000100000000000200010001000101f101a101b1000101410200010200\
+        010000020001010000000000000000ffffffffffffffff0001c10001c9";
+    let within =
+        "00010001014700000000000000000100000000000200010001000101f101a101b1000101410200010200\
+        010000020001010000000000000000ffffffffffffffff0001c10001c900010001014700000000000000\
+        0020e32ab6a0a711ec8a732c3fad9263ed5fa61caf53fdf9b9690dc57271d8f110d70000";
+    let committed =
+        "000100020147000000000000000001000000000003220220419afc0a88fe171b793b00410d11c8121fb9\
+        6fdfde7b5ced43d5912144a3a9f900";
+    let contents = [(PROPOSED_AUTH, alone), (COMMITTED_AUTH, committed)];
+    expect_answers(&rt, rt.alloc(), signed_alone, &contents)?;
+    expect_texts(
+        &rt,
+        rt.alloc(),
+        signed_in_context,
+        &[(PROPOSED_AUTH, within)],
+    )
 }
 
 /// What is signed of a key package.
@@ -203,58 +228,39 @@ fn confirmed_of(alloc: Global, input: &[u8]) -> Result<Vec<u8>, CodecFault> {
 /// A key package and a group info without their signatures, and a commit without its confirmation tag.
 #[test]
 fn what_is_signed_or_confirmed_of_others(rt: HostRuntime) -> Result<(), Fail> {
-    let alloc = rt.alloc();
-    let signed = signed_package(alloc, bytes(alloc, KEY_PACKAGE)?.as_slice());
-    let wanted = KEY_PACKAGE.strip_suffix("01c9").ok_or("a signature")?;
-    expect_text(&rt, answer_text(alloc, signed)?, wanted);
-
-    let info = GROUP_INFO.strip_prefix("00010004").ok_or("a group info")?;
-    let signed = signed_info(alloc, bytes(alloc, info)?.as_slice());
-    let wanted = info.strip_suffix("01c4").ok_or("a signature")?;
-    expect_text(&rt, answer_text(alloc, signed)?, wanted);
-
-    let commit = format!(in alloc; "0001{COMMITTED}01c601e1")?;
-    let confirmed = confirmed_of(alloc, bytes(alloc, commit.as_str())?.as_slice());
-    let wanted = format!(in alloc; "0001{COMMITTED}01c6")?;
-    expect_text(&rt, answer_text(alloc, confirmed)?, wanted.as_str());
-    Ok(())
+    let package =
+        "0001000101f101a101b1000101410200010200010000020001010000000000000000ffffffffffffffff\
+        0001c100";
+    let info =
+        "000100010147000000000000000020e32ab6a0a711ec8a732c3fad9263ed5fa61caf53fdf9b9690dc572\
+        71d8f110d700002d00022a29010101a001b0000101400200010200010000020001010000000000000000\
+        ffffffffffffffff0001c001e00000000001c4";
+    let signed =
+        "000100010147000000000000000020e32ab6a0a711ec8a732c3fad9263ed5fa61caf53fdf9b9690dc572\
+        71d8f110d700002d00022a29010101a001b0000101400200010200010000020001010000000000000000\
+        ffffffffffffffff0001c001e000000000";
+    let confirmed =
+        "00020147000000000000000001000000000003220220419afc0a88fe171b793b00410d11c8121fb96fdf\
+        de7b5ced43d5912144a3a9f90001c6";
+    expect_answers(&rt, rt.alloc(), signed_package, &[(KEY_PACKAGE, package)])?;
+    expect_answers(&rt, rt.alloc(), signed_info, &[(info, signed)])?;
+    expect_answers(
+        &rt,
+        rt.alloc(),
+        confirmed_of,
+        &[(COMMITTED_AUTH, confirmed)],
+    )
 }
 
-/// A message made of a framed content, wire format 1 and one-byte tags, written.
-fn made_of(
-    alloc: Global,
-    content: FramedContent,
-    signature: Opaque,
-    tag: Opaque,
-) -> Result<Vec<u8>, CodecFault> {
-    let parts = AuthenticatedParts {
-        wire_format: 1,
-        content,
-        signature,
-        confirmation_tag: None,
-    };
-    let Ok(auth) = Authenticated::new(parts) else {
-        return Ok(Vec::new(alloc));
-    };
-    let Ok(public) = PublicMessage::new(PublicParts {
-        auth,
-        membership_tag: Some(tag),
-    }) else {
-        return Ok(Vec::new(alloc));
-    };
-    let message = Message::Public(public);
-    let written = encode_message(alloc, &message);
-    drop(message);
-    written
-}
-
+/// The labels of what is signed (RFC 9420, 5.1.2) and of a proposal's reference (5.2).
 #[test]
-fn messages_are_made_of_parts(rt: HostRuntime) -> Result<(), Fail> {
-    let alloc = rt.alloc();
-    let signature = Opaque::copy(alloc, &[0xc8])?;
-    let tag = Opaque::copy(alloc, &[0xc7])?;
-    let content: FramedContent = read_all_of(alloc, bytes(alloc, PROPOSED)?.as_slice())?;
-    let written = made_of(alloc, content, signature, tag);
-    expect_text(&rt, answer_text(alloc, written)?, PROPOSAL);
-    Ok(())
+fn labels(rt: HostRuntime) {
+    for (label, wanted) in [
+        (CONTENT_LABEL, "MLS 1.0 FramedContentTBS"),
+        (KEY_PACKAGE_LABEL, "MLS 1.0 KeyPackageTBS"),
+        (GROUP_INFO_LABEL, "MLS 1.0 GroupInfoTBS"),
+        (PROPOSAL_REFERENCE_LABEL, "MLS 1.0 Proposal Reference"),
+    ] {
+        assert_eq!(rt; label, wanted);
+    }
 }

@@ -1,7 +1,9 @@
 //! The orders of the command line, what is said where there is none, and how a run ends.
 
 use crate::support::expect_text;
-use mls_cli::{Checker, Order, OrderFault, RunFault, ShowKind, Verdict, order_of, status_of};
+use mls_cli::{
+    Checker, FileName, Order, OrderFault, RunFault, ShowKind, Verdict, order_of, status_of,
+};
 use std::alloc::Global;
 use std::test::Fail;
 
@@ -15,7 +17,23 @@ fn order(alloc: Global, line: &str) -> Result<Result<Order, OrderFault>, Fail> {
     Ok(order_of(alloc, words.as_slice()))
 }
 
-/// An order in words: what is to be done, the files, and the file of receipts, `-` where there is none.
+/// The file of receipts, `-` where there is none.
+fn receipts_of(checker: &Checker) -> &str {
+    match checker {
+        Checker::Trust => "-",
+        Checker::Receipts(file) => file.as_str(),
+    }
+}
+
+/// The name of a file, `-` where there is none.
+fn name_of(file: &Option<FileName>) -> &str {
+    match file {
+        Some(file) => file.as_str(),
+        None => "-",
+    }
+}
+
+/// An order in words: what is to be done, the files, and the file of receipts.
 fn words_of(alloc: Global, order: &Order) -> Result<String, Fail> {
     match order {
         Order::Show { kind, file } => {
@@ -30,17 +48,34 @@ fn words_of(alloc: Global, order: &Order) -> Result<String, Fail> {
             context,
             tree,
             checker,
-        } => {
-            let receipts = match checker {
-                Checker::Trust => "-",
-                Checker::Receipts(file) => file.as_str(),
-            };
-            Ok(format!(in alloc;
-                "validate {} {} {receipts}",
-                context.as_str(),
-                tree.as_str()
-            )?)
-        }
+        } => Ok(format!(in alloc;
+            "validate {} {} {}",
+            context.as_str(),
+            tree.as_str(),
+            receipts_of(checker)
+        )?),
+        Order::Validate {
+            info,
+            tree,
+            checker,
+        } => Ok(format!(in alloc;
+            "start {} {} {}",
+            info.as_str(),
+            name_of(tree),
+            receipts_of(checker)
+        )?),
+        Order::Replay {
+            info,
+            tree,
+            log,
+            checker,
+        } => Ok(format!(in alloc;
+            "replay {} {} {} {}",
+            info.as_str(),
+            name_of(tree),
+            log.as_str(),
+            receipts_of(checker)
+        )?),
     }
 }
 
@@ -74,6 +109,17 @@ fn orders_are_read(rt: HostRuntime) -> Result<(), Fail> {
             "validate-tree --context a --tree b --trust --receipts c",
             "2 usage: give one of --trust and --receipts\n",
         ),
+        ("validate --info a --trust", "start a - -"),
+        ("validate --tree b --receipts c --info a", "start a b c"),
+        ("replay --info a --log l --trust", "replay a - l -"),
+        (
+            "replay --log l --tree b --receipts c --info a",
+            "replay a b l c",
+        ),
+        (
+            "validate --info a --tree b",
+            "2 usage: give one of --trust and --receipts\n",
+        ),
         ("show nope x", "2 usage: KIND is tree, info or message\n"),
     ] {
         expect_text(&rt, answer(rt.alloc(), line)?, wanted);
@@ -88,6 +134,9 @@ fn usage_and_help(rt: HostRuntime) -> Result<(), Fail> {
         ("--help", "0", "Usage: mlscheck"),
         ("show --help", "0", "Usage: mlscheck"),
         ("help show", "0", "Usage: mlscheck"),
+        ("--help", "0", "Exit status:"),
+        ("validate-tree --help", "0", "--receipts <FILE>"),
+        ("--version", "0", "mlscheck 0.1.0\n"),
         ("validate-tree --tree b --trust", "2", "--context"),
         ("nope", "2", "unrecognized subcommand 'nope'"),
         ("show tree", "2", "<FILE>"),

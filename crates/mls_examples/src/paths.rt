@@ -1,13 +1,12 @@
 //! Update paths (RFC 9420, 7.5, 7.6 and 7.9): the parent hashes that they have to carry, the tree with one merged
 //! into it, and which are refused.
 
+use crate::chains::OVER_TWO;
 use crate::support::{
-    LOWER, UPPER, bytes, committed_leaf, expect_text, joined_leaf, leaf_with, path_tree, suite,
-    text, tree_of, tree_text,
+    LOWER, UPPER, bytes, committed_leaf, expect_texts, joined_leaf, leaf_with, path_tree,
+    put_parent, suite, text, tree_of, tree_text,
 };
-use mls_apply::{
-    Applied, ApplyFault, Leaves, ListItem, apply_list, expected_parent_hashes, merge_path,
-};
+use mls_apply::{Applied, Leaves, ListItem, apply_list, expected_parent_hashes, merge_path};
 use mls_msgs::{UpdatePath, decode_proposal};
 use mls_wire::{Opaque, read_all_of};
 use std::alloc::Global;
@@ -20,6 +19,9 @@ const ROOT: &str = "7e534e72295b2ed4520a7628873779052cbc9788fb7a2927ad4234fd7839
 const COMMIT: &str = "03207e534e72295b2ed4520a7628873779052cbc9788fb7a2927ad4234fd78396990";
 
 const OTHER_COMMIT: &str = "03207e534e72295b2ed4520a7628873779052cbc9788fb7a2927ad4234fd78396991";
+
+/// The parent hash of node 1 over leaf 0 with a path of member 1: of `01d120`, [`UPPER`], `20` and the hash of leaf 0.
+const SECOND_LOWER: &str = "09386a0c998ae48d8c6cd134353dc7984e19363c96a088a5807548b4c8b47e25";
 
 /// The path of a leaf and of nodes that take less than 64 bytes.
 fn path_of(alloc: Global, leaf: &str, nodes: &str) -> Result<UpdatePath, Fail> {
@@ -50,10 +52,16 @@ fn grown(alloc: Global) -> Result<Applied, Fail> {
     Ok(apply_list(alloc, &tree, &[item])?)
 }
 
-/// The tree with a path of member 0 merged into it, as it is written, or the fault in words.
-fn merged(alloc: Global, applied: Applied, leaf: &str, nodes: &str) -> Result<String, Fail> {
+/// The tree with a path of a member merged into it, as it is written, or the fault in words.
+fn merged_by(
+    alloc: Global,
+    applied: Applied,
+    committer: u32,
+    leaf: &str,
+    nodes: &str,
+) -> Result<String, Fail> {
     let path = path_of(alloc, leaf, nodes)?;
-    let answer = merge_path(alloc, suite()?, applied, 0, &path);
+    let answer = merge_path(alloc, suite()?, applied, committer, &path);
     drop(path);
     match answer {
         Ok(tree) => tree_text(alloc, &tree),
@@ -61,92 +69,169 @@ fn merged(alloc: Global, applied: Applied, leaf: &str, nodes: &str) -> Result<St
     }
 }
 
-/// The path of two members has one node, and its leaf carries the parent hash of that node.
-#[test]
-fn a_path_of_two_members(rt: HostRuntime) -> Result<(), Fail> {
-    let alloc = rt.alloc();
-    let leaf = committed_leaf(alloc, 0, ROOT)?;
-    let other = joined_leaf(alloc, 1)?;
-    let tree = format!(in alloc; "40690101{leaf}010201d100000101{other}")?;
-    let applied = unchanged(alloc, 2, &[0, 1])?;
-    let found = merged(alloc, applied, leaf.as_str(), "01d10401aa01bb")?;
-    expect_text(&rt, found, tree.as_str());
-    Ok(())
+/// The same of member 0.
+fn merged(alloc: Global, applied: Applied, leaf: &str, nodes: &str) -> Result<String, Fail> {
+    merged_by(alloc, applied, 0, leaf, nodes)
 }
 
-/// What becomes of a path of member 0 in the tree of members 0 and 1, by the first digit of its leaf's key.
-fn refused(alloc: Global, digit: &str, source: &str, nodes: &str) -> Result<String, Fail> {
+/// The same in the tree of members 0 and 1, by the first digit of the key of the path's leaf, its source and the nodes.
+fn merged_into_two(alloc: Global, path: (&str, &str, &str)) -> Result<String, Fail> {
+    let (digit, source, nodes) = path;
     let leaf = leaf_with(alloc, 0, digit, source)?;
     merged(alloc, unchanged(alloc, 2, &[0, 1])?, leaf.as_str(), nodes)
 }
 
+/// The path of two members has one node, and its leaf carries the parent hash of that node.
+#[test]
+fn a_path_of_two_members(rt: HostRuntime) -> Result<(), Fail> {
+    let tree = "40690101018001b0000101400200010200010000020001\
+        03207e534e72295b2ed4520a7628873779052cbc9788fb7a2927ad4234fd783969900001c0\
+        010201d100000101\
+        01a101b1000101410200010200010000020001010000000000000000ffffffffffffffff0001c1";
+    let paths = [(("8", COMMIT, "01d10401aa01bb"), tree)];
+    expect_texts(&rt, rt.alloc(), merged_into_two, &paths)
+}
+
 #[test]
 fn refused_paths(rt: HostRuntime) -> Result<(), Fail> {
-    for (digit, source, nodes, fault) in [
-        ("8", COMMIT, "01d10401aa01bb01d300", ApplyFault::PathLength),
-        ("9", "02", "01d10401aa01bb", ApplyFault::PathSource),
-        ("a", COMMIT, "01d10401aa01bb", ApplyFault::PathKeyUsed),
-        ("8", COMMIT, "01a10401aa01bb", ApplyFault::PathKeyUsed),
-        ("8", COMMIT, "01800401aa01bb", ApplyFault::PathKeyUsed),
+    let length = "a path has another number of nodes than the filtered direct path";
+    let used = "a key of a path is used already";
+    let count = "a node of a path has another number of ciphertexts than its resolution";
+    let paths = [
+        (("8", COMMIT, "01d10401aa01bb01d300"), length),
         (
-            "8",
-            COMMIT,
-            "01d10801aa01bb01aa01bb",
-            ApplyFault::CiphertextCount,
+            ("9", "02", "01d10401aa01bb"),
+            "the leaf of a path is not meant for a commit",
         ),
+        (("a", COMMIT, "01d10401aa01bb"), used),
+        (("8", COMMIT, "01a10401aa01bb"), used),
+        (("8", COMMIT, "01800401aa01bb"), used),
+        (("8", COMMIT, "01d10801aa01bb01aa01bb"), count),
         (
-            "8",
-            OTHER_COMMIT,
-            "01d10401aa01bb",
-            ApplyFault::PathParentHash,
+            ("8", OTHER_COMMIT, "01d10401aa01bb"),
+            "the parent hash of a path's leaf is not the one expected",
         ),
-    ] {
-        let words = format!(in rt.alloc(); "{fault}")?;
-        expect_text(
-            &rt,
-            refused(rt.alloc(), digit, source, nodes)?,
-            words.as_str(),
-        );
-    }
-    Ok(())
+    ];
+    expect_texts(&rt, rt.alloc(), merged_into_two, &paths)
+}
+
+/// What becomes of a path in the tree that has grown by member 2.
+fn merged_into_grown(alloc: Global, nodes: &str) -> Result<String, Fail> {
+    let leaf = committed_leaf(alloc, 0, LOWER)?;
+    merged(alloc, grown(alloc)?, leaf.as_str(), nodes)
 }
 
 /// A leaf that the commit adds gets no ciphertext.
 #[test]
 fn a_path_past_an_added_leaf(rt: HostRuntime) -> Result<(), Fail> {
-    let alloc = rt.alloc();
+    let tree = tree_text(rt.alloc(), &path_tree(rt.alloc())?)?;
+    let paths = [
+        ("01d10401aa01bb01d300", tree.as_str()),
+        (
+            "01d10401aa01bb01d30401aa01bb",
+            "a node of a path has another number of ciphertexts than its resolution",
+        ),
+    ];
+    expect_texts(&rt, rt.alloc(), merged_into_grown, &paths)
+}
+
+/// What becomes of a path of member 2 in the tree of members 0, 1 and 2.
+fn merged_on_the_right(alloc: Global, nodes: &str) -> Result<String, Fail> {
+    let leaf = committed_leaf(alloc, 2, OVER_TWO)?;
+    let applied = unchanged(alloc, 4, &[0, 1, 2])?;
+    merged_by(alloc, applied, 2, leaf.as_str(), nodes)
+}
+
+/// Node 5 has no other leaf, so the path has node 3 alone, with a ciphertext for each of the leaves 0 and 1.
+#[test]
+fn a_path_from_the_right(rt: HostRuntime) -> Result<(), Fail> {
+    let tree =
+        "4093010101a001b0000101400200010200010000020001010000000000000000ffffffffffffffff0001c0\
+        00010101a101b1000101410200010200010000020001010000000000000000ffffffffffffffff0001c101\
+        0201d300000101018201b20001014202000102000100000200010320340697213a335ca29d1f8662902\
+        20e77fcef7d6fd9eda269b7566da38a5237e40001c2";
+    let count = "a node of a path has another number of ciphertexts than its resolution";
+    let length = "a path has another number of nodes than the filtered direct path";
+    let paths = [
+        ("01d30801aa01bb01ac01bd", tree),
+        ("01d30401aa01bb", count),
+        ("01d30c01aa01bb01aa01bb01aa01bb", count),
+        ("01d50001d30801aa01bb01ac01bd", length),
+    ];
+    expect_texts(&rt, rt.alloc(), merged_on_the_right, &paths)
+}
+
+/// What becomes of a path of member 0 in the tree of members 0 and 2, where nodes 1 and 3 are set, and leaf 2 is unmerged.
+fn merged_over_old(alloc: Global, nodes: &str) -> Result<String, Fail> {
+    let mut applied = unchanged(alloc, 4, &[0, 2])?;
+    put_parent(alloc, &mut applied.tree, 1, 0xd8, "", &[])?;
+    put_parent(alloc, &mut applied.tree, 3, 0xd9, "abcd", &[2])?;
+    let leaf = committed_leaf(alloc, 0, UPPER)?;
+    merged(alloc, applied, leaf.as_str(), nodes)
+}
+
+/// Node 1, over no other leaf, becomes blank, and node 3 loses its hash and its list. The keys of both are used.
+#[test]
+fn a_path_over_old_parents(rt: HostRuntime) -> Result<(), Fail> {
+    let tree =
+        "406b0101018001b000010140020001020001000002000103206a02415c428629f3da6145086a76a2675a23\
+        8d2c57ad21584dba9d231107a0f70001c00000010201d30000010101a201b20001014202000102000100000\
+        20001010000000000000000ffffffffffffffff0001c2";
+    let used = "a key of a path is used already";
+    let paths = [
+        ("01d30401aa01bb", tree),
+        ("01d80401aa01bb", used),
+        ("01d90401aa01bb", used),
+    ];
+    expect_texts(&rt, rt.alloc(), merged_over_old, &paths)
+}
+
+/// What becomes of a path of member 0 in the tree of members 0, 1 and 2.
+fn merged_into_three(alloc: Global, nodes: &str) -> Result<String, Fail> {
     let leaf = committed_leaf(alloc, 0, LOWER)?;
-    let tree = tree_text(alloc, &path_tree(alloc)?)?;
-    let found = merged(alloc, grown(alloc)?, leaf.as_str(), "01d10401aa01bb01d300")?;
-    expect_text(&rt, found, tree.as_str());
-    let found = merged(
-        alloc,
-        grown(alloc)?,
-        leaf.as_str(),
-        "01d10401aa01bb01d30401aa01bb",
-    )?;
-    let words = format!(in alloc; "{}", ApplyFault::CiphertextCount)?;
-    expect_text(&rt, found, words.as_str());
-    Ok(())
+    let applied = unchanged(alloc, 4, &[0, 1, 2])?;
+    merged(alloc, applied, leaf.as_str(), nodes)
+}
+
+#[test]
+fn two_nodes_of_one_key(rt: HostRuntime) -> Result<(), Fail> {
+    let tree = tree_text(rt.alloc(), &path_tree(rt.alloc())?)?;
+    let paths = [
+        ("01d10401aa01bb01d30401aa01bb", tree.as_str()),
+        (
+            "01d10401aa01bb01d10401aa01bb",
+            "a key of a path is used already",
+        ),
+    ];
+    expect_texts(&rt, rt.alloc(), merged_into_three, &paths)
+}
+
+/// What becomes of a path without nodes in the tree of member 0 alone, by the source of its leaf.
+fn merged_into_one(alloc: Global, source: &str) -> Result<String, Fail> {
+    let leaf = leaf_with(alloc, 0, "8", source)?;
+    merged(alloc, unchanged(alloc, 1, &[0])?, leaf.as_str(), "")
 }
 
 /// A path of a group's only member has no node, and its leaf carries no parent hash.
 #[test]
 fn a_path_of_one_member(rt: HostRuntime) -> Result<(), Fail> {
-    let alloc = rt.alloc();
-    let leaf = leaf_with(alloc, 0, "8", "0300")?;
-    let tree = format!(in alloc; "1a0101{leaf}")?;
-    let found = merged(alloc, unchanged(alloc, 1, &[0])?, leaf.as_str(), "")?;
-    expect_text(&rt, found, tree.as_str());
-    let leaf = leaf_with(alloc, 0, "8", "0301ff")?;
-    let found = merged(alloc, unchanged(alloc, 1, &[0])?, leaf.as_str(), "")?;
-    let words = format!(in alloc; "{}", ApplyFault::PathParentHash)?;
-    expect_text(&rt, found, words.as_str());
-    Ok(())
+    let paths = [
+        (
+            "0300",
+            "1a0101018001b000010140020001020001000002000103000001c0",
+        ),
+        (
+            "0301ff",
+            "the parent hash of a path's leaf is not the one expected",
+        ),
+    ];
+    expect_texts(&rt, rt.alloc(), merged_into_one, &paths)
 }
 
-/// The parent hashes that a path with these keys has to carry in the tree of members 0, 1 and 2, or the fault.
-fn expected(alloc: Global, committer: u32, keys: &[u8]) -> Result<String, Fail> {
+/// The parent hashes that a path of a committer with these keys has to carry in the tree of members 0, 1 and 2, or the
+/// fault.
+fn expected(alloc: Global, path: (u32, &[u8])) -> Result<String, Fail> {
+    let (committer, keys) = path;
     let tree = tree_of(alloc, 4, &[0, 1, 2])?;
     let mut path = Vec::new(alloc);
     for key in keys {
@@ -168,19 +253,20 @@ fn joined(alloc: Global, hashes: &[Opaque]) -> Result<String, Fail> {
     Ok(out)
 }
 
-/// The leaf's, that of node 1, and that of the root, which is empty.
+/// The leaf's, that of node 1 where it is in the path, and that of the root, which is empty.
 #[test]
 fn parent_hashes_of_a_path(rt: HostRuntime) -> Result<(), Fail> {
-    let alloc = rt.alloc();
-    let hashes = format!(in alloc; " {LOWER} {UPPER} ")?;
-    expect_text(&rt, expected(alloc, 0, &[0xd1, 0xd3])?, hashes.as_str());
-    for (committer, keys, fault) in [
-        (0, [0xd1].as_slice(), ApplyFault::PathLength),
-        (0, &[0xd1, 0xd3, 0xd5], ApplyFault::PathLength),
-        (3, &[0xd1, 0xd3], ApplyFault::NoSuchLeaf),
-    ] {
-        let words = format!(in alloc; "{fault}")?;
-        expect_text(&rt, expected(alloc, committer, keys)?, words.as_str());
-    }
-    Ok(())
+    let hashes = format!(in rt.alloc(); " {LOWER} {UPPER} ")?;
+    let second = format!(in rt.alloc(); " {SECOND_LOWER} {UPPER} ")?;
+    let third = format!(in rt.alloc(); " {OVER_TWO} ")?;
+    let length = "a path has another number of nodes than the filtered direct path";
+    let paths = [
+        ((0, [0xd1, 0xd3].as_slice()), hashes.as_str()),
+        ((1, &[0xd1, 0xd3]), second.as_str()),
+        ((2, &[0xd3]), third.as_str()),
+        ((0, &[0xd1]), length),
+        ((0, &[0xd1, 0xd3, 0xd5]), length),
+        ((3, &[0xd1, 0xd3]), "a leaf is not set"),
+    ];
+    expect_texts(&rt, rt.alloc(), expected, &paths)
 }

@@ -20,7 +20,7 @@ const ADD: &str =
 /// The Update of member 0.
 const UPDATE: &str = "0002019001b0000101400200010200010000020001020001c0";
 
-/// Why a proposal is refused in the group of member 0 alone.
+/// Why a proposal is refused in the group of members 0 and 2.
 fn fault_of(
     rt: &impl Abort,
     alloc: Global,
@@ -29,7 +29,7 @@ fn fault_of(
     checker: &dyn SignatureCheck,
 ) -> Result<Option<ApplyFault>, Fail> {
     let proposal = decode_proposal(alloc, bytes(alloc, proposal)?.as_slice())?;
-    let tree = tree_of(alloc, 1, &[0])?;
+    let tree = tree_of(alloc, 4, &[0, 2])?;
     let context = decode_context(alloc, bytes(alloc, CONTEXT)?.as_slice())?;
     let suite = Suite::from_u16(context.cipher_suite)?;
     assert!(rt; suite.number() == context.cipher_suite);
@@ -108,6 +108,30 @@ fn proposals_by_their_signatures(rt: HostRuntime) -> Result<(), Fail> {
     ] {
         let listed = Listed::read(rt.alloc(), receipts.as_bytes())?;
         let found = fault_of(&rt, rt.alloc(), 0, proposal, &listed);
+        drop(listed);
+        assert!(rt; found? == fault);
+    }
+    Ok(())
+}
+
+/// The receipts are of member 2's update as leaf 2 of the group, and as leaf 0; and of one with the new signature key `b9`,
+/// by this key and by the present one.
+#[test]
+fn an_update_is_signed_at_its_index(rt: HostRuntime) -> Result<(), Fail> {
+    let update = "0002019201b2000101420200010200010000020001020001c2";
+    let rekeyed = "0002019201b9000101420200010200010000020001020001c2";
+    let second = "5c4daa54cf6a3dab0e8618cfa5d3bb6fc8895b677e306b8d811612ff8f10ced9";
+    let first = "176ce596346d7cbd4831901b86bdd78d045e8101afe501ec78e3c48a58a33889";
+    let own = "3f440f98d308a7fe7c2ee9e9da5b49797ab40d3fb09f58803a6c5451e8cc5beb";
+    let present = "3c50571276b161987f628283eec55af957ead81aeedf8fd4d6ce317d7bf04bfe";
+    for (receipts, update, fault) in [
+        (second, update, None),
+        (first, update, Some(ApplyFault::UpdateInvalid)),
+        (own, rekeyed, None),
+        (present, rekeyed, Some(ApplyFault::UpdateInvalid)),
+    ] {
+        let listed = Listed::read(rt.alloc(), receipts.as_bytes())?;
+        let found = fault_of(&rt, rt.alloc(), 2, update, &listed);
         drop(listed);
         assert!(rt; found? == fault);
     }

@@ -3,7 +3,7 @@
 
 use crate::support::{
     LEAF, LOWER, RECEIPT, RIGHT_HASH, SECOND_HASH, SECOND_LEAF, UPPER, bytes, expect_text,
-    leaf_node, parent_node, put_leaf, put_parent, suite, text, tree_of,
+    expect_texts, leaf_node, parent_node, put_leaf, put_parent, suite, text, tree_of, updated_leaf,
 };
 use mls_check::{Listed, SignatureCheck, Trusting, has_distinct_keys, is_leaf_signed};
 use mls_hash::parent_hash_of;
@@ -50,18 +50,51 @@ fn signatures_of_leaves(rt: HostRuntime) -> Result<(), Fail> {
     Ok(())
 }
 
+/// The receipt of the signature of member 1's updated leaf as leaf 2 of the group `47`: of what is signed of it, then
+/// `014700000002`.
+const UPDATE_RECEIPT: &str = "e8f4944312ec7688654837fd83df0cd37078cb7f16c4b3cb91971ce65d0bf345";
+
+/// Whether it is good by this receipt as that of a leaf.
+fn is_update_signed(alloc: Global, index: u32) -> Result<String, Fail> {
+    let leaf = updated_leaf(alloc, 1)?;
+    let leaf = leaf_node(alloc, leaf.as_str())?;
+    let group_id = Opaque::copy(alloc, &[0x47])?;
+    let listed = Listed::read(alloc, UPDATE_RECEIPT.as_bytes())?;
+    let good = is_leaf_signed(alloc, 1, &group_id, index, &leaf, &listed);
+    drop(leaf);
+    Ok(format!(in alloc; "{}", good?)?)
+}
+
+#[test]
+fn signatures_of_leaves_by_their_indices(rt: HostRuntime) -> Result<(), Fail> {
+    let indices = [(2, "true"), (0, "false"), (1, "false"), (3, "false")];
+    expect_texts(&rt, rt.alloc(), is_update_signed, &indices)
+}
+
 /// Two leaves with keys `a0` and `a1`; then a parent with another key, a parent with a leaf's key, and two equal leaves.
 #[test]
 fn keys_of_a_tree(rt: HostRuntime) -> Result<(), Fail> {
     let alloc = rt.alloc();
     let mut tree = tree_of(alloc, 2, &[0, 1])?;
     assert!(rt; has_distinct_keys(alloc, &tree)?);
-    for (key, are_distinct) in [(0xd1, true), (0xa1, false)] {
+    for (key, are_distinct) in [(0xd1, true), (0xa0, false), (0xa1, false)] {
         put_parent(alloc, &mut tree, 1, key, "", &[])?;
         assert!(rt; has_distinct_keys(alloc, &tree)? == are_distinct);
     }
     put_parent(alloc, &mut tree, 1, 0xd1, "", &[])?;
     put_leaf(alloc, &mut tree, 1, LEAF)?;
     assert!(rt; !has_distinct_keys(alloc, &tree)?);
+    Ok(())
+}
+
+#[test]
+fn keys_of_two_parents(rt: HostRuntime) -> Result<(), Fail> {
+    let alloc = rt.alloc();
+    let mut tree = tree_of(alloc, 4, &[0, 2])?;
+    put_parent(alloc, &mut tree, 1, 0xd1, "", &[])?;
+    for (key, are_distinct) in [(0xd5, true), (0xd1, false)] {
+        put_parent(alloc, &mut tree, 5, key, "", &[])?;
+        assert!(rt; has_distinct_keys(alloc, &tree)? == are_distinct);
+    }
     Ok(())
 }

@@ -5,8 +5,9 @@
 //! (`90 + i` after an update, `80 + i` after a commit), `b0 + i` signs, `40 + i` is the identity, `c0 + i` the
 //! signature. A value is hexadecimal text here; the builders at the end make trees of values.
 //!
-//! Keep tests cheap to prove: compare by [`expect_text`] and the like, which are proved once, and hand a value of many
-//! fields to `drop` before the next `?`, since what ends there is written out in full in each proof.
+//! A test is a table and a call: [`expect_texts`] and [`expect_answers`] go through the table and are proved once, so a
+//! test costs the proof of its call and little more. In a call hand a value of many fields to `drop` before the next
+//! `?`: what ends there by itself is written out in full in the proof.
 
 use mls_hash::Suite;
 use mls_nodes::{LeafNode, ParentNode, Unmerged, decode_leaf, encode_ratchet_tree};
@@ -47,6 +48,10 @@ pub(crate) const KEY_PACKAGE: &str = "0001000101f101a101b10001014102000102000100
 /// The framed content of member 0's proposal to add member 1.
 pub(crate) const PROPOSED: &str = "014700000000000000000100000000000200010001000101f101a101b10001\
     01410200010200010000020001010000000000000000ffffffffffffffff0001c10001c9";
+
+/// The authenticated content of this proposal.
+pub(crate) const PROPOSED_AUTH: &str = "0001014700000000000000000100000000000200010001000101f101a\
+    101b1000101410200010200010000020001010000000000000000ffffffffffffffff0001c10001c901c8";
 
 /// The message of this proposal.
 pub(crate) const PROPOSAL: &str = "00010001014700000000000000000100000000000200010001000101f101a1\
@@ -92,9 +97,37 @@ pub(crate) fn expect_text(rt: &impl Abort, found: String, wanted: &str) {
     assert_eq!(rt; found.as_str(), wanted);
 }
 
-/// Asserts that a list is the wanted one.
-pub(crate) fn expect_list(rt: &impl Abort, found: Vec<u32>, wanted: &[u32]) {
-    assert_eq!(rt; found.as_slice(), wanted);
+/// Asserts what a call gives for each input of a table.
+pub(crate) fn expect_texts<T: Copy + Drop, F: FnMut(Global, T) -> Result<String, Fail> + Drop>(
+    rt: &impl Abort,
+    alloc: Global,
+    mut call: F,
+    rows: &[(T, &str)],
+) -> Result<(), Fail>
+    requires { F.IsAlwaysCallable call }
+{
+    for (input, wanted) in rows {
+        expect_text(rt, call(alloc, *input)?, wanted);
+    }
+    Ok(())
+}
+
+/// Asserts which bytes a call gives for the bytes of each row of a table, both as hexadecimal text, or its fault in
+/// words.
+pub(crate) fn expect_answers<F: FnMut(Global, &[u8]) -> Result<Vec<u8>, CodecFault> + Drop>(
+    rt: &impl Abort,
+    alloc: Global,
+    mut call: F,
+    rows: &[(&str, &str)],
+) -> Result<(), Fail>
+    requires { F.IsAlwaysCallable call }
+{
+    for (input, wanted) in rows {
+        let input = bytes(alloc, input)?;
+        let found = answer_text(alloc, call(alloc, input.as_slice()))?;
+        expect_text(rt, found, wanted);
+    }
+    Ok(())
 }
 
 /// The bytes that hexadecimal text stands for.
@@ -118,6 +151,11 @@ pub(crate) fn answer_text(
     }
 }
 
+/// A list as text, as `[1, 3]`.
+pub(crate) fn list_text(alloc: Global, list: &[u32]) -> Result<String, Fail> {
+    Ok(format!(in alloc; "{list:?}")?)
+}
+
 /// A member's leaf, by the first digit of its encryption key and its source.
 pub(crate) fn leaf_with(
     alloc: Global,
@@ -136,6 +174,11 @@ pub(crate) fn joined_leaf(alloc: Global, member: u32) -> Result<String, Fail> {
     leaf_with(alloc, member, "a", "010000000000000000ffffffffffffffff")
 }
 
+/// A member's leaf after an update.
+pub(crate) fn updated_leaf(alloc: Global, member: u32) -> Result<String, Fail> {
+    leaf_with(alloc, member, "9", "02")
+}
+
 /// A member's leaf after a commit, with a parent hash of 32 bytes.
 pub(crate) fn committed_leaf(
     alloc: Global,
@@ -144,6 +187,12 @@ pub(crate) fn committed_leaf(
 ) -> Result<String, Fail> {
     let source = format!(in alloc; "0320{parent_hash}")?;
     leaf_with(alloc, member, "8", source.as_str())
+}
+
+/// A member's key package, with the init key `f0` and up.
+pub(crate) fn key_package(alloc: Global, member: u32) -> Result<String, Fail> {
+    let leaf = joined_leaf(alloc, member)?;
+    Ok(format!(in alloc; "0001000101f{:x}{leaf}0001c9", member % 16)?)
 }
 
 /// The leaf node of a text.

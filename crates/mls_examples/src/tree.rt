@@ -1,6 +1,9 @@
 //! The arithmetic of places, and what is asked of a tree and changed in it (RFC 9420, 4.1, 7.7 and Appendix C).
 
-use crate::support::{expect_list, expect_text, put_parent, tree_of, tree_text};
+use crate::support::{
+    expect_text, expect_texts, list_text, path_tree, put_parent, tree_of, tree_text,
+};
+use mls_nodes::{NodeFault, encode_ratchet_tree};
 use mls_tree::{PublicTree, TreeError, left, level, parent, right, root, sibling};
 use std::alloc::Global;
 use std::test::Fail;
@@ -26,18 +29,42 @@ fn places(rt: HostRuntime) {
     }
 }
 
+/// A list, or why there is none.
+fn answer_text(alloc: Global, answer: Result<Vec<u32>, TreeError>) -> Result<String, Fail> {
+    match answer {
+        Ok(list) => list_text(alloc, list.as_slice()),
+        Err(error) => Ok(format!(in alloc; "{error}")?),
+    }
+}
+
+/// The direct path of a leaf of a tree with so many leaves.
+fn direct_path(alloc: Global, leaf: (u32, u32)) -> Result<String, Fail> {
+    let (leaves, index) = leaf;
+    let tree = PublicTree::blank(alloc, leaves)?;
+    answer_text(alloc, tree.direct_path(alloc, index))
+}
+
+/// The copath of it.
+fn copath(alloc: Global, leaf: (u32, u32)) -> Result<String, Fail> {
+    let (leaves, index) = leaf;
+    let tree = PublicTree::blank(alloc, leaves)?;
+    answer_text(alloc, tree.copath(alloc, index))
+}
+
 #[test]
 fn paths(rt: HostRuntime) -> Result<(), Fail> {
-    let alloc = rt.alloc();
-    for (leaves, leaf, path, copath) in [
-        (4, 1, [1, 3].as_slice(), [0, 5].as_slice()),
-        (1, 0, &[], &[]),
-    ] {
-        let tree = PublicTree::blank(alloc, leaves)?;
-        expect_list(&rt, tree.direct_path(alloc, leaf)?, path);
-        expect_list(&rt, tree.copath(alloc, leaf)?, copath);
-    }
-    Ok(())
+    let paths = [
+        ((4, 1), "[1, 3]"),
+        ((1, 0), "[]"),
+        ((4, 4), "the tree has no such node"),
+    ];
+    expect_texts(&rt, rt.alloc(), direct_path, &paths)?;
+    expect_texts(
+        &rt,
+        rt.alloc(),
+        copath,
+        &[((4, 1), "[0, 5]"), ((1, 0), "[]")],
+    )
 }
 
 /// Four leaves, of which the second is blank, under a parent at place 5 that has leaf 3 unmerged.
@@ -47,34 +74,82 @@ fn gappy_tree(alloc: Global) -> Result<PublicTree, Fail> {
     Ok(tree)
 }
 
+/// The resolution of a place of it.
+fn resolution(alloc: Global, place: u32) -> Result<String, Fail> {
+    answer_text(alloc, gappy_tree(alloc)?.resolution(alloc, place))
+}
+
+/// The filtered direct path of a leaf of it.
+fn filtered_path(alloc: Global, leaf: u32) -> Result<String, Fail> {
+    answer_text(alloc, gappy_tree(alloc)?.filtered_direct_path(alloc, leaf))
+}
+
 #[test]
 fn resolutions(rt: HostRuntime) -> Result<(), Fail> {
-    let alloc = rt.alloc();
-    let tree = gappy_tree(alloc)?;
-    for (place, resolution) in [(3, [0, 5, 6].as_slice()), (2, &[])] {
-        expect_list(&rt, tree.resolution(alloc, place)?, resolution);
+    expect_texts(&rt, rt.alloc(), resolution, &[(3, "[0, 5, 6]"), (2, "[]")])?;
+    expect_texts(&rt, rt.alloc(), filtered_path, &[(0, "[3]"), (2, "[5, 3]")])
+}
+
+/// Four leaves, all set but the second, under a parent at place 5 with entries of which one is the index of no leaf.
+fn overlisted(alloc: Global, unmerged: &[u32]) -> Result<String, Fail> {
+    let mut tree = tree_of(alloc, 4, &[0, 2, 3])?;
+    put_parent(alloc, &mut tree, 5, 0xd5, "", unmerged)?;
+    answer_text(alloc, tree.resolution(alloc, 3))
+}
+
+/// Such an entry gives no place; the others keep the order of the list.
+#[test]
+fn entries_beyond_the_leaves(rt: HostRuntime) -> Result<(), Fail> {
+    let lists = [
+        ([3, 4].as_slice(), "[0, 5, 6]"),
+        (&[4294967295, 3, 2], "[0, 5, 6, 4]"),
+    ];
+    expect_texts(&rt, rt.alloc(), overlisted, &lists)
+}
+
+/// Four leaves under three set parents, once the path of a leaf is blanked.
+fn without_path(alloc: Global, leaf: u32) -> Result<String, Fail> {
+    let mut tree = path_tree(alloc)?;
+    put_parent(alloc, &mut tree, 5, 0xd5, "", &[])?;
+    tree.blank_path(leaf)?;
+    let mut parents = String::new(alloc);
+    for (place, entry) in tree.nodes().iter().enumerate() {
+        if entry.is_some() {
+            write!(parents, "{place} ")?;
+        }
     }
-    for (leaf, path) in [(0, [3].as_slice()), (2, &[5, 3])] {
-        expect_list(&rt, tree.filtered_direct_path(alloc, leaf)?, path);
-    }
-    Ok(())
+    Ok(parents)
+}
+
+/// The places that stay set: the leaves 0, 1 and 2, and the parent that isn't above the leaf.
+#[test]
+fn blank_paths(rt: HostRuntime) -> Result<(), Fail> {
+    let places = [
+        (0, "0 2 4 5 "),
+        (1, "0 2 4 5 "),
+        (2, "0 1 2 4 "),
+        (3, "0 1 2 4 "),
+    ];
+    expect_texts(&rt, rt.alloc(), without_path, &places)
 }
 
 /// How many leaves a tree of eight has once leaf 4 is removed.
-fn leaves_without_4(alloc: Global, set: &[u32]) -> Result<u32, Fail> {
+fn leaves_without_4(alloc: Global, set: &[u32]) -> Result<String, Fail> {
     let mut tree = tree_of(alloc, 8, set)?;
     tree.set_leaf(4, None)?;
     tree.blank_path(4)?;
     tree.truncate();
-    Ok(tree.leaf_count())
+    Ok(format!(in alloc; "{}", tree.leaf_count())?)
 }
 
 #[test]
 fn a_removed_leaf_shrinks_the_tree(rt: HostRuntime) -> Result<(), Fail> {
-    for (set, leaves) in [([0, 1, 2, 4].as_slice(), 4), (&[0, 1, 4], 2), (&[0, 4], 1)] {
-        assert!(rt; leaves_without_4(rt.alloc(), set)? == leaves);
-    }
-    Ok(())
+    let sets = [
+        ([0, 1, 2, 4].as_slice(), "4"),
+        (&[0, 1, 4], "2"),
+        (&[0, 4], "1"),
+    ];
+    expect_texts(&rt, rt.alloc(), leaves_without_4, &sets)
 }
 
 /// A full tree of 4 leaves grows to 8, of which leaf 4 is the first blank one.
@@ -88,51 +163,50 @@ fn a_full_tree_grows(rt: HostRuntime) -> Result<(), Fail> {
     Ok(())
 }
 
-/// Why a tree of so many blank leaves can't be made, or has no direct path of a leaf, or can't grow.
-fn fault_of_size(alloc: Global, leaves: u32) -> Option<TreeError> {
-    match PublicTree::blank(alloc, leaves) {
-        Ok(mut tree) => {
-            let fault = tree.direct_path(alloc, 4).err();
-            fault.or(tree.extend().err())
-        }
-        Err(error) => Some(error),
-    }
+/// Why a tree of so many blank leaves can't be made or can't grow.
+fn fault_of_size(alloc: Global, leaves: u32) -> Result<String, Fail> {
+    let fault = match PublicTree::blank(alloc, leaves) {
+        Ok(mut tree) => tree.extend().err().ok_or("a fault")?,
+        Err(error) => error,
+    };
+    Ok(format!(in alloc; "{fault}")?)
 }
 
 #[test]
-fn sizes_and_leaves_that_are_refused(rt: HostRuntime) {
-    for (leaves, fault) in [
-        (0, TreeError::BadShape),
-        (3, TreeError::BadShape),
-        (4, TreeError::NoSuchNode),
-        (1048576, TreeError::TooManyLeaves),
-        (2097152, TreeError::TooManyLeaves),
-    ] {
-        assert!(rt; fault_of_size(rt.alloc(), leaves) == Some(fault));
-    }
+fn other_sizes_are_refused(rt: HostRuntime) -> Result<(), Fail> {
+    let sizes = [
+        (0, "the nodes form no tree"),
+        (3, "the nodes form no tree"),
+        (1048576, "a tree has at most 1,048,576 leaves"),
+        (2097152, "a tree has at most 1,048,576 leaves"),
+    ];
+    expect_texts(&rt, rt.alloc(), fault_of_size, &sizes)
 }
 
-/// Eight leaves, of which the last is set, under parents that have leaves unmerged; then leaf 3 is added to the lists.
-fn unmerged_tree(alloc: Global) -> Result<String, Fail> {
+/// Eight leaves, of which the last is set, under parents that have leaves unmerged; then a leaf is added to the lists.
+fn unmerged_tree(alloc: Global, added: u32) -> Result<String, Fail> {
     let mut tree = tree_of(alloc, 8, &[7])?;
     put_parent(alloc, &mut tree, 3, 0xd3, "", &[3])?;
     put_parent(alloc, &mut tree, 7, 0xd7, "", &[1, 5])?;
-    tree.add_unmerged(alloc, 3)?;
+    tree.add_unmerged(alloc, added)?;
     tree_text(alloc, &tree)
 }
 
 #[test]
 fn an_added_leaf_is_unmerged_above(rt: HostRuntime) -> Result<(), Fail> {
-    let lists = "4051000000010201d3000400000003000000010201d7000c00000001000000030000000500000000\
-        0000010101a701b7000101470200010200010000020001010000000000000000ffffffffffffffff0001c7";
-    expect_text(&rt, unmerged_tree(rt.alloc())?, lists);
+    let tree =
+        "4051000000010201d3000400000003000000010201d7000c000000010000000300000005000000000000\
+        010101a701b7000101470200010200010000020001010000000000000000ffffffffffffffff0001c7";
+    expect_text(&rt, unmerged_tree(rt.alloc(), 3)?, tree);
     Ok(())
 }
 
+/// No node of the copy is set.
 #[test]
 fn blank_trees_are_copied(rt: HostRuntime) -> Result<(), Fail> {
     let blank = PublicTree::blank(rt.alloc(), 4)?.try_clone(rt.alloc())?;
     assert!(rt; blank.nodes().len() == 7);
-    assert!(rt; blank.nodes().iter().all(|entry| entry.is_none()));
+    let fault = encode_ratchet_tree(rt.alloc(), blank.nodes()).err();
+    assert!(rt; fault == Some(NodeFault::EmptyTree));
     Ok(())
 }

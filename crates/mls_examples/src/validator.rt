@@ -1,9 +1,10 @@
 //! Whether a tree is valid (RFC 9420, 7.9.2 and 12.4.3.1), and the first fault of one that isn't.
 
 use crate::support::{
-    LEAF, SECOND_LEAF, UPPER, committed_leaf, grown_tree, put_leaf, put_parent, suite, tree_of,
+    LEAF, SECOND_LEAF, UPPER, committed_leaf, expect_text, expect_texts, grown_tree, put_leaf,
+    put_parent, suite, tree_of,
 };
-use mls_check::{TreeFault, validate_tree};
+use mls_check::validate_tree;
 use mls_hash::tree_hash;
 use mls_nodes::{Extensions, GroupContext};
 use mls_tree::{PublicTree, root};
@@ -11,15 +12,8 @@ use mls_wire::Opaque;
 use std::alloc::Global;
 use std::test::Fail;
 
-/// The first fault of a tree in a context with its own hash.
-fn fault_of(alloc: Global, tree: &PublicTree) -> Result<Option<TreeFault>, Fail> {
-    let top = root(tree.leaf_count()).ok_or("a root")?;
-    let hash = tree_hash(alloc, suite()?, tree, top)?;
-    fault_with(alloc, tree, hash.as_slice())
-}
-
-/// The first fault of a tree in a context with a hash.
-fn fault_with(alloc: Global, tree: &PublicTree, hash: &[u8]) -> Result<Option<TreeFault>, Fail> {
+/// What is found of a tree in a context with a hash: `valid`, or the first fault.
+fn judged_with(alloc: Global, tree: &PublicTree, hash: &[u8]) -> Result<String, Fail> {
     let suite = suite()?;
     let context = GroupContext {
         version: 1,
@@ -30,53 +24,76 @@ fn fault_with(alloc: Global, tree: &PublicTree, hash: &[u8]) -> Result<Option<Tr
         confirmed: Opaque::copy(alloc, &[])?,
         extensions: Extensions::new(Vec::new(alloc))?,
     };
-    let fault = validate_tree(alloc, suite, &context, tree).err();
+    let answer = validate_tree(alloc, suite, &context, tree);
     drop(context);
-    Ok(fault)
+    match answer {
+        Ok(()) => Ok(String::from_str(alloc, "valid")?),
+        Err(fault) => Ok(format!(in alloc; "{fault:?}")?),
+    }
 }
 
-/// One leaf in a context with another hash, and a tree that grew by a leaf after a path.
+/// What is found of it in a context with its own hash.
+pub(crate) fn judged(alloc: Global, tree: &PublicTree) -> Result<String, Fail> {
+    let top = root(tree.leaf_count()).ok_or("a root")?;
+    let hash = tree_hash(alloc, suite()?, tree, top)?;
+    judged_with(alloc, tree, hash.as_slice())
+}
+
+/// What is found of the tree of one leaf in a context with a hash.
+fn one_leaf(alloc: Global, hash: &[u8]) -> Result<String, Fail> {
+    judged_with(alloc, &tree_of(alloc, 1, &[0])?, hash)
+}
+
+/// The hash of the tree, and the same with one bit changed.
 #[test]
-fn valid_trees(rt: HostRuntime) -> Result<(), Fail> {
-    let one = tree_of(rt.alloc(), 1, &[0])?;
-    assert!(rt; fault_of(rt.alloc(), &one)?.is_none());
-    assert!(rt; fault_with(rt.alloc(), &one, &[7; 32])? == Some(TreeFault::HashDiffers));
-    let grown = grown_tree(rt.alloc())?;
-    assert!(rt; fault_of(rt.alloc(), &grown)?.is_none());
+fn the_hash_is_the_contexts(rt: HostRuntime) -> Result<(), Fail> {
+    let mut hash = [
+        0xe3, 0x2a, 0xb6, 0xa0, 0xa7, 0x11, 0xec, 0x8a, 0x73, 0x2c, 0x3f, 0xad, 0x92, 0x63, 0xed,
+        0x5f, 0xa6, 0x1c, 0xaf, 0x53, 0xfd, 0xf9, 0xb9, 0x69, 0x0d, 0xc5, 0x72, 0x71, 0xd8, 0xf1,
+        0x10, 0xd7,
+    ];
+    expect_text(&rt, one_leaf(rt.alloc(), &hash)?, "valid");
+    hash[31] = 0xd6;
+    expect_text(&rt, one_leaf(rt.alloc(), &hash)?, "HashDiffers");
     Ok(())
 }
 
-/// The first fault of the grown tree with another parent at a place.
-fn fault_at(
-    alloc: Global,
-    place: u32,
-    key: u8,
-    parent_hash: &str,
-    unmerged: &[u32],
-) -> Result<Option<TreeFault>, Fail> {
+/// What is found of a tree that grew by a leaf after a path.
+fn grown(alloc: Global) -> Result<String, Fail> {
+    judged(alloc, &grown_tree(alloc)?)
+}
+
+/// What is found of it with another parent: at a place, with a key, a parent hash and unmerged leaves.
+fn changed(alloc: Global, parent: (u32, u8, &str, &[u32])) -> Result<String, Fail> {
+    let (place, key, parent_hash, unmerged) = parent;
     let mut tree = grown_tree(alloc)?;
     put_parent(alloc, &mut tree, place, key, parent_hash, unmerged)?;
-    fault_of(alloc, &tree)
+    judged(alloc, &tree)
 }
 
 #[test]
-fn changed_parents(rt: HostRuntime) -> Result<(), Fail> {
-    for (place, key, parent_hash, unmerged, fault) in [
-        (3, 0xd3, "", [].as_slice(), TreeFault::ParentHashInvalid(3)),
-        (3, 0xd3, "", &[3, 2], TreeFault::UnmergedUnsorted(3)),
-        (3, 0xd3, "", &[4294967295], TreeFault::UnmergedUnsound(3)),
-        (5, 0xd5, "", &[], TreeFault::UnmergedUnsound(3)),
-        (1, 0xd1, UPPER, &[3], TreeFault::UnmergedUnsound(1)),
-    ] {
-        let found = fault_at(rt.alloc(), place, key, parent_hash, unmerged)?;
-        assert!(rt; found == Some(fault));
-    }
-    Ok(())
+fn a_tree_that_grew_after_a_path(rt: HostRuntime) -> Result<(), Fail> {
+    expect_text(&rt, grown(rt.alloc())?, "valid");
+    let parents = [
+        ((3, 0xd3, "", [].as_slice()), "ParentHashInvalid(3)"),
+        ((3, 0xd3, "", &[3, 2]), "UnmergedUnsorted(3)"),
+        ((3, 0xd3, "", &[3, 3]), "UnmergedUnsorted(3)"),
+        ((1, 0xd1, UPPER, &[1, 1]), "UnmergedUnsorted(1)"),
+        ((3, 0xd3, "", &[4294967295]), "UnmergedUnsound(3)"),
+        ((5, 0xd5, "", &[]), "UnmergedUnsound(3)"),
+        ((1, 0xd1, UPPER, &[3]), "UnmergedUnsound(1)"),
+        ((3, 0xa2, "", &[3]), "KeyRepeated(3)"),
+        ((1, 0xa2, UPPER, &[]), "KeyRepeated(1)"),
+        ((3, 0x80, "", &[3]), "KeyRepeated(0)"),
+        ((3, 0xd1, "", &[3]), "KeyRepeated(1)"),
+    ];
+    expect_texts(&rt, rt.alloc(), changed, &parents)
 }
 
-/// The first fault of eight leaves, of which the last is blank, under four parents with unmerged leaves, of which one
-/// has another list.
-fn fault_among(alloc: Global, changed: u32, unmerged: &[u32]) -> Result<Option<TreeFault>, Fail> {
+/// What is found of eight leaves, of which the last is blank, under four parents with unmerged leaves, of which the one
+/// at a place has another list.
+fn listing(alloc: Global, list: (u32, &[u32])) -> Result<String, Fail> {
+    let (changed, unmerged) = list;
     let mut tree = tree_of(alloc, 8, &[0, 1, 2, 3, 4, 5, 6])?;
     for (place, key, list) in [
         (3, 0xd3, [1, 2].as_slice()),
@@ -87,33 +104,31 @@ fn fault_among(alloc: Global, changed: u32, unmerged: &[u32]) -> Result<Option<T
         let list = if place == changed { unmerged } else { list };
         put_parent(alloc, &mut tree, place, key, "", list)?;
     }
-    fault_of(alloc, &tree)
+    judged(alloc, &tree)
 }
 
 /// Where all lists are sound, no chain leads to the first parent.
 #[test]
 fn entries_in_the_lists_between(rt: HostRuntime) -> Result<(), Fail> {
-    for (place, unmerged, fault) in [
-        (3, [1, 2].as_slice(), TreeFault::ParentHashInvalid(3)),
-        (3, &[1], TreeFault::UnmergedUnsound(7)),
-        (3, &[2], TreeFault::UnmergedUnsound(7)),
-        (3, &[1, 2, 4], TreeFault::UnmergedUnsound(3)),
-        (5, &[], TreeFault::UnmergedUnsound(3)),
-        (5, &[2, 4], TreeFault::UnmergedUnsound(5)),
-        (7, &[1, 2, 3, 6], TreeFault::UnmergedUnsound(7)),
-        (11, &[], TreeFault::UnmergedUnsound(7)),
-        (11, &[6, 7], TreeFault::UnmergedUnsound(11)),
-    ] {
-        assert!(rt; fault_among(rt.alloc(), place, unmerged)? == Some(fault));
-    }
-    Ok(())
+    let lists = [
+        ((3, [1, 2].as_slice()), "ParentHashInvalid(3)"),
+        ((3, &[1]), "UnmergedUnsound(7)"),
+        ((3, &[2]), "UnmergedUnsound(7)"),
+        ((3, &[1, 2, 4]), "UnmergedUnsound(3)"),
+        ((5, &[]), "UnmergedUnsound(3)"),
+        ((5, &[2, 4]), "UnmergedUnsound(5)"),
+        ((7, &[1, 2, 3, 6]), "UnmergedUnsound(7)"),
+        ((11, &[]), "UnmergedUnsound(7)"),
+        ((11, &[6, 7]), "UnmergedUnsound(11)"),
+    ];
+    expect_texts(&rt, rt.alloc(), listing, &lists)
 }
 
 #[test]
 fn a_blank_unmerged_leaf(rt: HostRuntime) -> Result<(), Fail> {
     let mut tree = grown_tree(rt.alloc())?;
     tree.set_leaf(3, None)?;
-    assert!(rt; fault_of(rt.alloc(), &tree)? == Some(TreeFault::UnmergedUnsound(3)));
+    expect_text(&rt, judged(rt.alloc(), &tree)?, "UnmergedUnsound(3)");
     Ok(())
 }
 
@@ -130,9 +145,9 @@ fn chained_tree(alloc: Global) -> Result<PublicTree, Fail> {
 #[test]
 fn a_stranger(rt: HostRuntime) -> Result<(), Fail> {
     let mut tree = chained_tree(rt.alloc())?;
-    assert!(rt; fault_of(rt.alloc(), &tree)?.is_none());
+    expect_text(&rt, judged(rt.alloc(), &tree)?, "valid");
     put_leaf(rt.alloc(), &mut tree, 1, SECOND_LEAF)?;
-    assert!(rt; fault_of(rt.alloc(), &tree)? == Some(TreeFault::ParentHashInvalid(3)));
+    expect_text(&rt, judged(rt.alloc(), &tree)?, "ParentHashInvalid(3)");
     Ok(())
 }
 
@@ -140,6 +155,6 @@ fn a_stranger(rt: HostRuntime) -> Result<(), Fail> {
 fn two_equal_leaves(rt: HostRuntime) -> Result<(), Fail> {
     let mut tree = tree_of(rt.alloc(), 2, &[0])?;
     put_leaf(rt.alloc(), &mut tree, 1, LEAF)?;
-    assert!(rt; fault_of(rt.alloc(), &tree)? == Some(TreeFault::KeyRepeated(0)));
+    expect_text(&rt, judged(rt.alloc(), &tree)?, "KeyRepeated(0)");
     Ok(())
 }

@@ -1,6 +1,6 @@
 //! The presentation language (RFC 9420, 2.1): lengths, integers, vectors, optional values and lists.
 
-use crate::support::{answer_text, bytes, expect_text, text};
+use crate::support::{bytes, expect_answers, expect_texts, text};
 use mls_wire::{
     CodecFault, Items, Opaque, Reader, Sequence, TryClone, Writer, bytes_of, laws, read_all_of,
     read_input, read_value,
@@ -17,18 +17,9 @@ fn written_length(alloc: Global, length: usize) -> Result<String, Fail> {
     }
 }
 
-/// The length that is read, or why none is.
-fn read_length(alloc: Global, form: &str) -> Result<String, Fail> {
-    let input = bytes(alloc, form)?;
-    match Reader::new(input.as_slice()).read_len() {
-        Ok(length) => Ok(format!(in alloc; "{length}")?),
-        Err(fault) => Ok(format!(in alloc; "{fault}")?),
-    }
-}
-
 #[test]
 fn lengths_are_written(rt: HostRuntime) -> Result<(), Fail> {
-    for (length, form) in [
+    let forms = [
         (0, "00"),
         (63, "3f"),
         (64, "4040"),
@@ -36,30 +27,56 @@ fn lengths_are_written(rt: HostRuntime) -> Result<(), Fail> {
         (16384, "80004000"),
         (1073741823, "bfffffff"),
         (1073741824, "TooLong at 0"),
-    ] {
-        expect_text(&rt, written_length(rt.alloc(), length)?, form);
+    ];
+    expect_texts(&rt, rt.alloc(), written_length, &forms)
+}
+
+/// The length that is read, or why none is, and the offset then.
+fn read_length(alloc: Global, form: &str) -> Result<String, Fail> {
+    let input = bytes(alloc, form)?;
+    let mut reader = Reader::new(input.as_slice());
+    match reader.read_len() {
+        Ok(length) => Ok(format!(in alloc; "{length}")?),
+        Err(fault) => Ok(format!(in alloc; "{fault}, still {}", reader.offset())?),
     }
-    Ok(())
 }
 
 #[test]
 fn lengths_are_read(rt: HostRuntime) -> Result<(), Fail> {
-    for (form, length) in [
+    let lengths = [
         ("00", "0"),
         ("3f", "63"),
         ("4040", "64"),
         ("7fff", "16383"),
         ("80004000", "16384"),
         ("bfffffff", "1073741823"),
-        ("403f", "NotShortest at 0"),
-        ("80003fff", "NotShortest at 0"),
+        ("403f", "NotShortest at 0, still 0"),
+        ("80003fff", "NotShortest at 0, still 0"),
+        ("c0", "BadPrefix at 0, still 0"),
+        ("40", "Truncated at 0, still 0"),
+        ("", "Truncated at 0, still 0"),
+    ];
+    expect_texts(&rt, rt.alloc(), read_length, &lengths)
+}
+
+/// A list of codes, written, or why there is none.
+fn codes_of(alloc: Global, input: &[u8]) -> Result<Vec<u8>, CodecFault> {
+    let codes: Items<u16> = read_input(alloc, input)?;
+    bytes_of(alloc, &codes)
+}
+
+#[test]
+fn vectors_are_judged_in_order(rt: HostRuntime) -> Result<(), Fail> {
+    let lists = [
+        ("0400010002", "0400010002"),
+        ("", "Truncated at 0"),
         ("c0", "BadPrefix at 0"),
         ("40", "Truncated at 0"),
-        ("", "Truncated at 0"),
-    ] {
-        expect_text(&rt, read_length(rt.alloc(), form)?, length);
-    }
-    Ok(())
+        ("4003", "NotShortest at 0"),
+        ("0301", "Truncated at 0"),
+        ("03010203", "OddLength at 0"),
+    ];
+    expect_answers(&rt, rt.alloc(), codes_of, &lists)
 }
 
 /// A list of bodies, copied and written, or why there is none.
@@ -68,10 +85,16 @@ fn bodies_of(alloc: Global, input: &[u8]) -> Result<Vec<u8>, CodecFault> {
     bytes_of(alloc, &bodies.try_clone(alloc)?)
 }
 
-/// A list of codes, written, or why there is none.
-fn codes_of(alloc: Global, input: &[u8]) -> Result<Vec<u8>, CodecFault> {
-    let codes: Items<u16> = read_input(alloc, input)?;
-    bytes_of(alloc, &codes)
+/// The second body of the last list runs past the list's.
+#[test]
+fn bodies_are_read_for_themselves(rt: HostRuntime) -> Result<(), Fail> {
+    laws::one_value::<Items<Opaque>>();
+    let lists = [
+        ("00", "00"),
+        ("0501aa02bbcc", "0501aa02bbcc"),
+        ("0401aa404000000000", "Truncated at 3"),
+    ];
+    expect_answers(&rt, rt.alloc(), bodies_of, &lists)
 }
 
 /// An optional list of numbers and a number behind it, read and written, or why they can't be read.
@@ -87,43 +110,8 @@ fn values_of(alloc: Global, input: &[u8]) -> Result<Vec<u8>, CodecFault> {
 }
 
 #[test]
-fn vectors_are_judged_in_order(rt: HostRuntime) -> Result<(), Fail> {
-    let alloc = rt.alloc();
-    for (list, answer) in [
-        ("0400010002", "0400010002"),
-        ("", "Truncated at 0"),
-        ("c0", "BadPrefix at 0"),
-        ("40", "Truncated at 0"),
-        ("4003", "NotShortest at 0"),
-        ("0301", "Truncated at 0"),
-        ("03010203", "OddLength at 0"),
-    ] {
-        let codes = codes_of(alloc, bytes(alloc, list)?.as_slice());
-        expect_text(&rt, answer_text(alloc, codes)?, answer);
-    }
-    Ok(())
-}
-
-/// The second body of the last list runs past the list's.
-#[test]
-fn bodies_are_read_for_themselves(rt: HostRuntime) -> Result<(), Fail> {
-    let alloc = rt.alloc();
-    for (list, answer) in [
-        ("00", "00"),
-        ("0501aa02bbcc", "0501aa02bbcc"),
-        ("0401aa404000000000", "Truncated at 3"),
-    ] {
-        let bodies = bodies_of(alloc, bytes(alloc, list)?.as_slice());
-        expect_text(&rt, answer_text(alloc, bodies)?, answer);
-    }
-    laws::one_value::<Items<Opaque>>();
-    Ok(())
-}
-
-#[test]
 fn optional_values_and_ends(rt: HostRuntime) -> Result<(), Fail> {
-    let alloc = rt.alloc();
-    for (values, answer) in [
+    let values = [
         ("000000000000000007", "000000000000000007"),
         (
             "0104000000020000000000000007",
@@ -133,28 +121,57 @@ fn optional_values_and_ends(rt: HostRuntime) -> Result<(), Fail> {
         ("0105", "Truncated at 1"),
         ("010500000002ff", "OddLength at 1"),
         ("00000000000000000700", "Trailing at 9"),
-    ] {
-        let found = values_of(alloc, bytes(alloc, values)?.as_slice());
-        expect_text(&rt, answer_text(alloc, found)?, answer);
-    }
-    Ok(())
+    ];
+    expect_answers(&rt, rt.alloc(), values_of, &values)
 }
 
-/// A `uint8`, a `uint16`, a `uint32`, a vector of 2 bytes and the byte before an optional value, one behind the other.
-fn fields(alloc: Global) -> Result<Vec<u8>, CodecFault> {
+/// The fields of a `uint8`, a `uint16`, a `uint32`, a `uint64`, a vector, the byte before an optional value, and a vector
+/// that is read for itself; and what is left.
+fn fields_of(alloc: Global, input: &str) -> Result<String, Fail> {
+    let input = bytes(alloc, input)?;
+    let mut reader = Reader::new(input.as_slice());
+    let (byte, short) = (reader.read_u8()?, reader.read_u16()?);
+    let (word, long) = (reader.read_u32()?, reader.read_u64()?);
+    let body = text(alloc, reader.read_vec()?)?;
+    let is_present = reader.read_optional()?;
+    let mut inner = reader.read_sub()?;
+    let first = inner.read_u8()?;
+    let (at, is_whole) = (inner.offset(), inner.at_end());
+    let (end, is_end) = (reader.offset(), reader.at_end());
+    Ok(format!(in alloc;
+        "{byte} {short} {word} {long} {body} {is_present}, {first} {at} {is_whole}, {end} {is_end}"
+    )?)
+}
+
+#[test]
+fn fields_are_read(rt: HostRuntime) -> Result<(), Fail> {
+    let fields = [
+        (
+            "0102030405060708090a0b0c0d0e0f02616201020809",
+            "1 515 67438087 579005069656919567 6162 true, 8 21 false, 22 true",
+        ),
+        (
+            "ff00ff000000ff00000000000000ff0000010800",
+            "255 255 255 255  false, 8 19 true, 19 false",
+        ),
+    ];
+    expect_texts(&rt, rt.alloc(), fields_of, &fields)
+}
+
+/// A `uint8`, a `uint16`, a `uint32`, a vector with this body and the byte before an optional value.
+fn fields_with(alloc: Global, body: &[u8]) -> Result<Vec<u8>, CodecFault> {
     let mut writer = Writer::new(alloc);
     writer.reserve(300)?;
     writer.write_u8(0x01)?;
     writer.write_u16(0x0203)?;
     writer.write_u32(0x04050607)?;
-    writer.write_vec(&[0x61, 0x62])?;
+    writer.write_vec(body)?;
     writer.write_optional(true)?;
     Ok(writer.into_bytes())
 }
 
 #[test]
 fn fields_are_written(rt: HostRuntime) -> Result<(), Fail> {
-    let written = answer_text(rt.alloc(), fields(rt.alloc()))?;
-    expect_text(&rt, written, "0102030405060702616201");
-    Ok(())
+    let fields = [("6162", "0102030405060702616201")];
+    expect_answers(&rt, rt.alloc(), fields_with, &fields)
 }

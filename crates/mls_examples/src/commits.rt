@@ -1,0 +1,275 @@
+//! Commits: which are accepted, what they make of the tree, and which rule a refused one fails first (RFC
+//! 9420, 12.4.2).
+//!
+//! Most stories begin in the group of two members, of `crate::follower`.
+
+use crate::follower::{Story, first_answer, follow, last_answer, proposed, sent};
+use crate::support::{
+    COMMIT, GROUP_INFO, LOWER, PROPOSAL, RECEIPT, expect_text, expect_texts, key_package,
+    updated_leaf,
+};
+use std::alloc::Global;
+use std::test::Fail;
+
+/// The answers to the first two messages: member 0's proposal of member 1, and its commit.
+const FIRST_ANSWERS: &str =
+    "proposal 419afc0a88fe171b793b00410d11c8121fb96fdfde7b5ced43d5912144a3a9f9; commit 1; ";
+
+/// The parent hash of node 1 of two leaves, with key `d1` and none above it: the SHA-256 of `01d10020` and
+/// the hash of member 1's leaf.
+const TOP: &str = "7e534e72295b2ed4520a7628873779052cbc9788fb7a2927ad4234fd78396990";
+
+/// A vector by its body.
+fn vector(alloc: Global, body: &str) -> Result<String, Fail> {
+    let length = body.len() / 2 % 16384;
+    if length < 64 {
+        Ok(format!(in alloc; "{length:02x}{body}")?)
+    } else {
+        let form = 16384 + length;
+        Ok(format!(in alloc; "{form:04x}{body}")?)
+    }
+}
+
+/// Member 0's commit of a list, with a path or `00`.
+fn commit(alloc: Global, epoch: u64, list: &str, path: &str) -> Result<String, Fail> {
+    let list = vector(alloc, list)?;
+    let content = format!(in alloc; "03{list}{path}01c601e101c5")?;
+    sent(alloc, epoch, 0, content.as_str())
+}
+
+/// A path of member 0's, by its leaf's key and source, and its nodes.
+fn path(alloc: Global, parts: (&str, &str, &str)) -> Result<String, Fail> {
+    let (key, source, nodes) = parts;
+    let nodes = vector(alloc, nodes)?;
+    Ok(format!(in alloc; "0101{key}01b0000101400200010200010000020001{source}0001c0{nodes}")?)
+}
+
+/// The answer to a message in the group of two members.
+fn second_answer(alloc: Global, message: &str) -> Result<String, Fail> {
+    last_answer(alloc, GROUP_INFO, &[PROPOSAL, COMMIT, message])
+}
+
+/// The answer to member 0's commit of a list without a path.
+fn pathless(alloc: Global, list: &str) -> Result<String, Fail> {
+    let message = commit(alloc, 1, list, "00")?;
+    second_answer(alloc, message.as_str())
+}
+
+#[test]
+fn lists(rt: HostRuntime) -> Result<(), Fail> {
+    let update = format!(in rt.alloc(); "010002{}", updated_leaf(rt.alloc(), 0)?)?;
+    let rows = [
+        ("", "17 PathMissing"),
+        (update.as_str(), "14 UpdateByCommitter"),
+        ("01000300000000", "15 RemovesCommitter"),
+        ("01000300000001", "17 PathMissing"),
+        ("0101aa", "1 Malformed"),
+        ("0201aa", "13 UnknownReference"),
+        ("0100030000000001000300000005", "11 RemoveInvalid"),
+        ("0100030000000101000300000001", "16 SameLeafTwice"),
+    ];
+    expect_texts(&rt, rt.alloc(), pathless, &rows)
+}
+
+/// The answers to member 1's update and to member 0's commit of it and of a Remove of member 1.
+fn same_leaf(alloc: Global, reference: &str) -> Result<String, Fail> {
+    let update = format!(in alloc; "0002{}", updated_leaf(alloc, 1)?)?;
+    let update = proposed(alloc, 1, 1, update.as_str())?;
+    let list = format!(in alloc; "0220{reference}01000300000001")?;
+    let commit = commit(alloc, 1, list.as_str(), "00")?;
+    let messages = [PROPOSAL, COMMIT, update.as_str(), commit.as_str()];
+    let Story { answers, .. } = follow(alloc, None, GROUP_INFO, &messages)?;
+    Ok(answers)
+}
+
+#[test]
+fn an_update_and_a_remove_of_one_leaf(rt: HostRuntime) -> Result<(), Fail> {
+    let reference = "a65d6ce6a20d73431f41651131b86b3ccd13ffaa3a4a1266ecef002970ff775d";
+    let wanted = format!(in rt.alloc(); "{FIRST_ANSWERS}proposal {reference}; 16 SameLeafTwice; ")?;
+    expect_text(&rt, same_leaf(rt.alloc(), reference)?, wanted.as_str());
+    Ok(())
+}
+
+// ---- paths
+
+/// The answer to member 0's commit of nothing with this path.
+fn path_answer(alloc: Global, parts: (&str, &str, &str)) -> Result<String, Fail> {
+    let path = path(alloc, parts)?;
+    let message = commit(alloc, 1, "", path.as_str())?;
+    second_answer(alloc, message.as_str())
+}
+
+#[test]
+fn paths(rt: HostRuntime) -> Result<(), Fail> {
+    let source = format!(in rt.alloc(); "0320{TOP}")?;
+    let source = source.as_str();
+    let other = "03207e534e72295b2ed4520a7628873779052cbc9788fb7a2927ad4234fd78396991";
+    let rows = [
+        (
+            ("80", source, "01d10401aa01bb01d20401aa01bb"),
+            "19 PathLength",
+        ),
+        (("80", "02", "01d10401aa01bb"), "20 PathSource"),
+        (("a0", source, "01d10401aa01bb"), "21 PathKeyUsed"),
+        (("80", source, "01a10401aa01bb"), "21 PathKeyUsed"),
+        (("80", source, "01800401aa01bb"), "21 PathKeyUsed"),
+        (
+            ("80", source, "01d10801aa01bb01aa01bb"),
+            "22 CiphertextCount",
+        ),
+        (("80", other, "01d10401aa01bb"), "23 PathParentHash"),
+        (("80", source, "01d10401aa01bb"), "commit 2"),
+    ];
+    expect_texts(&rt, rt.alloc(), path_answer, &rows)
+}
+
+/// The answer to member 0's commit of a list with a path, and the state after it.
+fn state_after(alloc: Global, list: &str, parts: (&str, &str, &str)) -> Result<String, Fail> {
+    let path = path(alloc, parts)?;
+    let message = commit(alloc, 1, list, path.as_str())?;
+    let messages = [PROPOSAL, COMMIT, message.as_str()];
+    let Story { last, state, .. } = follow(alloc, None, GROUP_INFO, &messages)?;
+    Ok(format!(in alloc; "{last}; {state}")?)
+}
+
+#[test]
+fn a_path_is_merged(rt: HostRuntime) -> Result<(), Fail> {
+    let source = format!(in rt.alloc(); "0320{TOP}")?;
+    let wanted =
+        "commit 2; 00010001014700000000000000022015c2f791f8f44379601359b0a8c0eb8c9bb0e98c3e3ad\
+        a46f6526c016b444c56202bd33e10d5cdf5a3f1f12c942e68dba501b002342990fe895593eda8b222742900 40690101018001\
+        b000010140020001020001000002000103207e534e72295b2ed4520a7628873779052cbc9788fb7a2927ad4234fd7839699000\
+        01c0010201d10000010101a101b1000101410200010200010000020001010000000000000000ffffffffffffffff0001c1 d54\
+        cc5b271b027b1b47617ceab1d30c1553e39b3a167b1370e131c9c4932f7c3 -";
+    let found = state_after(rt.alloc(), "", ("80", source.as_str(), "01d10401aa01bb"))?;
+    expect_text(&rt, found, wanted);
+    Ok(())
+}
+
+/// What becomes of member 0's commit of an Add of member 2 with a path of two nodes, the upper one with these
+/// ciphertexts.
+fn added_answer(alloc: Global, ciphertexts: &str) -> Result<String, Fail> {
+    let list = format!(in alloc; "010001{}", key_package(alloc, 2)?)?;
+    let source = format!(in alloc; "0320{LOWER}")?;
+    let nodes = format!(in alloc; "01d10401aa01bb01d3{ciphertexts}")?;
+    state_after(
+        alloc,
+        list.as_str(),
+        ("80", source.as_str(), nodes.as_str()),
+    )
+}
+
+#[test]
+fn added_members_need_no_ciphertext(rt: HostRuntime) -> Result<(), Fail> {
+    let merged =
+        "commit 2; 00010001014700000000000000022001fca42e2e9594b5e27dc046ce618ac5b6d06d3fd7c14\
+        5b8387ce547c6f36219205be7438d55c9dc61ba6c8508d01874da81f701a73e3dc8bfb7c6df02003bade000 40b80101018001\
+        b0000101400200010200010000020001032093665b04245cc070b1bdf028955a30b2dc700e38eb40845f274e3075f505359100\
+        01c0010201d1206a02415c428629f3da6145086a76a2675a238d2c57ad21584dba9d231107a0f700010101a101b10001014102\
+        00010200010000020001010000000000000000ffffffffffffffff0001c1010201d30000010101a201b2000101420200010200\
+        010000020001010000000000000000ffffffffffffffff0001c2 71dd1afaab7be6ae4d73124f998ff470a470944135d70d075\
+        477704597a8a9c8 -";
+    let refused =
+        "22 CiphertextCount; 0001000101470000000000000001203dd545ada09b9e9be453de8b5c20702e810\
+        685eca3710882583a67d8a3eddd8b203b3fe4cf185f12883575d4bc9a402561feafe917dc05379ecd9f3f0abe6607e500 4053\
+        010101a001b0000101400200010200010000020001010000000000000000ffffffffffffffff0001c000010101a101b1000101\
+        410200010200010000020001010000000000000000ffffffffffffffff0001c1 b88836177897aa5df5354114a8055a4346e88\
+        32a90fb063a197226ffacae36cf -";
+    let rows = [("00", merged), ("0401aa01bb", refused)];
+    expect_texts(&rt, rt.alloc(), added_answer, &rows)
+}
+
+/// The answer to a lone member's commit of nothing, with a path without nodes and this source.
+fn lone_answer(alloc: Global, source: &str) -> Result<String, Fail> {
+    let path = path(alloc, ("80", source, ""))?;
+    let message = commit(alloc, 0, "", path.as_str())?;
+    first_answer(alloc, message.as_str())
+}
+
+#[test]
+fn a_lone_members_path(rt: HostRuntime) -> Result<(), Fail> {
+    let rows = [("0301ff", "23 PathParentHash"), ("0300", "commit 1")];
+    expect_texts(&rt, rt.alloc(), lone_answer, &rows)
+}
+
+// ---- the tree after a commit
+
+/// The answer to member 0's commit of an Add of a key package, in the group of this info.
+fn added_to(alloc: Global, parts: (&str, &str)) -> Result<String, Fail> {
+    let (info, key_package) = parts;
+    let list = format!(in alloc; "010001{key_package}")?;
+    let message = commit(alloc, 1, list.as_str(), "00")?;
+    last_answer(alloc, info, &[PROPOSAL, COMMIT, message.as_str()])
+}
+
+#[test]
+fn added_members_are_judged(rt: HostRuntime) -> Result<(), Fail> {
+    let same_key =
+        "0001000101f201a001b2000101420200010200010000020001010000000000000000ffffffffffffffff0\
+        001c20001c9";
+    let no_credentials =
+        "0001000101f201a201b200010142020001020001000000010000000000000000ffffffffffffffff0001c\
+        20001c9";
+    let same_signer =
+        "0001000101f201a201b1000101420200010200010000020001010000000000000000ffffffffffffffff0\
+        001c20001c9";
+    let unlisted =
+        "0001000101f201a201b2000101420200010200010000020001010000000000000000ffffffffffffffff0\
+        300090001c20001c9";
+    let requiring =
+        "00010004000100010147000000000000000020e32ab6a0a711ec8a732c3fad9263ed5fa61caf53fdf9b96\
+        90dc57271d8f110d7000800030500000200012d00022a29010101a001b00001014002000102000100000200010100000000000\
+        00000ffffffffffffffff0001c001e00000000001c4";
+    let rows = [
+        ((GROUP_INFO, same_key), "24 KeyRepeated"),
+        (
+            (GROUP_INFO, no_credentials),
+            "25 Member(CredentialUnsupported(2))",
+        ),
+        (
+            (GROUP_INFO, same_signer),
+            "25 Member(SignatureKeyRepeated(1))",
+        ),
+        ((GROUP_INFO, unlisted), "25 Member(ExtensionUnlisted(2))"),
+        (
+            (requiring, no_credentials),
+            "25 Member(RequirementUnmet(2))",
+        ),
+    ];
+    expect_texts(&rt, rt.alloc(), added_to, &rows)
+}
+
+/// The receipts of the group info, of member 1's leaf and key package, of the first two messages, and of a
+/// commit with a path but not of its leaf: of suite 1, the key, what is signed and the signature.
+const RECEIPTS: [&str; 6] = [
+    "584cca8421eb79fc5ddfb3f6cc7af53016bdb08bef17bdfff9609d6ae9071284",
+    "e60b8f3c0a227ffc5e084212caecf78d7e2b38f53addb2f55387762615d6872a",
+    "47c350198b187b8db3ec7885f5f8de0799a2ebdd4d7c97610b7b94d2af36410e",
+    "fd064fc6472edfe1ed558ad948a217e66423a65a87d59215cf027574c22d998a",
+    "5cb22003b3fd65f195f718b661f1928e98a924d273554bf449080e0429cb4803",
+    "436a46e8dd27a6014be9970a3e473653053ec079a46b08d41e6001a91bdd4cbf",
+];
+
+/// The answers to the first commit and to the one with a path, under these receipts and another one.
+fn receipted(alloc: Global, last: &str) -> Result<String, Fail> {
+    let mut receipts = format!(in alloc; "{RECEIPT}\n{last}\n")?;
+    for receipt in RECEIPTS {
+        receipts.push_str(receipt)?;
+        receipts.push_str("\n")?;
+    }
+    let source = format!(in alloc; "0320{TOP}")?;
+    let path = path(alloc, ("80", source.as_str(), "01d10401aa01bb"))?;
+    let message = commit(alloc, 1, "", path.as_str())?;
+    let messages = [PROPOSAL, COMMIT, message.as_str()];
+    let Story { answers, .. } = follow(alloc, Some(receipts.as_str()), GROUP_INFO, &messages)?;
+    Ok(answers)
+}
+
+#[test]
+fn a_new_leaf_has_to_be_signed(rt: HostRuntime) -> Result<(), Fail> {
+    let leaf = "527de11f45f8fc1b453123c3cdd7f48596f665f9c39740cc0b663941e19f93b0";
+    let unsigned = format!(in rt.alloc(); "{FIRST_ANSWERS}25 Member(LeafSignature(0)); ")?;
+    let signed = format!(in rt.alloc(); "{FIRST_ANSWERS}commit 2; ")?;
+    let rows = [(RECEIPT, unsigned.as_str()), (leaf, signed.as_str())];
+    expect_texts(&rt, rt.alloc(), receipted, &rows)
+}

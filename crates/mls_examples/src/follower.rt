@@ -1,0 +1,528 @@
+//! A follower: where one starts (RFC 9420, 12.4.3), what it makes of messages, and the state after each.
+//!
+//! The example group is followed from member 0's group info on. Member 0 proposes to add member 1 and commits
+//! the proposal: that is the first epoch, of two members. Every answer to a message is told by its text;
+//! where a refusal changed the follower's context, tree, interim hash or known proposals, the text says so.
+//! After each accepted message both validators have to say yes to the follower's tree.
+
+use crate::support::{
+    COMMIT, GROUP_INFO, KEY_PACKAGE, PROPOSAL, RECEIPT, bytes, expect_text, expect_texts, text,
+    tree_of, tree_text,
+};
+use mls_apply::KnownProposal;
+use mls_check::{Listed, SignatureCheck, Trusting, validate_members, validate_tree};
+use mls_follow::{Follower, Refusal, StartRefused, Taken};
+use mls_hash::Suite;
+use mls_msgs::{GroupInfo, Message, decode_message};
+use mls_nodes::{encode_context, requirements};
+use mls_tree::PublicTree;
+use std::alloc::Global;
+use std::test::Fail;
+
+/// The state of the group info: its context, its tree, the SHA-256 of `01e0` as the interim transcript hash,
+/// and no known proposals.
+const FIRST_STATE: &str =
+    "000100010147000000000000000020e32ab6a0a711ec8a732c3fad9263ed5fa61caf53fdf9b9690dc572\
+    71d8f110d70000 29010101a001b0000101400200010200010000020001010000000000000000ffffffffffffffff0001c0 5099699\
+    9ff63a9a1a07da880af8f8c745a7fe72cec8ba33615464813b41b14b3 -";
+
+/// The receipt of the group info's signature: of suite 1, key `b0`, what is signed, and signature `c4`.
+const INFO_RECEIPT: &str = "584cca8421eb79fc5ddfb3f6cc7af53016bdb08bef17bdfff9609d6ae9071284";
+
+/// The group info of a text.
+fn info_of(alloc: Global, info: &str) -> Result<GroupInfo, Fail> {
+    let bytes = bytes(alloc, info)?;
+    match decode_message(alloc, bytes.as_slice()) {
+        Ok(Message::GroupInfo(info)) => Ok(info),
+        _ => Err(Fail::from("a group info")),
+    }
+}
+
+/// The checker of a receipts file.
+fn listed(alloc: Global, receipts: &str) -> Result<Listed, Fail> {
+    Ok(Listed::read(alloc, receipts.as_bytes())?)
+}
+
+/// The known proposals: the reference and the sender of each, or `-`.
+fn known_text(alloc: Global, known: &[KnownProposal]) -> Result<String, Fail> {
+    let mut all = String::new(alloc);
+    for proposal in known {
+        let reference = text(alloc, proposal.reference.as_slice())?;
+        let sender = proposal.sender;
+        all.push_str(format!(in alloc; "{reference} of {sender};")?.as_str())?;
+    }
+    if all.is_empty() {
+        return Ok(String::from_str(alloc, "-")?);
+    }
+    Ok(all)
+}
+
+/// A follower's state: context, tree, interim transcript hash and known proposals.
+fn state_text(alloc: Global, follower: &Follower) -> Result<String, Fail> {
+    let context = text(alloc, encode_context(alloc, follower.context())?.as_slice())?;
+    let tree = tree_text(alloc, follower.tree())?;
+    let interim = text(alloc, follower.interim().as_slice())?;
+    let known = known_text(alloc, follower.known())?;
+    Ok(format!(in alloc; "{context} {tree} {interim} {known}")?)
+}
+
+/// An accepted message.
+fn taken_text(alloc: Global, taken: Taken) -> Result<String, Fail> {
+    match taken {
+        Taken::Proposal(reference) => {
+            let reference = text(alloc, reference.as_slice())?;
+            Ok(format!(in alloc; "proposal {reference}")?)
+        }
+        Taken::Commit(epoch) => Ok(format!(in alloc; "commit {epoch}")?),
+    }
+}
+
+/// A refused message, after which the state is the same or not.
+fn refusal_text(alloc: Global, refusal: Refusal, same: bool) -> Result<String, Fail> {
+    let number = refusal.number();
+    if same {
+        Ok(format!(in alloc; "{number} {refusal:?}")?)
+    } else {
+        Ok(format!(in alloc; "{number} {refusal:?}, and another state")?)
+    }
+}
+
+/// Whether both validators say yes to a follower's tree, by this checker.
+fn is_valid(
+    alloc: Global,
+    follower: &Follower,
+    checker: &dyn SignatureCheck,
+) -> Result<bool, Fail> {
+    let context = follower.context();
+    let tree = follower.tree();
+    let suite = Suite::from_u16(context.cipher_suite)?;
+    if validate_tree(alloc, suite, context, tree).is_err() {
+        return Ok(false);
+    }
+    let required = requirements(alloc, context)?;
+    let judged = validate_members(
+        alloc,
+        context.cipher_suite,
+        &context.group_id,
+        &required,
+        tree,
+        checker,
+    );
+    drop(required);
+    Ok(judged.is_ok())
+}
+
+/// An accepted message, after which the tree is valid or not.
+fn accepted_text(alloc: Global, taken: Taken, valid: bool) -> Result<String, Fail> {
+    if valid {
+        taken_text(alloc, taken)
+    } else {
+        Err(Fail::from("a valid tree"))
+    }
+}
+
+/// The answer to a message by the follower after it, whose state was told before it. After an accepted one both
+/// validators are asked, with this checker.
+fn answer_text(
+    alloc: Global,
+    follower: &Follower,
+    checker: &dyn SignatureCheck,
+    before: &str,
+    answer: Result<Taken, Refusal>,
+) -> Result<String, Fail> {
+    match answer {
+        Ok(taken) => {
+            let valid = is_valid(alloc, follower, checker)?;
+            accepted_text(alloc, taken, valid)
+        }
+        Err(refusal) => {
+            let after = state_text(alloc, follower)?;
+            refusal_text(alloc, refusal, before == after.as_str())
+        }
+    }
+}
+
+/// What a follower answered to messages, one after the other; what to the last of them; and its state then.
+#[derive(Drop)]
+pub(crate) struct Story {
+    pub(crate) answers: String,
+    pub(crate) last: String,
+    pub(crate) state: String,
+}
+
+impl Story {
+    /// Goes on with an answer and the state after it.
+    fn go_on(&mut self, answer: String, state: String) -> Result<(), Fail> {
+        self.answers.push_str(answer.as_str())?;
+        self.answers.push_str("; ")?;
+        self.last = answer;
+        self.state = state;
+        Ok(())
+    }
+}
+
+/// What a follower answers that starts from a group info and is told of good signatures by receipts; with none it
+/// takes each as good.
+pub(crate) fn follow(
+    alloc: Global,
+    receipts: Option<&str>,
+    info: &str,
+    messages: &[&str],
+) -> Result<Story, Fail> {
+    let info = info_of(alloc, info)?;
+    let checker: Box<dyn SignatureCheck> = match receipts {
+        Some(receipts) => Box::new(alloc, listed(alloc, receipts)?)?,
+        None => Box::new(alloc, Trusting)?,
+    };
+    let mut follower = match Follower::start(alloc, info, None, checker) {
+        Ok(follower) => follower,
+        Err(refused) => {
+            drop(refused);
+            return Err(Fail::from("a start"));
+        }
+    };
+    let mut story = Story {
+        answers: String::new(alloc),
+        last: String::new(alloc),
+        state: state_text(alloc, &follower)?,
+    };
+    for message in messages {
+        let message = bytes(alloc, message)?;
+        let taken = follower.take(message.as_slice());
+        let answer = answer_text(alloc, &follower, &Trusting, story.state.as_str(), taken)?;
+        let state = state_text(alloc, &follower)?;
+        story.go_on(answer, state)?;
+    }
+    drop(follower);
+    Ok(story)
+}
+
+/// The answers, where the group is followed from this group info on.
+fn answers(alloc: Global, info: &str, messages: &[&str]) -> Result<String, Fail> {
+    let Story { answers, .. } = follow(alloc, None, info, messages)?;
+    Ok(answers)
+}
+
+/// The last of them.
+pub(crate) fn last_answer(alloc: Global, info: &str, messages: &[&str]) -> Result<String, Fail> {
+    let Story { last, .. } = follow(alloc, None, info, messages)?;
+    Ok(last)
+}
+
+/// The answer to a message of the first epoch, before anything else.
+pub(crate) fn first_answer(alloc: Global, message: &str) -> Result<String, Fail> {
+    last_answer(alloc, GROUP_INFO, &[message])
+}
+
+/// A public message of a member's, by its epoch, its leaf, and what it is with its tags.
+pub(crate) fn sent(alloc: Global, epoch: u64, member: u32, content: &str) -> Result<String, Fail> {
+    Ok(format!(in alloc; "000100010147{epoch:016x}01{member:08x}00{content}")?)
+}
+
+/// A proposal of a member's.
+pub(crate) fn proposed(
+    alloc: Global,
+    epoch: u64,
+    member: u32,
+    proposal: &str,
+) -> Result<String, Fail> {
+    let content = format!(in alloc; "02{proposal}01c801c7")?;
+    sent(alloc, epoch, member, content.as_str())
+}
+
+// ---- starts
+
+/// The first state of a start, or its fault by number and name.
+fn start_text(alloc: Global, answer: Result<Follower, StartRefused>) -> Result<String, Fail> {
+    match answer {
+        Ok(follower) => {
+            let state = state_text(alloc, &follower);
+            drop(follower);
+            state
+        }
+        Err(refused) => {
+            let fault = refused.fault;
+            drop(refused);
+            Ok(format!(in alloc; "{} {fault:?}", fault.number())?)
+        }
+    }
+}
+
+/// What comes of a start from a group info, without a tree, that takes each signature as good.
+fn trusting_start(alloc: Global, info: &str) -> Result<String, Fail> {
+    let info = info_of(alloc, info)?;
+    let checker = Box::new(alloc, Trusting)?;
+    start_text(alloc, Follower::start(alloc, info, None, checker))
+}
+
+/// A group info by its version, suite, hash, extensions of the context and of its own, and signer.
+fn info_with(alloc: Global, parts: (&str, &str, &str, &str, &str, &str)) -> Result<String, Fail> {
+    let (version, suite, hash, extensions, own, signer) = parts;
+    let start = format!(in alloc;
+        "00010004{version}{suite}0147000000000000000020{hash}00{extensions}"
+    )?;
+    Ok(format!(in alloc; "{start}{own}01e0{signer}01c4")?)
+}
+
+/// What comes of a start from such a group info.
+fn changed_start(
+    alloc: Global,
+    parts: (&str, &str, &str, &str, &str, &str),
+) -> Result<String, Fail> {
+    let info = info_with(alloc, parts)?;
+    trusting_start(alloc, info.as_str())
+}
+
+#[test]
+fn starts(rt: HostRuntime) -> Result<(), Fail> {
+    expect_text(&rt, trusting_start(rt.alloc(), GROUP_INFO)?, FIRST_STATE);
+    let hash = "e32ab6a0a711ec8a732c3fad9263ed5fa61caf53fdf9b9690dc57271d8f110d7";
+    let other = "e32ab6a0a711ec8a732c3fad9263ed5fa61caf53fdf9b9690dc57271d8f110d6";
+    let tree =
+        "2d00022a29010101a001b0000101400200010200010000020001010000000000000000ffffffffffffffff0001c0";
+    let faults = [
+        (
+            ("0002", "0004", hash, "00", "00", "00000001"),
+            "1 UnsupportedVersion",
+        ),
+        (
+            ("0001", "0004", hash, "00", "00", "00000001"),
+            "2 UnsupportedSuite",
+        ),
+        (
+            ("0001", "0001", other, "0400030100", "00", "00000001"),
+            "3 NoTree",
+        ),
+        (
+            (
+                "0001",
+                "0001",
+                other,
+                "0400030100",
+                "0400020100",
+                "00000001",
+            ),
+            "3 NoTree",
+        ),
+        (
+            ("0001", "0001", other, "0400030100", tree, "00000001"),
+            "4 RequirementsUnreadable",
+        ),
+        (
+            (
+                "0001",
+                "0001",
+                other,
+                "080003050000020002",
+                tree,
+                "00000001",
+            ),
+            "5 Tree(HashDiffers)",
+        ),
+        (
+            ("0001", "0001", hash, "080003050000020002", tree, "00000001"),
+            "6 Member(RequirementUnmet(0))",
+        ),
+        (
+            ("0001", "0001", hash, "080003050000020001", tree, "00000001"),
+            "7 SignerNotMember",
+        ),
+    ];
+    expect_texts(&rt, rt.alloc(), changed_start, &faults)
+}
+
+/// What comes of a start under receipts, and of another one with what was handed back.
+fn listed_start(alloc: Global, receipts: &str) -> Result<String, Fail> {
+    let info = info_of(alloc, GROUP_INFO)?;
+    let checker = Box::new(alloc, listed(alloc, receipts)?)?;
+    match Follower::start(alloc, info, None, checker) {
+        Ok(follower) => start_text(alloc, Ok(follower)),
+        Err(refused) => {
+            let fault = refused.fault;
+            let again = Follower::start(alloc, refused.info, refused.tree, refused.checker);
+            let again = start_text(alloc, again)?;
+            Ok(format!(in alloc; "{} {fault:?}, again {again}", fault.number())?)
+        }
+    }
+}
+
+#[test]
+fn starts_under_receipts(rt: HostRuntime) -> Result<(), Fail> {
+    let rows = [
+        (
+            "",
+            "6 Member(LeafSignature(0)), again 6 Member(LeafSignature(0))",
+        ),
+        (RECEIPT, "8 InfoSignature, again 8 InfoSignature"),
+    ];
+    expect_texts(&rt, rt.alloc(), listed_start, &rows)?;
+    let both = format!(in rt.alloc(); "{RECEIPT}\n{INFO_RECEIPT}\n")?;
+    expect_text(&rt, listed_start(rt.alloc(), both.as_str())?, FIRST_STATE);
+    Ok(())
+}
+
+/// What comes of a start with a tree of these leaves that is handed in, beside the one in the info.
+fn handed_start(alloc: Global, leaves: (u32, &[u32])) -> Result<String, Fail> {
+    let info = info_of(alloc, GROUP_INFO)?;
+    let tree = tree_of(alloc, leaves.0, leaves.1)?;
+    let checker = Box::new(alloc, Trusting)?;
+    start_text(alloc, Follower::start(alloc, info, Some(tree), checker))
+}
+
+#[test]
+fn starts_with_a_tree(rt: HostRuntime) -> Result<(), Fail> {
+    let rows = [
+        ((1, [0].as_slice()), FIRST_STATE),
+        ((2, &[0, 1]), "5 Tree(HashDiffers)"),
+    ];
+    expect_texts(&rt, rt.alloc(), handed_start, &rows)
+}
+
+// ---- messages
+
+#[test]
+fn a_proposal_and_its_commit(rt: HostRuntime) -> Result<(), Fail> {
+    let first = "proposal 419afc0a88fe171b793b00410d11c8121fb96fdfde7b5ced43d5912144a3a9f9; ";
+    let state =
+        "0001000101470000000000000001203dd545ada09b9e9be453de8b5c20702e810685eca3710882583a67d8\
+        a3eddd8b203b3fe4cf185f12883575d4bc9a402561feafe917dc05379ecd9f3f0abe6607e500 4053010101a001b000\
+        0101400200010200010000020001010000000000000000ffffffffffffffff0001c000010101a101b10001014102000\
+        10200010000020001010000000000000000ffffffffffffffff0001c1 b88836177897aa5df5354114a8055a4346e88\
+        32a90fb063a197226ffacae36cf -";
+    let wanted = format!(in rt.alloc();
+        "{first}8 AlreadyKnown; 8 AlreadyKnown; commit 1; 4 WrongEpoch; {state}"
+    )?;
+    let retagged =
+        "00010001014700000000000000000100000000000200010001000101f101a101b1000101410200010\
+        200010000020001010000000000000000ffffffffffffffff0001c10001c901c801c6";
+    let messages = [PROPOSAL, PROPOSAL, retagged, COMMIT, COMMIT];
+    let Story { answers, state, .. } = follow(rt.alloc(), None, GROUP_INFO, &messages)?;
+    let found = format!(in rt.alloc(); "{answers}{state}")?;
+    expect_text(&rt, found, wanted.as_str());
+    Ok(())
+}
+
+#[test]
+fn a_reference_is_of_its_epoch(rt: HostRuntime) -> Result<(), Fail> {
+    let later =
+        "000100010147000000000000000101000000000003220220419afc0a88fe171b793b00410d11c8121fb96f\
+        dfde7b5ced43d5912144a3a9f90001c601e101c5";
+    let wanted =
+        "proposal 419afc0a88fe171b793b00410d11c8121fb96fdfde7b5ced43d5912144a3a9f9; commit 1; \
+        13 UnknownReference; ";
+    let found = answers(rt.alloc(), GROUP_INFO, &[PROPOSAL, COMMIT, later])?;
+    expect_text(&rt, found, wanted);
+    Ok(())
+}
+
+/// The answer to a frame by what stands before its sender, its sender, and what follows its empty data.
+fn frame_answer(alloc: Global, parts: (&str, &str, &str)) -> Result<String, Fail> {
+    let (start, sender, content) = parts;
+    let message = format!(in alloc; "{start}{sender}00{content}")?;
+    first_answer(alloc, message.as_str())
+}
+
+#[test]
+fn frames(rt: HostRuntime) -> Result<(), Fail> {
+    let here = "0001000101470000000000000000";
+    let added = format!(in rt.alloc(); "020001{KEY_PACKAGE}01c8")?;
+    let added = added.as_str();
+    let tagged = format!(in rt.alloc(); "{added}01c7")?;
+    let tagged = tagged.as_str();
+    let short = format!(in rt.alloc(); "{added}01")?;
+    let unknown = format!(in rt.alloc(); "020004{KEY_PACKAGE}01c801c7")?;
+    let rows = [
+        (
+            ("0001000201470000000000000000", "0100000000", tagged),
+            "2 NotPublic",
+        ),
+        (
+            ("0001000101480000000000000009", "0100000000", tagged),
+            "3 WrongGroup",
+        ),
+        (
+            ("0001000101470000000000000009", "0100000000", tagged),
+            "4 WrongEpoch",
+        ),
+        ((here, "0100000007", tagged), "5 SenderNotMember"),
+        ((here, "0200000000", added), "5 SenderNotMember"),
+        ((here, "03", added), "5 SenderNotMember"),
+        ((here, "04", "03000001c601e1"), "5 SenderNotMember"),
+        ((here, "0100000000", "0101aa01c801c7"), "6 NotHandshake"),
+        ((here, "0100000000", short.as_str()), "1 Malformed"),
+        ((here, "0100000000", unknown.as_str()), "1 Malformed"),
+        ((here, "0200000000", tagged), "1 Malformed"),
+    ];
+    expect_texts(&rt, rt.alloc(), frame_answer, &rows)
+}
+
+/// The answer to a proposal under receipts of the first leaf and the group info alone.
+fn unsigned_answer(alloc: Global, message: &str) -> Result<String, Fail> {
+    let receipts = format!(in alloc; "{RECEIPT}\n{INFO_RECEIPT}\n")?;
+    let Story { last, .. } = follow(alloc, Some(receipts.as_str()), GROUP_INFO, &[message])?;
+    Ok(last)
+}
+
+#[test]
+fn a_frame_without_a_receipt(rt: HostRuntime) -> Result<(), Fail> {
+    expect_text(
+        &rt,
+        unsigned_answer(rt.alloc(), PROPOSAL)?,
+        "7 BadSignature",
+    );
+    Ok(())
+}
+
+/// The answer to member 0's proposal in the first epoch.
+fn proposal_answer(alloc: Global, proposal: &str) -> Result<String, Fail> {
+    let message = proposed(alloc, 0, 0, proposal)?;
+    first_answer(alloc, message.as_str())
+}
+
+#[test]
+fn proposals(rt: HostRuntime) -> Result<(), Fail> {
+    let other_suite =
+        "00010001000201f101a101b1000101410200010200010000020001010000000000000000fffffffffffff\
+        fff0001c10001c9";
+    let one_key =
+        "00010001000101a101a101b1000101410200010200010000020001010000000000000000fffffffffffff\
+        fff0001c10001c9";
+    let updated = "00010001000101f101a101b1000101410200010200010000020001020001c10001c9";
+    let same_key = "000201a001b0000101400200010200010000020001020001c0";
+    let joined =
+        "0002019001b0000101400200010200010000020001010000000000000000ffffffffffffffff0001c0";
+    let rows = [
+        (other_suite, "9 AddInvalid"),
+        (one_key, "9 AddInvalid"),
+        (updated, "9 AddInvalid"),
+        (same_key, "10 UpdateInvalid"),
+        (joined, "10 UpdateInvalid"),
+        ("000300000005", "11 RemoveInvalid"),
+    ];
+    expect_texts(&rt, rt.alloc(), proposal_answer, &rows)
+}
+
+/// What becomes of a group in its last epoch: a proposal, a commit, and what is known then.
+fn last_epoch(alloc: Global, info: &str) -> Result<String, Fail> {
+    let proposal = format!(in alloc; "0001{KEY_PACKAGE}")?;
+    let proposal = proposed(alloc, 18446744073709551615, 0, proposal.as_str())?;
+    let commit = sent(alloc, 18446744073709551615, 0, "03000001c601e101c5")?;
+    answers(
+        alloc,
+        info,
+        &[proposal.as_str(), commit.as_str(), proposal.as_str()],
+    )
+}
+
+#[test]
+fn the_last_epoch(rt: HostRuntime) -> Result<(), Fail> {
+    let info =
+        "00010004000100010147ffffffffffffffff20e32ab6a0a711ec8a732c3fad9263ed5fa61caf53fdf9b96\
+        90dc57271d8f110d700002d00022a29010101a001b0000101400200010200010000020001010000000000000000fffffffffff\
+        fffff0001c001e00000000001c4";
+    let wanted =
+        "proposal 6cb5d82cc4230209de188932fff1299aaaa0e6eba135817485cbd1564797032b; 12 LastEpoch; \
+        8 AlreadyKnown; ";
+    expect_text(&rt, last_epoch(rt.alloc(), info)?, wanted);
+    Ok(())
+}

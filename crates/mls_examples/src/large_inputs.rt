@@ -1,0 +1,89 @@
+//! Inputs at the limit of 268,435,456 bytes and over it, which is this library's own.
+
+use crate::support::expect_texts;
+use mls_check::Listed;
+use mls_cli::{ShowKind, run_show};
+use mls_msgs::{Message, decode_message};
+use mls_nodes::{decode_context, decode_ratchet_tree};
+use mls_wire::{MemorySink, StdSource};
+use std::alloc::Global;
+use std::test::Fail;
+
+/// A private message with a body of zeros, so many bytes in all.
+fn private_message(alloc: Global, size: usize) -> Result<Vec<u8>, Fail> {
+    let zeros = vec![in alloc; 0u8; 65536]?;
+    let mut input = Vec::with_capacity(alloc, size)?;
+    input.extend_from_slice(&[0, 1, 0, 2])?;
+    for _ in 0..4097 {
+        let more = size.saturating_sub(input.len()).min(zeros.len());
+        input.extend_from_slice(zeros.as_slice().get(..more).ok_or("zeros")?)?;
+    }
+    Ok(input)
+}
+
+/// The wire format and the body's length of a message of such a size, or why it can't be read.
+fn message_of(alloc: Global, size: usize) -> Result<String, Fail> {
+    let input = private_message(alloc, size)?;
+    match decode_message(alloc, input.as_slice()) {
+        Ok(Message::Unread { wire_format, body }) => {
+            Ok(format!(in alloc; "{wire_format} {}", body.as_slice().len())?)
+        }
+        Ok(_) => Err(Fail::from("another message")),
+        Err(fault) => Ok(format!(in alloc; "{fault}")?),
+    }
+}
+
+#[test]
+fn messages_at_the_limit(rt: HostRuntime) -> Result<(), Fail> {
+    let sizes = [(268435456, "2 268435452"), (268435457, "TooLong at 0")];
+    expect_texts(&rt, rt.alloc(), message_of, &sizes)
+}
+
+/// Why a context of such a size can't be read.
+fn context_of(alloc: Global, size: usize) -> Result<String, Fail> {
+    let input = private_message(alloc, size)?;
+    let fault = decode_context(alloc, input.as_slice()).err();
+    Ok(format!(in alloc; "{}", fault.ok_or("a fault")?)?)
+}
+
+/// Why a tree of such a size can't be read.
+fn tree_of(alloc: Global, size: usize) -> Result<String, Fail> {
+    let input = private_message(alloc, size)?;
+    let fault = decode_ratchet_tree(alloc, input.as_slice()).err();
+    Ok(format!(in alloc; "{}", fault.ok_or("a fault")?)?)
+}
+
+/// Why receipts of such a size can't be read.
+fn receipts_of(alloc: Global, size: usize) -> Result<String, Fail> {
+    let input = private_message(alloc, size)?;
+    let fault = Listed::read(alloc, input.as_slice()).err();
+    Ok(format!(in alloc; "{}", fault.ok_or("a fault")?)?)
+}
+
+#[test]
+fn other_inputs_over_the_limit(rt: HostRuntime) -> Result<(), Fail> {
+    let alloc = rt.alloc();
+    let over = 268435457;
+    let receipts = "the file has more than 268,435,456 bytes";
+    expect_texts(&rt, alloc, context_of, &[(over, "TooLong at 0")])?;
+    expect_texts(&rt, alloc, tree_of, &[(over, "TooLong at 0")])?;
+    expect_texts(&rt, alloc, receipts_of, &[(over, receipts)])
+}
+
+/// What `show message` writes of a message of such a size.
+fn shown(alloc: Global, size: usize) -> Result<String, Fail> {
+    let input = private_message(alloc, size)?;
+    let mut out = MemorySink::new(alloc, 100, 100, None)?;
+    let mut source = StdSource::new(input.as_slice());
+    run_show(alloc, ShowKind::Message, &mut source, &mut out)?;
+    Ok(String::from_utf8(Vec::from_slice(alloc, out.bytes())?)?)
+}
+
+#[test]
+fn a_message_over_the_limit_is_told(rt: HostRuntime) -> Result<(), Fail> {
+    let sizes = [
+        (268435456, "private 268435452\n"),
+        (268435457, "unreadable TooLong 0\n"),
+    ];
+    expect_texts(&rt, rt.alloc(), shown, &sizes)
+}

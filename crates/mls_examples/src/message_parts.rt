@@ -1,0 +1,137 @@
+//! Messages made of their parts, and parts that don't fit together (RFC 9420, 6, 6.1 and 6.2).
+
+use crate::support::{PROPOSAL, PROPOSED, bytes, expect_answers, expect_texts};
+use mls_msgs::{
+    Authenticated, AuthenticatedParts, FramedContent, Message, PublicMessage, PublicParts,
+    encode_message,
+};
+use mls_wire::{CodecFault, Opaque, read_all_of};
+use std::alloc::Global;
+use std::test::Fail;
+
+/// An authenticated content of wire format 1, with the signature `c8` and no tag.
+fn signed_with(content: FramedContent, signature: Opaque) -> Option<Authenticated> {
+    let parts = AuthenticatedParts {
+        wire_format: 1,
+        content,
+        signature,
+        confirmation_tag: None,
+    };
+    match Authenticated::new(parts) {
+        Ok(auth) => Some(auth),
+        Err(parts) => {
+            drop(parts);
+            None
+        }
+    }
+}
+
+/// A public message of it, written; nothing where the parts don't fit.
+fn tagged_with(alloc: Global, auth: Authenticated, tag: Opaque) -> Result<Vec<u8>, CodecFault> {
+    let membership_tag = Some(tag);
+    match PublicMessage::new(PublicParts {
+        auth,
+        membership_tag,
+    }) {
+        Ok(public) => {
+            let message = Message::Public(public);
+            let written = encode_message(alloc, &message);
+            drop(message);
+            written
+        }
+        Err(parts) => {
+            drop(parts);
+            Ok(Vec::new(alloc))
+        }
+    }
+}
+
+/// The message of a framed content, with the signature `c8` and the tag `c7`; nothing where the parts don't fit.
+fn made_of(alloc: Global, input: &[u8]) -> Result<Vec<u8>, CodecFault> {
+    let signature = Opaque::copy(alloc, &[0xc8])?;
+    let tag = Opaque::copy(alloc, &[0xc7])?;
+    let content = read_all_of(alloc, input)?;
+    match signed_with(content, signature) {
+        Some(auth) => tagged_with(alloc, auth, tag),
+        None => Ok(Vec::new(alloc)),
+    }
+}
+
+#[test]
+fn messages_are_made_of_parts(rt: HostRuntime) -> Result<(), Fail> {
+    expect_answers(&rt, rt.alloc(), made_of, &[(PROPOSED, PROPOSAL)])
+}
+
+/// Which parts fit together: `public` where they make a public message, `content` where they make a content alone, and
+/// `none`.
+fn fitting(auth: Result<Authenticated, AuthenticatedParts>, tag: Option<Opaque>) -> &'static str {
+    let auth = match auth {
+        Ok(auth) => auth,
+        Err(parts) => {
+            drop(parts);
+            return "none";
+        }
+    };
+    match PublicMessage::new(PublicParts {
+        auth,
+        membership_tag: tag,
+    }) {
+        Ok(public) => {
+            drop(public);
+            "public"
+        }
+        Err(parts) => {
+            drop(parts);
+            "content"
+        }
+    }
+}
+
+/// A tag of one byte, where there is to be one.
+fn tag_if(alloc: Global, is_wanted: bool) -> Result<Option<Opaque>, Fail> {
+    if is_wanted {
+        Ok(Some(Opaque::copy(alloc, &[0xe1])?))
+    } else {
+        Ok(None)
+    }
+}
+
+/// Which parts fit together, of a wire format, a framed content, a confirmation tag and a membership tag.
+fn parts_that_fit(alloc: Global, parts: (u16, &str, bool, bool)) -> Result<String, Fail> {
+    let (wire_format, content, is_confirmed, is_tagged) = parts;
+    let input = bytes(alloc, content)?;
+    let signature = Opaque::copy(alloc, &[0xc6])?;
+    let membership_tag = tag_if(alloc, is_tagged)?;
+    let confirmation_tag = tag_if(alloc, is_confirmed)?;
+    let content: FramedContent = read_all_of(alloc, input.as_slice())?;
+    let auth = Authenticated::new(AuthenticatedParts {
+        wire_format,
+        content,
+        signature,
+        confirmation_tag,
+    });
+    Ok(String::from_str(alloc, fitting(auth, membership_tag))?)
+}
+
+/// A member's proposal, a Remove of an external sender, and the commits of a member and of a new one.
+#[test]
+fn tags_of_parts(rt: HostRuntime) -> Result<(), Fail> {
+    let external = "014700000000000000050200000102014402000300000009";
+    let committed = "0147000000000000000501000000030144030000";
+    let joined = "01470000000000000005040144030000";
+    let parts = [
+        ((1, PROPOSED, false, true), "public"),
+        ((1, PROPOSED, false, false), "content"),
+        ((1, PROPOSED, true, true), "none"),
+        ((2, PROPOSED, false, true), "content"),
+        ((0, PROPOSED, false, true), "none"),
+        ((3, PROPOSED, false, true), "none"),
+        ((1, external, false, false), "public"),
+        ((1, external, false, true), "content"),
+        ((1, committed, true, true), "public"),
+        ((1, committed, false, true), "none"),
+        ((1, joined, true, false), "public"),
+        ((1, joined, true, true), "content"),
+    ];
+    expect_texts(&rt, rt.alloc(), parts_that_fit, &parts)
+}

@@ -1,0 +1,184 @@
+//! The program over files in memory: what it prints, and its exit status.
+
+use crate::support::{CONTEXT, GROUP_INFO, PROPOSAL, RECEIPT, TREE, bytes, expect_texts};
+use mls_cli::{Files, run_program};
+use mls_wire::{MemorySink, MemorySource};
+use std::alloc::Global;
+use std::test::Fail;
+
+/// The files of an info, a log, a context, a tree and receipts, the last of which are the bytes of a text. There is no
+/// other.
+#[derive(Drop)]
+struct Shelf<'a> {
+    info: &'a [u8],
+    log: &'a [u8],
+    context: &'a [u8],
+    tree: &'a [u8],
+    receipts: &'a str,
+}
+
+impl<'a> Files for Shelf<'a> {
+    type File = MemorySource<'a>;
+
+    ghost gives = { λ _ _ _. Unit {0} };
+
+    ghost lacks = { λ _ _. Unit {0} };
+
+    fn open(&self, name: &str) -> Option<MemorySource<'a>> {
+        match name {
+            "info" => Some(MemorySource::new(self.info, 40, None)),
+            "log" => Some(MemorySource::new(self.log, 40, None)),
+            "context" => Some(MemorySource::new(self.context, 40, None)),
+            "tree" => Some(MemorySource::new(self.tree, 40, None)),
+            "receipts" => Some(MemorySource::new(self.receipts.as_bytes(), 40, None)),
+            _ => None,
+        }
+    }
+}
+
+/// The words of a line, behind the program's name.
+fn words(alloc: Global, line: &str) -> Result<Vec<String>, Fail> {
+    let mut words = Vec::new(alloc);
+    words.push(String::from_str(alloc, "mlscheck")?)?;
+    for word in line.split_whitespace() {
+        words.push(String::from_str(alloc, word)?)?;
+    }
+    Ok(words)
+}
+
+/// The exit status of a line, what is written on the output, which may fail at a call, and what is noted.
+fn run(alloc: Global, line: &str, receipts: &str, fails_at: Option<usize>) -> Result<String, Fail> {
+    let info = bytes(alloc, GROUP_INFO)?;
+    let log = format!(in alloc; "404b{PROPOSAL}00")?;
+    let log = bytes(alloc, log.as_str())?;
+    let context = bytes(alloc, CONTEXT)?;
+    let tree = bytes(alloc, TREE)?;
+    let files = Shelf {
+        info: info.as_slice(),
+        log: log.as_slice(),
+        context: context.as_slice(),
+        tree: tree.as_slice(),
+        receipts,
+    };
+    let words = words(alloc, line)?;
+    let mut out = MemorySink::new(alloc, 2000, 30, fails_at)?;
+    let mut notes = MemorySink::new(alloc, 100, 30, None)?;
+    let status = run_program(alloc, words.as_slice(), &files, &mut out, &mut notes);
+    let out = String::from_utf8(Vec::from_slice(alloc, out.bytes())?)?;
+    let notes = String::from_utf8(Vec::from_slice(alloc, notes.bytes())?)?;
+    Ok(format!(in alloc; "{status} {out}| {notes}")?)
+}
+
+/// What a line gives with the receipt of the leaf's signature.
+fn answer(alloc: Global, line: &str) -> Result<String, Fail> {
+    run(alloc, line, RECEIPT, None)
+}
+
+/// Each status, and each file at its place. The receipts begin with the letter `b`, which as the first byte of a vector
+/// begins a length in two bytes, of more bytes than there are.
+#[test]
+fn orders_are_carried_out(rt: HostRuntime) -> Result<(), Fail> {
+    let rows = [
+        (
+            "show tree tree",
+            "0 0 leaf 0 a0 b0 key_package 0 18446744073709551615\nleaves 1 members 1\n| ",
+        ),
+        ("show tree receipts", "1 unreadable Truncated 0\n| "),
+        (
+            "validate-tree --context context --tree tree --trust",
+            "0 valid e32ab6a0a711ec8a732c3fad9263ed5fa61caf53fdf9b9690dc57271d8f110d7\n| ",
+        ),
+        (
+            "validate-tree --context context --tree tree --receipts receipts",
+            "0 valid e32ab6a0a711ec8a732c3fad9263ed5fa61caf53fdf9b9690dc57271d8f110d7\n| ",
+        ),
+        (
+            "validate-tree --context context --tree receipts --trust",
+            "1 tree unreadable Truncated 0\n| ",
+        ),
+        (
+            "validate-tree --context context --tree tree",
+            "2 | usage: give one of --trust and --receipts\n",
+        ),
+        (
+            "validate --info info --trust",
+            "0 valid epoch 0 members 1 tree \
+                e32ab6a0a711ec8a732c3fad9263ed5fa61caf53fdf9b9690dc57271d8f110d7\n| ",
+        ),
+        (
+            "validate --info info --tree tree --trust",
+            "0 valid epoch 0 members 1 tree \
+                e32ab6a0a711ec8a732c3fad9263ed5fa61caf53fdf9b9690dc57271d8f110d7\n| ",
+        ),
+        (
+            "validate --info info --tree receipts --trust",
+            "1 tree unreadable Truncated 0\n| ",
+        ),
+        (
+            "replay --info info --log log --trust",
+            "1 1 accepted proposal 419afc0a88fe171b793b00410d11c8121fb96fdfde7b5ced43d5912144a3a9f9\n\
+                2 refused 1\naccepted 1 refused 1 broken 0 epoch 0\n| ",
+        ),
+        ("show tree other", "3 | fault: read\n"),
+        ("validate --info other --trust", "3 | fault: read\n"),
+        (
+            "replay --info info --log other --trust",
+            "3 | fault: read\n",
+        ),
+        (
+            "validate --info info --tree other --trust",
+            "3 | fault: read\n",
+        ),
+        (
+            "validate-tree --context other --tree tree --trust",
+            "3 | fault: read\n",
+        ),
+        (
+            "validate-tree --context context --tree other --trust",
+            "3 | fault: read\n",
+        ),
+        (
+            "validate-tree --context context --tree tree --receipts other",
+            "3 | fault: read\n",
+        ),
+    ];
+    expect_texts(&rt, rt.alloc(), answer, &rows)
+}
+
+/// What `validate-tree` gives by a file of receipts, where the tree's file is missing.
+fn judged(alloc: Global, row: (&str, &str)) -> Result<String, Fail> {
+    let (tree, receipts) = row;
+    let line = format!(in alloc;
+        "validate-tree --context context --tree {tree} --receipts receipts"
+    )?;
+    run(alloc, line.as_str(), receipts, None)
+}
+
+/// No receipt of the leaf; bad receipts, which are told before any other file is opened.
+#[test]
+fn receipts_are_read_first(rt: HostRuntime) -> Result<(), Fail> {
+    let rows = [
+        (("tree", ""), "1 members refused 5 LeafSignature 0\n| "),
+        (("tree", "receipt"), "1 receipts unreadable 1\n| "),
+        (("other", "receipt"), "1 receipts unreadable 1\n| "),
+    ];
+    expect_texts(&rt, rt.alloc(), judged, &rows)
+}
+
+/// What a line gives where the output fails at its second call.
+fn failing(alloc: Global, line: &str) -> Result<String, Fail> {
+    run(alloc, line, "", Some(2))
+}
+
+/// A report and a help of which the first 30 bytes are taken.
+#[test]
+fn outputs_fail(rt: HostRuntime) -> Result<(), Fail> {
+    let rows = [
+        (
+            "show tree tree",
+            "3 0 leaf 0 a0 b0 key_package 0 1| fault: write\n",
+        ),
+        ("--help", "3 Checks the public state of MLS| fault: write\n"),
+    ];
+    expect_texts(&rt, rt.alloc(), failing, &rows)
+}

@@ -1,0 +1,66 @@
+#!/bin/sh
+# Tries each exit status on the real program, with the files of this folder, and what it prints beside. Run it by hand,
+# from anywhere: neither `rt ci` nor any test runs it. It ends with 1 at the first status or text that is another one.
+set -eu
+
+cd -- "$(dirname -- "$0")/.."
+made=$(mktemp -d)
+trap 'rm -r -- "$made"' EXIT
+
+# Runs the program on the words behind STATUS, STREAM and TEXT, and wants this status, and this text on a stream.
+expect() {
+    status=$1 stream=$2 text=$3
+    shift 3
+    got=0
+    ./mlscheck "$@" >"$made/out" 2>"$made/notes" || got=$?
+    if [ "$got" -ne "$status" ] || ! grep -qF -e "$text" "$made/$stream"; then
+        echo "mlscheck $*: status $got, wanted $status with '$text' in its $stream" >&2
+        exit 1
+    fi
+    echo "$status mlscheck $*"
+}
+
+context=examples/one-leaf.context
+tree=examples/one-leaf.tree
+printf 'no digest\n' >"$made/bad"
+
+expect 0 out 'leaves 1 members 1' show tree "$tree"
+expect 0 out 'valid ' validate-tree --context "$context" --tree "$tree" --trust
+expect 0 out 'valid ' validate-tree --context "$context" --tree "$tree" \
+    --receipts examples/one-leaf.receipts
+expect 0 out 'valid epoch 1 members 2 ' validate --info examples/real/epoch-1.info \
+    --receipts examples/real/receipts.txt
+expect 0 out 'accepted 10 refused 0 broken 0 epoch 8' replay --info examples/real/epoch-1.info \
+    --log examples/real/handshakes.log --receipts examples/real/receipts.txt
+expect 0 out 'Usage: mlscheck' --help
+expect 0 out 'mlscheck 0.1.0' --version
+
+expect 1 out 'unreadable ' show tree "$context"
+expect 1 out 'tree refused 1 HashDiffers' validate-tree --context "$context" \
+    --tree examples/six-members.tree --trust
+expect 1 out 'receipts unreadable 1' validate-tree --context "$context" --tree "$tree" \
+    --receipts "$made/bad"
+
+expect 1 out 'start refused 8 InfoSignature' validate --info examples/one-leaf.info \
+    --receipts examples/one-leaf.receipts
+expect 1 out 'accepted 0 refused 1 broken 0 epoch 0' replay --info examples/one-leaf.info \
+    --log examples/six-members.tree --trust
+
+expect 2 notes 'requires a subcommand'
+expect 2 notes 'unrecognized subcommand' nope
+expect 2 notes 'usage: give one of --trust and --receipts' validate-tree --context "$context" \
+    --tree "$tree"
+expect 2 notes 'usage: give one of --trust and --receipts' validate-tree --context "$context" \
+    --tree "$tree" --trust --receipts examples/one-leaf.receipts
+
+expect 3 notes 'fault: read' show tree "$made/missing"
+expect 3 notes 'fault: read' validate-tree --context "$context" --tree "$tree" \
+    --receipts "$made/missing"
+
+got=0
+./mlscheck show tree "$tree" >/dev/full 2>"$made/notes" || got=$?
+if [ "$got" -ne 3 ] || [ "$(cat "$made/notes")" != 'fault: write' ]; then
+    echo "mlscheck show tree $tree >/dev/full: status $got, wanted 3 with 'fault: write'" >&2
+    exit 1
+fi
+echo "3 mlscheck show tree $tree >/dev/full"

@@ -7,7 +7,8 @@
 //! - A file stands for each subject, and `support.rt` has what they share: bytes as hexadecimal text, the example
 //!   group's leaves and messages, and trees made of them.
 //! - Expected values are worked out by hand from the RFC's text, and are never what the libraries answered.
-//! - `real_trees.rt` and `real_messages.rt` have a group that another program made, whose signatures are true.
+//! - `real_trees.rt`, `real_messages.rt` and `real_group.rt` have a group that another program made, whose signatures are
+//!   true.
 #![tactic(auto)]
 
 #[cfg(test)]
@@ -26,6 +27,8 @@ mod hashes;
 mod large_inputs;
 #[cfg(test)]
 mod leaves;
+#[cfg(test)]
+mod logs;
 #[cfg(test)]
 mod members;
 #[cfg(test)]

@@ -1,0 +1,90 @@
+//! Logs, record by record.
+
+use crate::support::{bytes, expect_text, text};
+use mls_wire::{LogStep, MemorySource, RecordReader};
+use std::alloc::Global;
+use std::test::Fail;
+
+/// What a call told.
+fn name_of(step: LogStep) -> &'static str {
+    match step {
+        LogStep::Record => "record",
+        LogStep::End => "end",
+        LogStep::Broken => "broken",
+        LogStep::Over => "over",
+    }
+}
+
+/// What four calls tell of a log of at most so many records: each answer, its body, and how many bytes are left
+/// behind it.
+fn told(alloc: Global, log: &str, most: u32) -> Result<String, Fail> {
+    let log = bytes(alloc, log)?;
+    let mut source = MemorySource::new(log.as_slice(), 3, None);
+    let mut reader = RecordReader::new(alloc, most);
+    let mut said = String::new(alloc);
+    for _ in 0..4 {
+        let step = name_of(reader.next(&mut source)?);
+        let body = text(alloc, reader.body())?;
+        let left = source.left().len();
+        said = format!(in alloc; "{said}{step} {body}, {left} left. ")?;
+    }
+    Ok(said)
+}
+
+#[test]
+fn records_of_logs(rt: HostRuntime) -> Result<(), Fail> {
+    for (log, most, wanted) in [
+        (
+            "01ab00c0",
+            9,
+            "record ab, 2 left. record , 1 left. broken , 0 left. over , 0 left. ",
+        ),
+        (
+            "4001ab",
+            9,
+            "broken , 1 left. over , 1 left. over , 1 left. over , 1 left. ",
+        ),
+        (
+            "9000000100",
+            9,
+            "broken , 1 left. over , 1 left. over , 1 left. over , 1 left. ",
+        ),
+        (
+            "02ab",
+            9,
+            "broken , 0 left. over , 0 left. over , 0 left. over , 0 left. ",
+        ),
+        (
+            "",
+            9,
+            "end , 0 left. over , 0 left. over , 0 left. over , 0 left. ",
+        ),
+        (
+            "00000000",
+            2,
+            "record , 3 left. record , 2 left. broken , 1 left. over , 1 left. ",
+        ),
+        (
+            "0000",
+            2,
+            "record , 1 left. record , 0 left. end , 0 left. over , 0 left. ",
+        ),
+    ] {
+        expect_text(&rt, told(rt.alloc(), log, most)?, wanted);
+    }
+    Ok(())
+}
+
+/// A source that fails at each of its calls inside a record: a fault, and then nothing more.
+#[test]
+fn logs_that_fail(rt: HostRuntime) -> Result<(), Fail> {
+    let alloc = rt.alloc();
+    let log = bytes(alloc, "03abcdef")?;
+    for fails_at in 1..4 {
+        let mut source = MemorySource::new(log.as_slice(), 1, Some(fails_at));
+        let mut reader = RecordReader::new(alloc, 9);
+        assert!(&rt; reader.next(&mut source).is_err());
+        assert!(&rt; reader.next(&mut source) == Ok(LogStep::Over));
+    }
+    Ok(())
+}

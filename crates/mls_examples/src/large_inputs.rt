@@ -1,11 +1,12 @@
-//! Inputs at the limit of 268,435,456 bytes and over it, which is this library's own.
+//! Inputs at the limit of 268,435,456 bytes and over it, which is this library's own, and arguments over the 1,073,741,823
+//! bytes of a vector's body (RFC 9420, 2.1.2).
 
 use crate::support::expect_texts;
-use mls_check::Listed;
+use mls_check::{Listed, Trusting, signed};
 use mls_cli::{ShowKind, run_show};
 use mls_msgs::{Message, decode_message};
 use mls_nodes::{decode_context, decode_ratchet_tree};
-use mls_wire::{MemorySink, StdSource};
+use mls_wire::{MemorySink, Opaque, StdSource, Writer};
 use std::alloc::Global;
 use std::test::Fail;
 
@@ -86,4 +87,30 @@ fn a_message_over_the_limit_is_told(rt: HostRuntime) -> Result<(), Fail> {
         (268435457, "unreadable TooLong 0\n"),
     ];
     expect_texts(&rt, rt.alloc(), shown, &sizes)
+}
+
+/// What a checker that trusts everyone answers of a content of so many zeros, what a copy of them answers, and what a
+/// writer does.
+fn over_a_vector(alloc: Global, size: usize) -> Result<String, Fail> {
+    let zeros = vec![in alloc; 0u8; size]?;
+    let is_signed = signed(
+        alloc,
+        &Trusting,
+        1,
+        b"k",
+        "MLS 1.0 Test",
+        zeros.as_slice(),
+        b"s",
+    )?;
+    let copied = Opaque::copy(alloc, zeros.as_slice()).err().ok_or("a copy")?;
+    let mut writer = Writer::new(alloc);
+    writer.write_u8(0)?;
+    let written = writer.write_vec(zeros.as_slice()).err().ok_or("written")?;
+    Ok(format!(in alloc; "{is_signed}, {copied}, {written}")?)
+}
+
+#[test]
+fn arguments_over_a_vector(rt: HostRuntime) -> Result<(), Fail> {
+    let sizes = [(1073741824, "false, TooLong at 0, TooLong at 1")];
+    expect_texts(&rt, rt.alloc(), over_a_vector, &sizes)
 }

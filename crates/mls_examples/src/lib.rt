@@ -7,8 +7,8 @@
 //! - A file stands for each subject, and `support.rt` has what they share: bytes as hexadecimal text, the example
 //!   group's leaves and messages, and trees made of them.
 //! - Expected values are worked out by hand from the RFC's text, and are never what the libraries answered.
-//! - `real_trees.rt`, `real_messages.rt` and `real_group.rt` have a group that another program made, whose signatures are
-//!   true.
+//! - `real_trees.rt`, `real_messages.rt`, `real_group.rt` and `real_race.rt` have groups that another program made, whose
+//!   signatures are true.
 #![tactic(auto)]
 
 #[cfg(test)]
@@ -17,6 +17,8 @@ mod chains;
 mod commits;
 #[cfg(test)]
 mod contexts;
+#[cfg(test)]
+mod devices;
 #[cfg(test)]
 mod follower;
 #[cfg(test)]
@@ -55,6 +57,8 @@ mod ratchet_trees;
 mod real_group;
 #[cfg(test)]
 mod real_messages;
+#[cfg(test)]
+mod real_race;
 #[cfg(test)]
 mod real_trees;
 #[cfg(test)]

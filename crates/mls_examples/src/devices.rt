@@ -1,0 +1,172 @@
+//! Sources and sinks over readers and writers of std that fail: any error, and a write that takes nothing, is a failure
+//! for good, even if the reader or writer would go on.
+
+use crate::support::{GROUP_INFO, bytes, expect_texts};
+use mls_cli::{ShowKind, run_show};
+use mls_wire::{DeviceFault, MemorySink, MemorySource, Sink, Source, StdSink, StdSource};
+use std::alloc::Global;
+use std::io::{self, ErrorKind, Read, Write};
+use std::test::Fail;
+
+/// A reader or writer of one byte a call. After so many calls one fails with an error of this kind, or without one
+/// moves nothing; then it goes on.
+#[derive(Drop)]
+struct Flaky {
+    good_calls: u32,
+    error: Option<ErrorKind>,
+}
+
+impl Flaky {
+    /// How many bytes the next call moves, of as many as are asked for.
+    fn turn(&mut self, asked: usize) -> io::Result<usize> {
+        if self.good_calls == 0 {
+            self.good_calls = 1_000;
+            return match self.error {
+                Some(kind) => Err(io::Error::from(kind)),
+                None => Ok(0),
+            };
+        }
+        self.good_calls -= 1;
+        Ok(asked.min(1))
+    }
+}
+
+impl Read for Flaky {
+    fn read(&mut self, buf: &mut [u8]) -> io::Result<usize> {
+        let count = self.turn(buf.len())?.min(buf.len());
+        for byte in &mut buf[..count] {
+            *byte = 7;
+        }
+        Ok(count)
+    }
+}
+
+impl Write for Flaky {
+    fn write(&mut self, buf: &[u8]) -> io::Result<usize> {
+        let count = self.turn(buf.len())?.min(buf.len());
+        Ok(count)
+    }
+
+    fn flush(&mut self) -> io::Result<()> {
+        Ok(())
+    }
+}
+
+/// What a call answered, and whether the device says then that it has failed.
+fn answer(
+    alloc: Global,
+    answered: Result<usize, DeviceFault>,
+    has_failed: bool,
+) -> Result<String, Fail> {
+    match answered {
+        Ok(count) => Ok(format!(in alloc; "{count} {has_failed}")?),
+        Err(_) => Ok(format!(in alloc; "fault {has_failed}")?),
+    }
+}
+
+/// What five calls of a source answer, over a reader whose third one fails so.
+fn pulled(alloc: Global, error: ErrorKind) -> Result<String, Fail> {
+    let mut source = StdSource::new(Flaky {
+        good_calls: 2,
+        error: Some(error),
+    });
+    let mut said = String::new(alloc);
+    for _ in 0..5 {
+        let answered = source.pull(&mut [0u8; 4]);
+        let one = answer(alloc, answered, source.failed())?;
+        said = format!(in alloc; "{said}{one}, ")?;
+    }
+    Ok(said)
+}
+
+#[test]
+fn sources_fail_at_any_error(rt: HostRuntime) -> Result<(), Fail> {
+    let wanted = "1 false, 1 false, fault true, fault true, fault true, ";
+    let errors = [
+        (ErrorKind::Interrupted, wanted),
+        (ErrorKind::WouldBlock, wanted),
+        (ErrorKind::UnexpectedEof, wanted),
+        (ErrorKind::OutOfMemory, wanted),
+    ];
+    expect_texts(&rt, rt.alloc(), pulled, &errors)
+}
+
+/// What five calls of a sink answer, over a writer whose third one fails so, or takes nothing.
+fn pushed(alloc: Global, error: Option<ErrorKind>) -> Result<String, Fail> {
+    let mut sink = StdSink::new(Flaky {
+        good_calls: 2,
+        error,
+    });
+    let mut said = String::new(alloc);
+    for _ in 0..5 {
+        let answered = sink.push(b"mls");
+        let one = answer(alloc, answered, sink.failed())?;
+        said = format!(in alloc; "{said}{one}, ")?;
+    }
+    Ok(said)
+}
+
+#[test]
+fn sinks_fail_at_any_error(rt: HostRuntime) -> Result<(), Fail> {
+    let wanted = "1 false, 1 false, fault true, fault true, fault true, ";
+    let errors = [
+        (Some(ErrorKind::Interrupted), wanted),
+        (Some(ErrorKind::WouldBlock), wanted),
+        (Some(ErrorKind::BrokenPipe), wanted),
+        (None, wanted),
+    ];
+    expect_texts(&rt, rt.alloc(), pushed, &errors)
+}
+
+/// What a sink answers to no bytes, over a writer that takes none.
+fn pushed_nothing(alloc: Global, bytes: &[u8]) -> Result<String, Fail> {
+    let mut sink = StdSink::new(Flaky {
+        good_calls: 0,
+        error: None,
+    });
+    let answered = sink.push(bytes);
+    answer(alloc, answered, sink.failed())
+}
+
+#[test]
+fn nothing_of_nothing_is_taken(rt: HostRuntime) -> Result<(), Fail> {
+    let rows = [(&b""[..], "0 false"), (&b"m"[..], "fault true")];
+    expect_texts(&rt, rt.alloc(), pushed_nothing, &rows)
+}
+
+/// How a report ends over a reader and a writer that fail after so many calls.
+fn shown(alloc: Global, good_calls: (u32, u32)) -> Result<String, Fail> {
+    let (reads, writes) = good_calls;
+    let info = bytes(alloc, GROUP_INFO)?;
+    let outcome = if reads < 1_000 {
+        let mut source = StdSource::new(Flaky {
+            good_calls: reads,
+            error: Some(ErrorKind::Other),
+        });
+        let mut sink = MemorySink::new(alloc, 300, 300, None)?;
+        run_show(alloc, ShowKind::Info, &mut source, &mut sink)
+    } else {
+        let mut source = MemorySource::new(info.as_slice(), 7, None);
+        let mut sink = StdSink::new(Flaky {
+            good_calls: writes,
+            error: None,
+        });
+        run_show(alloc, ShowKind::Info, &mut source, &mut sink)
+    };
+    match outcome {
+        Ok(_) => Ok(String::from_str(alloc, "written")?),
+        Err(fault) => Ok(format!(in alloc; "{fault}")?),
+    }
+}
+
+#[test]
+fn reports_over_what_fails(rt: HostRuntime) -> Result<(), Fail> {
+    let calls = [
+        ((0, 1_000), "read"),
+        ((20, 1_000), "read"),
+        ((1_000, 0), "write"),
+        ((1_000, 20), "write"),
+        ((1_000, 999), "written"),
+    ];
+    expect_texts(&rt, rt.alloc(), shown, &calls)
+}

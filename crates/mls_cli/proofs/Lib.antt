@@ -1,4 +1,5 @@
 pub mod Listings
+pub mod Hashes
 pub mod Lines
 pub mod Outcomes
 pub mod Replaying

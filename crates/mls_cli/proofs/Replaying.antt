@@ -1,19 +1,25 @@
 -- A replay, message by message.
-use Rattle.std.proofs.Common.{◌≡◌, ◌≢◌, ℕ, ◌+◌, ◌-◌, ◌<◌, ◌≤◌, List, [], ◌∷◌, ◌++◌, length, map, Ok, Err, Result, Bool, true, false, refl, sym, ap, ◌∙◌, subst, append_assoc, append-nil, length-append, arith, inl, inr, is_ok}
-use Rattle.std.specs.Prelude.{Option, Some, None}
+use Rattle.std.proofs.Common.{◌≡◌, ◌≢◌, ℕ, ◌+◌, ◌<◌, ◌≤◌, List, [], ◌∷◌, ◌++◌, length, map, Ok, Err, Result, Bool, true, false, refl, sym, ap, ◌∙◌, subst, append_assoc, append-nil, length-append, arith, inl, inr, is_ok}
+use Rattle.std.specs.Prelude.{Option, Some, None, IfErr, OnErr}
 use Rattle.std.specs.Io.KnownBytes.{Appends, Consumes, IsAtEnd}
 use Rattle.mls_wire.specs.Devices.{AppendsPrefix}
 use Rattle.mls_wire.proofs.KnownBytes.{Appends-trans, Consumes-trans}
 use Rattle.mls_wire.specs.Logs.{IsRecord, IsBreak, IsUndecided}
 use Rattle.mls_check.specs.Signatures.{Meaning}
 use Rattle.mls_follow.specs.Runs.{IsAnswer}
+use Rattle.mls_follow.specs.Start.{IsStart, IsStartFault}
 use Rattle.mls_follow.specs.State.{State}
+use Rattle.mls_follow.specs.declared.start.StartFault.{StartFault}
+use Rattle.mls_follow.specs.declared.start.StartFault.TheVariants as starts
 use Rattle.mls_cli.specs.declared.outcome.RunFault.{RunFault}
 use Rattle.mls_cli.specs.declared.outcome.RunFault.TheVariants.{Read, Write, Memory}
 use Rattle.mls_cli.specs.declared.outcome.Verdict.{Verdict}
-use Rattle.mls_cli.specs.Replay.{Turn, AreTurns, state_after, turn_line, turn_lines, one_if, accepted_count, refused_count, message_limit, still_to_come, AreRecords, IsLogEnd, Follows, TellsLog, StopsReading, StopsInLine, StopsInEnding, StopsWithoutMemory, TellsPart, IsVerdict, last_lines, ending, Replays, ReplaysPart, StopsBefore}
-use Rattle.mls_cli.specs.ReplaySteps.{ReadsUndecided, TellsTurn, StopsTurn, StopsAt, FollowsLog, ReplaysStart, ReplaysStartPart, RefusesBefore}
-use Rattle.mls_cli.specs.Starting.{ReadsBoth, IsInfo, IsHanded}
+use Rattle.mls_cli.specs.Replay.{Turn, AreTurns, state_after, turn_line, turn_lines, one_if, accepted_count, refused_count, message_limit, still_to_come, AreRecords, Follows, TellsLog, TellsPart, IsVerdict, last_lines, ending, Replays, ReplaysPart, StopsBefore}
+use Rattle.mls_cli.specs.ReplaySteps.{ReadsUndecided, TellsTurn, StopsAt, FollowsLog, ReplaysStart, ReplaysStartPart, RefusesBefore}
+use Rattle.mls_cli.specs.Starting.{ReadsBoth, IsReadAs, IsStarted, Opens, Declines}
+use Rattle.mls_cli.specs.StartingSteps.{IsUnread}
+use Rattle.mls_cli.specs.declared.finding.Finding.{Finding}
+use Rattle.mls_cli.specs.declared.finding.Finding.TheVariants.{StartRefused}
 use Rattle.mls_msgs.specs.declared.group_info.GroupInfo.{GroupInfo}
 use Rattle.mls_tree.specs.RatchetTree.{RatchetTree}
 
@@ -238,47 +244,64 @@ part-followed G s l0 l1 w0 w1 now a r broken f = record {
 
 -- ---- with the inputs
 
-pub replays-start :
-    (G : Meaning) (i0 i1 : Option (List ℕ)) (t0 t1 : Option (Option (List ℕ))) (l0 l1 w0 w1 : Option (List ℕ)) (info_bytes : List ℕ) (tree_bytes : Option (List ℕ))
-    (info : GroupInfo) (handed : Option RatchetTree) (verdict : Verdict)
-    → ReadsBoth i0 i1 t0 t1 info_bytes tree_bytes → IsInfo info_bytes info → IsHanded tree_bytes handed
-    → ReplaysStart G info handed l0 l1 w0 w1 verdict → Replays G i0 i1 t0 t1 l0 l1 w0 w1 verdict
-replays-start G i0 i1 t0 t1 l0 l1 w0 w1 info_bytes tree_bytes info handed verdict both is_info is_handed (inl p) = inr (record {
-  state = p.state;
-  opens = record { info_bytes = info_bytes; tree_bytes = tree_bytes; both_read = both; starts = record { info = info; is_info = is_info; handed = handed; is_handed = is_handed; start = p.start } };
-  tells = p.tells;
-})
-replays-start G i0 i1 t0 t1 l0 l1 w0 w1 info_bytes tree_bytes info handed verdict both is_info is_handed (inr p) = inl (record {
-  line = p.line;
-  declines = record { info_bytes = info_bytes; tree_bytes = tree_bytes; both_read = both; no_start = inr (record { info = info; is_info = is_info; handed = handed; is_handed = is_handed; refused = p.refused }) };
-  unread = p.unread;
-  wrote = p.wrote;
-  verdict_is = p.verdict_is;
-})
+-- what holds where one line was not written whole
+pub line-part :
+    {A B : Type 0} (r : Result Verdict RunFault) (P : RunFault → Type 0) → OnErr r A → (A → P Write) → (r ≡ Err Memory → B) → (B → P Memory)
+    → IfErr r (λ e. e ≢ Read) → IfErr r P
+line-part (Ok verdict) P part of_part memory of_memory own = tt
+line-part (Err Read) P part of_part memory of_memory own = absurd (own refl)
+line-part (Err Write) P part of_part memory of_memory own = of_part part
+line-part (Err Memory) P part of_part memory of_memory own = of_memory (memory refl)
 
-declined-part :
-    (G : Meaning) (i0 i1 : Option (List ℕ)) (t0 t1 : Option (Option (List ℕ))) (l0 l1 w0 w1 : Option (List ℕ)) (info_bytes : List ℕ) (tree_bytes : Option (List ℕ))
-    (info : GroupInfo) (handed : Option RatchetTree) (fault : RunFault)
-    → ReadsBoth i0 i1 t0 t1 info_bytes tree_bytes → IsInfo info_bytes info → IsHanded tree_bytes handed
-    → RefusesBefore G info handed l0 l1 w0 w1 fault → StopsBefore G i0 i1 t0 t1 l0 l1 w0 w1 fault
-declined-part G i0 i1 t0 t1 l0 l1 w0 w1 info_bytes tree_bytes info handed Read both is_info is_handed p = absurd p
-declined-part G i0 i1 t0 t1 l0 l1 w0 w1 info_bytes tree_bytes info handed Write both is_info is_handed p = record {
-  line = p.line;
-  declines = record { info_bytes = info_bytes; tree_bytes = tree_bytes; both_read = both; no_start = inr (record { info = info; is_info = is_info; handed = handed; is_handed = is_handed; refused = p.refused }) };
-  unread = p.unread;
-  wrote = p.wrote;
+pub declines-unread :
+    (G : Meaning) (i0 i1 : Option (List ℕ)) (t0 t1 : Option (Option (List ℕ))) (info_bytes : List ℕ) (tree_bytes : Option (List ℕ)) (finding : Finding)
+    → ReadsBoth i0 i1 t0 t1 info_bytes tree_bytes → IsUnread info_bytes tree_bytes finding → Declines G i0 i1 t0 t1 finding
+declines-unread G i0 i1 t0 t1 info_bytes tree_bytes finding both unread = record {
+  info_bytes = info_bytes;
+  tree_bytes = tree_bytes;
+  both_read = both;
+  found = unread.found G;
+  verdict = unread.verdict;
 }
-declined-part G i0 i1 t0 t1 l0 l1 w0 w1 info_bytes tree_bytes info handed Memory both is_info is_handed p = p
 
-pub replays-part :
-    (G : Meaning) (i0 i1 : Option (List ℕ)) (t0 t1 : Option (Option (List ℕ))) (l0 l1 w0 w1 : Option (List ℕ)) (info_bytes : List ℕ) (tree_bytes : Option (List ℕ))
-    (info : GroupInfo) (handed : Option RatchetTree) (fault : RunFault)
-    → ReadsBoth i0 i1 t0 t1 info_bytes tree_bytes → IsInfo info_bytes info → IsHanded tree_bytes handed
-    → ReplaysStartPart G info handed l0 l1 w0 w1 fault → ReplaysPart G i0 i1 t0 t1 l0 l1 w0 w1 fault
-replays-part G i0 i1 t0 t1 l0 l1 w0 w1 info_bytes tree_bytes info handed fault both is_info is_handed (inl p) = inr (record {
-  state = p.state;
-  opens = record { info_bytes = info_bytes; tree_bytes = tree_bytes; both_read = both; starts = record { info = info; is_info = is_info; handed = handed; is_handed = is_handed; start = p.start } };
-  tells = p.tells;
-})
-replays-part G i0 i1 t0 t1 l0 l1 w0 w1 info_bytes tree_bytes info handed fault both is_info is_handed (inr p) =
-    inl (declined-part G i0 i1 t0 t1 l0 l1 w0 w1 info_bytes tree_bytes info handed fault both is_info is_handed p)
+module _ (G : Meaning) (info_bytes : List ℕ) (tree_bytes : Option (List ℕ)) (info : GroupInfo) (handed : Option RatchetTree)
+    (is_read : IsReadAs info_bytes tree_bytes info handed) where
+  started : (s : State) → IsStart G info handed s → IsStarted G info_bytes tree_bytes s
+  started s start = record { info = info; handed = handed; is_read = is_read; start = start }
+
+  module _ (i0 i1 : Option (List ℕ)) (t0 t1 : Option (Option (List ℕ))) (both : ReadsBoth i0 i1 t0 t1 info_bytes tree_bytes) where
+    opens : (s : State) → IsStart G info handed s → Opens G i0 i1 t0 t1 s
+    opens s start = record { info_bytes = info_bytes; tree_bytes = tree_bytes; both_read = both; started = started s start }
+
+    declines : (fault : StartFault) → fault ≢ starts.OutOfMemory → IsStartFault G info handed fault → Declines G i0 i1 t0 t1 (StartRefused fault)
+    declines fault own fails = record {
+      info_bytes = info_bytes;
+      tree_bytes = tree_bytes;
+      both_read = both;
+      found = (info, handed, is_read, own, fails);
+      verdict = refl;
+    }
+
+    pub replays-start : (l0 l1 w0 w1 : Option (List ℕ)) (verdict : Verdict) → ReplaysStart G info handed l0 l1 w0 w1 verdict → Replays G i0 i1 t0 t1 l0 l1 w0 w1 verdict
+    replays-start l0 l1 w0 w1 verdict (inl p) = inr (record { state = p.state; opens = opens p.state p.start; tells = p.tells })
+    replays-start l0 l1 w0 w1 verdict (inr p) = inl (record {
+      finding = StartRefused p.fault;
+      declines = declines p.fault p.own p.fails;
+      unread = p.unread;
+      wrote = p.wrote;
+      verdict_is = p.verdict_is;
+    })
+
+    refused-part : (l0 l1 w0 w1 : Option (List ℕ)) (fault : RunFault) → RefusesBefore G info handed l0 l1 w0 w1 fault → StopsBefore G i0 i1 t0 t1 l0 l1 w0 w1 fault
+    refused-part l0 l1 w0 w1 Read p = absurd p
+    refused-part l0 l1 w0 w1 Write p = record {
+      finding = StartRefused p.fault;
+      declines = declines p.fault p.own p.fails;
+      unread = p.unread;
+      wrote = p.wrote;
+    }
+    refused-part l0 l1 w0 w1 Memory p = p
+
+    pub replays-part : (l0 l1 w0 w1 : Option (List ℕ)) (fault : RunFault) → ReplaysStartPart G info handed l0 l1 w0 w1 fault → ReplaysPart G i0 i1 t0 t1 l0 l1 w0 w1 fault
+    replays-part l0 l1 w0 w1 fault (inl p) = inr (record { state = p.state; opens = opens p.state p.start; tells = p.tells })
+    replays-part l0 l1 w0 w1 fault (inr p) = inl (refused-part l0 l1 w0 w1 fault p)

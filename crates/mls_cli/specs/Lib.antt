@@ -1,5 +1,6 @@
 pub mod Commands
 pub mod FaultText
+pub mod Finding
 pub mod InfoText
 pub mod Judges
 pub mod Judging
@@ -11,6 +12,7 @@ pub mod Replay
 pub mod ReplaySteps
 pub mod Show
 pub mod Starting
+pub mod StartingSteps
 pub mod Status
 pub mod Texts
 pub mod TreeText

@@ -14,8 +14,10 @@ use Rattle.mls_follow.specs.declared.refusal.Refusal.TheVariants.{Member}
 use Rattle.mls_follow.specs.declared.taken.Taken.{Taken}
 use Rattle.mls_follow.specs.declared.taken.Taken.TheVariants.{Proposal, Commit}
 use Rattle.mls_cli.specs.FaultText.{member_number}
+use Rattle.mls_cli.specs.Finding.{finding_line}
 use Rattle.mls_cli.specs.Starting.{Opens, Declines}
 use Rattle.mls_cli.specs.Texts.{hex_text}
+use Rattle.mls_cli.specs.declared.finding.Finding.{Finding}
 use Rattle.mls_cli.specs.declared.outcome.RunFault.{RunFault}
 use Rattle.mls_cli.specs.declared.outcome.RunFault.TheVariants.{Read, Write, Memory}
 use Rattle.mls_cli.specs.declared.outcome.Verdict.{Verdict}
@@ -196,17 +198,19 @@ TellsPart G s log0 log1 written0 written1 Memory = StopsWithoutMemory G s log0 l
 -- ---- the whole report
 
 -- no follower starts, the log was not read, and one line says why
-pub record TellsDecline (G : Meaning) (info0 info1 : Option (List ℕ)) (tree0 tree1 : Option (Option (List ℕ)))
-    (log0 log1 written0 written1 : Option (List ℕ)) (verdict : Verdict) : Type 0 where
-  pub line : List ℕ
-  pub declines : Declines G info0 info1 tree0 tree1 line
+pub record TellsDecline (G : Meaning) (info0 info1 : Option (List ℕ))
+    (tree0 tree1 : Option (Option (List ℕ))) (log0 log1 written0 written1 : Option (List ℕ))
+    (verdict : Verdict) : Type 0 where
+  pub finding : Finding
+  pub declines : Declines G info0 info1 tree0 tree1 finding
   pub unread : log1 ≡ log0
-  pub wrote : Appends written0 written1 line
+  pub wrote : Appends written0 written1 (finding_line finding)
   pub verdict_is : verdict ≡ No
 
 -- a follower starts, and the log is told
-pub record TellsReplay (G : Meaning) (info0 info1 : Option (List ℕ)) (tree0 tree1 : Option (Option (List ℕ)))
-    (log0 log1 written0 written1 : Option (List ℕ)) (verdict : Verdict) : Type 0 where
+pub record TellsReplay (G : Meaning) (info0 info1 : Option (List ℕ))
+    (tree0 tree1 : Option (Option (List ℕ))) (log0 log1 written0 written1 : Option (List ℕ))
+    (verdict : Verdict) : Type 0 where
   pub state : State
   pub opens : Opens G info0 info1 tree0 tree1 state
   pub tells : TellsLog G state log0 log1 written0 written1 verdict
@@ -226,12 +230,13 @@ pub record TellsNothing (log0 log1 written0 written1 : Option (List ℕ)) : Type
   pub wrote : Appends written0 written1 []
 
 -- the output failed in the line of a refused start
-pub record StopsInDecline (G : Meaning) (info0 info1 : Option (List ℕ)) (tree0 tree1 : Option (Option (List ℕ)))
-    (log0 log1 written0 written1 : Option (List ℕ)) : Type 0 where
-  pub line : List ℕ
-  pub declines : Declines G info0 info1 tree0 tree1 line
+pub record StopsInDecline (G : Meaning) (info0 info1 : Option (List ℕ))
+    (tree0 tree1 : Option (Option (List ℕ))) (log0 log1 written0 written1 : Option (List ℕ))
+    : Type 0 where
+  pub finding : Finding
+  pub declines : Declines G info0 info1 tree0 tree1 finding
   pub unread : log1 ≡ log0
-  pub wrote : AppendsPrefix written0 written1 line
+  pub wrote : AppendsPrefix written0 written1 (finding_line finding)
 
 -- no follower has started, by the fault that is answered
 abbrev pub StopsBefore : Meaning → Option (List ℕ) → Option (List ℕ) → Option (Option (List ℕ))
@@ -245,8 +250,9 @@ StopsBefore G info0 info1 tree0 tree1 log0 log1 written0 written1 Memory =
     TellsNothing log0 log1 written0 written1
 
 -- a follower has started
-pub record StopsAfter (G : Meaning) (info0 info1 : Option (List ℕ)) (tree0 tree1 : Option (Option (List ℕ)))
-    (log0 log1 written0 written1 : Option (List ℕ)) (fault : RunFault) : Type 0 where
+pub record StopsAfter (G : Meaning) (info0 info1 : Option (List ℕ))
+    (tree0 tree1 : Option (Option (List ℕ))) (log0 log1 written0 written1 : Option (List ℕ))
+    (fault : RunFault) : Type 0 where
   pub state : State
   pub opens : Opens G info0 info1 tree0 tree1 state
   pub tells : TellsPart G state log0 log1 written0 written1 fault

@@ -1,5 +1,5 @@
 -- What the steps of `replay` ensure.
-use Rattle.std.specs.Prelude.{List, [], ℕ, ◌+◌, ◌++◌, codes, length, Bool, Option, Result, Ok, Err, is_ok, ◌≡◌, ◌⊎◌}
+use Rattle.std.specs.Prelude.{List, [], ℕ, ◌+◌, ◌++◌, codes, length, Bool, Option, Result, is_ok, ◌≡◌, ◌≢◌, ◌⊎◌}
 use Rattle.std.specs.Fmt.{decimal}
 use Rattle.std.specs.Io.KnownBytes.{Appends, Consumes}
 use Rattle.mls_wire.specs.Devices.{AppendsPrefix}
@@ -8,12 +8,15 @@ use Rattle.mls_tree.specs.RatchetTree.{RatchetTree}
 use Rattle.mls_check.specs.Signatures.{Meaning}
 use Rattle.mls_msgs.specs.declared.group_info.GroupInfo.{GroupInfo}
 use Rattle.mls_follow.specs.Runs.{IsAnswer}
-use Rattle.mls_follow.specs.Start.{IsStart}
+use Rattle.mls_follow.specs.Start.{IsStart, IsStartFault}
 use Rattle.mls_follow.specs.State.{State}
 use Rattle.mls_follow.specs.declared.refusal.Refusal.{Refusal}
+use Rattle.mls_follow.specs.declared.start.StartFault.{StartFault}
+use Rattle.mls_follow.specs.declared.start.StartFault.TheVariants as starts
 use Rattle.mls_follow.specs.declared.taken.Taken.{Taken}
+use Rattle.mls_cli.specs.Finding.{finding_line}
 use Rattle.mls_cli.specs.Replay.{Turn, Follows, IsLogEnd, TellsLog, TellsPart, TellsNothing, accepted_count, answer_text, state_after, still_to_come, turn_lines}
-use Rattle.mls_cli.specs.Starting.{IsRefusedStart}
+use Rattle.mls_cli.specs.declared.finding.Finding.TheVariants.{StartRefused}
 use Rattle.mls_cli.specs.declared.outcome.RunFault.{RunFault}
 use Rattle.mls_cli.specs.declared.outcome.RunFault.TheVariants.{Read, Write, Memory}
 use Rattle.mls_cli.specs.declared.outcome.Verdict.{Verdict}
@@ -73,10 +76,11 @@ pub record StartsReplay (G : Meaning) (info : GroupInfo) (handed : Option Ratche
 -- none does, and one line says why
 pub record RefusesReplay (G : Meaning) (info : GroupInfo) (handed : Option RatchetTree)
     (log0 log1 written0 written1 : Option (List ℕ)) (verdict : Verdict) : Type 0 where
-  pub line : List ℕ
-  pub refused : IsRefusedStart G info handed line
+  pub fault : StartFault
+  pub own : fault ≢ starts.OutOfMemory
+  pub fails : IsStartFault G info handed fault
   pub unread : log1 ≡ log0
-  pub wrote : Appends written0 written1 line
+  pub wrote : Appends written0 written1 (finding_line (StartRefused fault))
   pub verdict_is : verdict ≡ No
 
 abbrev pub ReplaysStart : Meaning → GroupInfo → Option RatchetTree → Option (List ℕ) → Option (List ℕ)
@@ -94,10 +98,11 @@ pub record StartsPart (G : Meaning) (info : GroupInfo) (handed : Option RatchetT
 
 pub record RefusesPart (G : Meaning) (info : GroupInfo) (handed : Option RatchetTree)
     (log0 log1 written0 written1 : Option (List ℕ)) : Type 0 where
-  pub line : List ℕ
-  pub refused : IsRefusedStart G info handed line
+  pub fault : StartFault
+  pub own : fault ≢ starts.OutOfMemory
+  pub fails : IsStartFault G info handed fault
   pub unread : log1 ≡ log0
-  pub wrote : AppendsPrefix written0 written1 line
+  pub wrote : AppendsPrefix written0 written1 (finding_line (StartRefused fault))
 
 abbrev pub RefusesBefore : Meaning → GroupInfo → Option RatchetTree → Option (List ℕ) → Option (List ℕ)
     → Option (List ℕ) → Option (List ℕ) → RunFault → Type 0

@@ -1,28 +1,24 @@
--- How `validate` and `replay` begin: a follower starts from a group info and a tree, or one line
--- says why none does. Numbers in parentheses are sections of RFC 9420.
-use Rattle.std.specs.Prelude.{List, ℕ, ◌++◌, codes, Bool, false, Option, Some, None, ◌≡◌, ◌≢◌, ◌⊎◌, string_bytes}
+-- How `validate` and `replay` begin: a follower starts from a group info and a tree, or something is
+-- found for which none does. Numbers in parentheses are sections of RFC 9420.
+use Rattle.std.specs.Prelude.{List, ℕ, Bool, false, Option, Some, None, ◌≡◌, ◌≢◌}
+use Rattle.mls_nodes.specs.declared.fault.NodeFault.TheVariants as nodes
 use Rattle.mls_tree.specs.RatchetTree.{RatchetTree}
 use Rattle.mls_tree.specs.Reading.{IsTreeOf, IsNoTree}
+use Rattle.mls_tree.specs.Tree.{member_count}
 use Rattle.mls_check.specs.Signatures.{Meaning}
 use Rattle.mls_msgs.specs.declared.group_info.GroupInfo.{GroupInfo}
 use Rattle.mls_msgs.specs.declared.message.Message.{Message}
 use Rattle.mls_msgs.specs.declared.message.Message.TheVariants as messages
 use Rattle.mls_follow.specs.State.{State}
 use Rattle.mls_follow.specs.Start.{IsStart, IsStartFault}
-use Rattle.mls_follow.specs.declared.start.StartFault.{StartFault}
 use Rattle.mls_follow.specs.declared.start.StartFault.TheVariants as starts
-use Rattle.mls_cli.specs.FaultText.{start_fault_text}
+use Rattle.mls_cli.specs.Finding.{finding_verdict}
 use Rattle.mls_cli.specs.ReadAll.{ReadsAll}
 use Rattle.mls_cli.specs.Show.{IsMessage}
-use Rattle.mls_cli.specs.Texts.{SaysFault}
-use Rattle.mls_cli.specs.declared.opening.NoStart.{NoStart}
-use Rattle.mls_cli.specs.declared.opening.NoStart.TheVariants.{Line, Fault}
-use Rattle.mls_cli.specs.declared.outcome.RunFault.TheVariants.{Memory}
-
--- what is said where no follower starts: a line of which this holds, unless memory ran out
-abbrev pub Says : (List ℕ → Type 0) → NoStart → Type 0
-Says P (Line text) = P (string_bytes text)
-Says P (Fault e) = e ≡ Memory
+use Rattle.mls_cli.specs.declared.finding.Finding.{Finding}
+use Rattle.mls_cli.specs.declared.finding.Finding.TheVariants.{InfoUnreadable, NotGroupInfo, TreeUnreadable, StartRefused, Starts}
+use Rattle.mls_cli.specs.declared.finding.Started.{Started}
+use Rattle.mls_cli.specs.declared.outcome.Verdict.TheVariants.{No}
 
 -- ---- what is read of the inputs
 
@@ -30,30 +26,14 @@ Says P (Fault e) = e ≡ Memory
 abbrev pub IsInfo : List ℕ → GroupInfo → Type 0
 IsInfo bytes info = IsMessage bytes (messages.GroupInfo info)
 
--- a message is no group info, as this line says
-pub record IsOtherMessage (other : Message) (line : List ℕ) : Type 0 where
-  pub no_info : (info : GroupInfo) → other ≢ messages.GroupInfo info
-  pub line_is : line ≡ codes "info unreadable NotGroupInfo\n"
-
--- the bytes spell such a message
-pub record SpellsOther (bytes line : List ℕ) : Type 0 where
-  pub other : Message
-  pub is_message : IsMessage bytes other
-  pub is_other : IsOtherMessage other line
-
 -- the bytes spell no message
-pub record SpellsNone (bytes line : List ℕ) : Type 0 where
-  pub no_message : (m : Message) → IsMessage bytes m → ⊥
-  pub says_fault : SaysFault (codes "info unreadable ") line
+abbrev pub IsNoMessage : List ℕ → Type 0
+IsNoMessage bytes = (m : Message) → IsMessage bytes m → ⊥
 
--- the bytes of the group info spell none
-abbrev pub IsInfoUnread : List ℕ → List ℕ → Type 0
-IsInfoUnread bytes line = SpellsOther bytes line ⊎ SpellsNone bytes line
-
--- the bytes of a tree spell none (12.4.3.3)
-pub record IsTreeUnread (bytes line : List ℕ) : Type 0 where
-  pub no_tree : IsNoTree bytes
-  pub says_fault : SaysFault (codes "tree unreadable ") line
+-- the bytes spell a message that is no group info
+abbrev pub IsOtherMessage : List ℕ → Type 0
+IsOtherMessage bytes =
+    (m : Message) × IsMessage bytes m × ((info : GroupInfo) → m ≢ messages.GroupInfo info)
 
 -- the tree that is handed in: the one that its bytes spell, where there are any
 abbrev pub IsHanded : Option (List ℕ) → Option RatchetTree → Type 0
@@ -61,56 +41,47 @@ IsHanded None None = Unit {0}
 IsHanded (Some bytes) (Some t) = IsTreeOf bytes t
 IsHanded _ _ = ⊥
 
--- a tree is handed in, and its bytes spell none
-abbrev pub IsHandedUnread : Option (List ℕ) → List ℕ → Type 0
-IsHandedUnread None line = ⊥
-IsHandedUnread (Some bytes) line = IsTreeUnread bytes line
+-- a tree is handed in, and its bytes spell none (12.4.3.3)
+abbrev pub IsHandedUnread : Option (List ℕ) → Type 0
+IsHandedUnread None = ⊥
+IsHandedUnread (Some bytes) = IsNoTree bytes
 
--- ---- the start
-
--- no follower starts from a group info and a tree: the first condition that fails
-pub record IsRefusedStart (G : Meaning) (info : GroupInfo) (handed : Option RatchetTree)
-    (line : List ℕ) : Type 0 where
-  pub fault : StartFault
-  pub own : fault ≢ starts.OutOfMemory
-  pub fails : IsStartFault G info handed fault
-  pub line_is : line ≡ codes "start refused " ++ (start_fault_text fault ++ codes "\n")
-
--- the group info can be read, and the tree that is handed in can't be
-pub record FailsTree (info_bytes : List ℕ) (tree_bytes : Option (List ℕ))
-    (line : List ℕ) : Type 0 where
-  pub info : GroupInfo
+-- the group info can be read, and the tree where one is handed in
+pub record IsReadAs (info_bytes : List ℕ) (tree_bytes : Option (List ℕ)) (info : GroupInfo)
+    (handed : Option RatchetTree) : Type 0 where
   pub is_info : IsInfo info_bytes info
-  pub unread : IsHandedUnread tree_bytes line
-
--- both can be read, and no follower starts from them
-pub record FailsStart (G : Meaning) (info_bytes : List ℕ) (tree_bytes : Option (List ℕ))
-    (line : List ℕ) : Type 0 where
-  pub info : GroupInfo
-  pub is_info : IsInfo info_bytes info
-  pub handed : Option RatchetTree
   pub is_handed : IsHanded tree_bytes handed
-  pub refused : IsRefusedStart G info handed line
 
--- one of them can't be read, and this line says which: the first that applies
-abbrev pub IsUnread : List ℕ → Option (List ℕ) → List ℕ → Type 0
-IsUnread info_bytes tree_bytes line =
-    IsInfoUnread info_bytes line ⊎ FailsTree info_bytes tree_bytes line
+-- ---- what is found of them
 
--- no follower starts from the bytes of a group info, and of a tree where one is handed in, and this
--- line says why: the first that applies
-abbrev pub IsNoStart : Meaning → List ℕ → Option (List ℕ) → List ℕ → Type 0
-IsNoStart G info_bytes tree_bytes line =
-    IsUnread info_bytes tree_bytes line ⊎ FailsStart G info_bytes tree_bytes line
+-- what is told of the state in which a follower starts
+abbrev pub started_of : State → Started
+started_of s = record {
+  epoch = s.context.epoch;
+  members = member_count s.tree;
+  tree_hash = s.context.tree_hash;
+}
 
--- a follower starts from them in this state
-pub record Starts (G : Meaning) (info_bytes : List ℕ) (tree_bytes : Option (List ℕ))
+-- a follower starts from the bytes of a group info, and of a tree where one is handed in, in this state
+pub record IsStarted (G : Meaning) (info_bytes : List ℕ) (tree_bytes : Option (List ℕ))
     (s : State) : Type 0 where
   pub info : GroupInfo
-  pub is_info : IsInfo info_bytes info
   pub handed : Option RatchetTree
-  pub is_handed : IsHanded tree_bytes handed
+  pub is_read : IsReadAs info_bytes tree_bytes info handed
   pub start : IsStart G info handed s
+
+-- by what a checker of signatures means: the first that applies, or that a follower starts
+abbrev pub IsStartFinding : Meaning → List ℕ → Option (List ℕ) → Finding → Type 0
+IsStartFinding G info_bytes tree_bytes (InfoUnreadable fault) = IsNoMessage info_bytes
+IsStartFinding G info_bytes tree_bytes NotGroupInfo = IsOtherMessage info_bytes
+IsStartFinding G info_bytes tree_bytes (TreeUnreadable fault) =
+    (info : GroupInfo) × IsInfo info_bytes info × IsHandedUnread tree_bytes × (fault ≢ nodes.OutOfMemory)
+IsStartFinding G info_bytes tree_bytes (StartRefused fault) =
+    (info : GroupInfo) × (handed : Option RatchetTree) × IsReadAs info_bytes tree_bytes info handed
+    × (fault ≢ starts.OutOfMemory) × IsStartFault G info handed fault
+IsStartFinding G info_bytes tree_bytes (Starts started) =
+    (s : State) × IsStarted G info_bytes tree_bytes s × (started ≡ started_of s)
+IsStartFinding G info_bytes tree_bytes _ = ⊥
 
 -- ---- the reading
 
@@ -138,12 +109,13 @@ pub record Opens (G : Meaning) (info0 info1 : Option (List ℕ))
   pub info_bytes : List ℕ
   pub tree_bytes : Option (List ℕ)
   pub both_read : ReadsBoth info0 info1 tree0 tree1 info_bytes tree_bytes
-  pub starts : Starts G info_bytes tree_bytes s
+  pub started : IsStarted G info_bytes tree_bytes s
 
--- both were read, and no follower starts from them, as this line says
+-- both were read, and for this no follower starts from them
 pub record Declines (G : Meaning) (info0 info1 : Option (List ℕ))
-    (tree0 tree1 : Option (Option (List ℕ))) (line : List ℕ) : Type 0 where
+    (tree0 tree1 : Option (Option (List ℕ))) (finding : Finding) : Type 0 where
   pub info_bytes : List ℕ
   pub tree_bytes : Option (List ℕ)
   pub both_read : ReadsBoth info0 info1 tree0 tree1 info_bytes tree_bytes
-  pub no_start : IsNoStart G info_bytes tree_bytes line
+  pub found : IsStartFinding G info_bytes tree_bytes finding
+  pub verdict : finding_verdict finding ≡ No

@@ -1,5 +1,5 @@
 -- Bytes and numbers as they stand in a report.
-use Rattle.std.specs.Prelude.{ℕ, List, [], ◌∷◌, ◌++◌, ◌≡◌, ◌≢◌, codes}
+use Rattle.std.specs.Prelude.{ℕ, List, [], ◌∷◌, ◌++◌, ◌≢◌, codes}
 use Rattle.std.specs.Fmt.{decimal}
 use Rattle.std.specs.List.{All}
 use Rattle.hex.specs.Hex.{encode_lower}
@@ -22,9 +22,3 @@ numbers_text (number ∷ numbers) = decimal number ++ more_numbers_text numbers
 -- a text without a line feed
 abbrev pub IsOneLine : List ℕ → Type 0
 IsOneLine text = All (λ c. c ≢ 10) text
-
--- a line that begins so, and names a fault
-pub record SaysFault (head line : List ℕ) : Type 0 where
-  pub fault : List ℕ
-  pub one_line : IsOneLine fault
-  pub line_is : line ≡ head ++ (fault ++ codes "\n")

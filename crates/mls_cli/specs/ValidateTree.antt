@@ -1,12 +1,13 @@
 -- The report `validate-tree`: one line, the first that applies. Numbers in parentheses are sections of
 -- RFC 9420.
-use Rattle.std.specs.Prelude.{ℕ, ◌≤◌, List, [], ◌++◌, length, codes, Option, Some, ◌≡◌, ◌≢◌, ◌⊎◌}
+use Rattle.std.specs.Prelude.{ℕ, ◌≤◌, List, [], length, Option, Some, ◌≡◌, ◌≢◌, ◌⊎◌}
 use Rattle.std.specs.Io.KnownBytes.{Appends}
 use Rattle.mls_wire.specs.Devices.{AppendsPrefix}
 use Rattle.mls_wire.specs.Limits.{input_limit}
 use Rattle.mls_nodes.specs.Layout.{group_context}
 use Rattle.mls_nodes.specs.Requirements.{Requires, HasNoRequirements}
 use Rattle.mls_nodes.specs.declared.context.GroupContext.{GroupContext}
+use Rattle.mls_nodes.specs.declared.fault.NodeFault.TheVariants as nodes
 use Rattle.mls_nodes.specs.declared.required_capabilities.RequiredCapabilities.{RequiredCapabilities}
 use Rattle.mls_tree.specs.RatchetTree.{RatchetTree}
 use Rattle.mls_tree.specs.Reading.{IsTreeOf, IsNoTree}
@@ -15,15 +16,13 @@ use Rattle.mls_hash.specs.Hashing.{hash_of}
 use Rattle.mls_check.specs.Members.{Members, IsMemberFault}
 use Rattle.mls_check.specs.Signatures.{Meaning}
 use Rattle.mls_check.specs.Valid.{Valid, IsFirstTreeFault}
-use Rattle.mls_check.specs.declared.members.MemberFault.{MemberFault}
 use Rattle.mls_check.specs.declared.members.MemberFault.TheVariants as members
-use Rattle.mls_check.specs.declared.valid.TreeFault.{TreeFault}
 use Rattle.mls_check.specs.declared.valid.TreeFault.TheVariants as trees
-use Rattle.mls_cli.specs.FaultText.{tree_fault_text, member_fault_text}
+use Rattle.mls_cli.specs.Finding.{finding_line, finding_verdict}
 use Rattle.mls_cli.specs.ReadAll.{ReadsAll}
-use Rattle.mls_cli.specs.Texts.{IsOneLine, hex_text}
+use Rattle.mls_cli.specs.declared.finding.Finding.{Finding}
+use Rattle.mls_cli.specs.declared.finding.Finding.TheVariants.{ContextUnreadable, TreeUnreadable, UnsupportedVersion, UnsupportedSuite, RequirementsUnreadable, TreeRefused, MembersRefused, TreeValid}
 use Rattle.mls_cli.specs.declared.outcome.Verdict.{Verdict}
-use Rattle.mls_cli.specs.declared.outcome.Verdict.TheVariants.{Yes, No}
 
 -- the group context is the one that the bytes of an input spell (8.1)
 pub record IsContext (bytes : List ℕ) (c : GroupContext) : Type 0 where
@@ -34,134 +33,84 @@ pub record IsContext (bytes : List ℕ) (c : GroupContext) : Type 0 where
 abbrev pub IsNoContext : List ℕ → Type 0
 IsNoContext bytes = (c : GroupContext) → IsContext bytes c → ⊥
 
--- a line that says No
-abbrev pub IsRefusal : List ℕ → List ℕ → Verdict → Type 0
-IsRefusal line text verdict = (text ≡ line) × (verdict ≡ No)
+-- ---- how far the bytes of a context and of a tree come
 
--- a line that begins so, names a fault, and says No
-pub record IsFaultLine (head text : List ℕ) (verdict : Verdict) : Type 0 where
-  pub fault : List ℕ
-  pub one_line : IsOneLine fault
-  pub text_is : text ≡ head ++ (fault ++ codes "\n")
-  pub verdict_is : verdict ≡ No
+-- the context can be read, its version is 1 (6), and its suite is followed (17.1)
+pub record IsUsable (context_bytes : List ℕ) (c : GroupContext) : Type 0 where
+  pub is_context : IsContext context_bytes c
+  pub version : c.version ≡ 1
+  pub suite : IsSupported c.cipher_suite
 
--- the leaves are members of the group, and the report tells the tree's hash, which is the context's
-pub record IsMembersReport (G : Meaning) (c : GroupContext) (r : RequiredCapabilities)
-    (t : RatchetTree) (text : List ℕ) (verdict : Verdict) : Type 0 where
-  pub members : Members G c.cipher_suite c.group_id r t.tree
-  pub text_is : text ≡ codes "valid " ++ (hex_text c.tree_hash ++ codes "\n")
-  pub verdict_is : verdict ≡ Yes
+-- and the tree can be read (12.4.3.3)
+pub record HasTree (context_bytes tree_bytes : List ℕ) (c : GroupContext) (t : RatchetTree) : Type 0 where
+  pub usable : IsUsable context_bytes c
+  pub is_tree : IsTreeOf tree_bytes t
 
--- a rule of members fails, and the report says which one first, at which leaf
-pub record IsNoMembersReport (G : Meaning) (c : GroupContext) (r : RequiredCapabilities)
-    (t : RatchetTree) (text : List ℕ) (verdict : Verdict) : Type 0 where
-  pub fault : MemberFault
-  pub own : fault ≢ members.OutOfMemory
-  pub fails : IsMemberFault G c.cipher_suite c.group_id r t.tree fault
-  pub refused : IsRefusal
-      (codes "members refused " ++ (member_fault_text fault ++ codes "\n")) text verdict
-
--- a valid tree, whose leaves are judged as members
-pub record IsValidTreeReport (G : Meaning) (c : GroupContext) (r : RequiredCapabilities)
-    (t : RatchetTree) (text : List ℕ) (verdict : Verdict) : Type 0 where
-  pub valid : Valid (hash_of c.cipher_suite) c.tree_hash t.tree
-  pub report : IsMembersReport G c r t text verdict ⊎ IsNoMembersReport G c r t text verdict
-
--- a tree that is not valid, and the report says what fails first, at which place
-pub record IsInvalidTreeReport (c : GroupContext) (t : RatchetTree) (text : List ℕ)
-    (verdict : Verdict) : Type 0 where
-  pub fault : TreeFault
-  pub own : fault ≢ trees.OutOfMemory
-  pub fails : IsFirstTreeFault (hash_of c.cipher_suite) c.tree_hash t.tree fault
-  pub refused : IsRefusal
-      (codes "tree refused " ++ (tree_fault_text fault ++ codes "\n")) text verdict
-
--- the group's requirements are read, and the tree is judged
-pub record IsJudgedReport (G : Meaning) (c : GroupContext) (t : RatchetTree) (text : List ℕ)
-    (verdict : Verdict) : Type 0 where
-  pub required : RequiredCapabilities
+-- and the group's requirements can be read (11.1)
+pub record IsReadable (context_bytes tree_bytes : List ℕ) (c : GroupContext) (t : RatchetTree)
+    (required : RequiredCapabilities) : Type 0 where
+  pub has_tree : HasTree context_bytes tree_bytes c t
   pub requires : Requires c required
-  pub report : IsValidTreeReport G c required t text verdict ⊎ IsInvalidTreeReport c t text verdict
 
--- the group's requirements can't be read
-pub record IsNoRequirementsReport (c : GroupContext) (text : List ℕ)
-    (verdict : Verdict) : Type 0 where
-  pub no_requirements : HasNoRequirements c
-  pub refused : IsRefusal (codes "context refused RequirementsUnreadable\n") text verdict
+-- and the tree is valid (7.9.2 and 12.4.3.1)
+pub record HasValidTree (context_bytes tree_bytes : List ℕ) (c : GroupContext) (t : RatchetTree)
+    (required : RequiredCapabilities) : Type 0 where
+  pub readable : IsReadable context_bytes tree_bytes c t required
+  pub valid : Valid (hash_of c.cipher_suite) c.tree_hash t.tree
 
--- the tree can be read
-pub record IsReadTreeReport (G : Meaning) (c : GroupContext) (tree_bytes text : List ℕ)
-    (verdict : Verdict) : Type 0 where
-  pub tree : RatchetTree
-  pub is_tree : IsTreeOf tree_bytes tree
-  pub report : IsNoRequirementsReport c text verdict ⊎ IsJudgedReport G c tree text verdict
+-- ---- what is found of them
 
--- the tree can't be read
-pub record IsUnreadTreeReport (tree_bytes text : List ℕ) (verdict : Verdict) : Type 0 where
-  pub no_tree : IsNoTree tree_bytes
-  pub unreadable : IsFaultLine (codes "tree unreadable ") text verdict
+-- by what a checker of signatures means: the first that applies, or that all is well, with the tree's hash,
+-- which is the context's
+abbrev pub IsTreeFinding : Meaning → List ℕ → List ℕ → Finding → Type 0
+IsTreeFinding G context_bytes tree_bytes (ContextUnreadable fault) = IsNoContext context_bytes
+IsTreeFinding G context_bytes tree_bytes UnsupportedVersion =
+    (c : GroupContext) × IsContext context_bytes c × (c.version ≢ 1)
+IsTreeFinding G context_bytes tree_bytes UnsupportedSuite =
+    (c : GroupContext) × IsContext context_bytes c × (c.version ≡ 1) × (¬ IsSupported c.cipher_suite)
+IsTreeFinding G context_bytes tree_bytes (TreeUnreadable fault) =
+    (c : GroupContext) × IsUsable context_bytes c × IsNoTree tree_bytes × (fault ≢ nodes.OutOfMemory)
+IsTreeFinding G context_bytes tree_bytes RequirementsUnreadable =
+    (c : GroupContext) × (t : RatchetTree) × HasTree context_bytes tree_bytes c t × HasNoRequirements c
+IsTreeFinding G context_bytes tree_bytes (TreeRefused fault) =
+    (c : GroupContext) × (t : RatchetTree) × (required : RequiredCapabilities)
+    × IsReadable context_bytes tree_bytes c t required × (fault ≢ trees.OutOfMemory)
+    × IsFirstTreeFault (hash_of c.cipher_suite) c.tree_hash t.tree fault
+IsTreeFinding G context_bytes tree_bytes (MembersRefused fault) =
+    (c : GroupContext) × (t : RatchetTree) × (required : RequiredCapabilities)
+    × HasValidTree context_bytes tree_bytes c t required × (fault ≢ members.OutOfMemory)
+    × IsMemberFault G c.cipher_suite c.group_id required t.tree fault
+IsTreeFinding G context_bytes tree_bytes (TreeValid tree_hash) =
+    (c : GroupContext) × (t : RatchetTree) × (required : RequiredCapabilities)
+    × HasValidTree context_bytes tree_bytes c t required
+    × Members G c.cipher_suite c.group_id required t.tree × (tree_hash ≡ c.tree_hash)
+IsTreeFinding G context_bytes tree_bytes _ = ⊥
 
--- a context of version 1 and of a suite that is followed
-pub record IsUsableReport (G : Meaning) (c : GroupContext) (tree_bytes text : List ℕ)
-    (verdict : Verdict) : Type 0 where
-  pub version : c.version ≡ 1
-  pub supported : IsSupported c.cipher_suite
-  pub report : IsUnreadTreeReport tree_bytes text verdict
-      ⊎ IsReadTreeReport G c tree_bytes text verdict
+-- ---- the report
 
--- a context of another version (6)
-pub record IsVersionReport (c : GroupContext) (text : List ℕ) (verdict : Verdict) : Type 0 where
-  pub version : c.version ≢ 1
-  pub refused : IsRefusal (codes "context refused UnsupportedVersion\n") text verdict
-
--- a context of a cipher suite that is not followed (17.1)
-pub record IsSuiteReport (c : GroupContext) (text : List ℕ) (verdict : Verdict) : Type 0 where
-  pub version : c.version ≡ 1
-  pub unsupported : ¬ IsSupported c.cipher_suite
-  pub refused : IsRefusal (codes "context refused UnsupportedSuite\n") text verdict
-
--- the context can be read
-pub record IsContextReport (G : Meaning) (context_bytes tree_bytes text : List ℕ)
-    (verdict : Verdict) : Type 0 where
-  pub context : GroupContext
-  pub is_context : IsContext context_bytes context
-  pub report : IsVersionReport context text verdict
-      ⊎ (IsSuiteReport context text verdict ⊎ IsUsableReport G context tree_bytes text verdict)
-
--- the context can't be read
-pub record IsNoContextReport (context_bytes text : List ℕ) (verdict : Verdict) : Type 0 where
-  pub no_context : IsNoContext context_bytes
-  pub unreadable : IsFaultLine (codes "context unreadable ") text verdict
-
--- the report of a context's bytes and a tree's, by what a checker of signatures means, and its verdict
-abbrev pub IsValidateTreeReport : Meaning → List ℕ → List ℕ → List ℕ → Verdict → Type 0
-IsValidateTreeReport G context_bytes tree_bytes text verdict =
-    IsNoContextReport context_bytes text verdict
-    ⊎ IsContextReport G context_bytes tree_bytes text verdict
-
--- both inputs were read to their ends, and the report of their bytes was written whole
+-- both inputs were read to their ends, and the line of what is found of their bytes was written whole
 pub record ValidatesTree (G : Meaning)
     (context0 context1 tree0 tree1 written0 written1 : Option (List ℕ))
     (verdict : Verdict) : Type 0 where
   pub context_bytes : List ℕ
   pub tree_bytes : List ℕ
-  pub text : List ℕ
+  pub finding : Finding
   pub context_read : ReadsAll context0 context1 context_bytes
   pub tree_read : ReadsAll tree0 tree1 tree_bytes
-  pub report : IsValidateTreeReport G context_bytes tree_bytes text verdict
-  pub wrote : Appends written0 written1 text
+  pub found : IsTreeFinding G context_bytes tree_bytes finding
+  pub wrote : Appends written0 written1 (finding_line finding)
+  pub verdict_is : verdict ≡ finding_verdict finding
 
--- both inputs were read to their ends, and a prefix of the report of their bytes was written
+-- both inputs were read to their ends, and a prefix of that line was written
 pub record ValidatesTreePrefix (G : Meaning)
     (context0 context1 tree0 tree1 written0 written1 : Option (List ℕ)) : Type 0 where
   pub context_bytes : List ℕ
   pub tree_bytes : List ℕ
-  pub text : List ℕ
-  pub verdict : Verdict
+  pub finding : Finding
   pub context_read : ReadsAll context0 context1 context_bytes
   pub tree_read : ReadsAll tree0 tree1 tree_bytes
-  pub report : IsValidateTreeReport G context_bytes tree_bytes text verdict
-  pub wrote : AppendsPrefix written0 written1 text
+  pub found : IsTreeFinding G context_bytes tree_bytes finding
+  pub wrote : AppendsPrefix written0 written1 (finding_line finding)
 
 -- nothing was written, or a prefix of the report of inputs that had ended
 abbrev pub ValidatesTreePart : Meaning → Option (List ℕ) → Option (List ℕ) → Option (List ℕ)

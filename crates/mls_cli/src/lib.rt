@@ -6,6 +6,7 @@ mod command;
 mod fault_text;
 mod file_name;
 mod files;
+mod finding;
 mod info_text;
 mod judge;
 mod message_text;

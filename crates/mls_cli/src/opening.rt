@@ -1,52 +1,27 @@
 //! How `validate` and `replay` begin: the group info and the tree are read, and a follower starts from
 //! them.
 
-ghost use Rattle.std.specs.Prelude.{◌≡◌, ◌≢◌, ◌↔◌, ◌++◌, codes, false, true, Err, IfOk, IfErr, option_map, string_bytes};
-ghost use Rattle.mls_msgs.specs.declared.message.Message.TheVariants as messages;
-ghost use Rattle.mls_tree.specs.Reading.{IsTreeOf};
-ghost use Rattle.mls_cli.specs.FaultText as texts;
-ghost use Rattle.mls_cli.specs.Starting.{Says, IsInfo, IsOtherMessage, IsInfoUnread, IsTreeUnread, IsHanded, IsHandedUnread, IsUnread, ReadsHanded, has_failed};
+ghost use Rattle.std.specs.Prelude.{◌≡◌, ◌≢◌, ◌↔◌, List, ℕ, Option, false, true, Err, IfOk, IfErr, option_map};
+ghost use Rattle.mls_cli.specs.Starting.{IsInfo, IsHanded, IsHandedUnread, IsReadAs, ReadsHanded, has_failed};
+ghost use Rattle.mls_cli.specs.StartingSteps.{Says, IsUnread};
 
-use crate::fault_text::start_fault_text;
+use crate::finding::Finding;
 use crate::outcome::RunFault;
 use crate::read::read_all;
-use crate::report::{node_fault_line, wire_fault_line};
 use mls_follow::StartFault;
 use mls_msgs::{GroupInfo, Message, decode_message};
+use mls_nodes::NodeFault;
 use mls_tree::PublicTree;
-use mls_wire::Source;
-use std::alloc::{AllocError, Global};
+use mls_wire::{CodecFault, Source};
+use std::alloc::Global;
 
 /// Why no follower starts.
-#[derive(Drop)]
+#[derive(Clone, Copy)]
 pub(crate) enum NoStart {
-    /// The inputs don't allow it, as this line says.
-    Line(String),
+    /// This is found of the inputs.
+    Found(Finding),
     /// This came between.
     Fault(RunFault),
-}
-
-impl From<AllocError> for NoStart {
-    ghost use Rattle.std.specs.Prelude.{◌≡◌};
-    ghost use Rattle.mls_cli.specs.declared.opening.NoStart.TheVariants.{Fault};
-    ghost use Rattle.mls_cli.specs.declared.outcome.RunFault.TheVariants.{Memory};
-
-    ghost from_gives = { λ _ e. e ≡ Fault Memory };
-
-    fn from(_e: AllocError) -> NoStart {
-        NoStart::Fault(RunFault::Memory)
-    }
-}
-
-impl From<RunFault> for NoStart {
-    ghost use Rattle.std.specs.Prelude.{◌≡◌};
-    ghost use Rattle.mls_cli.specs.declared.opening.NoStart.TheVariants.{Fault};
-
-    ghost from_gives = { λ fault e. e ≡ Fault fault };
-
-    fn from(fault: RunFault) -> NoStart {
-        NoStart::Fault(fault)
-    }
 }
 
 /// Reads a source that is handed in to its end, where one is.
@@ -68,53 +43,33 @@ pub(crate) fn read_handed<T: Source>(
     }
 }
 
-/// The group info that a message is.
-fn info_of(alloc: Global, message: Message) -> Result<GroupInfo, NoStart>
-    ensures info { IfOk result (λ info. message ≡ messages.GroupInfo info) }
-    ensures other { IfErr result (Says (IsOtherMessage message)) }
-{
-    match message {
-        Message::GroupInfo(info) => Ok(info),
-        other => {
-            drop(other);
-            let line = String::from_str(alloc, "info unreadable NotGroupInfo\n")?;
-            Err(NoStart::Line(line))
-        }
-    }
-}
-
 /// The group info that the bytes of an input spell.
 fn read_info(alloc: Global, bytes: &[u8]) -> Result<GroupInfo, NoStart>
     ensures info { IfOk result (IsInfo bytes.now) }
-    ensures unread { IfErr result (Says (IsInfoUnread bytes.now)) }
+    ensures unread { (tree_bytes : Option (List ℕ))
+        → IfErr result (Says (IsUnread bytes.now tree_bytes)) }
 {
     match decode_message(alloc, bytes) {
-        Ok(message) => info_of(alloc, message),
-        Err(fault) => Err(NoStart::Line(wire_fault_line(alloc, "info unreadable ", fault)?)),
-    }
-}
-
-/// The tree that the bytes of an input spell.
-fn read_tree(alloc: Global, bytes: &[u8]) -> Result<PublicTree, NoStart>
-    ensures tree { IfOk result (IsTreeOf bytes.now) }
-    ensures unread { IfErr result (Says (IsTreeUnread bytes.now)) }
-{
-    match PublicTree::decode(alloc, bytes) {
-        Ok(tree) => Ok(tree),
-        Err(fault) => Err(NoStart::Line(node_fault_line(alloc, fault)?)),
+        Ok(Message::GroupInfo(info)) => Ok(info),
+        Ok(other) => {
+            drop(other);
+            Err(NoStart::Found(Finding::NotGroupInfo))
+        }
+        Err(CodecFault::OutOfMemory) => Err(NoStart::Fault(RunFault::Memory)),
+        Err(CodecFault::Wire(fault)) => Err(NoStart::Found(Finding::InfoUnreadable(fault))),
     }
 }
 
 /// The tree that is handed in, where one is.
-fn read_handed_tree(alloc: Global, bytes: &Option<Vec<u8>>) -> Result<Option<PublicTree>, NoStart>
+fn read_tree(alloc: Global, bytes: &Option<Vec<u8>>) -> Result<Option<PublicTree>, NodeFault>
     ensures tree { IfOk result (IsHanded (option_map (λ v. v.items) bytes.now)) }
-    ensures unread { IfErr result (Says (IsHandedUnread (option_map (λ v. v.items) bytes.now))) }
+    ensures unread { IfErr result (λ fault. fault ≢ NodeFault.OutOfMemory
+        → IsHandedUnread (option_map (λ v. v.items) bytes.now)) }
 {
-    let Some(bytes) = bytes else {
-        return Ok(None);
-    };
-    let tree = read_tree(alloc, bytes.as_slice())?;
-    Ok(Some(tree))
+    match bytes {
+        Some(bytes) => Ok(Some(PublicTree::decode(alloc, bytes.as_slice())?)),
+        None => Ok(None),
+    }
 }
 
 /// What is read of the inputs.
@@ -132,32 +87,33 @@ pub(crate) fn read_inputs(
     info_bytes: &[u8],
     tree_bytes: &Option<Vec<u8>>,
 ) -> Result<Inputs, NoStart>
-    ensures info { IfOk result (λ inputs. IsInfo info_bytes.now inputs.info) }
-    ensures tree { IfOk result
-        (λ inputs. IsHanded (option_map (λ v. v.items) tree_bytes.now) inputs.tree) }
+    ensures read { IfOk result
+        (λ inputs. IsReadAs info_bytes.now (option_map (λ v. v.items) tree_bytes.now)
+        inputs.info inputs.tree) }
     ensures unread { IfErr result
         (Says (IsUnread info_bytes.now (option_map (λ v. v.items) tree_bytes.now))) }
 {
     let info = read_info(alloc, info_bytes)?;
-    match read_handed_tree(alloc, tree_bytes) {
+    match read_tree(alloc, tree_bytes) {
         Ok(tree) => Ok(Inputs { info, tree }),
-        Err(unread) => {
+        Err(fault) => {
             drop(info);
-            Err(unread)
+            match fault {
+                NodeFault::OutOfMemory => Err(NoStart::Fault(RunFault::Memory)),
+                _ => Err(NoStart::Found(Finding::TreeUnreadable(fault))),
+            }
         }
     }
 }
 
-/// The line of a group info and a tree from which no follower starts.
-pub(crate) fn refused_line(alloc: Global, fault: StartFault) -> Result<String, RunFault>
-    ensures line { IfOk result
-        (λ line. (fault ≢ StartFault.OutOfMemory) × (string_bytes line
-        ≡ codes "start refused " ++ (texts.start_fault_text fault ++ codes "\n"))) }
+/// What is found of inputs from which no follower starts, for this fault.
+pub(crate) fn refused_start(fault: StartFault) -> Result<Finding, RunFault>
+    ensures found { IfOk result
+        (λ finding. (fault ≢ StartFault.OutOfMemory) × (finding ≡ Finding.StartRefused fault)) }
     ensures memory { IfErr result (λ e. e ≡ RunFault.Memory) }
 {
-    if fault == StartFault::OutOfMemory {
-        return Err(RunFault::Memory);
+    match fault {
+        StartFault::OutOfMemory => Err(RunFault::Memory),
+        _ => Ok(Finding::StartRefused(fault)),
     }
-    let fault = start_fault_text(alloc, fault)?;
-    Ok(format!(in alloc; "start refused {fault}\n")?)
 }

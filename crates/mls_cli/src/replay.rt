@@ -7,7 +7,8 @@ ghost use Rattle.mls_cli.specs.Starting.{has_failed};
 ghost use Rattle.mls_cli.specs.Replay.{message_limit, one_if, IsVerdict, TellsLog, TellsPart, Replays, ReplaysPart};
 ghost use Rattle.mls_cli.specs.ReplaySteps.{ReadsUndecided, TellsTurn, StopsAt, FollowsLog, ReplaysStart, ReplaysStartPart};
 
-use crate::opening::{NoStart, read_handed, read_inputs, refused_line};
+use crate::finding::tell;
+use crate::opening::{NoStart, read_handed, read_inputs, refused_start};
 use crate::outcome::{RunFault, Verdict};
 use crate::read::read_all;
 use crate::replay_text::{last_lines, turn_line};
@@ -198,11 +199,10 @@ fn replay_from<L: Source, K: Sink>(
             let mut follower = started;
             tell_log(alloc, &mut follower, log, out)
         }
-        Err(refused) => {
-            let line = refused_line(alloc, refused.fault)?;
-            write_text(out, line.as_str())?;
-            Ok(Verdict::No)
-        }
+        Err(refused) => match refused_start(refused.fault) {
+            Ok(finding) => tell(alloc, &finding, out),
+            Err(fault) => Err(fault),
+        },
     }
 }
 
@@ -250,10 +250,7 @@ pub fn run_replay<I: Source, T: Source, L: Source, K: Sink>(
     let tree_bytes = read_handed(alloc, tree)?;
     match read_inputs(alloc, info_bytes.as_slice(), &tree_bytes) {
         Ok(inputs) => replay_from(alloc, inputs.info, inputs.tree, log, checker, out),
-        Err(NoStart::Line(line)) => {
-            write_text(out, line.as_str())?;
-            Ok(Verdict::No)
-        }
+        Err(NoStart::Found(finding)) => tell(alloc, &finding, out),
         Err(NoStart::Fault(fault)) => Err(fault),
     }
 }

@@ -1,84 +1,65 @@
 //! The report `validate`: whether a follower starts from a group info, and in which state.
 
-ghost use Rattle.std.specs.Prelude.{◌≡◌, ◌↔◌, ◌⊎◌, false, true, [], Err, IfOk, IfErr, OnErr, option_map, string_bytes};
+ghost use Rattle.std.specs.Prelude.{◌≡◌, ◌≤◌, ◌↔◌, ◌⊎◌, List, ℕ, Option, false, true, [], length, Err, IfOk, IfErr, OnErr, option_map};
 ghost use Rattle.std.specs.Io.KnownBytes.{Appends};
 ghost use Rattle.mls_follow.specs.Seen.{state_of};
-ghost use Rattle.mls_cli.specs.Starting.{has_failed};
-ghost use Rattle.mls_cli.specs.Validate.{valid_line, IsStartReport, IsValidateReport, Validates, ValidatesPart};
+ghost use Rattle.mls_cli.specs.Starting.{IsReadAs, IsStartFinding, has_failed, started_of};
+ghost use Rattle.mls_cli.specs.Validate.{Validates, ValidatesPart};
 
-use crate::opening::{NoStart, read_handed, read_inputs, refused_line};
+use crate::finding::{Finding, Started, tell, tree_hash_of};
+use crate::opening::{Inputs, NoStart, read_handed, read_inputs, refused_start};
 use crate::outcome::{RunFault, Verdict};
 use crate::read::read_all;
-use crate::report::Report;
-use crate::text::hex_of;
-use crate::write::write_text;
 use mls_check::SignatureCheck;
 use mls_follow::Follower;
-use mls_msgs::GroupInfo;
-use mls_tree::PublicTree;
 use mls_wire::{Sink, Source};
-use std::alloc::{AllocError, Global};
+use std::alloc::Global;
 
-/// The line of a follower that starts.
-fn line_of_valid(alloc: Global, follower: &Follower) -> Result<String, AllocError>
-    ensures { IfOk result (λ text. string_bytes text ≡ valid_line (state_of follower.now)) }
+/// What is told of a follower that has just started.
+fn started(follower: &Follower) -> Started
+    requires { length (state_of follower.now).context.tree_hash ≤ 64 }
+    ensures { result ≡ started_of (state_of follower.now) }
 {
-    let epoch = follower.context().epoch;
-    let members = follower.tree().member_count();
-    let tree_hash = hex_of(alloc, follower.context().tree_hash.as_slice())?;
-    format!(in alloc; "valid epoch {epoch} members {members} tree {tree_hash}\n")
-}
-
-/// The report of a follower that starts.
-fn valid_report(alloc: Global, follower: &Follower) -> Result<Report, RunFault>
-    ensures text { IfOk result (λ r. string_bytes r.text ≡ valid_line (state_of follower.now)) }
-    ensures verdict { IfOk result (λ r. r.verdict ≡ Verdict.Yes) }
-    ensures memory { IfErr result (λ e. e ≡ RunFault.Memory) }
-{
-    Ok(Report {
-        text: line_of_valid(alloc, follower)?,
-        verdict: Verdict::Yes,
-    })
-}
-
-/// The report of a group info and a tree that can be read.
-fn start_report(
-    alloc: Global,
-    info: GroupInfo,
-    tree: Option<PublicTree>,
-    checker: Box<dyn SignatureCheck>,
-) -> Result<Report, RunFault>
-    ensures report { IfOk result
-        (λ r. IsStartReport (meaning checker) info tree (string_bytes r.text) r.verdict) }
-    ensures memory { IfErr result (λ e. e ≡ RunFault.Memory) }
-{
-    match Follower::start(alloc, info, tree, checker) {
-        Ok(follower) => valid_report(alloc, &follower),
-        Err(refused) => Ok(Report {
-            text: refused_line(alloc, refused.fault)?,
-            verdict: Verdict::No,
-        }),
+    Started {
+        epoch: follower.context().epoch,
+        members: follower.tree().member_count(),
+        tree_hash: tree_hash_of(follower.context()),
     }
 }
 
-/// The report of the bytes of a group info, and of a tree where one is handed in.
-fn validate_report(
+/// What is found of a group info and a tree that can be read.
+#[tactic(auto, using(crate::proofs::Hashes::length_started))]
+fn judge_inputs(
+    alloc: Global,
+    inputs: Inputs,
+    checker: Box<dyn SignatureCheck>,
+) -> Result<Finding, RunFault>
+    ensures found { (info_bytes : List ℕ) (tree_bytes : Option (List ℕ))
+        → IsReadAs info_bytes tree_bytes inputs.info inputs.tree
+        → IfOk result (IsStartFinding (meaning checker) info_bytes tree_bytes) }
+    ensures memory { IfErr result (λ e. e ≡ RunFault.Memory) }
+{
+    match Follower::start(alloc, inputs.info, inputs.tree, checker) {
+        Ok(follower) => Ok(Finding::Starts(started(&follower))),
+        Err(refused) => refused_start(refused.fault),
+    }
+}
+
+/// What is found of the bytes of a group info, and of a tree where one is handed in.
+fn judge_bytes(
     alloc: Global,
     info_bytes: &[u8],
     tree_bytes: &Option<Vec<u8>>,
     checker: Box<dyn SignatureCheck>,
-) -> Result<Report, RunFault>
-    ensures report { IfOk result
-        (λ r. IsValidateReport (meaning checker) info_bytes.now
-        (option_map (λ v. v.items) tree_bytes.now) (string_bytes r.text) r.verdict) }
+) -> Result<Finding, RunFault>
+    ensures found { IfOk result
+        (IsStartFinding (meaning checker) info_bytes.now
+        (option_map (λ v. v.items) tree_bytes.now)) }
     ensures memory { IfErr result (λ e. e ≡ RunFault.Memory) }
 {
     match read_inputs(alloc, info_bytes, tree_bytes) {
-        Ok(inputs) => start_report(alloc, inputs.info, inputs.tree, checker),
-        Err(NoStart::Line(line)) => Ok(Report {
-            text: line,
-            verdict: Verdict::No,
-        }),
+        Ok(inputs) => judge_inputs(alloc, inputs, checker),
+        Err(NoStart::Found(finding)) => Ok(finding),
         Err(NoStart::Fault(fault)) => Err(fault),
     }
 }
@@ -116,7 +97,6 @@ pub fn run_validate<I: Source, T: Source, K: Sink>(
 {
     let info_bytes = read_all(alloc, info)?;
     let tree_bytes = read_handed(alloc, tree)?;
-    let report = validate_report(alloc, info_bytes.as_slice(), &tree_bytes, checker)?;
-    write_text(out, report.text.as_str())?;
-    Ok(report.verdict)
+    let finding = judge_bytes(alloc, info_bytes.as_slice(), &tree_bytes, checker)?;
+    tell(alloc, &finding, out)
 }

@@ -1,50 +1,42 @@
-use Rattle.std.proofs.Common.{rules, inl, refl, string_bytes}
+use Rattle.std.proofs.Common.{◌∙◌, inl, refl}
 use Rattle.std.specs.Prelude.{option_map}
 use Rattle.std.proofs.lemmas.Result.{IfOk-weaker, IfErr-weaker}
-use Rattle.mls_cli.specs.declared.outcome.RunFault.TheVariants.{Write}
-use Rattle.mls_cli.proofs.Outcomes.{IfErr-is}
-use Rattle.mls_cli.proofs.Replaying.{replays-start, replays-part}
+use Rattle.mls_cli.proofs.Replaying.{declines-unread, line-part, replays-start, replays-part}
 use Rattle.mls_cli.proofs.replay.run_replay.Goals as goal
 
 pub returns-in-Ok-clause-replayed : goal.returns-in-Ok-clause-replayed
 returns-in-Ok-clause-replayed g c =
     let info = c.in_ok-info_bytes.info_bytes.items in
     let tree = option_map (λ v. v.items) c.in_ok-tree_bytes.tree_bytes in
-    IfOk-weaker c.replay_from.result _ _ (λ v h. replays-start _ _ _ _ _ _ _ _ _ info tree c.in-Ok.inputs.info c.in-Ok.inputs.tree v
-    (record { info = c.in_ok-info_bytes.ensures.all; tree = c.in_ok-tree_bytes.ensures.all }) (search rules) (search rules) h) c.replay_from.ensures.told
+    let is_read = rw c.as_slice.ensures.value at c.in-Ok.ensures.read in
+    IfOk-weaker c.replay_from.result _ _ (λ v h. replays-start _ info tree c.in-Ok.inputs.info c.in-Ok.inputs.tree is_read _ _ _ _
+    (record { info = c.in_ok-info_bytes.ensures.all; tree = c.in_ok-tree_bytes.ensures.all }) _ _ _ _ v h) c.replay_from.ensures.told
 
 pub returns-in-Ok-clause-part : goal.returns-in-Ok-clause-part
 returns-in-Ok-clause-part g c =
     let info = c.in_ok-info_bytes.info_bytes.items in
     let tree = option_map (λ v. v.items) c.in_ok-tree_bytes.tree_bytes in
-    IfErr-weaker c.replay_from.result _ _ (λ e h. replays-part _ _ _ _ _ _ _ _ _ info tree c.in-Ok.inputs.info c.in-Ok.inputs.tree e
-    (record { info = c.in_ok-info_bytes.ensures.all; tree = c.in_ok-tree_bytes.ensures.all }) (search rules) (search rules) h) c.replay_from.ensures.part
+    let is_read = rw c.as_slice.ensures.value at c.in-Ok.ensures.read in
+    IfErr-weaker c.replay_from.result _ _ (λ e h. replays-part _ info tree c.in-Ok.inputs.info c.in-Ok.inputs.tree is_read _ _ _ _
+    (record { info = c.in_ok-info_bytes.ensures.all; tree = c.in_ok-tree_bytes.ensures.all }) _ _ _ _ e h) c.replay_from.ensures.part
 
-pub returns-in_err-write_text-in-Err-Line-clause-part :
-    goal.returns-in_err-write_text-in-Err-Line-clause-part
-returns-in_err-write_text-in-Err-Line-clause-part g c =
-    IfErr-is c.from_residual-in_err-write_text-in-Err-Line.result _ Write (search rules) (inl (record {
-      line = string_bytes c.in-Err-Line.line;
-      declines = record {
-        info_bytes = c.in_ok-info_bytes.info_bytes.items;
-        tree_bytes = option_map (λ v. v.items) c.in_ok-tree_bytes.tree_bytes;
-        both_read = record { info = c.in_ok-info_bytes.ensures.all; tree = c.in_ok-tree_bytes.ensures.all };
-        no_start = inl (search rules);
-      };
+pub returns-in-Err-Found-clause-replayed : goal.returns-in-Err-Found-clause-replayed
+returns-in-Err-Found-clause-replayed g c =
+    let unread = rw (c.as_slice.ensures.value, c.in-Err-Found.field-0-is) at c.in-Err-Found.ensures.unread in
+    IfOk-weaker c.tell.result _ _ (λ verdict told. inl (record {
+      finding = c.in-Err-Found.finding;
+      declines = declines-unread _ _ _ _ _ _ _ _ (record { info = c.in_ok-info_bytes.ensures.all; tree = c.in_ok-tree_bytes.ensures.all }) unread;
       unread = refl;
-      wrote = search rules;
-    }))
+      wrote = told.0;
+      verdict_is = told.1 ∙ unread.verdict;
+    })) c.tell.ensures.told
 
-pub returns-in-Err-Line-clause-replayed : goal.returns-in-Err-Line-clause-replayed
-returns-in-Err-Line-clause-replayed g c = inl (record {
-  line = string_bytes c.in-Err-Line.line;
-  declines = record {
-    info_bytes = c.in_ok-info_bytes.info_bytes.items;
-    tree_bytes = option_map (λ v. v.items) c.in_ok-tree_bytes.tree_bytes;
-    both_read = record { info = c.in_ok-info_bytes.ensures.all; tree = c.in_ok-tree_bytes.ensures.all };
-    no_start = inl (search rules);
-  };
-  unread = refl;
-  wrote = search rules;
-  verdict_is = refl;
-})
+pub returns-in-Err-Found-clause-part : goal.returns-in-Err-Found-clause-part
+returns-in-Err-Found-clause-part g c =
+    let unread = rw (c.as_slice.ensures.value, c.in-Err-Found.field-0-is) at c.in-Err-Found.ensures.unread in
+    line-part c.tell.result _ c.tell.ensures.part (λ wrote. inl (record {
+      finding = c.in-Err-Found.finding;
+      declines = declines-unread _ _ _ _ _ _ _ _ (record { info = c.in_ok-info_bytes.ensures.all; tree = c.in_ok-tree_bytes.ensures.all }) unread;
+      unread = refl;
+      wrote = wrote;
+    })) c.tell.ensures.memory (λ none. inl (record { unread = refl; wrote = none })) c.tell.ensures.fault

@@ -5,6 +5,7 @@ pub mod InfoText
 pub mod Judges
 pub mod Judging
 pub mod MessageText
+pub mod OneReport
 pub mod Orders
 pub mod Program
 pub mod ReadAll

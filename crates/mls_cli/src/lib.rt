@@ -9,6 +9,7 @@ mod files;
 mod finding;
 mod info_text;
 mod judge;
+pub mod laws;
 mod message_text;
 mod opening;
 mod order;

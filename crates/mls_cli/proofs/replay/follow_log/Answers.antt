@@ -1,7 +1,7 @@
-use Rattle.std.proofs.Common.{rules, arith, ◌≡◌, ◌∙◌, ◌+◌, ◌<◌, ◌++◌, ◌∷◌, [], List, length, length-append, ap, refl, false}
+use Rattle.std.proofs.Common.{rules, arith, ◌≡◌, ◌∙◌, ◌+◌, ◌<◌, ◌++◌, ◌∷◌, [], length, length-append, ap, refl, false}
 use Rattle.mls_wire.specs.Logs.{LogState}
 use Rattle.mls_follow.specs.Seen.{state_of}
-use Rattle.mls_cli.specs.Replay.{Turn, accepted_count, message_limit}
+use Rattle.mls_cli.specs.Replay.{Turn, message_limit}
 use Rattle.mls_cli.proofs.Outcomes.{IfErr-is}
 use Rattle.mls_cli.proofs.Replaying.{so_far-none, so_far-snoc, accepted-more, part-turn, followed-broken}
 use Rattle.mls_cli.proofs.replay.follow_log.Goals as goal

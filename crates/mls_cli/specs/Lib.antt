@@ -1,3 +1,5 @@
+pub mod Check
+pub mod CheckSeen
 pub mod Commands
 pub mod FaultText
 pub mod InfoText
@@ -5,6 +7,7 @@ pub mod Judges
 pub mod Judging
 pub mod MessageText
 pub mod Orders
+pub mod Outcomes
 pub mod Program
 pub mod ReadAll
 pub mod Replay
@@ -13,7 +16,12 @@ pub mod Show
 pub mod Starting
 pub mod Status
 pub mod Texts
+pub mod TranscriptVectors
+pub mod TreeMath
+pub mod TreeOperations
 pub mod TreeText
+pub mod TreeValidation
 pub mod UnreadableReceipts
 pub mod Validate
 pub mod ValidateTree
+pub mod VectorFile

@@ -1,5 +1,5 @@
 -- The arrays of a tree-math vector: each place has one parent and one sibling, so one entry.
-use Rattle.std.proofs.Common.{◌≡◌, ◌≢◌, ◌↔◌, ℕ, zero, suc, ◌+◌, ◌*◌, ◌<◌, ◌≤◌, Option, Some, None, Bool, true, false, is_some, option_map, refl, sym, ap, ◌∙◌, subst, inl, inr, arith}
+use Rattle.std.proofs.Common.{◌≡◌, ◌≢◌, ◌↔◌, ℕ, zero, suc, ◌+◌, ◌*◌, ◌<◌, ◌≤◌, Option, Some, None, true, is_some, option_map, refl, sym, ap, ◌∙◌, inl, inr, arith}
 use Rattle.std.specs.Prelude.{◌⊎◌, option_and_then, MatchOption}
 use Rattle.std.proofs.lemmas.Bool.{cases_order}
 use Rattle.std.proofs.lemmas.Option.{none-some, same_Some, option_and_then_some}
@@ -11,7 +11,7 @@ use Rattle.mls_tree.specs.Places.{left_at, right_at, left_place, right_place, Is
 use Rattle.mls_tree.proofs.Coordinates.{Coordinates, coordinates, coordinates-unique, root_place-perfect, some_tree, leaf_count-low, left_at-half, right_at-half}
 use Rattle.mls_tree.proofs.Numbers.{leaves_at-low}
 use Rattle.mls_tree.proofs.Trees.{leaf_count-perfect, leaf_count-positive, subtree_at-perfect}
-use Rattle.mls_cli.specs.TreeMath.{Relation, IsLeft, IsRight, IsParent, IsSibling, IsEntry, entry_place}
+use Rattle.mls_cli.specs.TreeMath.{IsEntry, entry_place}
 use Rattle.mls_cli.specs.CheckSeen.{relation}
 use Rattle.mls_cli.specs.declared.check.tree_math.Column.{Column}
 use Rattle.mls_cli.specs.declared.check.tree_math.Column.TheVariants as columns

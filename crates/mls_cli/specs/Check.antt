@@ -1,5 +1,5 @@
 -- The report `check`: a line for each vector of a file, and their counts.
-use Rattle.std.specs.Prelude.{ℕ, ◌+◌, ◌==◌, List, [], ◌∷◌, ◌++◌, map, codes, Option, if◌then◌else◌, length, ◌≤◌, ◌≡◌, ◌⊎◌, ◌↔◌}
+use Rattle.std.specs.Prelude.{ℕ, ◌+◌, ◌==◌, List, [], ◌∷◌, ◌++◌, codes, Option, if◌then◌else◌, length, ◌≤◌, ◌≡◌, ◌⊎◌, ◌↔◌}
 use Rattle.std.specs.Fmt.{decimal}
 use Rattle.std.specs.Io.KnownBytes.{Appends}
 use Rattle.serde_json.specs.Data.{Data, Items, no_items, item}

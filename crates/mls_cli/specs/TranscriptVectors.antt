@@ -1,6 +1,6 @@
 -- Vectors of the kind `transcript`: the transcript hashes before and after a commit (RFC 9420,
 -- 8.2).
-use Rattle.std.specs.Prelude.{ℕ, List, [], ◌∷◌, codes, Option, Some, true, ◌≡◌, ◌⊎◌}
+use Rattle.std.specs.Prelude.{ℕ, List, [], ◌∷◌, codes, Some, true, ◌≡◌, ◌⊎◌}
 use Rattle.serde_json.specs.Data.{Data}
 use Rattle.mls_hash.specs.Hashing.{hash_of}
 use Rattle.mls_msgs.specs.Authenticated.{authenticated_content}

@@ -1,6 +1,6 @@
 -- Vectors of the kind `tree-operations`: a tree before and after one proposal (RFC 9420, 12.1 and
 -- 12.3).
-use Rattle.std.specs.Prelude.{ℕ, ◌<◌, List, [], ◌∷◌, codes, Option, Some, IsSome, ◌≡◌, ◌⊎◌}
+use Rattle.std.specs.Prelude.{ℕ, ◌<◌, List, [], ◌∷◌, codes, Some, IsSome, ◌≡◌, ◌⊎◌}
 use Rattle.serde_json.specs.Data.{Data}
 use Rattle.mls_nodes.specs.RatchetTree.{ratchet_tree, trimmed}
 use Rattle.mls_msgs.specs.Layout.{proposal}

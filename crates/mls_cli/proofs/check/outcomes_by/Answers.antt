@@ -1,4 +1,4 @@
-use Rattle.std.proofs.Common.{◌≡◌, ◌∷◌, [], ◌++◌, List, sym, ap, subst, map}
+use Rattle.std.proofs.Common.{[], List, sym, ap, subst, map}
 use Rattle.std.proofs.lemmas.List.{append-nil, nil_from_length}
 use Rattle.serde_json.specs.Data.{Items}
 use Rattle.serde_json.specs.View.{items_view}

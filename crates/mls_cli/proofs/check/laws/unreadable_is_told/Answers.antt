@@ -1,4 +1,4 @@
-use Rattle.std.proofs.Common.{◌≡◌, ◌≢◌, ◌<◌, ◌++◌, ℕ, List, [], ◌∷◌, slice_index, sym, ap, ◌∙◌, inl, inr, codes, arith}
+use Rattle.std.proofs.Common.{◌≢◌, ◌<◌, ◌++◌, ℕ, List, [], ◌∷◌, slice_index, sym, ap, ◌∙◌, inl, inr, codes, arith}
 use Rattle.std.specs.Fmt.{digits}
 use Rattle.mls_cli.specs.Check.{outcome_lines, counts, counts_line}
 use Rattle.mls_cli.specs.Outcomes.{Outcome}

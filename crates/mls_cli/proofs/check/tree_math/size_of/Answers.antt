@@ -1,4 +1,4 @@
-use Rattle.std.proofs.Common.{◌≡◌, ℕ, ◌∙◌, sym, ap, not, is_some, Option, Some, true≢false, inl, inr, arith}
+use Rattle.std.proofs.Common.{ℕ, ◌∙◌, sym, ap, not, is_some, Option, Some, true≢false, inl, inr, arith}
 use Rattle.std.proofs.lemmas.Option.{same_Some}
 use Rattle.mls_cli.proofs.Columns.{tree_of_size, leaves_low}
 use Rattle.mls_cli.proofs.check.tree_math.size_of.Goals as goal

@@ -1,4 +1,4 @@
-use Rattle.std.proofs.Common.{◌≡◌, ◌≢◌, List, [], ◌∷◌, ap, subst, inl, inr, Option, Err, None}
+use Rattle.std.proofs.Common.{◌≡◌, ◌≢◌, List, ap, subst, inl, inr, Option, Err, None}
 use Rattle.std.specs.Prelude.{◌⊎◌, option_and_then}
 use Rattle.mls_tree.specs.Tree.{Tree}
 use Rattle.mls_tree.specs.RatchetTree.{RatchetTree}

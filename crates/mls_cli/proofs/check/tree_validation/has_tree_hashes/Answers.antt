@@ -1,4 +1,4 @@
-use Rattle.std.proofs.Common.{ℕ, List, sym, subst, codes, arith, IfOk, IsTrue}
+use Rattle.std.proofs.Common.{ℕ, sym, subst, codes, arith}
 use Rattle.std.proofs.lemmas.Result.{IfOk-weaker}
 use Rattle.serde_json.specs.View.{view}
 use Rattle.mls_tree.specs.RatchetTree.{RatchetTree}

@@ -72,4 +72,6 @@ mod tree_reports;
 #[cfg(test)]
 mod validator;
 #[cfg(test)]
+mod vectors;
+#[cfg(test)]
 mod wire;

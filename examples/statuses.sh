@@ -32,6 +32,9 @@ expect 0 out 'valid epoch 1 members 2 ' validate --info examples/real/epoch-1.in
     --receipts examples/real/receipts.txt
 expect 0 out 'accepted 10 refused 0 broken 0 epoch 8' replay --info examples/real/epoch-1.info \
     --log examples/real/handshakes.log --receipts examples/real/receipts.txt
+for kind in tree-math tree-validation tree-operations transcript; do
+    expect 0 out ' failed 0 ' check "$kind" "examples/$kind.json"
+done
 expect 0 out 'Usage: mlscheck' --help
 expect 0 out 'mlscheck 0.1.0' --version
 
@@ -46,6 +49,9 @@ expect 1 out 'start refused 8 InfoSignature' validate --info examples/one-leaf.i
 expect 1 out 'accepted 0 refused 1 broken 0 epoch 0' replay --info examples/one-leaf.info \
     --log examples/six-members.tree --trust
 
+expect 1 out '1 fail n_leaves' check tree-math examples/transcript.json
+expect 1 out 'vectors unreadable' check transcript "$tree"
+
 expect 2 notes 'requires a subcommand'
 expect 2 notes 'unrecognized subcommand' nope
 expect 2 notes 'usage: give one of --trust and --receipts' validate-tree --context "$context" \
@@ -53,7 +59,10 @@ expect 2 notes 'usage: give one of --trust and --receipts' validate-tree --conte
 expect 2 notes 'usage: give one of --trust and --receipts' validate-tree --context "$context" \
     --tree "$tree" --trust --receipts examples/one-leaf.receipts
 
+expect 2 notes 'usage: KIND is ' check nope examples/tree-math.json
+
 expect 3 notes 'fault: read' show tree "$made/missing"
+expect 3 notes 'fault: read' check tree-math "$made/missing"
 expect 3 notes 'fault: read' validate-tree --context "$context" --tree "$tree" \
     --receipts "$made/missing"
 

@@ -2,6 +2,9 @@ pub mod Listings
 pub mod Hashes
 pub mod Lines
 pub mod Outcomes
+pub mod Columns
+pub mod Entries
+pub mod Commits
 pub mod Replaying
 pub mod Answered
 pub mod FindingsOnce

@@ -57,6 +57,14 @@ replay_app =
     (file_rule (codes "tree")))
     (needed_rule (codes "log")))
 
+-- `check KIND FILE`
+abbrev pub check_app : App
+check_app =
+    with_rule (with_rule
+    (new_app (codes "check"))
+    (word_rule (codes "KIND")))
+    (word_rule (codes "FILE"))
+
 -- the program without its subcommands: it tells its version, and one of them has to be given
 abbrev pub bare_app : App
 bare_app =
@@ -66,8 +74,9 @@ bare_app =
 -- the program
 abbrev pub mlscheck_app : App
 mlscheck_app =
-    with_subcommand (with_subcommand (with_subcommand (with_subcommand bare_app
+    with_subcommand (with_subcommand (with_subcommand (with_subcommand (with_subcommand bare_app
     show_app.top)
     validate_tree_app.top)
     validate_app.top)
-    replay_app.top
+    replay_app.top)
+    check_app.top

@@ -1,3 +1,5 @@
+pub mod Check
+pub mod CheckSeen
 pub mod Commands
 pub mod FaultText
 pub mod Finding
@@ -7,6 +9,7 @@ pub mod Judging
 pub mod MessageText
 pub mod OneReport
 pub mod Orders
+pub mod Outcomes
 pub mod Program
 pub mod ReadAll
 pub mod Replay
@@ -16,7 +19,12 @@ pub mod Starting
 pub mod StartingSteps
 pub mod Status
 pub mod Texts
+pub mod TranscriptVectors
+pub mod TreeMath
+pub mod TreeOperations
 pub mod TreeText
+pub mod TreeValidation
 pub mod UnreadableReceipts
 pub mod Validate
 pub mod ValidateTree
+pub mod VectorFile

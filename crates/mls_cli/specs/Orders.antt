@@ -3,6 +3,8 @@ use Rattle.std.specs.Prelude.{List, [], ◌∷◌, ◌≡◌, ◌≢◌, ◌⊎�
 use Rattle.clap.specs.Words.{Text, Row, first_of, fault_of, subcommand_of, IsAmong}
 use Rattle.clap.specs.declared.error.kind.ErrorKind.TheVariants.{DisplayHelp, DisplayVersion}
 use Rattle.mls_cli.specs.Commands.{mlscheck_app}
+use Rattle.mls_cli.specs.declared.check.CheckKind.{CheckKind}
+use Rattle.mls_cli.specs.declared.check.CheckKind.TheVariants as checks
 use Rattle.mls_cli.specs.declared.order.Checker.{Checker}
 use Rattle.mls_cli.specs.declared.order.Checker.TheVariants as checker
 use Rattle.mls_cli.specs.declared.order.Order.{Order}
@@ -22,6 +24,19 @@ kind_text kind.Message = codes "message"
 abbrev pub IsShow : List Row → ShowKind → Text → Type 0
 IsShow rows k file =
     (first_of (codes "KIND") rows ≡ Some (kind_text k)) × (first_of (codes "FILE") rows ≡ Some file)
+
+-- the word that names a kind of vectors on the command line
+abbrev pub check_kind_text : CheckKind → Text
+check_kind_text checks.TreeMath = codes "tree-math"
+check_kind_text checks.TreeValidation = codes "tree-validation"
+check_kind_text checks.TreeOperations = codes "tree-operations"
+check_kind_text checks.Transcript = codes "transcript"
+
+-- the arguments KIND and FILE are these
+abbrev pub IsCheck : List Row → CheckKind → Text → Type 0
+IsCheck rows k file =
+    (first_of (codes "KIND") rows ≡ Some (check_kind_text k))
+    × (first_of (codes "FILE") rows ≡ Some file)
 
 -- exactly one of `--trust` and `--receipts` is given, and this is who judges signatures
 abbrev pub IsChecker : Option Text → Option Text → Checker → Type 0
@@ -57,6 +72,8 @@ IsOrder found (order.Validate info tree c) =
     (rows : List Row) × (found ≡ Some (codes "validate", rows)) × IsValidate rows info tree c
 IsOrder found (order.Replay info tree log c) =
     (rows : List Row) × (found ≡ Some (codes "replay", rows)) × IsReplay rows info tree log c
+IsOrder found (order.Check k file) =
+    (rows : List Row) × (found ≡ Some (codes "check", rows)) × IsCheck rows k file
 
 -- clap refuses none of the words, and what it finds in them is the order
 pub record IsOrderOf (words : List Text) (o : Order) : Type 0 where

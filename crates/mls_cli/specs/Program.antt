@@ -7,6 +7,7 @@ use Rattle.mls_wire.specs.Devices.{AppendsPrefix}
 use Rattle.mls_check.specs.Receipts.{listed, IsReceipts, IsReceiptsFault}
 use Rattle.mls_check.specs.Signatures.{Meaning}
 use Rattle.mls_check.specs.declared.receipts.ReceiptsFault.{ReceiptsFault}
+use Rattle.mls_cli.specs.Check.{Checks, ChecksPart}
 use Rattle.mls_cli.specs.Orders.{IsOrderOf, IsHelp, AsksForHelp, Refuses}
 use Rattle.mls_cli.specs.ReadAll.{ReadsAll, ReadsSome}
 use Rattle.mls_cli.specs.Replay.{Replays, ReplaysPart}
@@ -16,10 +17,11 @@ use Rattle.mls_cli.specs.Status.{status, fault_status}
 use Rattle.mls_cli.specs.UnreadableReceipts.{TellsReceipts, receipts_line}
 use Rattle.mls_cli.specs.Validate.{Validates, ValidatesPart}
 use Rattle.mls_cli.specs.ValidateTree.{ValidatesTree, ValidatesTreePart}
+use Rattle.mls_cli.specs.declared.check.CheckKind.{CheckKind}
 use Rattle.mls_cli.specs.declared.order.Checker.{Checker}
 use Rattle.mls_cli.specs.declared.order.Checker.TheVariants.{Trust, Receipts}
 use Rattle.mls_cli.specs.declared.order.Order.{Order}
-use Rattle.mls_cli.specs.declared.order.Order.TheVariants.{Show, ValidateTree, Validate, Replay}
+use Rattle.mls_cli.specs.declared.order.Order.TheVariants.{Show, ValidateTree, Validate, Replay, Check}
 use Rattle.mls_cli.specs.declared.order.OrderFault.{OrderFault}
 use Rattle.mls_cli.specs.declared.order.OrderFault.TheVariants as order
 use Rattle.mls_cli.specs.declared.outcome.RunFault.{RunFault}
@@ -269,6 +271,23 @@ module _ {File : Type 0} (F : Opener File) where
       ⊎ ((Opens F info × OpensNamed F tree × CannotOpen F log written0 written1 outcome)
       ⊎ RunsReplay G info tree log written0 written1 outcome))
 
+  -- the report `check` of a file of this name
+  pub record RunsCheck (k : CheckKind) (name : List ℕ) (written0 written1 : Option (List ℕ))
+      (outcome : Outcome) : Type 0 where
+    pub opened : File
+    pub ended : File
+    pub given : F.gives name opened
+    pub checked : IfOk outcome (Checks k (F.left opened) (F.left ended) written0 written1)
+    pub part : OnErr outcome (ChecksPart k (F.left opened) (F.left ended) written0 written1)
+    pub memory : outcome ≡ Err Memory → Appends written0 written1 []
+    pub failed : (outcome ≡ Err Read) ↔ (F.is_failed ended ≡ true)
+
+  -- the order `check`
+  abbrev pub CarriesCheck : CheckKind → List ℕ → Option (List ℕ) → Option (List ℕ) → Outcome
+      → Type 0
+  CarriesCheck k name written0 written1 outcome =
+      CannotOpen F name written0 written1 outcome ⊎ RunsCheck k name written0 written1 outcome
+
   -- an order was carried out
   abbrev pub CarriesOut : Order → Option (List ℕ) → Option (List ℕ) → Outcome → Type 0
   CarriesOut (Show k name) written0 written1 outcome = CarriesShow k name written0 written1 outcome
@@ -281,6 +300,8 @@ module _ {File : Type 0} (F : Opener File) where
   CarriesOut (Replay info tree log c) written0 written1 outcome =
       IsJudgedBy F c (λ G. CarriesReplay G info tree log written0 written1 outcome)
       written0 written1 outcome
+  CarriesOut (Check k name) written0 written1 outcome =
+      CarriesCheck k name written0 written1 outcome
 
 -- ---- the program
 

@@ -1,11 +1,12 @@
 //! Carrying out an order: the files that it names are opened, and its report is made of them.
 
 ghost use Rattle.std.specs.Prelude.{◌≡◌, ◌↔◌, ◌⊎◌, false, true, None, Err, option_map, IfSome};
-ghost use Rattle.mls_cli.specs.Program.{opener, CarriesOut, CarriesShow, CarriesValidateTree, CarriesValidate, CarriesReplay, IsJudgedBy, IsOpened, LacksNamed, EndsUnread, EndsRefused};
+ghost use Rattle.mls_cli.specs.Program.{opener, CarriesOut, CarriesShow, CarriesValidateTree, CarriesValidate, CarriesReplay, CarriesCheck, IsJudgedBy, IsOpened, LacksNamed, EndsUnread, EndsRefused};
 ghost use Rattle.mls_cli.specs.Judges.{judge_meaning};
 ghost use Rattle.mls_cli.specs.Starting.{has_failed};
 ghost use Rattle.mls_cli.specs.Judging.{IsJudgeFault};
 
+use crate::check::{CheckKind, run_check};
 use crate::file_name::FileName;
 use crate::files::Files;
 use crate::judge::{Judge, JudgeFault};
@@ -39,6 +40,26 @@ fn show<F: Files, K: Sink>(
         return Err(RunFault::Read);
     };
     run_show(alloc, kind, &mut input, out)
+}
+
+/// Says which test vectors of a file agree with this library.
+fn check<F: Files, K: Sink>(
+    alloc: Global,
+    kind: CheckKind,
+    file: &FileName,
+    files: &F,
+    out: &mut K,
+) -> Result<Verdict, RunFault>
+    requires { K.is_failed out.old ≡ false }
+    ensures carried { CarriesCheck
+        (opener (F.gives files.now) (F.lacks files.now) F.File.left F.File.is_failed)
+        kind file.now (K.written out.old) (K.written out.new) result }
+    ensures write { (result ≡ Err RunFault.Write) ↔ (K.is_failed out.new ≡ true) }
+{
+    let Some(mut input) = files.open(file.as_str()) else {
+        return Err(RunFault::Read);
+    };
+    run_check(alloc, kind, &mut input, out)
 }
 
 /// Says whether a tree is that of a group context, and its leaves are members.
@@ -276,5 +297,6 @@ pub fn carry_out<F: Files, K: Sink>(
             log,
             checker,
         } => replay_order(alloc, info, tree, log, checker, files, out),
+        Order::Check { kind, file } => check(alloc, *kind, file, files, out),
     }
 }

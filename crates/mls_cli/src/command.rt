@@ -4,7 +4,7 @@ ghost use Rattle.std.specs.Prelude.{◌≡◌, IfOk, false, codes};
 ghost use Rattle.clap.specs.Words.{app_of, rule_of, with_rule, with_subcommand};
 ghost use Rattle.clap.specs.declared.builder.command.Command.TheViews.{out-Command as fields_of};
 ghost use Rattle.mls_cli.specs.Commands as specs;
-ghost use Rattle.mls_cli.specs.Commands.{word_rule, file_rule, needed_rule, flag_rule, show_app, validate_tree_app, validate_app, replay_app, bare_app, mlscheck_app};
+ghost use Rattle.mls_cli.specs.Commands.{word_rule, file_rule, needed_rule, flag_rule, show_app, validate_tree_app, validate_app, replay_app, check_app, bare_app, mlscheck_app};
 
 use clap::{Arg, ArgAction, Command};
 use std::alloc::{AllocError, Global};
@@ -43,6 +43,10 @@ const REPLAY_HELP: &str = "\
 Example:
   mlscheck replay --info examples/real/epoch-1.info --log examples/real/handshakes.log \\
       --receipts examples/real/receipts.txt";
+
+const CHECK_HELP: &str = "\
+Example:
+  mlscheck check tree-math examples/tree-math.json";
 
 /// An argument that is told by its place, and has to be there.
 fn word<'a>(alloc: Global, name: &'a str, help: &'a str) -> Arg<'a>
@@ -180,6 +184,23 @@ fn replay_command<'a>(alloc: Global) -> Result<Command<'a>, AllocError>
     with_checker(alloc, command)
 }
 
+/// `check KIND FILE`.
+fn check_command<'a>(alloc: Global) -> Result<Command<'a>, AllocError>
+    ensures app { IfOk result (λ c. app_of c ≡ check_app) }
+    ensures own { IfOk result (λ c. (fields_of c).has_globals ≡ false) }
+{
+    let kind = word(
+        alloc,
+        "KIND",
+        "What the vectors check: tree-math, tree-validation, tree-operations or transcript",
+    );
+    Command::new(alloc, "check")
+        .about("Checks the test vectors of a file")
+        .after_help(CHECK_HELP)
+        .arg(kind)?
+        .arg(word(alloc, "FILE", "The file's path"))
+}
+
 /// The command with one subcommand more, the last.
 fn with_command<'a>(command: Command<'a>, sub: Command<'a>) -> Result<Command<'a>, AllocError>
     requires command_own { (fields_of command).has_globals ≡ false }
@@ -211,5 +232,6 @@ pub(crate) fn mlscheck_command<'a>(alloc: Global) -> Result<Command<'a>, AllocEr
     let command = with_command(bare_command(alloc), show_command(alloc)?)?;
     let command = with_command(command, validate_tree_command(alloc)?)?;
     let command = with_command(command, validate_command(alloc)?)?;
-    with_command(command, replay_command(alloc)?)
+    let command = with_command(command, replay_command(alloc)?)?;
+    with_command(command, check_command(alloc)?)
 }

@@ -1,5 +1,6 @@
 //! Laws about the definitions of the reports, which no call of a caller's needs to run.
 
+ghost use Rattle.mls_cli.specs.Check.{TellsUnreadable};
 ghost use Rattle.mls_cli.specs.OneReport.{OneTreeFinding, OneStartFinding, OneStart, OneLog, OneReplay};
 
 /// What is found of a context and a tree, and of a group info and a tree, is one function of their bytes and of what the
@@ -17,4 +18,9 @@ pub fn findings_are_determined()
 pub fn replays_are_determined()
     ensures log { OneLog }
     ensures report { OneReplay }
+{}
+
+/// The report of a file of vectors is the line `vectors unreadable` just where no vectors can be read from it.
+pub fn unreadable_is_told()
+    ensures { TellsUnreadable }
 {}

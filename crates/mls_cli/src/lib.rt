@@ -2,6 +2,7 @@
 #![tactic(auto)]
 
 mod carry;
+mod check;
 mod command;
 mod fault_text;
 mod file_name;
@@ -30,6 +31,7 @@ mod validate_tree;
 mod write;
 
 pub use carry::carry_out;
+pub use check::{CheckKind, run_check};
 pub use file_name::FileName;
 pub use files::Files;
 pub use order::{Checker, Order, OrderFault, order_of};

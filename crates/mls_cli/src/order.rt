@@ -3,9 +3,10 @@
 ghost use Rattle.std.specs.Prelude.{◌≡◌, ◌≢◌, ◌↔◌, ◌⊎◌, IsTrue, IfOk, IfErr, codes, Some, option_map, map, string_bytes};
 ghost use Rattle.clap.specs.Values.{kind_of};
 ghost use Rattle.clap.specs.Words.{first_of, rows_of, found_of, subcommand_rows_of};
-ghost use Rattle.mls_cli.specs.Orders.{IsChecker, IsOrder, IsOrderOf, IsHelp, IsUsage, AsksForHelp, AsksForHelpAlone, Refuses, kind_text};
+ghost use Rattle.mls_cli.specs.Orders.{IsChecker, IsOrder, IsOrderOf, IsHelp, IsUsage, AsksForHelp, AsksForHelpAlone, Refuses, kind_text, check_kind_text};
 ghost use Rattle.mls_cli.specs.Status.{fault_status};
 
+use crate::check::CheckKind;
 use crate::command::mlscheck_command;
 use crate::file_name::FileName;
 use crate::show::ShowKind;
@@ -61,6 +62,13 @@ pub enum Order {
         log: FileName,
         /// Who judges signatures.
         checker: Checker,
+    },
+    /// `check KIND FILE`: say which test vectors of a file agree with this library.
+    Check {
+        /// What the vectors check.
+        kind: CheckKind,
+        /// The file.
+        file: FileName,
     },
 }
 
@@ -275,6 +283,40 @@ fn replay_order(alloc: Global, matches: &ArgMatches<'_>) -> Result<Order, OrderF
     })
 }
 
+/// The kind that `check` is given.
+fn check_kind(alloc: Global, matches: &ArgMatches<'_>) -> Result<CheckKind, OrderFault>
+    ensures kind { IfOk result
+        (λ k. first_of (codes "KIND") (rows_of (found_of matches.now))
+        ≡ Some (check_kind_text k)) }
+    ensures refused { IfErr result
+        (Refuses (λ k. first_of (codes "KIND") (rows_of (found_of matches.now))
+        ≡ Some (check_kind_text k))) }
+    ensures own { IfErr result (λ e. IsHelp e → ⊥) }
+{
+    match value(matches, "KIND") {
+        Some("tree-math") => Ok(CheckKind::TreeMath),
+        Some("tree-validation") => Ok(CheckKind::TreeValidation),
+        Some("tree-operations") => Ok(CheckKind::TreeOperations),
+        Some("transcript") => Ok(CheckKind::Transcript),
+        _ => Err(usage(
+            alloc,
+            "usage: KIND is tree-math, tree-validation, tree-operations or transcript\n",
+        )),
+    }
+}
+
+/// The order of `check`.
+fn check_order(alloc: Global, matches: &ArgMatches<'_>) -> Result<Order, OrderFault>
+    ensures order { IfOk result (IsOrder (Some (codes "check", rows_of (found_of matches.now)))) }
+    ensures refused { IfErr result
+        (Refuses (IsOrder (Some (codes "check", rows_of (found_of matches.now))))) }
+    ensures own { IfErr result (λ e. IsHelp e → ⊥) }
+{
+    let kind = check_kind(alloc, matches)?;
+    let file = file_of(alloc, matches, "FILE")?;
+    Ok(Order::Check { kind, file })
+}
+
 /// The order that clap's matches give.
 fn read_order(alloc: Global, matches: &ArgMatches<'_>) -> Result<Order, OrderFault>
     ensures order { IfOk result (IsOrder (subcommand_rows_of matches.now)) }
@@ -286,6 +328,7 @@ fn read_order(alloc: Global, matches: &ArgMatches<'_>) -> Result<Order, OrderFau
         Some((name, inner)) if name == "validate-tree" => validate_tree_order(alloc, inner),
         Some((name, inner)) if name == "validate" => validate_order(alloc, inner),
         Some((name, inner)) if name == "replay" => replay_order(alloc, inner),
+        Some((name, inner)) if name == "check" => check_order(alloc, inner),
         Some(_) => Err(usage(alloc, "usage: no such command\n")),
         None => Err(usage(alloc, "usage: a command is missing\n")),
     }

@@ -3,23 +3,28 @@
 
 use crate::support::expect_texts;
 use mls_check::{Listed, Trusting, signed};
-use mls_cli::{ShowKind, run_show};
+use mls_cli::{CheckKind, ShowKind, run_check, run_show};
 use mls_msgs::{Message, decode_message};
 use mls_nodes::{decode_context, decode_ratchet_tree};
 use mls_wire::{MemorySink, Opaque, StdSource, Writer};
 use std::alloc::Global;
 use std::test::Fail;
 
-/// A private message with a body of zeros, so many bytes in all.
-fn private_message(alloc: Global, size: usize) -> Result<Vec<u8>, Fail> {
-    let zeros = vec![in alloc; 0u8; 65536]?;
+/// Some bytes with one byte again and again behind them, so many in all.
+fn filled(alloc: Global, first: &[u8], filler: u8, size: usize) -> Result<Vec<u8>, Fail> {
+    let fillers = vec![in alloc; filler; 65536]?;
     let mut input = Vec::with_capacity(alloc, size)?;
-    input.extend_from_slice(&[0, 1, 0, 2])?;
+    input.extend_from_slice(first)?;
     for _ in 0..4097 {
-        let more = size.saturating_sub(input.len()).min(zeros.len());
-        input.extend_from_slice(zeros.as_slice().get(..more).ok_or("zeros")?)?;
+        let more = size.saturating_sub(input.len()).min(fillers.len());
+        input.extend_from_slice(fillers.as_slice().get(..more).ok_or("fillers")?)?;
     }
     Ok(input)
+}
+
+/// A private message with a body of zeros, so many bytes in all.
+fn private_message(alloc: Global, size: usize) -> Result<Vec<u8>, Fail> {
+    filled(alloc, &[0, 1, 0, 2], 0, size)
 }
 
 /// The wire format and the body's length of a message of such a size, or why it can't be read.
@@ -113,4 +118,22 @@ fn over_a_vector(alloc: Global, size: usize) -> Result<String, Fail> {
 fn arguments_over_a_vector(rt: HostRuntime) -> Result<(), Fail> {
     let sizes = [(1073741824, "false, TooLong at 0, TooLong at 1")];
     expect_texts(&rt, rt.alloc(), over_a_vector, &sizes)
+}
+
+/// What `check` writes of no vectors with blanks behind them, so many bytes in all.
+fn checked(alloc: Global, size: usize) -> Result<String, Fail> {
+    let input = filled(alloc, b"[]", b' ', size)?;
+    let mut out = MemorySink::new(alloc, 100, 100, None)?;
+    let mut source = StdSource::new(input.as_slice());
+    run_check(alloc, CheckKind::TreeMath, &mut source, &mut out)?;
+    Ok(String::from_utf8(Vec::from_slice(alloc, out.bytes())?)?)
+}
+
+#[test]
+fn vectors_over_the_limit_are_told(rt: HostRuntime) -> Result<(), Fail> {
+    let sizes = [
+        (268435456, "passed 0 failed 0 skipped 0\n"),
+        (268435457, "vectors unreadable\n"),
+    ];
+    expect_texts(&rt, rt.alloc(), checked, &sizes)
 }

@@ -76,4 +76,6 @@ mod tree_reports;
 #[cfg(test)]
 mod validator;
 #[cfg(test)]
+mod vectors;
+#[cfg(test)]
 mod wire;

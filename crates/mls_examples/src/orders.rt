@@ -2,7 +2,8 @@
 
 use crate::support::expect_text;
 use mls_cli::{
-    Checker, FileName, Order, OrderFault, RunFault, ShowKind, Verdict, order_of, status_of,
+    CheckKind, Checker, FileName, Order, OrderFault, RunFault, ShowKind, Verdict, order_of,
+    status_of,
 };
 use std::alloc::Global;
 use std::test::Fail;
@@ -76,6 +77,15 @@ fn words_of(alloc: Global, order: &Order) -> Result<String, Fail> {
             log.as_str(),
             receipts_of(checker)
         )?),
+        Order::Check { kind, file } => {
+            let kind = match kind {
+                CheckKind::TreeMath => "math",
+                CheckKind::TreeValidation => "validation",
+                CheckKind::TreeOperations => "operations",
+                CheckKind::Transcript => "transcript",
+            };
+            Ok(format!(in alloc; "check {kind} {}", file.as_str())?)
+        }
     }
 }
 
@@ -121,6 +131,14 @@ fn orders_are_read(rt: HostRuntime) -> Result<(), Fail> {
             "2 usage: give one of --trust and --receipts\n",
         ),
         ("show nope x", "2 usage: KIND is tree, info or message\n"),
+        ("check tree-math x", "check math x"),
+        ("check tree-validation x", "check validation x"),
+        ("check tree-operations x", "check operations x"),
+        ("check transcript x", "check transcript x"),
+        (
+            "check tree x",
+            "2 usage: KIND is tree-math, tree-validation, tree-operations or transcript\n",
+        ),
     ] {
         expect_text(&rt, answer(rt.alloc(), line)?, wanted);
     }
@@ -141,6 +159,8 @@ fn usage_and_help(rt: HostRuntime) -> Result<(), Fail> {
         ("nope", "2", "unrecognized subcommand 'nope'"),
         ("show tree", "2", "<FILE>"),
         ("show tree x y", "2", "unexpected argument 'y'"),
+        ("check --help", "0", "Usage: mlscheck"),
+        ("check transcript", "2", "<FILE>"),
         ("", "2", "requires a subcommand"),
     ] {
         let text = answer(rt.alloc(), line)?;

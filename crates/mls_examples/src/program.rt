@@ -6,8 +6,12 @@ use mls_wire::{MemorySink, MemorySource};
 use std::alloc::Global;
 use std::test::Fail;
 
-/// The files of an info, a log, a context, a tree and receipts, the last of which are the bytes of a text. There is no
-/// other.
+/// Three vectors of the places of one leaf: as they are, with another root, and without any member.
+const VECTORS: &str = "[{\"n_leaves\":1,\"n_nodes\":1,\"root\":0,\"left\":[null],\"right\":[null],\
+    \"parent\":[null],\"sibling\":[null]},{\"n_leaves\":1,\"n_nodes\":1,\"root\":1},{}]";
+
+/// The files of an info, a log, a context, a tree, receipts and vectors, the last two of which are the bytes of a text.
+/// There is no other.
 #[derive(Drop)]
 struct Shelf<'a> {
     info: &'a [u8],
@@ -31,6 +35,8 @@ impl<'a> Files for Shelf<'a> {
             "context" => Some(MemorySource::new(self.context, 40, None)),
             "tree" => Some(MemorySource::new(self.tree, 40, None)),
             "receipts" => Some(MemorySource::new(self.receipts.as_bytes(), 40, None)),
+            "vectors" => Some(MemorySource::new(VECTORS.as_bytes(), 40, None)),
+            "no-vectors" => Some(MemorySource::new(b"[]", 40, None)),
             _ => None,
         }
     }
@@ -118,6 +124,25 @@ fn orders_are_carried_out(rt: HostRuntime) -> Result<(), Fail> {
             "replay --info info --log log --trust",
             "1 1 accepted proposal 419afc0a88fe171b793b00410d11c8121fb96fdfde7b5ced43d5912144a3a9f9\n\
                 2 refused 1\naccepted 1 refused 1 broken 0 epoch 0\n| ",
+        ),
+        (
+            "check tree-math vectors",
+            "1 1 pass\n2 fail root\n3 fail n_leaves\npassed 1 failed 2 skipped 0\n| ",
+        ),
+        (
+            "check transcript vectors",
+            "1 1 fail cipher_suite\n2 fail cipher_suite\n3 fail cipher_suite\n\
+                passed 0 failed 3 skipped 0\n| ",
+        ),
+        (
+            "check tree-operations no-vectors",
+            "0 passed 0 failed 0 skipped 0\n| ",
+        ),
+        ("check tree-validation tree", "1 vectors unreadable\n| "),
+        ("check tree-math other", "3 | fault: read\n"),
+        (
+            "check tree vectors",
+            "2 | usage: KIND is tree-math, tree-validation, tree-operations or transcript\n",
         ),
         ("show tree other", "3 | fault: read\n"),
         ("validate --info other --trust", "3 | fault: read\n"),

@@ -102,7 +102,7 @@ impl Group {
             unreachable!();
         };
         let tree = whole_hash(alloc, self.suite, tree)?;
-        let confirmed = confirmed_hash(alloc, self.suite, &self.interim, auth)?;
+        let confirmed = confirmed_hash(alloc, self.suite, self.interim.as_slice(), auth)?;
         let interim = interim_hash(alloc, self.suite, confirmed.as_slice(), tag)?;
         let tree = opaque_of(alloc, &tree)?;
         Ok(Hashes {

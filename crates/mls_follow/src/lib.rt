@@ -24,3 +24,4 @@ pub use follower::Follower;
 pub use refusal::Refusal;
 pub use start::{StartFault, StartRefused};
 pub use taken::Taken;
+pub use transcript::{confirmed_hash, interim_hash};

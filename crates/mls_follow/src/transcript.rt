@@ -12,26 +12,28 @@ use mls_tree::{HashValue, PublicTree};
 use mls_wire::{CodecFault, Opaque, Writer};
 use std::alloc::{AllocError, Global};
 
-/// The confirmed transcript hash after a commit, by the interim one before it.
+/// The confirmed transcript hash after a commit, by the interim one before it (RFC 9420, 8.2). `AllocError` comes only
+/// where an allocation was refused.
 #[tactic(auto, unfolding(crate::specs::Transcript::confirmed_hash))]
-pub(crate) fn confirmed_hash(
+pub fn confirmed_hash(
     alloc: Global,
     suite: Suite,
-    interim: &HashValue,
+    interim: &[u8],
     auth: &Authenticated,
 ) -> Result<HashValue, AllocError>
     requires { IsSome (confirmed_input auth.now) }
     ensures { IfOk result (λ h. confirmed_hash (hash_of suite) interim.now auth.now ≡ Some h) }
 {
     match confirmed_input(alloc, auth) {
-        Ok(input) => Ok(hash(suite, interim.as_slice(), input.as_slice())),
+        Ok(input) => Ok(hash(suite, interim, input.as_slice())),
         Err(CodecFault::OutOfMemory) => Err(AllocError),
         Err(CodecFault::Wire(_)) => unreachable!(),
     }
 }
 
-/// The interim transcript hash that follows a confirmed one, by the confirmation tag of the commit.
-pub(crate) fn interim_hash(
+/// The interim transcript hash that follows a confirmed one, by the confirmation tag of the commit (RFC 9420, 8.2).
+/// `AllocError` comes only where an allocation was refused.
+pub fn interim_hash(
     alloc: Global,
     suite: Suite,
     confirmed: &[u8],

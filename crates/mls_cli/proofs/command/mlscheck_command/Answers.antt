@@ -11,4 +11,5 @@ returns-clause-app c =
     let one = c.in_ok-command.ensures.app ∙ add _ _ _ _ c.bare_command.ensures.app c.in_ok-show_command.ensures.app in
     let two = c.in_ok-command-2.ensures.app ∙ add _ _ _ _ one c.in_ok-validate_tree_command.ensures.app in
     let three = c.in_ok-command-3.ensures.app ∙ add _ _ _ _ two c.in_ok-validate_command.ensures.app in
-    IfOk-weaker c.with_command-4.result _ _ (λ r app. app ∙ add _ _ _ _ three c.in_ok-replay_command.ensures.app) c.with_command-4.ensures.app
+    let four = c.in_ok-command-4.ensures.app ∙ add _ _ _ _ three c.in_ok-replay_command.ensures.app in
+    IfOk-weaker c.with_command-5.result _ _ (λ r app. app ∙ add _ _ _ _ four c.in_ok-check_command.ensures.app) c.with_command-5.ensures.app

@@ -3,3 +3,4 @@ pub mod Pieces
 pub mod KnownBytes
 pub mod Logs
 pub mod LogLaws
+pub mod Sized

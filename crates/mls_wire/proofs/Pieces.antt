@@ -13,11 +13,13 @@ use Rattle.mls_wire.specs.Written.{after_then, after_is, grown}
 pub WritesPiece-same : {A : Type 0} (a b : Option (List ℕ)) (old new : List ℕ) (r : Result A CodecFault) → a ≡ b → WritesPiece a old new r → WritesPiece b old new r
 WritesPiece-same a b old new r e h = subst (λ (t : Option (List ℕ)). WritesPiece t old new r) e h
 
-some_has : (o : Option (List ℕ)) → IsSome o → (t : List ℕ) × (o ≡ Some t)
+-- what has a text
+pub some_has : (o : Option (List ℕ)) → IsSome o → (t : List ℕ) × (o ≡ Some t)
 some_has None h = absurd cc
 some_has (Some t) h = (t, refl)
 
-vector_has : (body form : List ℕ) → length_form (length body) ≡ Some form → vector body ≡ Some (form ++ body)
+-- a vector, behind its length
+pub vector_has : (body form : List ℕ) → length_form (length body) ≡ Some form → vector body ≡ Some (form ++ body)
 unfolding vector
 vector_has body form e = join (length_form (length body)) (Some body) form body e refl
 

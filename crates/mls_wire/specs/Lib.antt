@@ -18,5 +18,6 @@ pub mod Loops
 pub mod Answers
 pub mod Laws
 pub mod Written
+pub mod Counting
 pub mod Sizes
 pub mod Logs

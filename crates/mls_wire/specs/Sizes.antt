@@ -4,12 +4,13 @@ use Rattle.std.specs.Prelude.{option_map, IsSome}
 use Rattle.std.specs.Int.{Width, byte_len}
 use mir.Val.{bits}
 use Rattle.std.proofs.lemmas.Bool.{cases_lt}
-use Rattle.std.proofs.lemmas.List.{take_more, take-append-drop, take_all}
+use Rattle.std.proofs.lemmas.List.{append-nil, take_more, take-append-drop, take_all}
 use Rattle.mls_wire.specs.Limits.{vector_limit}
 use Rattle.mls_wire.specs.Spelling.{◌⊕◌, number, length_form, vector, sized, items, list}
 use Rattle.mls_wire.specs.Steps.{some_is}
-use Rattle.mls_wire.specs.Joined.{no_right, joined, join}
-use Rattle.mls_wire.specs.Lengths.{length_short, form_1, form_2, form_4}
+use Rattle.mls_wire.specs.Joined.{no_left, joined, join}
+use Rattle.mls_wire.specs.Lengths.{form_1, form_2, form_4, no_length}
+use Rattle.mls_wire.specs.Counting.{counted, size, joint_size}
 use Rattle.mls_wire.specs.Numbers.{IsWide, number_made}
 use Rattle.mls_wire.specs.Vectors.{vector_within}
 use Rattle.mls_wire.specs.Lists.{sized_parts, sized_of}
@@ -103,22 +104,116 @@ module _ {A : Type 0} (s : A → Option (List ℕ)) where
       let c : sized (items s xs) ≡ vector a.0 = sized_of _ a.0 b in
       rw c (vector_some a.0 (omega (arith, a.2)))
 
--- the size of two parts
-pub both_sizes : (a b : Option (List ℕ)) (m n : ℕ) → Some m ≡ option_map length a → Some n ≡ option_map length b → Some (n + m) ≡ option_map length (a ⊕ b)
-both_sizes a b m n e f =
-    let x = some_size a m (sym e) in
-    let y = some_size b n (sym f) in
-    size_of _ (x.0 ++ y.0) (n + m) (join a b x.0 y.0 x.1 y.1) (omega (arith, length-append x.0 y.0, x.2, y.2))
+-- ---- counted sizes
 
--- no size, where the second part has no spelling
-pub no_second_size : (a b : Option (List ℕ)) → None ≡ option_map length b → None ≡ option_map length (a ⊕ b)
-no_second_size a b e = rw (no_right a b (none_size b e)) refl
+-- a text of this length
+pub size_exact : (o : Option (List ℕ)) (n : ℕ) → Some n ≡ option_map length o → n < 2 ^ 64 → Some n ≡ size o
+unfolding size
+size_exact None n e lt = absurd cc
+size_exact (Some t) n e lt =
+    let same : n ≡ length t = some_is _ _ e in
+    ap (λ (k : ℕ). Some k) (omega (arith, same))
 
--- the most bytes that a vector takes
-pub vector_below : (s : List ℕ) (n : ℕ) → Some n ≡ option_map length (vector s) → n ≤ 1073741827
+-- no text has no size
+pub no_size_of : (o : Option (List ℕ)) → o ≡ None → None ≡ size o
+unfolding size
+no_size_of o e = rw e refl
+
+-- a size is that of a text
+pub sized_text : (o : Option (List ℕ)) (n : ℕ) → Some n ≡ size o → (t : List ℕ) × (o ≡ Some t) × (counted (length t) ≡ n)
+unfolding size
+sized_text None n e = absurd cc
+sized_text (Some t) n e = (t, refl, sym (some_is _ _ e))
+
+-- where there is no size, there is no text
+pub sized_none_text : (o : Option (List ℕ)) → None ≡ size o → o ≡ None
+unfolding size
+sized_none_text None e = refl
+sized_none_text (Some t) e = absurd cc
+
+-- the size of two texts, one after the other
+pub size_joined : (a b : Option (List ℕ)) → size (a ⊕ b) ≡ joint_size (size a) (size b)
+unfolding size ◌⊕◌ joint_size
+size_joined None b = refl
+size_joined (Some x) None = refl
+size_joined (Some x) (Some y) = ap (λ (n : ℕ). Some n) (omega (arith, length-append x y))
+
+-- the size of one byte
+pub size_byte : (n : ℕ) → size (Some (n ∷ [])) ≡ Some 1
+unfolding size
+size_byte n = refl
+
+-- the size of a number
+pub size_number : (w : Width) → IsWide w → (n : ℕ) → n < 2 ^ bits w → byte_len w < 2 ^ 64 → Some (byte_len w) ≡ size (number w n)
+size_number w wide n lt small = size_exact (number w n) (byte_len w) (number_size w wide n lt) small
+
+-- the size of a vector, by that of its body
+pub size_short : (s : List ℕ) (n k : ℕ) (front : List ℕ) → counted (length s) ≡ n → n ≤ vector_limit → length_form (length s) ≡ Some front → length front ≡ k → k ≤ 4 → Some (n + k) ≡ size (vector s)
+size_short s n k front e le f g small =
+    let same : length s ≡ n = omega (arith, e) in
+    size_exact (vector s) (n + k) (ap (λ (m : ℕ). Some (m + k)) (sym same) ∙ vector_size s front k f g) (omega arith)
+
+-- no vector has a body that is too long
+pub size_long : (s : List ℕ) (n : ℕ) → counted (length s) ≡ n → vector_limit < n → None ≡ size (vector s)
 unfolding vector
-vector_below s n e =
-    let t = some_size (vector s) n (sym e) in
-    let a = joined (length_form (length s)) (Some s) t.0 t.1 in
-    let same : s ≡ a.1 = some_is _ _ a.3 in
-    omega (arith, length_short (length s) a.0 a.2, vector_within s t.0 t.1, ap length a.4, length-append a.0 a.1, t.2, ap length same)
+size_long s n e lt = no_size_of _ (no_left (length_form (length s)) (Some s) (no_length (length s) (omega (arith, e))))
+
+-- the form of a length that is counted
+pub counted_form : (n : ℕ) → length_form (counted n) ≡ length_form n
+counted_form n =
+    elim (cases_lt n (2 ^ 64)) [
+      | inl lt ↦ ap length_form (omega arith)
+      | inr le ↦ no_length (counted n) (omega arith) ∙ sym (no_length n (omega arith))
+    ]
+
+-- a text and nothing more
+alone : (o : Option (List ℕ)) → o ⊕ Some [] ≡ Some [] ⊕ o
+unfolding ◌⊕◌
+alone None = refl
+alone (Some u) = ap (λ (t : List ℕ). Some t) (append-nil u)
+
+-- three texts, one after the other
+regrouped : (a b c : Option (List ℕ)) → (a ⊕ b) ⊕ c ≡ a ⊕ b ⊕ c
+unfolding ◌⊕◌
+regrouped None b c = refl
+regrouped (Some x) None c = refl
+regrouped (Some x) (Some y) None = refl
+regrouped (Some x) (Some y) (Some z) = ap (λ (t : List ℕ). Some t) (append_assoc x y z)
+
+module _ {A : Type 0} (s : A → Option (List ℕ)) where
+  items_added : (xs : List A) (x : A) → items s (xs ++ x ∷ []) ≡ items s xs ⊕ s x
+  unfolding items
+  items_added [] x = alone (s x)
+  items_added (y ∷ xs) x = ap (λ (o : Option (List ℕ)). s y ⊕ o) (items_added xs x) ∙ sym (regrouped (s y) (items s xs) (s x))
+
+  pub size_nothing : Some 0 ≡ size (items s [])
+  unfolding items size
+  size_nothing = refl
+
+  pub size_added : (xs : List A) (i : ℕ) (x : A) (m n : ℕ) → i < length xs → x ≡ get_or xs i x → Some m ≡ size (items s (take i xs)) → Some n ≡ size (s x) → Some (counted (m + n)) ≡ size (items s (take (i + 1) xs))
+  unfolding joint_size
+  size_added xs i x m n lt is e f =
+      let more : take (i + 1) xs ≡ take i xs ++ x ∷ [] = rw (take_more xs i x lt, ← is) refl in
+      let parts = size_joined (items s (take i xs)) (s x) in
+      rw (more, items_added (take i xs) x, parts, ← e, ← f) refl
+
+  pub size_refused : (xs : List A) (i : ℕ) (x : A) → i < length xs → x ≡ get_or xs i x → None ≡ size (s x) → None ≡ size (items s xs)
+  size_refused xs i x lt is e = no_size_of _ (items_refused s xs i x lt is (sized_none_text (s x) e))
+
+  pub size_all : (xs : List A) (i n : ℕ) → length xs ≤ i → Some n ≡ size (items s (take i xs)) → Some n ≡ size (items s xs)
+  size_all xs i n le e = e ∙ ap (λ (ys : List A). size (items s ys)) (take_all i xs le)
+
+  -- the list of items whose size is known
+  pub list_sized : (xs : List A) (n : ℕ) → Some n ≡ size (items s xs) → (t : List ℕ) × (items s xs ≡ Some t) × (counted (length t) ≡ n) × (list s xs ≡ vector t)
+  unfolding list
+  list_sized xs n e =
+      let a = sized_text (items s xs) n e in
+      (a.0, a.1, a.2, sized_of _ a.0 a.1)
+
+  -- the list of items of which one has no spelling
+  pub list_none : (xs : List A) → None ≡ size (items s xs) → list s xs ≡ None
+  unfolding list sized
+  list_none xs e = rw (sized_none_text (items s xs) e) refl
+
+-- how sizes of parts are put together
+pub ruleset sizes = (size_joined, size_byte)

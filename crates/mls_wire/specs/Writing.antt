@@ -10,15 +10,8 @@ unfoldable pub after : List ℕ → Option (List ℕ) → Option (List ℕ)
 after old None = None
 after old (Some s) = Some (old ++ s)
 
--- What a call that writes at the end answered: the text stands there; a fault only where there is none, and then it is
--- of kind TooLong; after a refusal the bytes are unchanged.
-abbrev pub Writes : {A : Type 0} → Option (List ℕ) → List ℕ → List ℕ → Result A CodecFault → Type 0
-Writes text old new (Ok x) = after old text ≡ Some new
-Writes text old new (Err (faults.Wire f)) = (text ≡ None) × (new ≡ old) × (f.kind ≡ kinds.TooLong)
-Writes text old new (Err faults.OutOfMemory) = new ≡ old
-
--- The same of one piece: a fault exactly where there is no text, and then it is TooLong at the number of bytes
--- that were written so far.
+-- What a call that writes at the end answered: the text stands there; a fault exactly where there is none, and then
+-- it is TooLong at the number of bytes that were written so far; after a refusal the bytes are unchanged.
 abbrev pub WritesPiece : {A : Type 0} → Option (List ℕ) → List ℕ → List ℕ → Result A CodecFault → Type 0
 WritesPiece text old new (Ok x) = after old text ≡ Some new
 WritesPiece text old new (Err (faults.Wire f)) = (text ≡ None) × (new ≡ old) × (f ≡ too_long_at (length old))
@@ -33,7 +26,8 @@ pub record Added : Type 0 where
 abbrev pub added : ℕ → List ℕ → Added
 added count bytes = record { kept = take count bytes; more = drop count bytes }
 
--- the same, where a refusal leaves what stood before
+-- What a call that adds a text to a draft answered: the text stands at its end; a fault only where there is none, and
+-- then it is of kind TooLong; a refusal leaves what stood before.
 abbrev pub Puts : {A : Type 0} → Option (List ℕ) → Added → Added → Result A CodecFault → Type 0
 Puts text old new (Ok x) = (after old.more text ≡ Some new.more) × (new.kept ≡ old.kept)
 Puts text old new (Err (faults.Wire f)) = (text ≡ None) × (new.kept ≡ old.kept) × (f.kind ≡ kinds.TooLong)
@@ -45,14 +39,14 @@ PutsPiece text old new (Ok x) = (after old.more text ≡ Some new.more) × (new.
 PutsPiece text old new (Err (faults.Wire f)) = (text ≡ None) × (new.kept ≡ old.kept) × (f ≡ too_long_at (length old.kept + length old.more))
 PutsPiece text old new (Err faults.OutOfMemory) = (new.kept ≡ old.kept) × IsSome text
 
--- a fault, where it is one of the bytes, is TooLong at n
-abbrev pub FaultsTooLong : {A : Type 0} → ℕ → Result A CodecFault → Type 0
-FaultsTooLong n (Ok x) = Unit {0}
-FaultsTooLong n (Err (faults.Wire f)) = f ≡ too_long_at n
-FaultsTooLong n (Err faults.OutOfMemory) = Unit {0}
-
 -- the bytes that a call made; a fault only where there is no text, and then of kind TooLong
 abbrev pub Makes : Option (List ℕ) → Result (List ℕ) CodecFault → Type 0
 Makes text (Ok bytes) = text ≡ Some bytes
 Makes text (Err (faults.Wire f)) = (text ≡ None) × (f.kind ≡ kinds.TooLong)
 Makes text (Err faults.OutOfMemory) = Unit {0}
+
+-- the same of one value: a fault exactly where there is no text, and then it is TooLong at 0
+abbrev pub MakesPiece : Option (List ℕ) → Result (List ℕ) CodecFault → Type 0
+MakesPiece text (Ok bytes) = text ≡ Some bytes
+MakesPiece text (Err (faults.Wire f)) = (text ≡ None) × (f ≡ too_long_at 0)
+MakesPiece text (Err faults.OutOfMemory) = IsSome text

@@ -1,6 +1,6 @@
 -- Writing one text after the other.
 use Rattle.std.proofs.Common.{◌≡◌, ℕ, ◌+◌, ◌<◌, ◌≤◌, List, [], ◌∷◌, ◌++◌, length, take, drop, Option, Some, None, Err, refl, sym, ap, ◌∙◌, append_assoc, get_or, length-append}
-use Rattle.std.proofs.lemmas.List.{drop-append-le, take-append-le, append-nil, take_more, drop_more, take-append-drop}
+use Rattle.std.proofs.lemmas.List.{drop-append-le, take-append-le, append-nil, take_all, take_more, drop_more, take-append-drop}
 use Rattle.std.specs.Prelude.{option_map}
 use Rattle.mls_wire.specs.declared.fault.CodecFault.{CodecFault}
 use Rattle.mls_wire.specs.declared.fault.CodecFault.TheVariants as faults
@@ -8,7 +8,7 @@ use Rattle.mls_wire.specs.Spelling.{◌⊕◌, vector, sized, items}
 use Rattle.mls_wire.specs.Joined.{joined, join}
 use Rattle.mls_wire.specs.Steps.{some_is}
 use Rattle.mls_wire.specs.Parsing.{◌>>=◌}
-use Rattle.mls_wire.specs.Writing.{after, Added, Puts, Makes}
+use Rattle.mls_wire.specs.Writing.{after, Added, Puts}
 
 -- a text, and another
 pub after_then : (old : List ℕ) (a b : Option (List ℕ)) (mid : List ℕ) → after old a ≡ Some mid → after old (a ⊕ b) ≡ after mid b
@@ -59,11 +59,6 @@ pub sized_makes : (body : Option (List ℕ)) (s : List ℕ) → body ≡ Some s 
 unfolding sized
 sized_makes body s e = rw e refl
 
--- a vector of a body that has none
-pub sized_none : (body : Option (List ℕ)) → body ≡ None → sized body ≡ None
-unfolding sized
-sized_none body e = rw e refl
-
 module _ {A : Type 0} (s : A → Option (List ℕ)) where
   pub items_snoc : (xs : List A) (x : A) (text u : List ℕ) → items s xs ≡ Some text → s x ≡ Some u → items s (xs ++ x ∷ []) ≡ Some (text ++ u)
   unfolding items
@@ -74,15 +69,20 @@ module _ {A : Type 0} (s : A → Option (List ℕ)) where
       let a = joined (s y) (items s xs) text e in
       join _ _ a.0 (a.1 ++ u) a.2 (items_snoc xs x a.1 u a.3 f) ∙ ap (λ (t : List ℕ). Some t) (sym (append_assoc a.0 a.1 u) ∙ ap (λ (t : List ℕ). t ++ u) (sym a.4))
 
-  pub items_push : (xs : List A) (i : ℕ) (x : A) (text new : List ℕ) → i < length xs → x ≡ get_or xs i x → items s (take i xs) ≡ Some text → after text (s x) ≡ Some new → items s (take (i + 1) xs) ≡ Some new
-  items_push xs i x text new lt is e f =
-      let a = after_is text (s x) new f in
+  pub items_push : (xs : List A) (i : ℕ) (x : A) (old text new : List ℕ) → i < length xs → x ≡ get_or xs i x → after old (items s (take i xs)) ≡ Some text → after text (s x) ≡ Some new → after old (items s (take (i + 1) xs)) ≡ Some new
+  items_push xs i x old text new lt is e f =
+      let a = after_is old (items s (take i xs)) text e in
+      let b = after_is text (s x) new f in
       let more : take (i + 1) xs ≡ take i xs ++ x ∷ [] = rw (take_more xs i x lt, ← is) refl in
-      rw (more, a.2) (items_snoc (take i xs) x text a.0 e a.1)
+      let same : new ≡ old ++ (a.0 ++ b.0) = b.2 ∙ ap (λ (t : List ℕ). t ++ b.0) a.2 ∙ append_assoc old a.0 b.0 in
+      rw (more, items_snoc (take i xs) x a.0 b.0 a.1 b.1, after_some old (a.0 ++ b.0)) (ap (λ (t : List ℕ). Some t) (sym same))
 
-  pub nothing_made : (more : List ℕ) → more ≡ [] → items s [] ≡ Some more
+  pub items_all : (xs : List A) (i : ℕ) (old new : List ℕ) → length xs ≤ i → after old (items s (take i xs)) ≡ Some new → after old (items s xs) ≡ Some new
+  items_all xs i old new le e = ap (λ (ys : List A). after old (items s ys)) (sym (take_all i xs le)) ∙ e
+
+  pub nothing_put : (old : List ℕ) → after old (items s []) ≡ Some old
   unfolding items
-  nothing_made more e = ap (λ (x : List ℕ). Some x) (sym e)
+  nothing_put old = after_some old [] ∙ ap (λ (t : List ℕ). Some t) (append-nil old)
 
   pub items_none : (xs : List A) (x : A) (ys : List A) → s x ≡ None → items s (xs ++ x ∷ ys) ≡ None
   unfolding items
@@ -94,13 +94,9 @@ module _ {A : Type 0} (s : A → Option (List ℕ)) where
       let parts : xs ≡ take i xs ++ x ∷ drop (i + 1) xs = sym (take-append-drop i xs) ∙ ap (λ (ys : List A). take i xs ++ ys) (drop_more xs i x lt ∙ ap (λ (y : A). y ∷ drop (i + 1) xs) (sym is)) in
       ap (items s) parts ∙ items_none (take i xs) x (drop (i + 1) xs) e
 
-  pub items_fails : (e : CodecFault) (xs : List A) (i : ℕ) (x : A) (old new : Added) → i < length xs → x ≡ get_or xs i x → Puts {A = A} (s x) old new (Err e) → Makes (items s xs) (Err e)
-  items_fails (faults.Wire f) xs i x old new lt is h = (items_refused xs i x lt is h.0, h.2)
-  items_fails faults.OutOfMemory xs i x old new lt is h = tt
-
--- all that was put behind nothing
-pub put_all : (text : Option (List ℕ)) (kept more whole : List ℕ) → kept ≡ [] → whole ≡ kept ++ more → after [] text ≡ Some more → text ≡ Some whole
-put_all text kept more whole k w e = after_nil text more e ∙ ap (λ (x : List ℕ). Some x) (sym (w ∙ ap (λ (x : List ℕ). x ++ more) k))
+  pub items_fails : (e : CodecFault) (xs : List A) (i : ℕ) (x : A) (start old new : Added) → i < length xs → x ≡ get_or xs i x → old.kept ≡ start.kept → Puts {A = Unit {0}} (s x) old new (Err e) → Puts {A = Unit {0}} (items s xs) start new (Err e)
+  items_fails (faults.Wire f) xs i x start old new lt is k h = (items_refused xs i x lt is h.0, h.1 ∙ k, h.2)
+  items_fails faults.OutOfMemory xs i x start old new lt is k h = h ∙ k
 
 -- all that was put behind what stood before
 pub put_behind : (text : Option (List ℕ)) (old kept more start whole : List ℕ) → after start text ≡ Some more → start ≡ [] → kept ≡ old → whole ≡ kept ++ more → after old text ≡ Some whole

@@ -3,8 +3,9 @@
 ghost use Rattle.std.specs.Prelude.{◌≡◌, IfOk, IfErr};
 
 use crate::decode::Decode;
+use crate::encode::Encode;
 use crate::fault::CodecFault;
-use crate::measure::{Items, Measure};
+use crate::items::Items;
 use crate::opaque::Opaque;
 use crate::sequence::Sequence;
 use std::alloc::Global;
@@ -56,7 +57,7 @@ fn copies_of<T: TryClone>(alloc: Global, values: &[T]) -> Result<Vec<T>, CodecFa
     Ok(copies)
 }
 
-impl<T: Measure + TryClone> TryClone for Items<T> {
+impl<T: Encode + TryClone> TryClone for Items<T> {
     fn try_clone(&self, alloc: Global) -> Result<Items<T>, CodecFault> {
         Ok(Items::of_fitting(copies_of(alloc, self.as_slice())?))
     }

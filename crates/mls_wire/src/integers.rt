@@ -57,12 +57,22 @@ impl Decode for u32 {
 }
 
 impl Encode for u16 {
+    fn size(&self) -> Option<usize> {
+        let _value = *self;
+        Some(2)
+    }
+
     fn put(&self, _alloc: Global, draft: &mut Draft) -> Result<(), CodecFault> {
         draft.put_u16(*self)
     }
 }
 
 impl Encode for u32 {
+    fn size(&self) -> Option<usize> {
+        let _value = *self;
+        Some(4)
+    }
+
     fn put(&self, _alloc: Global, draft: &mut Draft) -> Result<(), CodecFault> {
         draft.put_u32(*self)
     }
@@ -83,6 +93,11 @@ impl Decode for u8 {
 }
 
 impl Encode for u8 {
+    fn size(&self) -> Option<usize> {
+        let _value = *self;
+        Some(1)
+    }
+
     fn put(&self, _alloc: Global, draft: &mut Draft) -> Result<(), CodecFault> {
         draft.put_u8(*self)
     }
@@ -103,6 +118,11 @@ impl Decode for u64 {
 }
 
 impl Encode for u64 {
+    fn size(&self) -> Option<usize> {
+        let _value = *self;
+        Some(8)
+    }
+
     fn put(&self, _alloc: Global, draft: &mut Draft) -> Result<(), CodecFault> {
         draft.put_u64(*self)
     }

@@ -13,6 +13,7 @@ use crate::draft::Draft;
 use crate::encode::Encode;
 use crate::fault::{CodecFault, WireFault, WireFaultKind};
 use crate::reader::Reader;
+use crate::size::size_of_vector;
 use std::alloc::Global;
 use std::marker::Model;
 
@@ -101,6 +102,10 @@ impl Decode for Opaque {
 }
 
 impl Encode for Opaque {
+    fn size(&self) -> Option<usize> {
+        size_of_vector(self.bytes.len())
+    }
+
     fn put(&self, _alloc: Global, draft: &mut Draft) -> Result<(), CodecFault> {
         draft.put_vec(self.bytes.as_slice())
     }

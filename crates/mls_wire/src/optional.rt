@@ -5,6 +5,7 @@ use crate::draft::Draft;
 use crate::encode::Encode;
 use crate::fault::CodecFault;
 use crate::reader::Reader;
+use crate::size::add_sizes;
 use std::alloc::Global;
 
 impl<T: Decode> Decode for Option<T> {
@@ -34,6 +35,14 @@ impl<T: Decode> Decode for Option<T> {
 }
 
 impl<T: Encode> Encode for Option<T> {
+    #[tactic(auto, using(crate::specs::Sizes::sizes), unfolding(crate::specs::Spelling::optional))]
+    fn size(&self) -> Option<usize> {
+        match self {
+            None => Some(1),
+            Some(value) => add_sizes(Some(1), value.size()),
+        }
+    }
+
     #[tactic(auto, using(crate::specs::Written::written), unfolding(crate::specs::Spelling::optional, crate::specs::Spelling::flag))]
     fn put(&self, alloc: Global, draft: &mut Draft) -> Result<(), CodecFault> {
         match self {

@@ -7,6 +7,7 @@ use crate::draft::Draft;
 use crate::encode::{Encode, put_list};
 use crate::fault::CodecFault;
 use crate::reader::Reader;
+use crate::size::size_of_list;
 use std::alloc::Global;
 use std::marker::Model;
 
@@ -70,6 +71,10 @@ impl<T: Decode> Decode for Sequence<T> {
 }
 
 impl<T: Encode> Encode for Sequence<T> {
+    fn size(&self) -> Option<usize> {
+        size_of_list(self.items.as_slice())
+    }
+
     fn put(&self, alloc: Global, draft: &mut Draft) -> Result<(), CodecFault> {
         put_list(alloc, self.items.as_slice(), draft)
     }

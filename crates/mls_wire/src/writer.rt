@@ -4,7 +4,7 @@ ghost use Rattle.std.specs.Prelude.{◌≡◌, ◌++◌, ℕ, List, [], Option, 
 ghost use Rattle.std.specs.Int.{w8, w16, w32, w64};
 ghost use Rattle.mls_wire.specs.Faults.{too_long_at};
 ghost use Rattle.mls_wire.specs.Spelling.{number, length_form, vector, flag};
-ghost use Rattle.mls_wire.specs.Writing.{Writes, WritesPiece, after};
+ghost use Rattle.mls_wire.specs.Writing.{WritesPiece};
 
 use crate::draft::Draft;
 use crate::encode::Encode;
@@ -173,11 +173,14 @@ impl Writer {
         }
     }
 
-    /// Writes a value. A refusal for another cause than memory is `TooLong`, and comes only where the value has no
-    /// spelling.
+    /// Writes a value. `TooLong` exactly where it has no spelling, which is judged before memory is taken.
     pub fn write<T: Encode>(&mut self, alloc: Global, value: &T) -> Result<(), CodecFault>
-        ensures { Writes (T.spelling value.now) self.old self.new result }
+        ensures { WritesPiece (T.spelling value.now) self.old self.new result }
     {
+        let Some(size) = value.size() else {
+            return Err(CodecFault::Wire(self.too_long()));
+        };
+        self.bytes.reserve(size)?;
         let mut draft = Draft::after(replace(&mut self.bytes, Vec::new(alloc)));
         match value.put(alloc, &mut draft) {
             Ok(()) => {

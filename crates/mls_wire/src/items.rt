@@ -1,87 +1,39 @@
 //! Lists that fit into one vector.
 
-ghost use Rattle.std.specs.Prelude.{◌≡◌, ◌↔◌, ℕ, List, Option, length, option_map, IsSome, IsTrue, IfSome, ◌<◌, ◌^◌, MatchResult};
-ghost use Rattle.mls_wire.specs.Input.{Input};
+ghost use Rattle.std.specs.Prelude.{◌≡◌, ◌↔◌, IsSome, IsTrue, MatchResult};
 ghost use Rattle.mls_wire.specs.Spelling.{list};
-ghost use Rattle.mls_wire.specs.Parsing.{GivesOrFull, list_at};
-ghost use Rattle.mls_wire.specs.Lists.{list_exact, list_long};
 
 use crate::decode::{Decode, read_list};
 use crate::draft::Draft;
 use crate::encode::{Encode, put_list};
 use crate::fault::CodecFault;
-use crate::opaque::{MAX_BODY, Opaque};
 use crate::reader::Reader;
+use crate::size::size_of_list;
 use std::alloc::Global;
 use std::marker::Model;
 
-/// A type whose values tell how many bytes they take.
-pub trait Measure: Encode {
-    /// How many bytes the value takes, where it has a spelling.
-    fn size(&self) -> Option<usize>
-        ensures size { result ≡ option_map length (Self.spelling self.now) }
-        ensures small { IfSome result (λ n. n < 2 ^ 32) };
-}
-
-impl Measure for u16 {
-    fn size(&self) -> Option<usize> {
-        let _value = *self;
-        Some(2)
-    }
-}
-
-impl Measure for u32 {
-    fn size(&self) -> Option<usize> {
-        let _value = *self;
-        Some(4)
-    }
-}
-
-impl Measure for Opaque {
-    fn size(&self) -> Option<usize> {
-        let len = self.as_slice().len();
-        if len < 64 {
-            Some(len + 1)
-        } else if len < 16384 {
-            Some(len + 2)
-        } else {
-            Some(len + 4)
-        }
-    }
-}
-
 /// Whether the values, one after the other, take no more bytes than the body of a vector may have (RFC 9420,
 /// 2.1.2). It goes over the values once.
-pub fn fits<T: Measure>(values: &[T]) -> bool
+pub fn fits<T: Encode>(values: &[T]) -> bool
     ensures { IsTrue result ↔ IsSome (list T.spelling values.now) }
 {
-    let mut total = 0;
-    for value in values {
-        let Some(size) = value.size() else {
-            return false;
-        };
-        if size > MAX_BODY - total {
-            return false;
-        }
-        total += size;
-    }
-    true
+    size_of_list(values).is_some()
 }
 
 /// A list that fits into one vector, so it has a spelling: its length in bytes, and its items (RFC 9420, 2.1.2).
 #[derive(Debug)]
-pub struct Items<T: Measure> {
+pub struct Items<T: Encode> {
     items: Vec<T>,
 }
 
 // By hand, so that a drop is one call in the proofs of those who hold one.
-impl<T: Measure> Drop for Items<T> {
+impl<T: Encode> Drop for Items<T> {
     fn drop(self) {
         let Items { items: _ } = self;
     }
 }
 
-impl<T: Measure> Model for Items<T> {
+impl<T: Encode> Model for Items<T> {
     ghost use Rattle.std.specs.Prelude.{List, IsSome};
     ghost use Rattle.mls_wire.specs.Spelling.{list};
 
@@ -92,7 +44,7 @@ impl<T: Measure> Model for Items<T> {
     ghost invariant = { λ a. IsSome (list T.spelling a.items.items) };
 }
 
-impl<T: Measure> Items<T> {
+impl<T: Encode> Items<T> {
     /// The list of these items, which fit into one vector.
     pub(crate) fn of_fitting(items: Vec<T>) -> Items<T>
         requires { IsSome (list T.spelling items.items) }
@@ -123,7 +75,7 @@ impl<T: Measure> Items<T> {
     }
 }
 
-impl<T: Measure> Decode for Items<T> {
+impl<T: Encode> Decode for Items<T> {
     ghost use Rattle.mls_wire.specs.Spelling.{list};
     ghost use Rattle.mls_wire.specs.Parsing.{list_at};
     ghost use Rattle.mls_wire.specs.Lists.{list_exact, list_long};
@@ -144,7 +96,11 @@ impl<T: Measure> Decode for Items<T> {
     ghost long = { list_long T.spelling };
 }
 
-impl<T: Measure> Encode for Items<T> {
+impl<T: Encode> Encode for Items<T> {
+    fn size(&self) -> Option<usize> {
+        size_of_list(self.items.as_slice())
+    }
+
     fn put(&self, alloc: Global, draft: &mut Draft) -> Result<(), CodecFault> {
         put_list(alloc, self.items.as_slice(), draft)
     }

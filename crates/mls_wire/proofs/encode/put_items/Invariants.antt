@@ -1,0 +1,10 @@
+use Rattle.std.proofs.Common.{◌≡◌, take, Some}
+use Rattle.mls_wire.specs.Spelling.{items}
+use Rattle.mls_wire.specs.Writing.{after}
+use Rattle.mls_wire.proofs.encode.put_items.Given as goal
+
+abbrev pub invariant-loop-value : goal.invariant-loop-value
+invariant-loop-value g l = record {
+  kept : l.draft.kept ≡ l.initial.draft.kept;
+  more : after l.initial.draft.more (items g.T.Decode.spelling (take l.value-index l.values)) ≡ Some l.draft.more;
+}

@@ -17,7 +17,7 @@ use mls_check::SignatureCheck;
 use mls_follow::{Follower, Refusal};
 use mls_msgs::GroupInfo;
 use mls_tree::PublicTree;
-use mls_wire::{LogStep, RecordFault, RecordReader, Sink, Source};
+use mls_wire::{LogStep, RecordFault, Records, Sink, Source};
 use std::alloc::Global;
 
 /// The most messages that a log has.
@@ -47,7 +47,7 @@ impl Tally {
 }
 
 /// Reads the next record of a log.
-fn next_record<L: Source>(reader: &mut RecordReader, log: &mut L) -> Result<LogStep, RunFault>
+fn next_record<L: Source>(reader: &mut Records, log: &mut L) -> Result<LogStep, RunFault>
     requires going { reader.old.is_over ≡ false }
     requires log { L.is_failed log.old ≡ false }
     ensures meets { IfOk result
@@ -115,7 +115,7 @@ fn follow_log<L: Source, K: Sink>(
     ensures read { (result ≡ Err RunFault.Read) ↔ (L.is_failed log.new ≡ true) }
     ensures write { (result ≡ Err RunFault.Write) ↔ (K.is_failed out.new ≡ true) }
 {
-    let mut reader = RecordReader::new(alloc, MESSAGE_LIMIT);
+    let mut reader = Records::new(alloc, MESSAGE_LIMIT);
     'messages: for n in 1..MESSAGE_LIMIT + 2 {
         match next_record(&mut reader, log)? {
             LogStep::Record => {

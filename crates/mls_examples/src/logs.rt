@@ -1,7 +1,7 @@
 //! Logs, record by record.
 
 use crate::support::{bytes, expect_text, text};
-use mls_wire::{LogStep, MemorySource, RecordReader};
+use mls_wire::{LogStep, MemorySource, RecordReader, Records};
 use std::alloc::Global;
 use std::test::Fail;
 
@@ -20,7 +20,7 @@ fn name_of(step: LogStep) -> &'static str {
 fn told(alloc: Global, log: &str, most: u32) -> Result<String, Fail> {
     let log = bytes(alloc, log)?;
     let mut source = MemorySource::new(log.as_slice(), 3, None);
-    let mut reader = RecordReader::new(alloc, most);
+    let mut reader = Records::new(alloc, most);
     let mut said = String::new(alloc);
     for _ in 0..4 {
         let step = name_of(reader.next(&mut source)?);
@@ -82,9 +82,29 @@ fn logs_that_fail(rt: HostRuntime) -> Result<(), Fail> {
     let log = bytes(alloc, "03abcdef")?;
     for fails_at in 1..4 {
         let mut source = MemorySource::new(log.as_slice(), 1, Some(fails_at));
-        let mut reader = RecordReader::new(alloc, 9);
+        let mut reader = Records::new(alloc, 9);
         assert!(&rt; reader.next(&mut source).is_err());
         assert!(&rt; reader.next(&mut source) == Ok(LogStep::Over));
     }
+    Ok(())
+}
+
+/// A reader that holds its source: two records, a byte behind the most that may come, and then nothing.
+#[test]
+fn log_of_a_held_source(rt: HostRuntime) -> Result<(), Fail> {
+    let alloc = rt.alloc();
+    let log = bytes(alloc, "02abcd01ef0000")?;
+    let mut source = MemorySource::new(log.as_slice(), 3, None);
+    let mut reader = RecordReader::new(alloc, &mut source, 2);
+    for (step, body) in [
+        ("record", "abcd"),
+        ("record", "ef"),
+        ("broken", ""),
+        ("over", ""),
+    ] {
+        assert_eq!(&rt; name_of(reader.next()?), step);
+        expect_text(&rt, text(alloc, reader.body())?, body);
+    }
+    assert_eq!(&rt; source.left().len(), 1);
     Ok(())
 }

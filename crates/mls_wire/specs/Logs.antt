@@ -54,6 +54,11 @@ pub record LogState : Type 0 where
   pub is_over : Bool
   pub body : List ℕ
 
+-- What contracts see of a reader that holds its source: the source, and the same.
+pub record HeldLog (R : Type 0) : Type 0 where
+  pub source : R
+  pub log : LogState
+
 -- a reader of a log that was not read yet
 abbrev pub begun : ℕ → LogState
 begun most = record { most = most; is_over = false; body = [] }

@@ -6,7 +6,8 @@
 //!   [`read_value`], [`read_all_of`] and [`read_input`], and written by [`bytes_of`] and [`Writer::write`].
 //! - [`Opaque`] is the body of a vector, [`Items`] a list that fits into one, [`Sequence`] a list of any length.
 //! - A [`Source`] gives bytes and a [`Sink`] takes them, in pieces of any size; each over std or over memory.
-//! - A [`RecordReader`] goes over a log, records one after the other, as they come from a source.
+//! - A [`RecordReader`] goes over a log, records one after the other, as they come from its source; [`Records`] does
+//!   the same for a source that is handed in at each call.
 //!
 //! The contracts speak of spellings (`specs/Spelling.antt`): a read gives the value that is spelled at the front and
 //! is refused exactly where none is; a write adds exactly the spelling, or nothing. [`Decode::read`], which
@@ -41,7 +42,7 @@ pub use items::{Items, fits};
 pub use memory::{MemorySink, MemorySource};
 pub use opaque::{MAX_BODY, Opaque};
 pub use reader::Reader;
-pub use record::{LogStep, RecordFault, RecordReader};
+pub use record::{LogStep, RecordFault, RecordReader, Records};
 pub use sequence::Sequence;
 pub use sink::{Sink, StdSink, write_all};
 pub use size::{add_sizes, size_of_list};

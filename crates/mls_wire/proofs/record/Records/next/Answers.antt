@@ -1,8 +1,8 @@
 use Rattle.std.proofs.Common.{rules, ◌≡◌, Ok}
 use Rattle.mls_wire.specs.declared.record.LogStep.TheVariants as steps
 use Rattle.mls_wire.proofs.Logs.{meets_kept}
-use Rattle.mls_wire.proofs.record.RecordReader.next.Goals.{in_default-via-in-Ok+in_default, in_default-via-in_default}
-use Rattle.mls_wire.proofs.record.RecordReader.next.Goals as goal
+use Rattle.mls_wire.proofs.record.Records.next.Goals.{in_default-via-in-Ok+in_default, in_default-via-in_default}
+use Rattle.mls_wire.proofs.record.Records.next.Goals as goal
 
 pub returns-in_default-clause-meets : goal.returns-in_default-clause-meets
 returns-in_default-clause-meets g c =

@@ -1,5 +1,5 @@
 -- The signature keys of the leaves, collected from the last one to the first.
-use Rattle.std.proofs.Common.{◌≡◌, ◌≢◌, ℕ, ◌+◌, ◌<◌, ◌≤◌, Bool, true, false, not, ◌||◌, cond, List, [], Option, Some, None, Ordering, eqb, Bor, refl, sym, ap, ◌∙◌, arith, inl, inr}
+use Rattle.std.proofs.Common.{◌≡◌, ◌≢◌, ℕ, ◌+◌, ◌<◌, ◌≤◌, Bool, true, false, not, ◌||◌, cond, option_map, List, [], Option, Some, None, Ordering, eqb, Bor, refl, sym, ap, ◌∙◌, arith, inl, inr}
 use Rattle.std.specs.Str.{bytes_eq}
 use Rattle.std.specs.Ordering.{nat_cmp}
 use Rattle.std.specs.Cmp.Lexicographic.{slice_cmp}
@@ -11,8 +11,9 @@ use Rattle.std.proofs.lemmas.Map.Text.{is_eq-slice_cmp}
 use Rattle.std.proofs.lemmas.Slice.Eq.{bytes_eq-Decides}
 use Rattle.mls_nodes.specs.declared.leaf.LeafNode.{LeafNode}
 use Rattle.mls_tree.specs.Tree.{Tree, leaf_count, leaf_at}
-use Rattle.mls_check.specs.Members.{has_own_signature_key, FindsFailing}
+use Rattle.mls_check.specs.Members.{all_leaves, has_own_signature_key, FindsFailing}
 use Rattle.mls_check.proofs.Leaves.{all_leaves-below, all_leaves-at, leaf_at-low}
+use Rattle.mls_check.proofs.Differing.{AreApart}
 
 -- ---- the set of keys
 
@@ -211,8 +212,16 @@ shared_key t r x later =
       | inr shared ↦ shared
     ]
 
+-- no leaf has the signature key of another one
+own_keys : (t : Tree) → SinglesFrom t 0 (leaf_count t)
+    → all_leaves (has_own_signature_key t) 0 t ≡ true
+own_keys t singles =
+    all_leaves-below (has_own_signature_key t) t (leaf_count t)
+    (record { at = λ j x low set. own_key t (leaf_count t) singles j x low set })
+    (omega arith)
+
 pub KeysFrom-all : (t : Tree) (s : BTreeSet (Bor (List ℕ))) (repeated : Option ℕ) → KeysFrom t 0 s repeated → FindsFailing (has_own_signature_key t) t repeated
-KeysFrom-all t s None h = all_leaves-below (has_own_signature_key t) t (leaf_count t) (record { at = λ j x low set. own_key t (leaf_count t) h.found j x low set }) (omega arith)
+KeysFrom-all t s None h = own_keys t h.found
 KeysFrom-all t s (Some r) h =
     let twin = h.found.1 in
     record {
@@ -221,3 +230,26 @@ KeysFrom-all t s (Some r) h =
       fails = shared_key t r twin.node twin.later;
       smaller = λ j x low set. own_key t r h.found.2 j x low set;
     }
+
+-- ---- the keys by the leaves' indices
+
+-- the signature key of leaf i
+abbrev pub signature_key_at : Tree → ℕ → Option (List ℕ)
+signature_key_at t i = option_map (λ x. x.signature_key) (leaf_at 0 t i)
+
+pub signature_key-set : (t : Tree) (i : ℕ) (x : LeafNode) → leaf_at 0 t i ≡ Some x
+    → signature_key_at t i ≡ Some x.signature_key
+signature_key-set t i x set = ap (λ o. option_map (λ (y : LeafNode). y.signature_key) o) set
+
+pub signature_key-blank : (t : Tree) (i : ℕ) → leaf_at 0 t i ≡ None → signature_key_at t i ≡ None
+signature_key-blank t i blank = ap (λ o. option_map (λ (y : LeafNode). y.signature_key) o) blank
+
+-- keys that are apart at all indices of the tree
+pub own_keys-apart : (t : Tree) → AreApart (signature_key_at t) (leaf_count t)
+    → all_leaves (has_own_signature_key t) 0 t ≡ true
+own_keys-apart t apart = own_keys t (record {
+  at = λ j x from low set m y after there same.
+      let last = leaf_at-low 0 t m y there in
+      let two = signature_key-set t m y there ∙ ap Some same in
+      apart j m x.signature_key after (omega arith) (signature_key-set t j x set) two;
+})

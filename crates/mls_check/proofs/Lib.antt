@@ -3,6 +3,7 @@ pub mod Lines
 pub mod Lookups
 pub mod Leaves
 pub mod Used
+pub mod Differing
 pub mod Keys
 pub mod Rules
 pub mod Judged

@@ -9,9 +9,10 @@ use Rattle.std.proofs.lemmas.Option.{same_Some, none-some}
 use Rattle.std.proofs.lemmas.Bool.{cases_lt, cases_order, false≢true}
 use Rattle.std.proofs.lemmas.Bool.Decides.{Decides-at, Decides-like, Decides-or}
 use Rattle.mls_tree.specs.Tree.{Tree, leaf_count, entry_of}
-use Rattle.mls_check.specs.Distinct.{key_at, HaveOneKey, HasOwnKeyAt, encryption_key}
+use Rattle.mls_check.specs.Distinct.{key_at, HaveOneKey, HasOwnKeyAt, IsDistinct, encryption_key}
 use Rattle.mls_check.specs.FirstFailure.{IsFirstFailureIn}
 use Rattle.mls_check.proofs.Outside.{outside_above}
+use Rattle.mls_check.proofs.Differing.{AreApart}
 
 -- the order of a set of slices
 abbrev pub by_bytes : Bor (List ℕ) → Bor (List ℕ) → Ordering
@@ -133,6 +134,16 @@ walked-end t set first low z w = go first (subst (λ v. IsFirstLater t v first) 
       fails = λ h. h f.1.other (λ e. let l = f.1.after in omega arith) f.1.one_key;
       earlier = λ p l. own_key t p (λ q u. f.2 q (omega arith) (omega arith));
     }
+
+-- keys that are apart at all places of the tree are so everywhere
+pub distinct-apart : (t : Tree) (n : ℕ) → n + 1 ≡ 2 * leaf_count t → AreApart (key_at t) n
+    → IsDistinct t
+distinct-apart t n e apart p = own_key t p (λ q _ w.
+    let one = w.one_key in
+    elim (cases_lt w.other n) [
+      | inl low ↦ apart q w.other one.key w.after low one.here one.there
+      | inr high ↦ none-some _ (sym (no_key_above t n w.other e high) ∙ one.there)
+    ])
 
 -- what an insertion into a set answers
 pub met : (a b : Bool) → a ≡ not b → a ≡ false → b ≡ true

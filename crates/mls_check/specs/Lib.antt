@@ -2,6 +2,7 @@ pub mod Signatures
 pub mod Receipts
 pub mod Members
 pub mod Distinct
+pub mod Beginnings
 pub mod FirstFailure
 pub mod Marks
 pub mod Entered

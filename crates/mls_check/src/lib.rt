@@ -2,6 +2,7 @@
 //! interface to the checker of signatures (5.1.2), which the caller hands in.
 #![tactic(auto)]
 
+mod beginnings;
 mod credentials;
 mod distinct;
 pub mod laws;

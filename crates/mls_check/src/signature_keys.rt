@@ -1,18 +1,33 @@
 //! The members' signature keys (RFC 9420, 7.3).
 
-ghost use Rattle.std.specs.Prelude.{◌≡◌, ℕ, IfOk};
-ghost use Rattle.mls_check.specs.Members.{FindsFailing, has_own_signature_key};
+ghost use Rattle.std.specs.Prelude.{◌≡◌, ℕ, true, IfOk};
+ghost use Rattle.std.specs.Bool.{OnTrue};
+ghost use Rattle.mls_check.specs.Members.{FindsFailing, all_leaves, has_own_signature_key};
 
+use crate::beginnings::{all_differ, beginning};
 use crate::signatures::OutOfMemory;
 use mls_tree::PublicTree;
 use std::alloc::Global;
 use std::collections::BTreeSet;
 
-/// The smallest leaf whose signature key another leaf has too.
-pub(crate) fn first_repeated_signature_key(
-    alloc: Global,
-    tree: &PublicTree,
-) -> Result<Option<u32>, OutOfMemory>
+/// Whether the beginnings of the leaves' signature keys all differ, and so the keys.
+fn has_distinct_beginnings(alloc: Global, tree: &PublicTree) -> Result<bool, OutOfMemory>
+    ensures { IfOk result (λ distinct. OnTrue distinct
+        (all_leaves (has_own_signature_key tree.now.tree) 0 tree.now.tree ≡ true)) }
+{
+    let leaves = tree.leaf_count();
+    let mut beginnings = Vec::with_capacity(alloc, leaves as usize)?;
+    for index in 0..leaves {
+        if let Some(leaf) = tree.leaf(index) {
+            beginnings.push(beginning(leaf.signature_key.as_slice()))?;
+        }
+    }
+    Ok(all_differ(beginnings))
+}
+
+/// The smallest leaf whose signature key another leaf has too. It is the last one met, going down
+/// from the last leaf, whose key a later leaf has.
+fn first_repeated_by_set(alloc: Global, tree: &PublicTree) -> Result<Option<u32>, OutOfMemory>
     ensures { IfOk result (FindsFailing (has_own_signature_key tree.now.tree) tree.now.tree) }
 {
     let mut later: BTreeSet<&[u8]> = BTreeSet::new(alloc);
@@ -25,4 +40,18 @@ pub(crate) fn first_repeated_signature_key(
         }
     }
     Ok(repeated)
+}
+
+/// The smallest leaf whose signature key another leaf has too. Nearly always there is none, which
+/// the keys' beginnings tell without a set of the keys.
+pub(crate) fn first_repeated_signature_key(
+    alloc: Global,
+    tree: &PublicTree,
+) -> Result<Option<u32>, OutOfMemory>
+    ensures { IfOk result (FindsFailing (has_own_signature_key tree.now.tree) tree.now.tree) }
+{
+    if has_distinct_beginnings(alloc, tree)? {
+        return Ok(None);
+    }
+    first_repeated_by_set(alloc, tree)
 }

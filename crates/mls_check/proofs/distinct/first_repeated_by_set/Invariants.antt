@@ -1,5 +1,5 @@
 use Rattle.mls_check.proofs.Repeats.{Walked}
-use Rattle.mls_check.proofs.distinct.first_repeated.Given as goal
+use Rattle.mls_check.proofs.distinct.first_repeated_by_set.Given as goal
 
 abbrev pub invariant-loop-place : goal.invariant-loop-place
 invariant-loop-place l = Walked l.tree.tree l.place l.later l.first

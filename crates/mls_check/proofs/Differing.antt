@@ -1,0 +1,165 @@
+-- Numbers that all differ, and keys that do because their beginnings do.
+use Rattle.std.proofs.Common.{◌≡◌, ◌≢◌, ◌↔◌, ℕ, ◌+◌, ◌-◌, ◌<◌, ◌≤◌, Bool, true, false, List, [], ◌∷◌, ◌++◌, length, take, drop, replicate, Option, Some, None, inl, inr, refl, sym, ap, ◌∙◌, arith, eqb, length-append}
+use Rattle.std.specs.Prelude.{AllPairs, IsTrue}
+use Rattle.std.specs.Bool.{OnTrue}
+use Rattle.std.specs.List.{Contains}
+use Rattle.std.specs.List.Sorted.{IsPermutation, IsNonDecreasing, IsStrictlyIncreasing}
+use Rattle.std.specs.Int.{w64, from_be_bytes}
+use Rattle.std.proofs.Math.Seq.{get_or-append_seam, take-append-add}
+use Rattle.std.proofs.lemmas.Bool.{cases_lt}
+use Rattle.std.proofs.lemmas.Bool.Decides.{Decides-eqb, nat_tests}
+use Rattle.std.proofs.lemmas.Option.{same_Some, none-some}
+use Rattle.std.proofs.lemmas.List.{take-append-le, take-replicate, drop-replicate, get_or_append_left}
+use Rattle.std.proofs.lemmas.List.Elements.{Contains-append_left, Contains-push}
+use Rattle.std.proofs.lemmas.List.Kept.{AllPairs-from_increasing}
+use Rattle.std.proofs.lemmas.List.Sorted.{IsPermutation-sym}
+use Rattle.std.proofs.lemmas.Map.Keys.{IsDistinct-IsPermutation, IsStrictlyIncreasing-from_distinct}
+use Rattle.std.proofs.lemmas.Map.Made.{AllPairs-from_IsDistinct, IsDistinct-from_AllPairs}
+use Rattle.mls_check.specs.Beginnings.{beginning}
+
+-- ---- numbers
+
+-- no number stands twice in a list
+abbrev pub AllDiffer : List ℕ → Type 0
+AllDiffer xs = AllPairs (λ x y. x ≢ y) xs
+
+eqb-sym : (x y : ℕ) → eqb x y ≡ eqb y x
+eqb-sym x y = grind (arith, nat_tests)
+
+-- numbers that differ do so in any order
+differ-moved : (xs ys : List ℕ) → IsPermutation xs ys → AllDiffer xs → AllDiffer ys
+differ-moved xs ys moved differ =
+    let before = IsDistinct-from_AllPairs Decides-eqb xs differ in
+    let after = IsDistinct-IsPermutation eqb eqb-sym xs ys moved before in
+    AllPairs-from_IsDistinct Decides-eqb ys after
+
+differ-rising : (xs : List ℕ) → IsStrictlyIncreasing xs → AllDiffer xs
+differ-rising xs rising i j d before in' =
+    λ same. let less = AllPairs-from_increasing xs rising i j d before in' in omega arith
+
+-- numbers differ exactly if they rise once they are sorted
+pub differ-sorted : (xs sorted : List ℕ) → IsPermutation xs sorted → IsNonDecreasing sorted
+    → IsStrictlyIncreasing sorted ↔ AllDiffer xs
+differ-sorted xs sorted moved up = (
+  λ rising.
+      let back = IsPermutation-sym xs sorted moved in
+      differ-moved sorted xs back (differ-rising sorted rising),
+  λ differ.
+      let after = differ-moved xs sorted moved differ in
+      IsStrictlyIncreasing-from_distinct sorted up (IsDistinct-from_AllPairs Decides-eqb sorted after),
+)
+
+-- ---- the bytes of a beginning
+
+pub beginning-long : (key front : List ℕ) → 8 ≤ length key → front ≡ take 8 key
+    → from_be_bytes w64 front ≡ beginning key
+unfolding beginning
+beginning-long key front long same =
+    ap (from_be_bytes w64) (same ∙ sym (take-append-le 8 key (replicate 8 0) long))
+
+padded : (key : List ℕ) → length key < 8
+    → key ++ drop (length key) (replicate 8 0) ≡ take 8 (key ++ replicate 8 0)
+padded key short =
+    let room : ℕ = 8 - length key in
+    let whole : length key + room ≡ 8 = omega arith in
+    let zeros = drop-replicate (length key) 8 0 ∙ sym (take-replicate room 8 0 (omega arith)) in
+    ap (λ ys. key ++ ys) zeros
+    ∙ sym (take-append-add key (replicate 8 0) room)
+    ∙ ap (λ n. take n (key ++ replicate 8 0)) whole
+
+pub beginning-short : (key bytes : List ℕ) → length key < 8
+    → bytes ≡ key ++ drop (length key) (replicate 8 0) → from_be_bytes w64 bytes ≡ beginning key
+unfolding beginning
+beginning-short key bytes short same = ap (from_be_bytes w64) (same ∙ padded key short)
+
+-- ---- the walk over the keys at places, of which some have none
+
+-- no two places below `low` have one key
+abbrev pub AreApart : (ℕ → Option (List ℕ)) → ℕ → Type 0
+AreApart key_at low =
+    (p q : ℕ) (key : List ℕ) → p < q → q < low → key_at p ≡ Some key → key_at q ≡ Some key → ⊥
+
+-- the numbers have the beginnings of the keys below `low`, once for each key
+pub record Begun (key_at : ℕ → Option (List ℕ)) (low : ℕ) (numbers : List ℕ) : Type 0 where
+  pub met : (p : ℕ) (key : List ℕ) → p < low → key_at p ≡ Some key
+      → Contains numbers (beginning key)
+  pub apart : AllDiffer numbers → AreApart key_at low
+
+pub Begun-none : (key_at : ℕ → Option (List ℕ)) → Begun key_at 0 []
+Begun-none key_at = record {
+  met = λ p key low at. absurd (omega arith);
+  apart = λ h p q key below low here there. absurd (omega arith);
+}
+
+module _ (key_at : ℕ → Option (List ℕ)) (low : ℕ) (numbers : List ℕ)
+    (begun : Begun key_at low numbers) where
+  -- a place without a key
+  pub Begun-blank : key_at low ≡ None → Begun key_at (low + 1) numbers
+  Begun-blank blank = record {
+    met = λ p key below at.
+        elim (cases_lt p low) [
+          | inl before ↦ begun.met p key before at
+          | inr here ↦
+              let last : p ≡ low = omega arith in
+              absurd (none-some key (sym blank ∙ (rw last at at)))
+        ];
+    apart = λ differ p q key below high here there.
+        elim (cases_lt q low) [
+          | inl before ↦ begun.apart differ p q key below before here there
+          | inr at ↦
+              let last : q ≡ low = omega arith in
+              none-some key (sym blank ∙ (rw last at there))
+        ];
+  }
+
+  -- a place with a key
+  module _ (key : List ℕ) (at : key_at low ≡ Some key) where
+    one_more : length (numbers ++ beginning key ∷ []) ≡ length numbers + 1
+    one_more = length-append numbers (beginning key ∷ [])
+
+    kept : AllDiffer (numbers ++ beginning key ∷ []) → AllDiffer numbers
+    kept differ i j d before in' same =
+        let at_i = get_or_append_left numbers (beginning key ∷ []) d i (omega arith) in
+        let at_j = get_or_append_left numbers (beginning key ∷ []) d j in' in
+        differ i j d before (omega (arith, one_more)) (at_i ∙ same ∙ sym at_j)
+
+    unmet : AllDiffer (numbers ++ beginning key ∷ []) → Contains numbers (beginning key) → ⊥
+    unmet differ there =
+        let at = get_or_append_left numbers (beginning key ∷ []) (beginning key) there.0 there.1 in
+        let end = get_or-append_seam numbers (beginning key) [] (beginning key) in
+        differ there.0 (length numbers) (beginning key) there.1
+        (omega (arith, one_more)) (at ∙ there.2 ∙ sym end)
+
+    begun_more : Begun key_at (low + 1) (numbers ++ beginning key ∷ [])
+    begun_more = record {
+      met = λ p other below there.
+          elim (cases_lt p low) [
+            | inl before ↦
+                let old = begun.met p other before there in
+                Contains-append_left numbers (beginning key ∷ []) (beginning other) old
+            | inr here ↦
+                let last : p ≡ low = omega arith in
+                let same : key ≡ other = same_Some key other (sym at ∙ (rw last at there)) in
+                rw (← same) (Contains-push numbers (beginning key))
+          ];
+      apart = λ differ p q other below high here there.
+          elim (cases_lt q low) [
+            | inl before ↦ begun.apart (kept differ) p q other below before here there
+            | inr at_end ↦
+                let last : q ≡ low = omega arith in
+                let same : other ≡ key = same_Some other key (sym (rw last at there) ∙ at) in
+                unmet differ (rw same at (begun.met p other (omega arith) here))
+          ];
+    }
+
+    pub Begun-key : (number : ℕ) (more : List ℕ) → number ≡ beginning key
+        → more ≡ numbers ++ number ∷ [] → Begun key_at (low + 1) more
+    Begun-key number more is pushed = rw (pushed, is) begun_more
+
+-- what follows where the numbers differ
+pub apart-answered : (key_at : ℕ → Option (List ℕ)) (low : ℕ) (numbers : List ℕ)
+    → Begun key_at low numbers → (P : Type 0) → (AreApart key_at low → P)
+    → (answer : Bool) → (IsTrue answer → AllDiffer numbers) → OnTrue answer P
+apart-answered key_at low numbers begun P conclude true differ =
+    conclude (begun.apart (differ refl))
+apart-answered key_at low numbers begun P conclude false differ = tt

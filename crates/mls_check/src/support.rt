@@ -37,11 +37,15 @@ pub(crate) fn supports_credential(leaf: &LeafNode, kind: u16) -> bool
     leaf.capabilities.credentials.as_slice().contains(&kind)
 }
 
-/// Whether a leaf supports the types of its own extensions.
+/// Whether a leaf supports the types of its own extensions. Most leaves have none, which is told
+/// before the list of what is supported is sorted.
 #[tactic(auto, unfolding(crate::specs::Members::supports_own_extensions))]
 pub(crate) fn supports_own_extensions(alloc: Global, leaf: &LeafNode) -> Result<bool, OutOfMemory>
     ensures { IfOk result (λ all. all ≡ supports_own_extensions leaf.now) }
 {
+    if leaf.extensions.as_slice().is_empty() {
+        return Ok(true);
+    }
     let codes = rising_codes(alloc, leaf.capabilities.extensions.as_slice())?;
     let listed = codes.as_slice();
     let mut extensions = leaf.extensions.as_slice().iter();
@@ -52,6 +56,9 @@ pub(crate) fn supports_own_extensions(alloc: Global, leaf: &LeafNode) -> Result<
 fn supports_extensions(alloc: Global, leaf: &LeafNode, kinds: &[u16]) -> Result<bool, OutOfMemory>
     ensures { IfOk result (λ all. all ≡ list_all (supports_extension leaf.now) kinds.now) }
 {
+    if kinds.is_empty() {
+        return Ok(true);
+    }
     let codes = rising_codes(alloc, leaf.capabilities.extensions.as_slice())?;
     let listed = codes.as_slice();
     Ok(kinds.iter().all(|&kind| supports_extension(listed, kind)))
@@ -61,6 +68,9 @@ fn supports_extensions(alloc: Global, leaf: &LeafNode, kinds: &[u16]) -> Result<
 fn supports_proposals(alloc: Global, leaf: &LeafNode, kinds: &[u16]) -> Result<bool, OutOfMemory>
     ensures { IfOk result (λ all. all ≡ list_all (supports_proposal leaf.now) kinds.now) }
 {
+    if kinds.is_empty() {
+        return Ok(true);
+    }
     let codes = rising_codes(alloc, leaf.capabilities.proposals.as_slice())?;
     let listed = codes.as_slice();
     Ok(kinds.iter().all(|&kind| supports_proposal(listed, kind)))
@@ -70,6 +80,9 @@ fn supports_proposals(alloc: Global, leaf: &LeafNode, kinds: &[u16]) -> Result<b
 fn supports_credentials(alloc: Global, leaf: &LeafNode, kinds: &[u16]) -> Result<bool, OutOfMemory>
     ensures { IfOk result (λ all. all ≡ list_all (supports_credential leaf.now) kinds.now) }
 {
+    if kinds.is_empty() {
+        return Ok(true);
+    }
     let codes = rising_codes(alloc, leaf.capabilities.credentials.as_slice())?;
     let listed = codes.as_slice();
     Ok(kinds.iter().all(|&kind| has_code(listed, kind)))

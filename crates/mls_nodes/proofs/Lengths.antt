@@ -6,7 +6,8 @@ use Rattle.std.specs.Int.{w8, w16, w32, w64}
 use Rattle.mls_wire.specs.Spelling.{◌⊕◌, number, length_form, vector, sized, items, list}
 use Rattle.mls_wire.specs.Numbers.{wide8, wide16, wide32, wide64}
 use Rattle.mls_wire.specs.Lengths.{form_1, form_2, form_4}
-use Rattle.mls_wire.specs.Sizes.{some_size, number_size, size_push, fits_not, fits_none}
+use Rattle.mls_wire.specs.Counting.{size}
+use Rattle.mls_wire.specs.Sizes.{some_size, number_size, size_push, fits_not, fits_none, sized_text, sized_none_text}
 use Rattle.mls_wire.specs.Written.{size_then, sized_makes}
 use Rattle.mls_nodes.specs.declared.credential.Credential.TheVariants.{Basic, X509}
 use Rattle.mls_nodes.specs.declared.leaf_source.LeafSource.TheVariants.{KeyPackage, Update, Commit}
@@ -158,15 +159,20 @@ prefix_4 n le lt = ap (option_map length) (form_4 n (n + 2147483648) le lt refl)
 
 -- the items of a list that has a spelling
 module _ {A : Type 0} (s : A → Option (List ℕ)) (xs : List A) (h : IsSome (list s xs)) where
-  pub item_there : (ys : List A) (i : ℕ) (x : A) (o : Option ℕ) → ys ≡ xs → i < length ys → x ≡ get_or ys i x → o ≡ option_map length (s x) → IsSome o
+  pub item_there : (ys : List A) (i : ℕ) (x : A) (o : Option ℕ) → ys ≡ xs → i < length ys → x ≡ get_or ys i x → o ≡ size (s x) → IsSome o
   item_there ys i x None same lt is e =
-      absurd (fits_none s ys i x lt is e (subst (λ (zs : List A). IsSome (list s zs)) (sym same) h))
+      let none : None ≡ option_map length (s x) = ap (option_map length) (sym (sized_none_text (s x) e)) in
+      absurd (fits_none s ys i x lt is none (subst (λ (zs : List A). IsSome (list s zs)) (sym same) h))
   item_there ys i x (Some n) same lt is e = refl
 
-  pub items_step : (ys : List A) (i : ℕ) (x : A) (m n : ℕ) → ys ≡ xs → i < length ys → x ≡ get_or ys i x → HasLength (items s (take i xs)) m → Some n ≡ option_map length (s x)
+  pub items_step : (ys : List A) (i : ℕ) (x : A) (m n : ℕ) → ys ≡ xs → i < length ys → x ≡ get_or ys i x → HasLength (items s (take i xs)) m → Some n ≡ size (s x)
       → HasLength (items s (take (i + 1) xs)) (m + n) × (m + n ≤ 1073741823)
   items_step ys i x m n same lt is e f =
       let a : HasLength (items s (take i ys)) m = subst (λ (zs : List A). HasLength (items s (take i zs)) m) (sym same) e in
-      let b = size_push s ys i x m n lt is a f in
-      let c : HasLength (items s (take (i + 1) xs)) (m + n) = subst (λ (zs : List A). HasLength (items s (take (i + 1) zs)) (m + n)) same b in
-      (c, elim (cases_lt 1073741823 (m + n)) [ inl more ↦ absurd (fits_not s xs (i + 1) (m + n) c more h) | inr le ↦ le ])
+      let t = sized_text (s x) n f in
+      let k = length t.0 in
+      let b = size_push s ys i x m k lt is a (sym (ap (option_map length) t.1)) in
+      let c : HasLength (items s (take (i + 1) xs)) (m + k) = subst (λ (zs : List A). HasLength (items s (take (i + 1) zs)) (m + k)) same b in
+      let within : m + k ≤ 1073741823 = elim (cases_lt 1073741823 (m + k)) [ inl more ↦ absurd (fits_not s xs (i + 1) (m + k) c more h) | inr le ↦ le ] in
+      let exact : m + k ≡ m + n = omega (arith, t.2) in
+      (c ∙ ap (λ (l : ℕ). Some l) exact, omega arith)

@@ -2,4 +2,5 @@ pub mod Entries
 pub mod Limits
 pub mod Trimming
 pub mod Lengths
+pub mod Drafted
 pub mod RequiredOnce

@@ -4,15 +4,15 @@ use Rattle.std.proofs.Common.{◌≡◌, ◌≢◌, ◌↔◌, ℕ, ◌+◌, ◌
 use Rattle.std.proofs.lemmas.List.{map_push, take_more, drop_more, length-map, length-take, get_or-map}
 use Rattle.std.proofs.lemmas.Option.{get_or_from_slice_get, slice_get_within}
 use Rattle.std.proofs.lemmas.Bool.{and_parts, and_right, and_left, lt-leb}
-use Rattle.std.specs.Prelude.{is_some}
+use Rattle.std.specs.Prelude.{is_some, IsSome}
 use Rattle.std.proofs.Common.{drop, subst, take-append-drop}
 use Rattle.mls_wire.specs.declared.fault.CodecFault.{CodecFault}
 use Rattle.mls_wire.specs.declared.fault.CodecFault.TheVariants as codec
 use Rattle.mls_wire.specs.Spelling.{list, optional}
 use Rattle.mls_wire.specs.Reading.{seen}
-use Rattle.mls_wire.specs.Writing.{Makes}
+use Rattle.mls_wire.specs.Writing.{MakesPiece}
 use Rattle.mls_wire.specs.declared.fault.WireFault.{WireFault}
-use Rattle.mls_wire.specs.declared.fault.WireFaultKind.TheVariants as kinds
+use Rattle.mls_wire.specs.Faults.{too_long_at}
 use Rattle.mls_nodes.specs.Faults.{node_fault, EncodesTree}
 use Rattle.mls_wire.specs.Parsing.{list_at, optional_at}
 use Rattle.mls_wire.specs.Steps.{allowed}
@@ -110,9 +110,9 @@ misjudged nodes.OutOfMemory ns some h = absurd h
 misjudged nodes.EmptyTree ns some h = absurd h
 misjudged nodes.LastBlank ns some h = absurd h
 
-pub unwritten : (e : CodecFault) (ns : List (Option NodeValue)) → ns ≢ [] → Makes (list (optional node) ns) (Err e) → WritesTree ns (Err (node_fault e))
-unwritten (codec.Wire f) ns some h = (some, h.0, h.1)
-unwritten codec.OutOfMemory ns some h = some
+pub unwritten : (e : CodecFault) (ns : List (Option NodeValue)) → ns ≢ [] → is_placed ns ≡ true → MakesPiece (list (optional node) ns) (Err e) → WritesTree ns (Err (node_fault e))
+unwritten (codec.Wire f) ns some placed h = (some, h.0, h.1)
+unwritten codec.OutOfMemory ns some placed h = (some, placed, h)
 
 -- an entry at its place among the others
 slice_get-split : {A : Type 0} (xs : List A) (i : ℕ) (x : A) → slice_get xs i ≡ Some x → (xs ≡ take i xs ++ x ∷ drop (i + 1) xs) × (length (take i xs) ≡ i)
@@ -157,9 +157,13 @@ tree_of nodes bytes some p e =
       | inr ends ↦ is_tree (trimmed nodes) bytes p ends e
     ]
 
+tree_there : (nodes : List (Option NodeValue)) → trimmed nodes ≢ [] → is_placed (trimmed nodes) ≡ true → (o : Option (List ℕ)) → list (optional node) (trimmed nodes) ≡ o → IsSome o → IsSome (ratchet_tree (trimmed nodes))
+tree_there nodes some p None e h = absurd cc
+tree_there nodes some p (Some bytes) e h = rw (tree_of nodes bytes some p e) refl
+
 pub is_encoded : (nodes : List (Option NodeValue)) (r : Result (List ℕ) NodeFault) → WritesTree (trimmed nodes) r → EncodesTree nodes r
 is_encoded ns (Ok bytes) h = tree_of ns bytes h.0 h.1 h.2
-is_encoded ns (Err nodes.OutOfMemory) h = tt
+is_encoded ns (Err nodes.OutOfMemory) h = tree_there ns h.0 h.1 (list (optional node) (trimmed ns)) refl h.2
 is_encoded ns (Err nodes.EmptyTree) h = ap ratchet_tree h ∙ no_tree
 is_encoded ns (Err (nodes.WrongNodeKind place)) h = not_placed (trimmed ns) (misplaced (trimmed ns) place h.1)
 is_encoded ns (Err nodes.TooManyLeaves) h = not_placed (trimmed ns) (too_long (trimmed ns) h.1)
@@ -170,7 +174,7 @@ module _ {A : Type 0} (view : A → List ℕ) where
   pub is_empty_tree : (ns : List (Option NodeValue)) (r : Result A NodeFault) → WritesTree ns (seen view r) → (r ≡ Err nodes.EmptyTree) ↔ (ns ≡ [])
   is_empty_tree ns (Ok x) h = (λ e. absurd cc, λ e. absurd (h.0 e))
   is_empty_tree ns (Err nodes.EmptyTree) h = (λ e. h, λ e. refl)
-  is_empty_tree ns (Err nodes.OutOfMemory) h = (λ e. absurd cc, λ e. absurd (h e))
+  is_empty_tree ns (Err nodes.OutOfMemory) h = (λ e. absurd cc, λ e. absurd (h.0 e))
   is_empty_tree ns (Err (nodes.WrongNodeKind p)) h = (λ e. absurd cc, λ e. absurd (h.0 e))
   is_empty_tree ns (Err nodes.TooManyLeaves) h = (λ e. absurd cc, λ e. absurd (h.0 e))
   is_empty_tree ns (Err (nodes.Wire f)) h = (λ e. absurd cc, λ e. absurd (h.0 e))
@@ -182,7 +186,7 @@ module _ {A : Type 0} (view : A → List ℕ) where
   pub is_too_long : (ns : List (Option NodeValue)) (r : Result A NodeFault) → WritesTree ns (seen view r) → r ≡ Err nodes.TooManyLeaves → 2097151 < length ns
   is_too_long ns r h e = (subst (λ (x : Result A NodeFault). WritesTree ns (seen view x)) e h).1
 
-  pub is_over_a_limit : (ns : List (Option NodeValue)) (r : Result A NodeFault) → WritesTree ns (seen view r) → (f : WireFault) → r ≡ Err (nodes.Wire f) → f.kind ≡ kinds.TooLong
+  pub is_over_a_limit : (ns : List (Option NodeValue)) (r : Result A NodeFault) → WritesTree ns (seen view r) → (f : WireFault) → r ≡ Err (nodes.Wire f) → f ≡ too_long_at 0
   is_over_a_limit ns r h f e = (subst (λ (x : Result A NodeFault). WritesTree ns (seen view x)) e h).2
 
   pub no_last_blank : (ns : List (Option NodeValue)) (r : Result A NodeFault) → WritesTree ns (seen view r) → r ≢ Err nodes.LastBlank

@@ -1,4 +1,5 @@
 pub mod Limits
+pub mod Sizes
 pub mod Extension
 pub mod Value
 pub mod Layout

@@ -1,7 +1,7 @@
 -- How a ratchet tree is written, step by step: for proofs alone, no public contract speaks of it.
-use Rattle.std.specs.Prelude.{◌≡◌, ◌≢◌, ◌<◌, ℕ, List, [], length, true, Option, Some, None, Result, Ok, Err}
+use Rattle.std.specs.Prelude.{◌≡◌, ◌≢◌, ◌<◌, ℕ, List, [], length, true, Option, Some, None, IsSome, Result, Ok, Err}
 use Rattle.mls_wire.specs.Spelling.{list, optional}
-use Rattle.mls_wire.specs.declared.fault.WireFaultKind.TheVariants as kinds
+use Rattle.mls_wire.specs.Faults.{too_long_at}
 use Rattle.mls_nodes.specs.declared.fault.NodeFault.{NodeFault}
 use Rattle.mls_nodes.specs.declared.fault.NodeFault.TheVariants as faults
 use Rattle.mls_nodes.specs.Limits.{entry_limit}
@@ -19,9 +19,9 @@ FitsPlaces nodes (Err e) = ⊥
 -- What a call that writes entries without blanks at their end answered, fault by fault.
 abbrev pub WritesTree : List (Option NodeValue) → Result (List ℕ) NodeFault → Type 0
 WritesTree nodes (Ok bytes) = (nodes ≢ []) × (is_placed nodes ≡ true) × (list (optional node) nodes ≡ Some bytes)
-WritesTree nodes (Err faults.OutOfMemory) = nodes ≢ []
+WritesTree nodes (Err faults.OutOfMemory) = (nodes ≢ []) × (is_placed nodes ≡ true) × IsSome (list (optional node) nodes)
 WritesTree nodes (Err faults.EmptyTree) = nodes ≡ []
 WritesTree nodes (Err (faults.WrongNodeKind place)) = (nodes ≢ []) × IsFirstMisplaced nodes place
 WritesTree nodes (Err faults.TooManyLeaves) = (nodes ≢ []) × (entry_limit < length nodes)
-WritesTree nodes (Err (faults.Wire f)) = (nodes ≢ []) × (list (optional node) nodes ≡ None) × (f.kind ≡ kinds.TooLong)
+WritesTree nodes (Err (faults.Wire f)) = (nodes ≢ []) × (list (optional node) nodes ≡ None) × (f ≡ too_long_at 0)
 WritesTree nodes (Err faults.LastBlank) = ⊥

@@ -1,7 +1,7 @@
 //! What a member's client can do (RFC 9420, 7.2).
 
 use crate::lists::Codes;
-use mls_wire::{CodecFault, Decode, Draft, Encode, Reader, TryClone};
+use mls_wire::{CodecFault, Decode, Draft, Encode, Reader, TryClone, add_sizes};
 use std::alloc::Global;
 
 /// What a client supports: five lists of codes, in this order.
@@ -65,6 +65,20 @@ impl Decode for Capabilities {
 }
 
 impl Encode for Capabilities {
+    #[tactic(auto, using(crate::specs::Sizes::sizes), unfolding(crate::specs::Layout::capabilities))]
+    fn size(&self) -> Option<usize> {
+        add_sizes(
+            self.versions.size(),
+            add_sizes(
+                self.cipher_suites.size(),
+                add_sizes(
+                    self.extensions.size(),
+                    add_sizes(self.proposals.size(), self.credentials.size()),
+                ),
+            ),
+        )
+    }
+
     #[tactic(auto, using(mls_wire::specs::Written::written), unfolding(crate::specs::Layout::capabilities))]
     fn put(&self, alloc: Global, draft: &mut Draft) -> Result<(), CodecFault> {
         self.versions.put(alloc, draft)?;

@@ -4,7 +4,7 @@ ghost use Rattle.std.specs.Prelude.{◌≡◌, ◌<◌, Err, length};
 ghost use Rattle.mls_wire.specs.Faults.{too_long_at};
 ghost use Rattle.mls_wire.specs.Limits.{input_limit};
 ghost use Rattle.mls_wire.specs.Reading.{Decodes, DecodesInput, seen};
-ghost use Rattle.mls_wire.specs.Writing.{Makes, Writes};
+ghost use Rattle.mls_wire.specs.Writing.{MakesPiece, WritesPiece};
 ghost use Rattle.mls_nodes.specs.Layout.{group_context};
 
 use crate::lists::Extensions;
@@ -84,6 +84,11 @@ impl Decode for GroupContext {
 }
 
 impl Encode for GroupContext {
+    #[tactic(auto, using(mls_wire::specs::Sizes::size_exact))]
+    fn size(&self) -> Option<usize> {
+        Some(self.encoded_len() as usize)
+    }
+
     #[tactic(auto, using(mls_wire::specs::Written::written), unfolding(crate::specs::Layout::group_context))]
     fn put(&self, alloc: Global, draft: &mut Draft) -> Result<(), CodecFault> {
         draft.put_u16(self.version)?;
@@ -126,20 +131,22 @@ pub fn decode_context(alloc: Global, bytes: &[u8]) -> Result<GroupContext, Codec
     read_input(alloc, bytes)
 }
 
-/// The group context's bytes. `TooLong` only where it has no spelling.
+/// The group context's bytes. `TooLong` at 0 exactly where it has no spelling, which is judged
+/// before memory is taken.
 pub fn encode_context(alloc: Global, context: &GroupContext) -> Result<Vec<u8>, CodecFault>
-    ensures { Makes (group_context context.now) (seen (λ v. v.items) result) }
+    ensures { MakesPiece (group_context context.now) (seen (λ v. v.items) result) }
 {
     bytes_of(alloc, context)
 }
 
-/// Writes the group context at the end. `TooLong` only where it has no spelling. A refusal leaves the bytes.
+/// Writes the group context at the end. `TooLong`, at the number of bytes written so far, exactly
+/// where it has no spelling, which is judged before memory is taken. A refusal leaves the bytes.
 pub fn write_context(
     alloc: Global,
     context: &GroupContext,
     writer: &mut Writer,
 ) -> Result<(), CodecFault>
-    ensures { Writes (group_context context.now) writer.old writer.new result }
+    ensures { WritesPiece (group_context context.now) writer.old writer.new result }
 {
     writer.write(alloc, context)
 }

@@ -3,6 +3,7 @@
 use crate::lists::CertChain;
 use mls_wire::{
     CodecFault, Decode, Draft, Encode, Opaque, Reader, TryClone, WireFault, WireFaultKind,
+    add_sizes,
 };
 use std::alloc::Global;
 
@@ -58,6 +59,14 @@ impl Decode for Credential {
 }
 
 impl Encode for Credential {
+    #[tactic(auto, using(crate::specs::Sizes::sizes), unfolding(crate::specs::Layout::credential))]
+    fn size(&self) -> Option<usize> {
+        match self {
+            Credential::Basic(identity) => add_sizes(Some(2), identity.size()),
+            Credential::X509(chain) => add_sizes(Some(2), chain.size()),
+        }
+    }
+
     #[tactic(auto, using(mls_wire::specs::Written::written), unfolding(crate::specs::Layout::credential))]
     fn put(&self, alloc: Global, draft: &mut Draft) -> Result<(), CodecFault> {
         match self {

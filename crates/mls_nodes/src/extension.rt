@@ -2,12 +2,12 @@
 
 ghost use Rattle.mls_wire.specs.Spelling.{list};
 ghost use Rattle.mls_wire.specs.Reading.{Decodes};
-ghost use Rattle.mls_wire.specs.Writing.{Writes};
+ghost use Rattle.mls_wire.specs.Writing.{WritesPiece};
 ghost use Rattle.mls_nodes.specs.Extension.{extension};
 
 use crate::lists::Extensions;
 use mls_wire::{
-    CodecFault, Decode, Draft, Encode, Measure, Opaque, Reader, TryClone, Writer, read_value,
+    CodecFault, Decode, Draft, Encode, Opaque, Reader, TryClone, Writer, add_sizes, read_value,
 };
 use std::alloc::Global;
 
@@ -44,18 +44,15 @@ impl Decode for Extension {
 }
 
 impl Encode for Extension {
+    #[tactic(auto, using(crate::specs::Sizes::sizes), unfolding(crate::specs::Extension::extension))]
+    fn size(&self) -> Option<usize> {
+        add_sizes(self.kind.size(), self.body.size())
+    }
+
     #[tactic(auto, using(mls_wire::specs::Written::written), unfolding(crate::specs::Extension::extension))]
     fn put(&self, alloc: Global, draft: &mut Draft) -> Result<(), CodecFault> {
         draft.put_u16(self.kind)?;
         self.body.put(alloc, draft)
-    }
-}
-
-impl Measure for Extension {
-    fn size(&self) -> Option<usize> {
-        let _kind = self.kind;
-        let size = self.body.size()?;
-        Some(size + 2)
     }
 }
 
@@ -75,13 +72,15 @@ pub fn read_extensions(alloc: Global, reader: &mut Reader<'_>) -> Result<Extensi
     read_value(alloc, reader)
 }
 
-/// Writes the list of extensions at the end. `TooLong` only where it has no spelling. A refusal leaves the bytes.
+/// Writes the list of extensions at the end. `TooLong`, at the number of bytes written so far,
+/// exactly where it has no spelling, which is judged before memory is taken. A refusal leaves the
+/// bytes.
 pub fn write_extensions(
     alloc: Global,
     extensions: &Extensions,
     writer: &mut Writer,
 ) -> Result<(), CodecFault>
-    ensures { Writes (list extension extensions.now) writer.old writer.new result }
+    ensures { WritesPiece (list extension extensions.now) writer.old writer.new result }
 {
     writer.write(alloc, extensions)
 }

@@ -1,7 +1,7 @@
 //! Leaf nodes (RFC 9420, 7.2).
 
 ghost use Rattle.mls_wire.specs.Reading.{Decodes, DecodesAll, seen};
-ghost use Rattle.mls_wire.specs.Writing.{Makes, Puts, Writes};
+ghost use Rattle.mls_wire.specs.Writing.{MakesPiece, Puts, WritesPiece};
 ghost use Rattle.mls_nodes.specs.Layout.{leaf, unsigned_leaf};
 
 use crate::capabilities::Capabilities;
@@ -99,6 +99,11 @@ impl LeafNode {
 }
 
 impl Encode for LeafNode {
+    #[tactic(auto, using(mls_wire::specs::Sizes::size_exact))]
+    fn size(&self) -> Option<usize> {
+        Some(self.encoded_len() as usize)
+    }
+
     #[tactic(auto, using(mls_wire::specs::Written::written, crate::specs::Exact::leaf_signed))]
     fn put(&self, alloc: Global, draft: &mut Draft) -> Result<(), CodecFault> {
         self.put_unsigned(alloc, draft)?;
@@ -135,16 +140,18 @@ pub fn decode_leaf(alloc: Global, bytes: &[u8]) -> Result<LeafNode, CodecFault>
     read_all_of(alloc, bytes)
 }
 
-/// The leaf node's bytes. `TooLong` only where it has no spelling.
+/// The leaf node's bytes. `TooLong` at 0 exactly where it has no spelling, which is judged
+/// before memory is taken.
 pub fn encode_leaf(alloc: Global, value: &LeafNode) -> Result<Vec<u8>, CodecFault>
-    ensures { Makes (leaf value.now) (seen (λ v. v.items) result) }
+    ensures { MakesPiece (leaf value.now) (seen (λ v. v.items) result) }
 {
     bytes_of(alloc, value)
 }
 
-/// Writes the leaf node at the end. `TooLong` only where it has no spelling. A refusal leaves the bytes.
+/// Writes the leaf node at the end. `TooLong`, at the number of bytes written so far, exactly where
+/// it has no spelling, which is judged before memory is taken. A refusal leaves the bytes.
 pub fn write_leaf(alloc: Global, value: &LeafNode, writer: &mut Writer) -> Result<(), CodecFault>
-    ensures { Writes (leaf value.now) writer.old writer.new result }
+    ensures { WritesPiece (leaf value.now) writer.old writer.new result }
 {
     writer.write(alloc, value)
 }

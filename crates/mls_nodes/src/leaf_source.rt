@@ -2,6 +2,7 @@
 
 use mls_wire::{
     CodecFault, Decode, Draft, Encode, Opaque, Reader, TryClone, WireFault, WireFaultKind,
+    add_sizes,
 };
 use std::alloc::Global;
 
@@ -100,6 +101,11 @@ impl Decode for LeafSource {
 }
 
 impl Encode for Lifetime {
+    #[tactic(auto, using(crate::specs::Sizes::sizes), unfolding(crate::specs::Layout::lifetime))]
+    fn size(&self) -> Option<usize> {
+        add_sizes(self.not_before.size(), self.not_after.size())
+    }
+
     #[tactic(auto, using(mls_wire::specs::Written::written), unfolding(crate::specs::Layout::lifetime))]
     fn put(&self, _alloc: Global, draft: &mut Draft) -> Result<(), CodecFault> {
         draft.put_u64(self.not_before)?;
@@ -108,6 +114,15 @@ impl Encode for Lifetime {
 }
 
 impl Encode for LeafSource {
+    #[tactic(auto, using(crate::specs::Sizes::sizes), unfolding(crate::specs::Layout::source))]
+    fn size(&self) -> Option<usize> {
+        match self {
+            LeafSource::KeyPackage(lifetime) => add_sizes(Some(1), lifetime.size()),
+            LeafSource::Update => Some(1),
+            LeafSource::Commit { parent_hash } => add_sizes(Some(1), parent_hash.size()),
+        }
+    }
+
     #[tactic(auto, using(mls_wire::specs::Written::written), unfolding(crate::specs::Layout::source))]
     fn put(&self, alloc: Global, draft: &mut Draft) -> Result<(), CodecFault> {
         match self {

@@ -13,7 +13,7 @@ use crate::credential::Credential;
 use crate::leaf::LeafNode;
 use crate::leaf_source::LeafSource;
 use crate::parent::ParentNode;
-use mls_wire::{Items, Measure, Opaque};
+use mls_wire::{Encode, Items, Opaque};
 
 /// How many bytes the length of a vector takes.
 fn length_of_prefix(body: u64) -> u64
@@ -40,7 +40,7 @@ fn length_of_vector(bytes: &Opaque) -> u64
 }
 
 /// How many bytes the items of a list take.
-fn length_of_items<T: Measure>(values: &Items<T>) -> u64
+fn length_of_items<T: Encode>(values: &Items<T>) -> u64
     ensures length { option_map length (items T.spelling values.now) ≡ Some result }
     ensures small { result ≤ vector_limit }
 {
@@ -52,7 +52,7 @@ fn length_of_items<T: Measure>(values: &Items<T>) -> u64
 }
 
 /// How many bytes a list takes, with its length.
-fn length_of_list<T: Measure>(values: &Items<T>) -> u64
+fn length_of_list<T: Encode>(values: &Items<T>) -> u64
     ensures length { option_map length (list T.spelling values.now) ≡ Some result }
     ensures small { result ≤ vector_limit + 4 }
 {

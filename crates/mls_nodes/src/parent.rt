@@ -1,6 +1,6 @@
 //! Parent nodes (RFC 9420, 7.1).
 
-ghost use Rattle.mls_wire.specs.Writing.{Writes};
+ghost use Rattle.mls_wire.specs.Writing.{WritesPiece};
 ghost use Rattle.mls_nodes.specs.Layout.{parent};
 
 use crate::unmerged::Unmerged;
@@ -46,6 +46,11 @@ impl Decode for ParentNode {
 }
 
 impl Encode for ParentNode {
+    #[tactic(auto, using(mls_wire::specs::Sizes::size_exact))]
+    fn size(&self) -> Option<usize> {
+        Some(self.encoded_len() as usize)
+    }
+
     #[tactic(auto, using(mls_wire::specs::Written::written), unfolding(crate::specs::Layout::parent))]
     fn put(&self, alloc: Global, draft: &mut Draft) -> Result<(), CodecFault> {
         self.encryption_key.put(alloc, draft)?;
@@ -65,13 +70,14 @@ impl TryClone for ParentNode {
     }
 }
 
-/// Writes the parent node at the end. `TooLong` only where it has no spelling. A refusal leaves the bytes.
+/// Writes the parent node at the end. `TooLong`, at the number of bytes written so far, exactly
+/// where it has no spelling, which is judged before memory is taken. A refusal leaves the bytes.
 pub fn write_parent(
     alloc: Global,
     value: &ParentNode,
     writer: &mut Writer,
 ) -> Result<(), CodecFault>
-    ensures { Writes (parent value.now) writer.old writer.new result }
+    ensures { WritesPiece (parent value.now) writer.old writer.new result }
 {
     writer.write(alloc, value)
 }

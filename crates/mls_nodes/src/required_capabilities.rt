@@ -6,7 +6,9 @@ ghost use Rattle.mls_nodes.specs.Requirements.{extension_of, FindsRequirements};
 use crate::context::GroupContext;
 use crate::extension::Extension;
 use crate::lists::Codes;
-use mls_wire::{CodecFault, Decode, Draft, Encode, Opaque, Reader, TryClone, read_all_of};
+use mls_wire::{
+    CodecFault, Decode, Draft, Encode, Opaque, Reader, TryClone, add_sizes, read_all_of,
+};
 use std::alloc::Global;
 
 /// The type of the extension that holds a group's requirements.
@@ -63,6 +65,14 @@ impl Decode for RequiredCapabilities {
 }
 
 impl Encode for RequiredCapabilities {
+    #[tactic(auto, using(crate::specs::Sizes::sizes), unfolding(crate::specs::Layout::required_capabilities))]
+    fn size(&self) -> Option<usize> {
+        add_sizes(
+            self.extensions.size(),
+            add_sizes(self.proposals.size(), self.credentials.size()),
+        )
+    }
+
     #[tactic(auto, using(mls_wire::specs::Written::written), unfolding(crate::specs::Layout::required_capabilities))]
     fn put(&self, alloc: Global, draft: &mut Draft) -> Result<(), CodecFault> {
         self.extensions.put(alloc, draft)?;

@@ -83,6 +83,10 @@ impl Decode for Unmerged {
 }
 
 impl Encode for Unmerged {
+    fn size(&self) -> Option<usize> {
+        self.leaves.size()
+    }
+
     fn put(&self, alloc: Global, draft: &mut Draft) -> Result<(), CodecFault> {
         self.leaves.put(alloc, draft)
     }

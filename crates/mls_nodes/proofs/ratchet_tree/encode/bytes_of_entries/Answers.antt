@@ -1,10 +1,17 @@
-use Rattle.std.proofs.Common.{◌∙◌, []}
-use Rattle.mls_wire.specs.Written.{put_behind, after_nil, sized_makes}
-use Rattle.mls_wire.specs.Spelling.{list, vector}
+use Rattle.std.proofs.Common.{◌∙◌, map}
+use Rattle.std.proofs.lemmas.Result.{err_from_is_err_and}
+use Rattle.mls_wire.specs.Spelling.{optional}
+use Rattle.mls_nodes.specs.Value.{entry_value}
+use Rattle.mls_nodes.specs.Layout.{node}
+use Rattle.mls_nodes.proofs.Drafted.{drafted, list_there}
 use Rattle.mls_nodes.proofs.ratchet_tree.encode.bytes_of_entries.Goals as goal
 
+pub returns-in_err-with_capacity : goal.returns-in_err-with_capacity
+returns-in_err-with_capacity c =
+    let f = c.from_residual-in_err-with_capacity in
+    let p = err_from_is_err_and f.result f.ensures.1 in
+    rw (p.1, p.2) (list_there (optional node) (map entry_value c.args.entries.now) c.in_ok-body.body c.in_ok-body.ensures.0 c.in_ok-body.ensures.1)
+
 pub returns : goal.returns
-unfolding list
 returns c =
-    let put = c.in_ok-put_vec.ensures in
-    sized_makes _ _ c.in_ok-body.ensures ∙ after_nil _ _ (put_behind (vector c.in_ok-body.body.items) [] c.put_vec.new.self.kept c.put_vec.new.self.more c.new-draft.result.more _ (rw c.deref.ensures.value at put.0) c.new-draft.ensures.more (put.1 ∙ c.new-draft.ensures.kept) c.finish.ensures)
+    drafted _ c.after-draft.result c.put_vector.new.draft _ (c.after-draft.ensures.kept ∙ c.in_ok-with_capacity.ensures.items) c.after-draft.ensures.more c.in_ok-put_vector.ensures c.finish.ensures

@@ -16,7 +16,7 @@ returns-in_err-judge_places c =
 pub returns-in_err-bytes_of_entries : goal.returns-in_err-bytes_of_entries
 returns-in_err-bytes_of_entries c =
     let p = err_from_is_err_and c.from_residual-in_err-bytes_of_entries.result c.from_residual-in_err-bytes_of_entries.ensures.1 in
-    rw (p.1, p.2) (unwritten c.in_err-bytes_of_entries.field-0.0 (map entry_value c.args.entries.now) (some_at_all c.args.entries.now (eqb-false _ _ (sym c.if-is_empty.ensures))) c.in_err-bytes_of_entries.ensures)
+    rw (p.1, p.2) (unwritten c.in_err-bytes_of_entries.field-0.0 (map entry_value c.args.entries.now) (some_at_all c.args.entries.now (eqb-false _ _ (sym c.if-is_empty.ensures))) c.in_ok-judge_places.ensures c.in_err-bytes_of_entries.ensures)
 
 pub returns : goal.returns
 returns c = (some_at_all c.args.entries.now (eqb-false _ _ (sym c.if-is_empty.ensures)), c.in_ok-judge_places.ensures, c.in_ok-bytes_of_entries.ensures)

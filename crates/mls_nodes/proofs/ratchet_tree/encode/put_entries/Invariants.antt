@@ -1,0 +1,12 @@
+use Rattle.std.proofs.Common.{◌≡◌, take, map, Some}
+use Rattle.mls_wire.specs.Spelling.{items, optional}
+use Rattle.mls_wire.specs.Writing.{after}
+use Rattle.mls_nodes.specs.Value.{entry_value}
+use Rattle.mls_nodes.specs.Layout.{node}
+use Rattle.mls_nodes.proofs.ratchet_tree.encode.put_entries.Given as goal
+
+abbrev pub invariant-loop-entry : goal.invariant-loop-entry
+invariant-loop-entry l = record {
+  kept : l.draft.kept ≡ l.initial.draft.kept;
+  more : after l.initial.draft.more (items (optional node) (take l.entry-index (map entry_value l.entries))) ≡ Some l.draft.more;
+}

@@ -1,7 +1,7 @@
 -- Which contents have a SignContent: those within the limit of a vector.
-use Rattle.std.proofs.Common.{◌≡◌, ℕ, ◌<◌, ◌≤◌, List, length, Option, Some, None, IsSome, false, refl, ap, ◌∙◌, subst, inl, inr, arith}
+use Rattle.std.proofs.Common.{◌≡◌, ℕ, ◌<◌, ◌≤◌, List, length, Option, Some, None, IsSome, false, refl, sym, ap, ◌∙◌, subst, inl, inr, arith}
 use Rattle.std.specs.Prelude.{◌⊎◌, codes, option_map}
-use Rattle.mls_wire.specs.Spelling.{◌⊕◌, vector}
+use Rattle.mls_wire.specs.Spelling.{◌⊕◌, length_form, vector}
 use Rattle.mls_wire.specs.Joined.{no_left, no_right}
 use Rattle.mls_wire.specs.Sizes.{some_size, vector_some}
 use Rattle.mls_wire.specs.Vectors.{vector_within}
@@ -51,3 +51,33 @@ pub is_leaf_signed-over : (G : Meaning) (suite : ℕ) (group_id : List ℕ) (i :
     → option_map length (leaf_tbs x group_id i) ≡ Some n → 1073741823 < n → is_leaf_signed G suite group_id i x ≡ false
 unfolding is_leaf_signed
 is_leaf_signed-over G suite group_id i x n long over = is_signed_text-over G suite x.signature_key (codes "MLS 1.0 LeafNodeTBS") x.signature (leaf_tbs x group_id i) n long over
+
+-- a vector whose body has this length
+body_sized : (tbs : List ℕ) (text : Option (List ℕ)) (n : ℕ) → text ≡ Some tbs → length tbs ≡ n → length_form n ⊕ text ≡ vector tbs
+unfolding vector
+body_sized tbs text n is len = ap (λ (o : Option (List ℕ)). length_form n ⊕ o) is ∙ ap (λ (k : ℕ). length_form k ⊕ Some tbs) (sym len)
+
+-- a label and a text of known length, as a SignContent
+sized_content : (label : List ℕ) (text : Option (List ℕ)) (n : ℕ) → option_map length text ≡ Some n
+    → (tbs : List ℕ) × (text ≡ Some tbs) × (length tbs ≡ n) × (vector label ⊕ (length_form n ⊕ text) ≡ sign_content label tbs)
+unfolding sign_content
+sized_content label text n long =
+    let t = some_size text n long in
+    (t.0, t.1, t.2, ap (λ (o : Option (List ℕ)). vector label ⊕ o) (body_sized t.0 text n t.1 t.2))
+
+-- the SignContent of a text within the limit has a spelling
+pub sized_content-there : (label : List ℕ) (text : Option (List ℕ)) (n : ℕ) → option_map length text ≡ Some n
+    → length label ≤ 1073741823 → n ≤ 1073741823 → vector label ⊕ (length_form n ⊕ text) ≡ None → ⊥
+sized_content-there label text n long a b none =
+    let s = sized_content label text n long in
+    sign_content-there label s.0 a (omega (arith, s.2)) (sym s.3 ∙ none)
+
+-- what the checker says of a leaf's SignContent, by its bytes
+pub is_leaf_signed-content : (G : Meaning) (suite : ℕ) (group_id : List ℕ) (i : ℕ) (x : LeafNode) (n : ℕ) (content : List ℕ)
+    → option_map length (leaf_tbs x group_id i) ≡ Some n
+    → vector (codes "MLS 1.0 LeafNodeTBS") ⊕ (length_form n ⊕ leaf_tbs x group_id i) ≡ Some content
+    → G suite x.signature_key content x.signature ≡ is_leaf_signed G suite group_id i x
+unfolding is_leaf_signed
+is_leaf_signed-content G suite group_id i x n content long whole =
+    let s = sized_content (codes "MLS 1.0 LeafNodeTBS") (leaf_tbs x group_id i) n long in
+    sym (ap (λ o. is_signed_text G suite x.signature_key (codes "MLS 1.0 LeafNodeTBS") o x.signature) s.1 ∙ ap (is_good G suite x.signature_key x.signature) (sym s.3 ∙ whole))

@@ -2,6 +2,8 @@
 
 ghost use Rattle.std.specs.Prelude.{◌≡◌, ℕ, ◌≤◌, true, length, IfOk, IfErr, IfSome, IsErr, OnOk};
 ghost use Rattle.mls_wire.specs.Limits.{vector_limit};
+ghost use Rattle.mls_wire.specs.Spelling.{◌⊕◌, length_form, vector};
+ghost use Rattle.mls_wire.specs.Writing.{Puts};
 ghost use Rattle.mls_nodes.specs.Signed.{leaf_tbs};
 ghost use Rattle.mls_tree.specs.Tree.{leaf_at};
 ghost use Rattle.mls_check.specs.Signatures.{Meaning};
@@ -10,12 +12,13 @@ ghost use Rattle.mls_check.specs.Members.{Members, IsMemberFault, FindsFailing, 
 use crate::credentials::first_unsupported_credential;
 use crate::requirements::RisingRequirements;
 use crate::signature_keys::first_repeated_signature_key;
-use crate::signatures::{OutOfMemory, SignatureCheck, signed};
+use crate::signatures::{OutOfMemory, SignatureCheck};
 use crate::support::{supports_own_extensions, supports_required};
-use mls_nodes::{LeafNode, RequiredCapabilities, leaf_tbs, leaf_tbs_len};
+use mls_nodes::{LeafNode, RequiredCapabilities, leaf_tbs_len, put_leaf_tbs};
 use mls_tree::PublicTree;
-use mls_wire::{CodecFault, MAX_BODY, Opaque};
+use mls_wire::{CodecFault, Draft, MAX_BODY, Opaque};
 use std::alloc::Global;
+use std::mem::replace;
 use thiserror::Error;
 
 /// The label under which members sign their leaf nodes (RFC 9420, 7.2).
@@ -132,6 +135,68 @@ fn first_unmet_requirement(
     Ok(None)
 }
 
+/// Adds the SignContent of a leaf under this label (RFC 9420, 5.1.2), where its LeafNodeTBS takes so many bytes.
+#[tactic(auto, using(mls_wire::specs::Written::written))]
+fn put_content(
+    alloc: Global,
+    label: &str,
+    group_id: &Opaque,
+    index: u32,
+    leaf: &LeafNode,
+    len: usize,
+    draft: &mut Draft,
+) -> Result<(), CodecFault>
+    ensures { Puts
+        (vector label.now ⊕ length_form len ⊕ leaf_tbs leaf.now group_id.now index)
+        draft.old draft.new result }
+{
+    draft.put_vec(label.as_bytes())?;
+    draft.put_len(len)?;
+    put_leaf_tbs(alloc, leaf, group_id, index, draft)
+}
+
+/// Whether a leaf is signed, as [`is_leaf_signed`] tells. What is signed is made in this room, which serves for many
+/// leaves.
+#[tactic(auto, unfolding(crate::specs::Members::is_leaf_signed))]
+fn is_signed_in(
+    alloc: Global,
+    suite: u16,
+    group_id: &Opaque,
+    index: u32,
+    leaf: &LeafNode,
+    checker: &dyn SignatureCheck,
+    room: &mut Vec<u8>,
+) -> Result<bool, OutOfMemory>
+    ensures good { IfOk result
+        (λ good. good ≡ is_leaf_signed (meaning checker.now) suite group_id.now index leaf.now) }
+    ensures memory { IsErr result
+        → IfSome (leaf_tbs leaf.now group_id.now index) (λ tbs. length tbs ≤ vector_limit) }
+{
+    let len = leaf_tbs_len(leaf, group_id, index);
+    if len > MAX_BODY as u64 {
+        return Ok(false);
+    }
+    let mut content = replace(room, Vec::new(alloc));
+    content.clear();
+    let mut draft = Draft::after(content);
+    let label = LEAF_NODE_TBS;
+    match put_content(
+        alloc,
+        label,
+        group_id,
+        index,
+        leaf,
+        len as usize,
+        &mut draft,
+    ) {
+        Ok(()) => *room = draft.finish(),
+        Err(CodecFault::Wire(_)) => unreachable!(),
+        Err(CodecFault::OutOfMemory) => return Err(OutOfMemory),
+    }
+    let key = leaf.signature_key.as_slice();
+    Ok(checker.good(suite, key, room.as_slice(), leaf.signature.as_slice()))
+}
+
 /// The smallest leaf whose signature isn't good.
 fn first_unsigned_leaf(
     alloc: Global,
@@ -143,9 +208,10 @@ fn first_unsigned_leaf(
     ensures { IfOk result
         (FindsFailing (is_leaf_signed (meaning checker.now) suite group_id.now) tree.now.tree) }
 {
+    let mut room = Vec::new(alloc);
     for index in 0..tree.leaf_count() {
         if let Some(leaf) = tree.leaf(index) {
-            if !is_leaf_signed(alloc, suite, group_id, index, leaf, checker)? {
+            if !is_signed_in(alloc, suite, group_id, index, leaf, checker, &mut room)? {
                 return Ok(Some(index));
             }
         }
@@ -156,7 +222,6 @@ fn first_unsigned_leaf(
 /// Whether the leaf of this index has signed its LeafNodeTBS in the group of this id (RFC 9420, 7.2), as the checker
 /// takes it. The group's id and the index count only where the leaf comes from an Update or a Commit. A leaf whose
 /// LeafNodeTBS is too long for a SignContent has not signed it, which is judged before memory is taken.
-#[tactic(auto, unfolding(crate::specs::Members::is_leaf_signed))]
 pub fn is_leaf_signed(
     alloc: Global,
     suite: u16,
@@ -170,21 +235,13 @@ pub fn is_leaf_signed(
     ensures memory { IsErr result
         → IfSome (leaf_tbs leaf.now group_id.now index) (λ tbs. length tbs ≤ vector_limit) }
 {
-    if leaf_tbs_len(leaf, group_id, index) > MAX_BODY as u64 {
-        return Ok(false);
-    }
-    let tbs = match leaf_tbs(alloc, leaf, group_id, index) {
-        Ok(tbs) => tbs,
-        Err(CodecFault::Wire(_)) => unreachable!(),
-        Err(CodecFault::OutOfMemory) => return Err(OutOfMemory),
-    };
-    signed(
+    is_signed_in(
         alloc,
-        checker,
         suite,
-        leaf.signature_key.as_slice(),
-        LEAF_NODE_TBS,
-        tbs.as_slice(),
-        leaf.signature.as_slice(),
+        group_id,
+        index,
+        leaf,
+        checker,
+        &mut Vec::new(alloc),
     )
 }

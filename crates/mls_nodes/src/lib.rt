@@ -34,5 +34,5 @@ pub use node::Node;
 pub use parent::{ParentNode, write_parent};
 pub use ratchet_tree::{decode_ratchet_tree, encode_ratchet_tree};
 pub use required_capabilities::{RequiredCapabilities, find_extension, requirements};
-pub use signed::leaf_tbs;
+pub use signed::{leaf_tbs, put_leaf_tbs};
 pub use unmerged::{MAX_UNMERGED, Unmerged};

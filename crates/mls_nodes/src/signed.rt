@@ -30,9 +30,11 @@ fn put_place(
     }
 }
 
-/// Adds the LeafNodeTBS.
+/// Adds the LeafNodeTBS to a draft: the leaf node without its signature, and for the sources update
+/// and commit then the group's id and the leaf's index (RFC 9420, 7.2). Each has a spelling, so that
+/// want of memory is the only fault.
 #[tactic(auto, using(mls_wire::specs::Written::written), unfolding(crate::specs::Signed::leaf_tbs))]
-fn put_tbs(
+pub fn put_leaf_tbs(
     alloc: Global,
     leaf: &LeafNode,
     group_id: &Opaque,
@@ -59,6 +61,6 @@ pub fn leaf_tbs(
 {
     let len = leaf_tbs_len(leaf, group_id, index) as usize;
     let mut draft = Draft::after(Vec::with_capacity(alloc, len)?);
-    put_tbs(alloc, leaf, group_id, index, &mut draft)?;
+    put_leaf_tbs(alloc, leaf, group_id, index, &mut draft)?;
     Ok(draft.finish())
 }

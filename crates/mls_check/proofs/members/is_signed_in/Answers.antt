@@ -1,0 +1,20 @@
+use Rattle.std.proofs.Common.{◌∙◌, sym, arith}
+use Rattle.mls_nodes.proofs.Drafted.{drafted}
+use Rattle.mls_check.proofs.Contents.{is_leaf_signed-over, is_leaf_signed-content, sized_content-there}
+use Rattle.mls_check.proofs.members.is_signed_in.Goals as goal
+
+pub returns-then-len-clause-good : goal.returns-then-len-clause-good
+returns-then-len-clause-good g c =
+    sym (is_leaf_signed-over _ c.args.suite c.args.group_id.now c.args.index c.args.leaf.now c.leaf_tbs_len-len.result c.leaf_tbs_len-len.ensures.length c.if-len.true)
+
+pub unreachable-requires : goal.unreachable-requires
+unreachable-requires g c =
+    let put = rw c.in-Err-Wire.field-0-is at c.in-Err-Wire.ensures in
+    sized_content-there _ _ c.leaf_tbs_len-len.result c.leaf_tbs_len-len.ensures.length (omega arith) c.if-len.false put.0
+
+pub returns-clause-good : goal.returns-clause-good
+returns-clause-good g c =
+    let whole = drafted _ c.after-draft.result c.put_content.new.draft c.finish.result.items
+    (c.after-draft.ensures.kept ∙ c.clear.ensures.items) c.after-draft.ensures.more c.in-Ok.ensures c.finish.ensures in
+    let asked = rw (c.as_slice-key.ensures.bytes, c.as_slice.ensures.value, c.as_slice-2.ensures.bytes) at c.good.ensures in
+    asked ∙ is_leaf_signed-content _ c.args.suite c.args.group_id.now c.args.index c.args.leaf.now c.leaf_tbs_len-len.result _ c.leaf_tbs_len-len.ensures.length whole

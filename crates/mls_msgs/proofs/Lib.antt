@@ -1,3 +1,4 @@
 pub mod PartLemmas
+pub mod Rooms
 pub mod Unsigned
 pub mod MessageLemmas

@@ -1,12 +1,11 @@
 -- A part that cannot be read makes the whole one that cannot be read.
-use Rattle.std.proofs.Common.{◌≡◌, ◌∙◌, ◌++◌, ℕ, List, [], true, Option, Some, None, Err, refl, sym, ap}
+use Rattle.std.proofs.Common.{◌≡◌, ℕ, List, [], true, Option, Some, None, Err, refl, sym, ap}
 use Rattle.std.specs.Prelude.{IsTrue}
 use Rattle.std.specs.Int.{w16}
 use Rattle.std.proofs.lemmas.List.{append-nil}
 use Rattle.mls_wire.specs.Input.{Input}
 use Rattle.mls_wire.specs.Parsing.{GivesOrFull}
-use Rattle.mls_wire.specs.Writing.{after, Added}
-use Rattle.mls_wire.specs.Written.{put_all}
+use Rattle.mls_wire.specs.Writing.{after}
 use Rattle.mls_wire.specs.Spelling.{number}
 use Rattle.mls_msgs.specs.Authenticated.{is_frame_format, frame_format}
 use Rattle.mls_wire.specs.declared.fault.CodecFault.{CodecFault}
@@ -27,9 +26,3 @@ after_nothing old = ap (λ (s : List ℕ). Some s) (append-nil old)
 pub frame_format_fits : (n : ℕ) → IsTrue (is_frame_format n) → frame_format n ≡ number w16 n
 unfolding frame_format
 frame_format_fits n fits = let holds : is_frame_format n ≡ true = fits in rw holds refl
-
--- what a draft holds that began empty
-pub drafted : (text : Option (List ℕ)) (old new : Added) (whole : List ℕ) → old.kept ≡ [] → old.more ≡ []
-    → (after old.more text ≡ Some new.more) × (new.kept ≡ old.kept) → whole ≡ new.kept ++ new.more → text ≡ Some whole
-drafted text old new whole kept more put all =
-    put_all text new.kept new.more whole (put.1 ∙ kept) all (ap (λ (s : List ℕ). after s text) (sym more) ∙ put.0)

@@ -3,6 +3,7 @@ pub mod Authenticated
 pub mod PublicMessage
 pub mod Message
 pub mod Signed
+pub mod Room
 pub mod Parsing
 pub mod FrameParsing
 pub mod MessageParsing

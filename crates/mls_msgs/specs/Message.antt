@@ -1,8 +1,8 @@
 -- Messages as they are sent, and how they are spelled (RFC 9420, 6).
-use Rattle.std.specs.Prelude.{◌≡◌, ℕ, List, Bool, true, false, ◌||◌, Option, Some, None, Result, Ok, Err, nat_eq, if◌then◌else◌}
+use Rattle.std.specs.Prelude.{◌≡◌, ℕ, List, Bool, true, false, ◌||◌, Option, Some, None, IsSome, Result, Ok, Err, nat_eq, if◌then◌else◌}
 use Rattle.std.specs.Int.{w16}
 use Rattle.mls_wire.specs.Spelling.{◌⊕◌, number}
-use Rattle.mls_wire.specs.Writing.{after, Added}
+use Rattle.mls_wire.specs.Faults.{too_long_at}
 use Rattle.mls_wire.specs.declared.fault.WireFault.{WireFault}
 use Rattle.mls_wire.specs.declared.fault.WireFaultKind.TheVariants as kinds
 use Rattle.mls_wire.specs.declared.fault.CodecFault.{CodecFault}
@@ -31,22 +31,16 @@ message (messages.KeyPackage k) = header 5 ⊕ key_package k
 abbrev pub bad_format : ℕ → WireFault
 bad_format wire_format = record { kind = kinds.BadTag wire_format; at = 2 }
 
--- the fault of a message that has no spelling: BadTag of an unread one of another wire format, else TooLong
+-- the fault of a message that has no spelling: BadTag of an unread one of another wire format, else TooLong at 0
 abbrev pub IsMessageFault : Message → WireFault → Type 0
-IsMessageFault (messages.Public m) f = f.kind ≡ kinds.TooLong
+IsMessageFault (messages.Public m) f = f ≡ too_long_at 0
 IsMessageFault (messages.Unread wire_format body) f =
-    (is_unread wire_format ≡ true → f.kind ≡ kinds.TooLong) × (is_unread wire_format ≡ false → f ≡ bad_format wire_format)
-IsMessageFault (messages.GroupInfo g) f = f.kind ≡ kinds.TooLong
-IsMessageFault (messages.KeyPackage k) f = f.kind ≡ kinds.TooLong
+    (is_unread wire_format ≡ true → f ≡ too_long_at 0) × (is_unread wire_format ≡ false → f ≡ bad_format wire_format)
+IsMessageFault (messages.GroupInfo g) f = f ≡ too_long_at 0
+IsMessageFault (messages.KeyPackage k) f = f ≡ too_long_at 0
 
--- What a call that adds a message to a draft answered: a fault only where it has no spelling.
-abbrev pub PutsMessage : {A : Type 0} → Message → Added → Added → Result A CodecFault → Type 0
-PutsMessage m old new (Ok x) = (after old.more (message m) ≡ Some new.more) × (new.kept ≡ old.kept)
-PutsMessage m old new (Err (faults.Wire f)) = (message m ≡ None) × (new.kept ≡ old.kept) × IsMessageFault m f
-PutsMessage m old new (Err faults.OutOfMemory) = new.kept ≡ old.kept
-
--- The bytes that a call made of a message; a fault only where it has no spelling.
+-- The bytes that a call made of a message; a fault exactly where it has no spelling.
 abbrev pub MakesMessage : Message → Result (List ℕ) CodecFault → Type 0
 MakesMessage m (Ok bytes) = message m ≡ Some bytes
 MakesMessage m (Err (faults.Wire f)) = (message m ≡ None) × IsMessageFault m f
-MakesMessage m (Err faults.OutOfMemory) = Unit {0}
+MakesMessage m (Err faults.OutOfMemory) = IsSome (message m)

@@ -1,16 +1,19 @@
 //! Framed contents with their authentication.
 
 ghost use Rattle.std.specs.Prelude.{◌≡◌, ℕ, List, Option, option_map, IfOk, IsTrue, IsOk, is_some, IsSome, ◌↔◌, MatchResult};
+ghost use Rattle.mls_wire.specs.Counting.{size};
 ghost use Rattle.mls_wire.specs.Reading.{DecodesAll, seen};
 ghost use Rattle.mls_wire.specs.Parsing.{GivesOrFull};
-ghost use Rattle.mls_wire.specs.Writing.{Makes, Puts};
+ghost use Rattle.mls_wire.specs.Writing.{MakesPiece, Puts};
 ghost use Rattle.mls_msgs.specs.Layout.{is_commit};
 ghost use Rattle.mls_msgs.specs.Authenticated.{is_frame_format, tag_fits, is_authenticated, tag_if, signed_frame, authenticated_content};
 ghost use Rattle.mls_msgs.specs.FrameParsing.{tag_if_at, frame_auth_at, frame_format_at, signed_frame_at};
 
 use crate::fault::bad_tag;
 use crate::frame::FramedContent;
-use mls_wire::{CodecFault, Decode, Draft, Encode, Opaque, Reader, bytes_of, read_all_of};
+use mls_wire::{
+    CodecFault, Decode, Draft, Encode, Opaque, Reader, add_sizes, bytes_of, read_all_of,
+};
 use std::alloc::Global;
 use std::marker::Model;
 
@@ -131,6 +134,17 @@ pub(crate) fn put_tag(
     }
 }
 
+/// How many bytes a tag takes where there is one.
+#[tactic(auto, using(crate::proofs::Rooms::size_of_nothing), unfolding(crate::specs::Authenticated::tag_if))]
+pub(crate) fn size_of_tag(tag: &Option<Opaque>) -> Option<usize>
+    ensures { result ≡ size (tag_if (is_some tag.now) tag.now) }
+{
+    match tag {
+        Some(tag) => tag.size(),
+        None => Some(0),
+    }
+}
+
 /// What authenticates a framed content (RFC 9420, 6.1).
 #[derive(Drop)]
 struct FrameAuth {
@@ -223,6 +237,18 @@ impl Decode for Authenticated {
 }
 
 impl Authenticated {
+    /// How many bytes what is framed takes, with its authentication.
+    #[tactic(auto, using(mls_nodes::specs::Sizes::sizes), unfolding(crate::specs::Authenticated::signed_frame, crate::specs::Authenticated::frame_auth))]
+    pub(crate) fn size_of_signed_frame(&self) -> Option<usize>
+        ensures { result ≡ size (signed_frame self.now) }
+    {
+        let tag = size_of_tag(&self.parts.confirmation_tag);
+        add_sizes(
+            self.parts.content.size(),
+            add_sizes(self.parts.signature.size(), tag),
+        )
+    }
+
     /// Adds what is framed, and its authentication.
     #[tactic(auto, using(mls_wire::specs::Written::written), unfolding(crate::specs::Authenticated::signed_frame, crate::specs::Authenticated::frame_auth))]
     pub(crate) fn put_signed_frame(
@@ -239,6 +265,11 @@ impl Authenticated {
 }
 
 impl Encode for Authenticated {
+    #[tactic(auto, using(mls_nodes::specs::Sizes::sizes, crate::proofs::PartLemmas::frame_format_fits), unfolding(crate::specs::Authenticated::authenticated_content))]
+    fn size(&self) -> Option<usize> {
+        add_sizes(self.wire_format().size(), self.size_of_signed_frame())
+    }
+
     #[tactic(auto, using(mls_wire::specs::Written::written, crate::proofs::PartLemmas::frame_format_fits), unfolding(crate::specs::Authenticated::authenticated_content))]
     fn put(&self, alloc: Global, draft: &mut Draft) -> Result<(), CodecFault> {
         draft.put_u16(self.wire_format())?;
@@ -253,9 +284,12 @@ pub fn decode_authenticated(alloc: Global, bytes: &[u8]) -> Result<Authenticated
     read_all_of(alloc, bytes)
 }
 
-/// The bytes that spell the authenticated content. `TooLong` where one of its vectors is over the limit.
+/// The bytes that spell the authenticated content. `TooLong` at 0 exactly where it has no spelling,
+/// one of its vectors being over the limit, which is judged before memory is taken.
 pub fn encode_authenticated(alloc: Global, value: &Authenticated) -> Result<Vec<u8>, CodecFault>
-    ensures encoded { Makes (authenticated_content value.now) (seen (λ bytes. bytes.items) result) }
+    ensures encoded { MakesPiece
+        (authenticated_content value.now)
+        (seen (λ bytes. bytes.items) result) }
 {
     bytes_of(alloc, value)
 }

@@ -2,7 +2,7 @@
 
 use crate::proposal::ProposalOrRef;
 use mls_nodes::LeafNode;
-use mls_wire::{CodecFault, Decode, Draft, Encode, Opaque, Reader, Sequence};
+use mls_wire::{CodecFault, Decode, Draft, Encode, Opaque, Reader, Sequence, add_sizes};
 use std::alloc::Global;
 
 /// A path secret, encrypted to one node of the copath's resolution (RFC 9420, 7.6).
@@ -77,6 +77,11 @@ impl Decode for Ciphertext {
 }
 
 impl Encode for Ciphertext {
+    #[tactic(auto, using(mls_nodes::specs::Sizes::sizes), unfolding(crate::specs::Layout::ciphertext))]
+    fn size(&self) -> Option<usize> {
+        add_sizes(self.kem_output.size(), self.ciphertext.size())
+    }
+
     #[tactic(auto, using(mls_wire::specs::Written::written), unfolding(crate::specs::Layout::ciphertext))]
     fn put(&self, alloc: Global, draft: &mut Draft) -> Result<(), CodecFault> {
         self.kem_output.put(alloc, draft)?;
@@ -111,6 +116,11 @@ impl Decode for PathNode {
 }
 
 impl Encode for PathNode {
+    #[tactic(auto, using(mls_nodes::specs::Sizes::sizes), unfolding(crate::specs::Layout::path_node))]
+    fn size(&self) -> Option<usize> {
+        add_sizes(self.encryption_key.size(), self.ciphertexts.size())
+    }
+
     #[tactic(auto, using(mls_wire::specs::Written::written), unfolding(crate::specs::Layout::path_node))]
     fn put(&self, alloc: Global, draft: &mut Draft) -> Result<(), CodecFault> {
         self.encryption_key.put(alloc, draft)?;
@@ -142,6 +152,11 @@ impl Decode for UpdatePath {
 }
 
 impl Encode for UpdatePath {
+    #[tactic(auto, using(mls_nodes::specs::Sizes::sizes), unfolding(crate::specs::Layout::update_path))]
+    fn size(&self) -> Option<usize> {
+        add_sizes(self.leaf_node.size(), self.nodes.size())
+    }
+
     #[tactic(auto, using(mls_wire::specs::Written::written), unfolding(crate::specs::Layout::update_path))]
     fn put(&self, alloc: Global, draft: &mut Draft) -> Result<(), CodecFault> {
         self.leaf_node.put(alloc, draft)?;
@@ -173,6 +188,11 @@ impl Decode for Commit {
 }
 
 impl Encode for Commit {
+    #[tactic(auto, using(mls_nodes::specs::Sizes::sizes), unfolding(crate::specs::Layout::commit))]
+    fn size(&self) -> Option<usize> {
+        add_sizes(self.proposals.size(), self.path.size())
+    }
+
     #[tactic(auto, using(mls_wire::specs::Written::written), unfolding(crate::specs::Layout::commit))]
     fn put(&self, alloc: Global, draft: &mut Draft) -> Result<(), CodecFault> {
         self.proposals.put(alloc, draft)?;

@@ -3,7 +3,7 @@
 use crate::commit::Commit;
 use crate::fault::bad_tag;
 use crate::proposal::Proposal;
-use mls_wire::{CodecFault, Decode, Draft, Encode, Opaque, Reader};
+use mls_wire::{CodecFault, Decode, Draft, Encode, Opaque, Reader, add_sizes};
 use std::alloc::Global;
 
 /// Who sent a message (RFC 9420, 6).
@@ -117,6 +117,15 @@ impl Decode for Sender {
 }
 
 impl Encode for Sender {
+    #[tactic(auto, using(mls_nodes::specs::Sizes::sizes), unfolding(crate::specs::Layout::sender))]
+    fn size(&self) -> Option<usize> {
+        match self {
+            Sender::Member(leaf_index) => add_sizes(Some(1), leaf_index.size()),
+            Sender::External(sender_index) => add_sizes(Some(1), sender_index.size()),
+            Sender::NewMemberProposal | Sender::NewMemberCommit => Some(1),
+        }
+    }
+
     #[tactic(auto, using(mls_wire::specs::Written::written), unfolding(crate::specs::Layout::sender))]
     fn put(&self, _alloc: Global, draft: &mut Draft) -> Result<(), CodecFault> {
         match self {
@@ -162,6 +171,15 @@ impl Decode for Content {
 }
 
 impl Encode for Content {
+    #[tactic(auto, using(mls_nodes::specs::Sizes::sizes), unfolding(crate::specs::Layout::content))]
+    fn size(&self) -> Option<usize> {
+        match self {
+            Content::Application(data) => add_sizes(Some(1), data.size()),
+            Content::Proposal(proposal) => add_sizes(Some(1), proposal.size()),
+            Content::Commit(commit) => add_sizes(Some(1), commit.size()),
+        }
+    }
+
     #[tactic(auto, using(mls_wire::specs::Written::written), unfolding(crate::specs::Layout::content))]
     fn put(&self, alloc: Global, draft: &mut Draft) -> Result<(), CodecFault> {
         match self {
@@ -214,6 +232,20 @@ impl Decode for FramedContent {
 }
 
 impl Encode for FramedContent {
+    #[tactic(auto, using(mls_nodes::specs::Sizes::sizes), unfolding(crate::specs::Layout::framed_content))]
+    fn size(&self) -> Option<usize> {
+        add_sizes(
+            self.group_id.size(),
+            add_sizes(
+                self.epoch.size(),
+                add_sizes(
+                    self.sender.size(),
+                    add_sizes(self.authenticated.size(), self.content.size()),
+                ),
+            ),
+        )
+    }
+
     #[tactic(auto, using(mls_wire::specs::Written::written), unfolding(crate::specs::Layout::framed_content))]
     fn put(&self, alloc: Global, draft: &mut Draft) -> Result<(), CodecFault> {
         self.group_id.put(alloc, draft)?;

@@ -1,7 +1,7 @@
 //! Group infos.
 
 use mls_nodes::{Extensions, GroupContext};
-use mls_wire::{CodecFault, Decode, Draft, Encode, Opaque, Reader};
+use mls_wire::{CodecFault, Decode, Draft, Encode, Opaque, Reader, add_sizes};
 use std::alloc::Global;
 
 /// What a client that joins learns of a group's state (RFC 9420, 12.4.3).
@@ -52,8 +52,24 @@ impl Decode for GroupInfo {
 }
 
 impl GroupInfo {
+    ghost use Rattle.std.specs.Prelude.{◌≡◌};
+    ghost use Rattle.mls_wire.specs.Counting.{size};
     ghost use Rattle.mls_wire.specs.Writing.{Puts};
     ghost use Rattle.mls_msgs.specs.Signed.{info_tbs};
+
+    /// How many bytes the fields take that are signed.
+    #[tactic(auto, using(mls_nodes::specs::Sizes::sizes), unfolding(crate::specs::Signed::info_tbs))]
+    pub(crate) fn size_unsigned(&self) -> Option<usize>
+        ensures { result ≡ size (info_tbs self.now) }
+    {
+        add_sizes(
+            self.context.size(),
+            add_sizes(
+                self.extensions.size(),
+                add_sizes(self.confirmation_tag.size(), self.signer.size()),
+            ),
+        )
+    }
 
     /// Adds the fields that are signed.
     #[tactic(auto, using(mls_wire::specs::Written::written), unfolding(crate::specs::Signed::info_tbs))]
@@ -68,6 +84,11 @@ impl GroupInfo {
 }
 
 impl Encode for GroupInfo {
+    #[tactic(auto, using(mls_nodes::specs::Sizes::sizes, crate::proofs::Unsigned::info_signed))]
+    fn size(&self) -> Option<usize> {
+        add_sizes(self.size_unsigned(), self.signature.size())
+    }
+
     #[tactic(auto, using(mls_wire::specs::Written::written, crate::proofs::Unsigned::info_signed))]
     fn put(&self, alloc: Global, draft: &mut Draft) -> Result<(), CodecFault> {
         self.put_unsigned(alloc, draft)?;

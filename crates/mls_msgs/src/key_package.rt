@@ -1,7 +1,7 @@
 //! Key packages.
 
 use mls_nodes::{Extensions, LeafNode};
-use mls_wire::{CodecFault, Decode, Draft, Encode, Opaque, Reader, TryClone};
+use mls_wire::{CodecFault, Decode, Draft, Encode, Opaque, Reader, TryClone, add_sizes};
 use std::alloc::Global;
 
 /// What a client publishes so that others can add it to a group (RFC 9420, 10). The version and the cipher
@@ -57,8 +57,27 @@ impl Decode for KeyPackage {
 }
 
 impl KeyPackage {
+    ghost use Rattle.std.specs.Prelude.{◌≡◌};
+    ghost use Rattle.mls_wire.specs.Counting.{size};
     ghost use Rattle.mls_wire.specs.Writing.{Puts};
     ghost use Rattle.mls_msgs.specs.Signed.{package_tbs};
+
+    /// How many bytes the fields take that are signed.
+    #[tactic(auto, using(mls_nodes::specs::Sizes::sizes), unfolding(crate::specs::Signed::package_tbs))]
+    pub(crate) fn size_unsigned(&self) -> Option<usize>
+        ensures { result ≡ size (package_tbs self.now) }
+    {
+        add_sizes(
+            self.version.size(),
+            add_sizes(
+                self.cipher_suite.size(),
+                add_sizes(
+                    self.init_key.size(),
+                    add_sizes(self.leaf_node.size(), self.extensions.size()),
+                ),
+            ),
+        )
+    }
 
     /// Adds the fields that are signed.
     #[tactic(auto, using(mls_wire::specs::Written::written), unfolding(crate::specs::Signed::package_tbs))]
@@ -74,6 +93,11 @@ impl KeyPackage {
 }
 
 impl Encode for KeyPackage {
+    #[tactic(auto, using(mls_nodes::specs::Sizes::sizes, crate::proofs::Unsigned::package_signed))]
+    fn size(&self) -> Option<usize> {
+        add_sizes(self.size_unsigned(), self.signature.size())
+    }
+
     #[tactic(auto, using(mls_wire::specs::Written::written, crate::proofs::Unsigned::package_signed))]
     fn put(&self, alloc: Global, draft: &mut Draft) -> Result<(), CodecFault> {
         self.put_unsigned(alloc, draft)?;

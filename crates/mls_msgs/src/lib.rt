@@ -12,6 +12,7 @@ pub mod laws;
 mod message;
 mod proposal;
 mod public_message;
+mod room;
 mod signed;
 
 pub use authenticated::{

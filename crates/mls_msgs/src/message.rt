@@ -1,12 +1,13 @@
 //! Messages as they are sent.
 
-ghost use Rattle.std.specs.Prelude.{◌≡◌, ◌≤◌, ◌<◌, ℕ, List, length, Some, Err};
+ghost use Rattle.std.specs.Prelude.{◌≡◌, ◌≤◌, ◌<◌, ℕ, List, length, Some, IsSome, Err};
+ghost use Rattle.mls_wire.specs.Counting.{size};
 ghost use Rattle.mls_wire.specs.Faults.{too_long_at};
 ghost use Rattle.mls_wire.specs.Limits.{input_limit};
 ghost use Rattle.mls_wire.specs.Reading.{DecodesInput, seen};
 ghost use Rattle.mls_wire.specs.Parsing.{Finds, GivesOrFull};
 ghost use Rattle.mls_wire.specs.Writing.{Puts};
-ghost use Rattle.mls_msgs.specs.Message.{header, is_unread, message, PutsMessage, MakesMessage};
+ghost use Rattle.mls_msgs.specs.Message.{header, is_unread, message, IsMessageFault, MakesMessage};
 ghost use Rattle.mls_msgs.specs.MessageParsing.{header_at, rest_at, message_at};
 
 use crate::fault::bad_tag;
@@ -15,6 +16,7 @@ use crate::key_package::KeyPackage;
 use crate::public_message::PublicMessage;
 use mls_wire::{
     CodecFault, Decode, Draft, Encode, MAX_INPUT, Opaque, Reader, WireFault, WireFaultKind,
+    add_sizes,
 };
 use std::alloc::Global;
 
@@ -117,6 +119,45 @@ pub fn decode_message(alloc: Global, bytes: &[u8]) -> Result<Message, CodecFault
     message_of(alloc, bytes)
 }
 
+/// How many bytes the protocol version and the wire format take.
+#[tactic(auto, using(mls_nodes::specs::Sizes::sizes), unfolding(crate::specs::Message::header))]
+fn size_of_header(wire_format: u16) -> Option<usize>
+    ensures { result ≡ size (header wire_format) }
+{
+    add_sizes(Some(2), wire_format.size())
+}
+
+/// How many bytes a message takes.
+#[tactic(auto, using(crate::proofs::Rooms::sizes), unfolding(crate::specs::Message::message))]
+fn size_of_message(value: &Message) -> Option<usize>
+    ensures { result ≡ size (message value.now) }
+{
+    match value {
+        Message::Public(public) => add_sizes(size_of_header(1), public.size()),
+        Message::Unread { wire_format, body } => {
+            if !is_unread(*wire_format) {
+                return None;
+            }
+            add_sizes(size_of_header(*wire_format), Some(body.as_slice().len()))
+        }
+        Message::GroupInfo(info) => add_sizes(size_of_header(4), info.size()),
+        Message::KeyPackage(key_package) => add_sizes(size_of_header(5), key_package.size()),
+    }
+}
+
+/// The fault of a message that has no spelling.
+fn fault_of(value: &Message) -> WireFault
+    ensures { IsMessageFault value.now result }
+{
+    let (kind, at) = match value {
+        Message::Unread { wire_format, .. } if !is_unread(*wire_format) => {
+            (WireFaultKind::BadTag(*wire_format), FORMAT_AT)
+        }
+        _ => (WireFaultKind::TooLong, 0),
+    };
+    WireFault { kind, at }
+}
+
 /// Adds the protocol version and the wire format.
 #[tactic(auto, using(mls_wire::specs::Written::written), unfolding(crate::specs::Message::header))]
 fn put_header(draft: &mut Draft, wire_format: u16) -> Result<(), CodecFault>
@@ -126,9 +167,11 @@ fn put_header(draft: &mut Draft, wire_format: u16) -> Result<(), CodecFault>
     draft.put_u16(wire_format)
 }
 
+/// Adds a message that has a spelling.
 #[tactic(auto, using(mls_wire::specs::Written::written), unfolding(crate::specs::Message::message))]
 fn put_message(alloc: Global, value: &Message, draft: &mut Draft) -> Result<(), CodecFault>
-    ensures { PutsMessage value.now draft.old draft.new result }
+    requires { IsSome (message value.now) }
+    ensures { Puts (message value.now) draft.old draft.new result }
 {
     match value {
         Message::Public(public) => {
@@ -136,9 +179,6 @@ fn put_message(alloc: Global, value: &Message, draft: &mut Draft) -> Result<(), 
             public.put(alloc, draft)
         }
         Message::Unread { wire_format, body } => {
-            if !is_unread(*wire_format) {
-                return Err(bad_tag(*wire_format, FORMAT_AT));
-            }
             put_header(draft, *wire_format)?;
             draft.put_bytes(body.as_slice())
         }
@@ -153,13 +193,17 @@ fn put_message(alloc: Global, value: &Message, draft: &mut Draft) -> Result<(), 
     }
 }
 
-/// The bytes that spell the message. `BadTag` at 2 where an unread one has another wire format than 2 and 3;
-/// `TooLong` where one of its vectors is over the limit.
-#[tactic(auto, using(crate::proofs::PartLemmas::drafted))]
+/// The bytes that spell the message. A fault other than want of memory comes exactly where it has
+/// no spelling, and is judged before memory is taken: `BadTag` at 2 where an unread one has another
+/// wire format than 2 and 3, else `TooLong` at 0, one of its vectors being over the limit.
+#[tactic(auto, using(crate::proofs::Rooms::message_made))]
 pub fn encode_message(alloc: Global, value: &Message) -> Result<Vec<u8>, CodecFault>
     ensures encoded { MakesMessage value.now (seen (λ bytes. bytes.items) result) }
 {
-    let mut draft = Draft::new(alloc);
+    let Some(size) = size_of_message(value) else {
+        return Err(CodecFault::Wire(fault_of(value)));
+    };
+    let mut draft = Draft::after(Vec::with_capacity(alloc, size)?);
     put_message(alloc, value, &mut draft)?;
     Ok(draft.finish())
 }

@@ -2,14 +2,14 @@
 
 ghost use Rattle.std.specs.Prelude.{ℕ, List};
 ghost use Rattle.mls_wire.specs.Reading.{DecodesAll, seen};
-ghost use Rattle.mls_wire.specs.Writing.{Makes};
+ghost use Rattle.mls_wire.specs.Writing.{MakesPiece};
 ghost use Rattle.mls_msgs.specs.Layout.{proposal};
 
 use crate::fault::bad_tag;
 use crate::key_package::KeyPackage;
 use mls_nodes::LeafNode;
 use mls_wire::{
-    CodecFault, Decode, Draft, Encode, Opaque, Reader, TryClone, bytes_of, read_all_of,
+    CodecFault, Decode, Draft, Encode, Opaque, Reader, TryClone, add_sizes, bytes_of, read_all_of,
 };
 use std::alloc::Global;
 
@@ -61,6 +61,15 @@ impl Decode for Proposal {
 }
 
 impl Encode for Proposal {
+    #[tactic(auto, using(mls_nodes::specs::Sizes::sizes), unfolding(crate::specs::Layout::proposal))]
+    fn size(&self) -> Option<usize> {
+        match self {
+            Proposal::Add(key_package) => add_sizes(Some(2), key_package.size()),
+            Proposal::Update(leaf_node) => add_sizes(Some(2), leaf_node.size()),
+            Proposal::Remove(leaf_index) => add_sizes(Some(2), leaf_index.size()),
+        }
+    }
+
     #[tactic(auto, using(mls_wire::specs::Written::written), unfolding(crate::specs::Layout::proposal))]
     fn put(&self, alloc: Global, draft: &mut Draft) -> Result<(), CodecFault> {
         match self {
@@ -107,6 +116,14 @@ impl Decode for ProposalOrRef {
 }
 
 impl Encode for ProposalOrRef {
+    #[tactic(auto, using(mls_nodes::specs::Sizes::sizes), unfolding(crate::specs::Layout::proposal_or_ref))]
+    fn size(&self) -> Option<usize> {
+        match self {
+            ProposalOrRef::Proposal(proposal) => add_sizes(Some(1), proposal.size()),
+            ProposalOrRef::Reference(reference) => add_sizes(Some(1), reference.size()),
+        }
+    }
+
     #[tactic(auto, using(mls_wire::specs::Written::written), unfolding(crate::specs::Layout::proposal_or_ref))]
     fn put(&self, alloc: Global, draft: &mut Draft) -> Result<(), CodecFault> {
         match self {
@@ -139,9 +156,10 @@ pub fn decode_proposal(alloc: Global, bytes: &[u8]) -> Result<Proposal, CodecFau
     read_all_of(alloc, bytes)
 }
 
-/// The bytes that spell the proposal. `TooLong` where one of its vectors is over the limit.
+/// The bytes that spell the proposal. `TooLong` at 0 exactly where it has no spelling, one of its
+/// vectors being over the limit, which is judged before memory is taken.
 pub fn encode_proposal(alloc: Global, value: &Proposal) -> Result<Vec<u8>, CodecFault>
-    ensures encoded { Makes (proposal value.now) (seen (λ bytes. bytes.items) result) }
+    ensures encoded { MakesPiece (proposal value.now) (seen (λ bytes. bytes.items) result) }
 {
     bytes_of(alloc, value)
 }

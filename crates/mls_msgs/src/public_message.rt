@@ -4,8 +4,8 @@ ghost use Rattle.std.specs.Prelude.{◌≡◌, Option, option_map, IsTrue, IsOk,
 ghost use Rattle.mls_msgs.specs.Layout.{is_member};
 ghost use Rattle.mls_msgs.specs.PublicMessage.{is_public};
 
-use crate::authenticated::{Authenticated, put_tag, read_signed_frame, read_tag};
-use mls_wire::{CodecFault, Decode, Draft, Encode, Opaque, Reader};
+use crate::authenticated::{Authenticated, put_tag, read_signed_frame, read_tag, size_of_tag};
+use mls_wire::{CodecFault, Decode, Draft, Encode, Opaque, Reader, add_sizes};
 use std::alloc::Global;
 use std::marker::Model;
 
@@ -99,6 +99,12 @@ impl Decode for PublicMessage {
 }
 
 impl Encode for PublicMessage {
+    #[tactic(auto, using(mls_nodes::specs::Sizes::sizes), unfolding(crate::specs::PublicMessage::public_message, crate::specs::PublicMessage::public_frame))]
+    fn size(&self) -> Option<usize> {
+        let tag = size_of_tag(&self.parts.membership_tag);
+        add_sizes(self.parts.auth.size_of_signed_frame(), tag)
+    }
+
     #[tactic(auto, using(mls_wire::specs::Written::written), unfolding(crate::specs::PublicMessage::public_message, crate::specs::PublicMessage::public_frame))]
     fn put(&self, alloc: Global, draft: &mut Draft) -> Result<(), CodecFault> {
         self.parts.auth.put_signed_frame(alloc, draft)?;

@@ -23,6 +23,7 @@ pub mod Chains
 pub mod Faulted
 pub mod RisingCodes
 pub mod OwnLeaves
+pub mod SortedLists
 pub mod Walks
 pub mod Resolutions
 pub mod Contents

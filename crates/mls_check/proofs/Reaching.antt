@@ -1,5 +1,5 @@
 -- Chains of parent hashes, against the one place of each half that they can come from.
-use Rattle.std.proofs.Common.{◌≡◌, ◌≢◌, ℕ, ◌+◌, ◌*◌, ◌-◌, ◌%◌, ◌<◌, ◌≤◌, Bool, true, false, List, [], ◌∷◌, Option, Some, None, refl, sym, ap, ◌∙◌, subst, arith, inl, inr, IsTrue, IsSome, is_some}
+use Rattle.std.proofs.Common.{◌≡◌, ◌≢◌, ℕ, ◌+◌, ◌*◌, ◌-◌, ◌%◌, ◌<◌, ◌≤◌, Bool, true, false, List, [], ◌∷◌, Option, Some, None, refl, sym, ap, ◌∙◌, subst, arith, inl, inr, IsTrue, is_some}
 use Rattle.std.specs.Prelude.{◌⊎◌, ◌==◌, option_map, option_and_then}
 use Rattle.std.specs.List.{Contains}
 use Rattle.std.proofs.lemmas.Option.{same_Some}
@@ -10,7 +10,7 @@ use Rattle.mls_tree.specs.Tree.{Tree, leaf, branch, leaf_count, Subtree, subtree
 use Rattle.mls_tree.specs.Paths.{resolution, resolution_at, unmerged_places}
 use Rattle.mls_tree.proofs.Choices.{below, from}
 use Rattle.mls_tree.proofs.Trees.{leaf_count-positive, subtree_at-stands, subtree_at-root, subtree_at-nested, subtree_at-some, subtree_at-in_left, subtree_at-in_right, root_place-above, root_place-below}
-use Rattle.mls_hash.specs.ParentHash.{parent_hash, parent_hash_at, root_parent_hash, parent_at, root_parent}
+use Rattle.mls_hash.specs.ParentHash.{parent_hash, parent_hash_at, root_parent_hash}
 use Rattle.mls_hash.specs.declared.side.Side.{Side}
 use Rattle.mls_hash.specs.declared.side.Side.TheVariants.{Left, Right}
 use Rattle.mls_check.specs.Sound.{is_entered, is_placed, lists, IsPlaced}
@@ -302,6 +302,9 @@ pub other_way : {P Q : Type 0} → ¬ P → P ⊎ Q → Q
 other_way n (inl p) = absurd (n p)
 other_way n (inr q) = q
 
--- a set parent stands where its halves are known
-pub set_here : (t : Tree) (p q u m : ℕ) (node : ParentNode) → HasChildren t p q u m (Some node) → IsSome (parent_at t p)
-set_here t p q u m node h = subst (λ o. IsSome (option_and_then (λ (s : Subtree). root_parent s.tree) o)) (sym h.whole) refl
+-- no chain comes through halves that have no candidate
+pub no_way : (H : List ℕ → List ℕ) (t : Tree) (p : ℕ) (o o' : Option ℕ) → is_some o ≡ false → is_some o' ≡ false → CarriesHash H t p Right o ⊎ CarriesHash H t p Left o' → ⊥
+no_way H t p None None e f (inl h) = h
+no_way H t p None None e f (inr h) = h
+no_way H t p None (Some b) e f h = false≢true (sym f)
+no_way H t p (Some b) o' e f h = false≢true (sym e)

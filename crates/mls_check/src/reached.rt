@@ -8,6 +8,7 @@ ghost use Rattle.std.specs.Option.{option_copied};
 ghost use Rattle.std.specs.List.Sorted.{IsStrictlyIncreasing};
 ghost use Rattle.mls_tree.specs.Tree.{leaf_count, subtree_at, node_at};
 ghost use Rattle.mls_hash.specs.Hashing.{hash_of};
+ghost use Rattle.mls_hash.specs.OriginalHashes.{AreChildHashes, AreKnownHashes};
 ghost use Rattle.mls_hash.specs.ParentHash.{parent_at};
 ghost use Rattle.mls_hash.specs.SubtreeHashes.{AreSubtreeHashes};
 ghost use Rattle.mls_check.specs.FirstFailure.{IsFirstFailureIn};
@@ -17,7 +18,7 @@ ghost use Rattle.mls_check.specs.Marks.{RisesInLeaves, IsLone, IsChainEnd, IsCan
 
 use crate::leaf_lists::starts_with;
 use crate::places::place_count;
-use mls_hash::{HashFault, Side, SubtreeHashes, Suite};
+use mls_hash::{ChildHashes, HashFault, OriginalHashes, Side, SubtreeHashes, Suite};
 use mls_nodes::{LeafSource, Node};
 use mls_tree::{Part, PublicTree, TreeError, split_leaves};
 use std::alloc::{AllocError, Global};
@@ -105,21 +106,21 @@ fn linked_hash(tree: &PublicTree, place: u32) -> Option<&[u8]>
     }
 }
 
-/// Whether the node at `below`, if there is one, carries the parent hash of the parent at `place` over its half on the given side.
+/// Whether the node at `below`, if there is one, carries the parent hash of the parent at `place`
+/// over its half on the given side.
 fn is_linked(
-    alloc: Global,
     suite: Suite,
     tree: &PublicTree,
-    hashes: &SubtreeHashes,
+    known: &mut OriginalHashes<'_>,
+    children: &ChildHashes,
     place: u32,
     side: Side,
     below: Option<u32>,
 ) -> Result<bool, AllocError>
-    requires set { IsSome (parent_at tree.now.tree place) }
-    requires hashes { AreSubtreeHashes (hash_of suite) tree.now.tree hashes.now }
-    requires placed { IsPlaced tree.now.tree }
-    ensures { IfOk result
+    requires { AreChildHashes (hash_of suite) tree.now.tree place children.now }
+    ensures linked { IfOk result
         (λ b. IsTrue b ↔ CarriesHash (hash_of suite) tree.now.tree place side below) }
+    ensures same { known.new ≡ known.old }
 {
     let Some(below) = below else {
         return Ok(false);
@@ -127,12 +128,30 @@ fn is_linked(
     let Some(linked) = linked_hash(tree, below) else {
         return Ok(false);
     };
-    let expected = match hashes.parent_hash(alloc, suite, tree, place, side) {
-        Ok(hash) => hash,
-        Err(HashFault::OutOfMemory) => return Err(AllocError),
-        Err(_) => unreachable!(),
-    };
+    let expected = known.parent_hash(suite, tree, place, side, children)?;
     Ok(expected.as_slice() == linked)
+}
+
+/// The original tree hashes of the halves of the set parent at a place.
+fn hashes_of_halves(
+    alloc: Global,
+    suite: Suite,
+    tree: &PublicTree,
+    known: &mut OriginalHashes<'_>,
+    place: u32,
+) -> Result<ChildHashes, AllocError>
+    requires set { IsSome (parent_at tree.now.tree place) }
+    requires known { AreKnownHashes (hash_of suite) tree.now.tree known.old }
+    requires sorted { IsSorted tree.now.tree }
+    requires placed { IsPlaced tree.now.tree }
+    ensures hashes { IfOk result (AreChildHashes (hash_of suite) tree.now.tree place) }
+    ensures known { AreKnownHashes (hash_of suite) tree.now.tree known.new }
+{
+    match known.child_hashes(alloc, suite, tree, place) {
+        Ok(children) => Ok(children),
+        Err(HashFault::OutOfMemory) => Err(AllocError),
+        Err(_) => unreachable!(),
+    }
 }
 
 /// Whether a chain from a leaf leads to the set parent at a place. The parents under it that are reached are marked.
@@ -140,16 +159,18 @@ fn is_reached(
     alloc: Global,
     suite: Suite,
     tree: &PublicTree,
-    hashes: &SubtreeHashes,
+    known: &mut OriginalHashes<'_>,
     place: u32,
     reached: &[bool],
 ) -> Result<bool, AllocError>
-    requires hashes { AreSubtreeHashes (hash_of suite) tree.now.tree hashes.now }
+    requires known { AreKnownHashes (hash_of suite) tree.now.tree known.old }
     requires sorted { IsSorted tree.now.tree }
     requires placed { IsPlaced tree.now.tree }
     requires sound { AreSound (hash_of suite) tree.now.tree reached.now }
     requires marked { AreAllMarkedUnder (hash_of suite) tree.now.tree reached.now place }
-    ensures { IfOk result (λ b. IsTrue b ↔ IsReachedHere (hash_of suite) tree.now.tree place) }
+    ensures reached { IfOk result
+        (λ b. IsTrue b ↔ IsReachedHere (hash_of suite) tree.now.tree place) }
+    ensures known { AreKnownHashes (hash_of suite) tree.now.tree known.new }
 {
     let Some(
         Part::Parent {
@@ -164,11 +185,15 @@ fn is_reached(
     };
     let list = parent.unmerged.as_slice();
     let from_left = candidate(alloc, tree, list, left, reached)?;
-    if is_linked(alloc, suite, tree, hashes, place, Side::Right, from_left)? {
+    let from_right = candidate(alloc, tree, list, right, reached)?;
+    if from_left.is_none() && from_right.is_none() {
+        return Ok(false);
+    }
+    let halves = hashes_of_halves(alloc, suite, tree, known, place)?;
+    if is_linked(suite, tree, known, &halves, place, Side::Right, from_left)? {
         return Ok(true);
     }
-    let from_right = candidate(alloc, tree, list, right, reached)?;
-    is_linked(alloc, suite, tree, hashes, place, Side::Left, from_right)
+    is_linked(suite, tree, known, &halves, place, Side::Left, from_right)
 }
 
 /// Marks the parents of a subtree that are reached, halves first.
@@ -176,15 +201,16 @@ fn mark_reached(
     alloc: Global,
     suite: Suite,
     tree: &PublicTree,
-    hashes: &SubtreeHashes,
+    known: &mut OriginalHashes<'_>,
     place: u32,
     reached: &mut [bool],
 ) -> Result<(), AllocError>
-    requires hashes { AreSubtreeHashes (hash_of suite) tree.now.tree hashes.now }
+    requires known { AreKnownHashes (hash_of suite) tree.now.tree known.old }
     requires sorted { IsSorted tree.now.tree }
     requires placed { IsPlaced tree.now.tree }
     requires room { length reached.old + 1 ≡ 2 * leaf_count tree.now.tree }
     requires sound { AreSound (hash_of suite) tree.now.tree reached.old }
+    ensures known { AreKnownHashes (hash_of suite) tree.now.tree known.new }
     ensures sound { OnOk result (AreSound (hash_of suite) tree.now.tree reached.new) }
     ensures kept { OnOk result (AreKept reached.old reached.new) }
     ensures marked { OnOk result (AreAllMarkedAt (hash_of suite) tree.now.tree reached.new place) }
@@ -192,9 +218,9 @@ fn mark_reached(
     let Some(Part::Parent { left, right, .. }) = tree.part(place) else {
         return Ok(());
     };
-    mark_reached(alloc, suite, tree, hashes, left, reached)?;
-    mark_reached(alloc, suite, tree, hashes, right, reached)?;
-    reached[place as usize] = is_reached(alloc, suite, tree, hashes, place, reached)?;
+    mark_reached(alloc, suite, tree, known, left, reached)?;
+    mark_reached(alloc, suite, tree, known, right, reached)?;
+    reached[place as usize] = is_reached(alloc, suite, tree, known, place, reached)?;
     Ok(())
 }
 
@@ -227,7 +253,8 @@ pub(crate) fn first_unreached(
     ensures { IfOk result (λ o. IsFirstFailureIn (IsReachedAt (hash_of suite) tree.now.tree) o) }
 {
     let mut reached = vec![in alloc; false; place_count(tree) as usize]?;
+    let mut known = OriginalHashes::new(alloc, tree, hashes)?;
     let root = tree.leaf_count() - 1;
-    mark_reached(alloc, suite, tree, hashes, root, reached.as_mut_slice())?;
+    mark_reached(alloc, suite, tree, &mut known, root, reached.as_mut_slice())?;
     Ok(first_unmarked(tree, reached.as_slice()))
 }

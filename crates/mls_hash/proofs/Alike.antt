@@ -1,18 +1,13 @@
 -- A subtree whose unmerged lists have its own leaves alone: without the leaves of a list it is the same as without those of the list that lie under it.
 use Rattle.std.proofs.Common.{◌≡◌, ℕ, ◌+◌, ◌<◌, ◌≤◌, cond, List, [], ◌++◌, Option, Some, None, sym, ap, subst, ◌∙◌, get_or, arith}
 use Rattle.std.specs.Prelude.{option_and_then, All, slice_get}
-use Rattle.std.specs.List.Sorted.{IsPermutation}
-use Rattle.std.proofs.lemmas.List.Sorted.{All-permutation}
 use Rattle.std.proofs.lemmas.Option.{same_Some}
 use Rattle.mls_nodes.specs.declared.parent.ParentNode.{ParentNode}
 use Rattle.mls_tree.specs.Tree.{Tree, leaf, branch, leaf_count, Subtree, subtree_at, root_place}
 use Rattle.mls_tree.specs.TreeHash.{tree_hash}
 use Rattle.mls_tree.proofs.Trees.{subtree_at-stands, subtree_at-root, subtree_at-nested, subtree_at-in_left, subtree_at-in_right, root_place-above, root_place-below}
 use Rattle.mls_tree.specs.Parts.{HasChildren}
-use Rattle.mls_hash.specs.declared.side.Side.{Side}
-use Rattle.mls_hash.specs.declared.side.Side.TheVariants as sides
 use Rattle.mls_hash.specs.ParentHash.{root_parent}
-use Rattle.mls_hash.specs.Parts.{HasChildOn, child_on}
 use Rattle.mls_hash.specs.Strip.{strip, original_tree_hash, original_tree_hash_at}
 use Rattle.mls_hash.specs.SubtreeHashes.{AreLeavesUnder, AreSubtreeHashes, HoldsOwnLeaves, IsLeafOf}
 use Rattle.mls_hash.proofs.Strips.{HaveAlike, parent-alike}
@@ -78,29 +73,3 @@ module _ (t : Tree) (p q u m : ℕ) (n : Option ParentNode) (c : HasChildren t p
       let a = rest_has (IsLeafOf (record { first = c.first; tree = branch c.left n c.right })) L before after e (under _ c.whole) k d lt in
       let b = high k d lt in
       subst (λ (v : Subtree). IsLeafOf v (get_or after k d)) (same_Some _ _ (sym c.right_child ∙ f)) (omega (arith, c.split), omega (arith, a.1))
-
--- ---- the part of a parent's own unmerged leaves that lies under its child on a side
-
--- the part of a list, split in two, that lies under the child on the side
-abbrev pub part_on : Side → List ℕ → List ℕ → List ℕ
-part_on sides.Left before after = before
-part_on sides.Right before after = after
-
-module _ (t : Tree) (p : ℕ) (side : Side) (child m : ℕ) (parent : ParentNode) (c : HasChildOn t p side child m parent) (own : HoldsOwnLeaves t)
-    (L before after : List ℕ) (e : L ≡ before ++ after) (low : All (λ i. i < m) before) (high : All (λ i. m ≤ i) after) where
-  child_alike : (H : List ℕ → List ℕ) (s : Side) → original_tree_hash_at H L t (child_on s c.left c.right) ≡ original_tree_hash_at H (part_on s before after) t (child_on s c.left c.right)
-  child_alike H sides.Left = left_alike t p c.left c.right m (Some parent) c.children L before after e low high H own
-  child_alike H sides.Right = right_alike t p c.left c.right m (Some parent) c.children L before after e low high H own
-
-  child_under : (s : Side) → AreLeavesUnder t p L → AreLeavesUnder t (child_on s c.left c.right) (part_on s before after)
-  child_under sides.Left = left_under t p c.left c.right m (Some parent) c.children L before after e low high
-  child_under sides.Right = right_under t p c.left c.right m (Some parent) c.children L before after e low high
-
-  own_under : IsPermutation parent.unmerged L → AreLeavesUnder t p L
-  own_under perm s f = All-permutation (IsLeafOf s) parent.unmerged L perm (own p s parent f (ap (λ (o : Option Subtree). option_and_then (λ (v : Subtree). root_parent v.tree) o) (sym f ∙ c.children.whole)))
-
-  pub part_alike : (H : List ℕ → List ℕ) → original_tree_hash_at H L t child ≡ original_tree_hash_at H (part_on side before after) t child
-  part_alike H = subst (λ (k : ℕ). original_tree_hash_at H L t k ≡ original_tree_hash_at H (part_on side before after) t k) (sym c.here) (child_alike H side)
-
-  pub part_under : IsPermutation parent.unmerged L → AreLeavesUnder t child (part_on side before after)
-  part_under perm = subst (λ (k : ℕ). AreLeavesUnder t k (part_on side before after)) (sym c.here) (child_under side (own_under perm))

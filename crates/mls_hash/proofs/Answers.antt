@@ -33,7 +33,7 @@ leaf_answer H L t p number x y (Err faults.OutOfMemory) e f a = there (subtree_a
 
 module _ (t : Tree) (p q u m : ℕ) (n : Option ParentNode) (c : HasChildren t p q u m n) where
   -- the original hash of a parent, from those of its children
-  whole_hash : (H : List ℕ → List ℕ) (L : List ℕ)
+  pub whole_hash : (H : List ℕ → List ℕ) (L : List ℕ)
       → original_tree_hash_at H L t p ≡ hash_of_parent H (option_map (stripped_parent L) n) (original_tree_hash_at H L t q) (original_tree_hash_at H L t u)
   whole_hash H L =
       ap (option_and_then (λ (s : Subtree). original_tree_hash H L s.first s.tree)) c.whole
@@ -88,7 +88,7 @@ sorted_tree H L M h t p = go (subtree_at 0 t p)
     go (Some s) = ap (tree_hash H s.first) (strip-sorted L M h s.first s.tree)
 
 -- the parent hash of a set parent, by the original hash of its child on a side
-module _ (H : List ℕ → List ℕ) (t : Tree) (p : ℕ) (side : Side) (child m : ℕ) (parent : ParentNode) (c : HasChildOn t p side child m parent) where
+module _ (H : List ℕ → List ℕ) (t : Tree) (p : ℕ) (side : Side) (child : ℕ) (parent : ParentNode) (c : HasChildOn t p side child parent) where
   side_hash : (s : Side) (original : List ℕ) → original_tree_hash_at H parent.unmerged t (child_on s c.left c.right) ≡ Some original
       → parents.parent_hash_at H t p s ≡ option_map H (parents.parent_hash_input parent original)
   side_hash sides.Left original e =

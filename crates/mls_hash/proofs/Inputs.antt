@@ -1,12 +1,13 @@
 -- The inputs of hashes: each has a spelling, and what is written is hashed.
-use Rattle.std.proofs.Common.{◌≡◌, ℕ, ◌+◌, ◌*◌, ◌^◌, ◌<◌, ◌≤◌, Bool, true, false, cond, List, [], ◌∷◌, ◌++◌, length, take, get_or, Option, Some, None, Result, Ok, Err, refl, sym, ap, subst, ◌∙◌, inl, inr, append_assoc, length-append, arith}
-use Rattle.std.specs.Prelude.{option_map, MatchOption, not}
+use Rattle.std.proofs.Common.{◌≡◌, ℕ, suc, ◌+◌, ◌*◌, ◌^◌, ◌<◌, ◌≤◌, Bool, true, false, cond, List, [], ◌∷◌, ◌++◌, length, take, get_or, Option, Some, None, Result, Ok, Err, refl, sym, ap, subst, ◌∙◌, inl, inr, append_assoc, length-append, arith}
+use Rattle.std.specs.Prelude.{All, option_map, MatchOption, not, ◌==◌}
 use Rattle.std.specs.List.{filter}
 use Rattle.std.specs.Int.{w8, w32}
-use Rattle.std.proofs.lemmas.Bool.{cases_lt, le-leb, leb-true}
+use Rattle.std.proofs.lemmas.Bool.{cases_lt, eq-eqb, le-leb, leb-true}
 use Rattle.std.proofs.lemmas.List.{append-nil, take_all}
 use Rattle.std.proofs.lemmas.List.Elements.{filter_more}
 use Rattle.std.proofs.lemmas.List.Filters.{length-filter_both}
+use Rattle.std.proofs.lemmas.List.Folds.{list_any_at}
 use Rattle.mls_wire.specs.declared.fault.CodecFault.{CodecFault}
 use Rattle.mls_wire.specs.declared.fault.CodecFault.TheVariants as codec
 use Rattle.mls_wire.specs.Spelling.{◌⊕◌, number, length_form, vector, items, list, optional}
@@ -213,3 +214,22 @@ unmerged_written L xs k old mid new e le a b =
     let fewer : length (without L xs) ≤ 1048576 = omega (arith, without_low L xs) in
     rw (le-leb (length (without L xs)) 1048576 fewer)
     (ap (after old) (sized_makes (items (number w32) (without L xs)) s.0 s.1) ∙ after_then old (length_form (length s.0)) (Some s.0) mid first ∙ second)
+
+-- a list without its own numbers
+without-among : (L xs : List ℕ) → All (λ x. is_among L x ≡ true) xs → without L xs ≡ []
+without-among L [] h = refl
+without-among L (x ∷ xs) h =
+    let here : is_among L x ≡ true = h 0 0 (omega arith) in
+    rw here (without-among L xs (λ k d lt. h (suc k) d (omega arith)))
+
+without-own : (L xs : List ℕ) → L ≡ xs → without L xs ≡ []
+without-own L xs e =
+    ap (λ (ys : List ℕ). without ys xs) e ∙ without-among xs xs (λ k d lt. list_any_at (λ y. y == get_or xs k d) xs k d lt (eq-eqb _ _ refl))
+
+-- where no number is kept, the length is the whole list
+pub none_written : (L xs old new : List ℕ) (r : Result Unit CodecFault) → L ≡ xs → length xs ≤ 1048576 → WritesPiece (length_form 0) old new r
+    → WritesText (layout.unmerged (without L xs)) old new r
+none_written L xs old new (Ok _) e le h =
+    unmerged_written L xs 0 old new new (sym (ap length (without-own L xs e))) le h
+    (ap (λ (ys : List ℕ). after new (items (number w32) ys)) (without-own L xs e) ∙ written_none L new)
+none_written L xs old new (Err f) e le h = length_fault 0 _ old new old new f (omega arith) h

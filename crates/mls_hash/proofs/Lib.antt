@@ -1,7 +1,9 @@
 pub mod Feeding
+pub mod Lengths
 pub mod Sets
 pub mod Inputs
 pub mod Strips
 pub mod Answers
 pub mod Alike
+pub mod Known
 pub mod Filling

@@ -6,3 +6,4 @@ pub mod Inputs
 pub mod Strip
 pub mod ParentHash
 pub mod SubtreeHashes
+pub mod OriginalHashes

@@ -11,9 +11,10 @@ abbrev pub child_on : Side → ℕ → ℕ → ℕ
 child_on sides.Left left right = left
 child_on sides.Right left right = right
 
--- a set parent stands at place p, and its child on that side at place `child`; the first leaf under its right child has the index `middle`
-pub record HasChildOn (t : Tree) (p : ℕ) (side : Side) (child middle : ℕ) (parent : ParentNode) : Type 0 where
+-- a set parent stands at place p, and its child on that side at place `child`
+pub record HasChildOn (t : Tree) (p : ℕ) (side : Side) (child : ℕ) (parent : ParentNode) : Type 0 where
   pub left : ℕ
   pub right : ℕ
+  pub middle : ℕ
   pub children : HasChildren t p left right middle (Some parent)
   pub here : child ≡ child_on side left right

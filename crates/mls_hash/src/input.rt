@@ -107,6 +107,9 @@ fn write_unmerged(
     ensures { WritesText (layout.unmerged (without left_out.now numbers.now)) writer.old writer.new
         result }
 {
+    if left_out.holds_just(numbers) {
+        return writer.write_len(0);
+    }
     let kept = count_kept(numbers, left_out);
     writer.write_len(4 * kept)?;
     write_kept(numbers, left_out, writer)?;

@@ -58,6 +58,13 @@ impl<'a> LeafSet<'a> {
         self.leaves.is_empty()
     }
 
+    /// Whether these are the leaves of the set, in their order.
+    pub(crate) fn holds_just(&self, leaves: &[u32]) -> bool
+        ensures { IsTrue result ↔ (self.now ≡ leaves.now) }
+    {
+        self.leaves == leaves
+    }
+
     /// Whether a leaf is in the set, by binary search.
     pub(crate) fn contains(&self, leaf: u32) -> bool
         ensures { result ≡ is_among self.now leaf }

@@ -17,30 +17,25 @@ use mls_tree::{HashValue, Part, PublicTree};
 use mls_wire::{CodecFault, Writer};
 use std::alloc::Global;
 
-/// The parent that is set at a place, the place of its child on a side, and the index of the first leaf under its right
-/// child. `None` where no set parent stands there.
-pub(crate) fn parent_and_child(
-    tree: &PublicTree,
-    place: u32,
-    side: Side,
-) -> Option<(&ParentNode, u32, u32)>
+/// The parent that is set at a place, and the place of its child on a side. `None` where no set parent stands there.
+fn parent_and_child(tree: &PublicTree, place: u32, side: Side) -> Option<(&ParentNode, u32)>
     ensures { MatchOption result (parent_at tree.now.tree place ≡ None)
-        (λ r. HasChildOn tree.now.tree place side r.1 r.2 r.0.now) }
+        (λ r. HasChildOn tree.now.tree place side r.1 r.0.now) }
 {
     let Some(
         Part::Parent {
             node: Some(parent),
             left,
             right,
-            middle,
+            ..
         },
     ) = tree.part(place)
     else {
         return None;
     };
     match side {
-        Side::Left => Some((parent, left, middle)),
-        Side::Right => Some((parent, right, middle)),
+        Side::Left => Some((parent, left)),
+        Side::Right => Some((parent, right)),
     }
 }
 
@@ -108,7 +103,7 @@ pub fn parent_hash(
     ensures else_memory { IfErr result
         (λ e. (e ≡ HashFault.NoSuchNode) ⊎ (e ≡ HashFault.OutOfMemory)) }
 {
-    let Some((parent, child, _)) = parent_and_child(tree, place, side) else {
+    let Some((parent, child)) = parent_and_child(tree, place, side) else {
         return Err(HashFault::NoSuchNode);
     };
     let leaves = sorted(alloc, parent.unmerged.as_slice())?;

@@ -1,19 +1,16 @@
-//! The tree hashes of all subtrees of a tree, each computed once (RFC 9420, 7.8), and parent hashes by them (7.9).
+//! The tree hashes of all subtrees of a tree, each computed once (RFC 9420, 7.8).
 
-ghost use Rattle.std.specs.Prelude.{◌≡◌, ◌↔◌, ◌⊎◌, ◌+◌, ◌*◌, ◌<◌, [], None, Some, Err, IfOk, IfErr, IfSome, OnOk, length, slice_get, slice_set};
+ghost use Rattle.std.specs.Prelude.{◌≡◌, ◌+◌, ◌*◌, ◌<◌, IfOk, OnOk, length, slice_get, slice_set};
 ghost use Rattle.mls_tree.specs.Tree.{leaf_count, subtree_at};
 ghost use Rattle.mls_hash.specs.Hashing.{hash_of};
 ghost use Rattle.mls_hash.specs.Inputs.{HashesSubtree};
-ghost use Rattle.mls_hash.specs.ParentHash.{parent_at, parent_hash_at};
-ghost use Rattle.mls_hash.specs.Strip.{original_tree_hash_at, tree_hash_at};
-ghost use Rattle.mls_hash.specs.SubtreeHashes.{AreHashesKept, AreHashesUnder, AreLeavesUnder, AreSubtreeHashes, HoldsOwnLeaves};
+ghost use Rattle.mls_hash.specs.Strip.{tree_hash_at};
+ghost use Rattle.mls_hash.specs.SubtreeHashes.{AreHashesKept, AreHashesUnder, AreSubtreeHashes};
 
 use crate::fault::HashFault;
 use crate::input::{hash_leaf, hash_parent};
-use crate::leaf_set::{LeafSet, sorted};
-use crate::parent_hashes::{hash_parent_fields, parent_and_child};
-use crate::side::Side;
-use crate::subtree::kept_leaf;
+use crate::leaf_set::LeafSet;
+use crate::stored::{bytes_of, value_of};
 use crate::suite::Suite;
 use mls_tree::{HashValue, Part, PublicTree};
 use mls_wire::Writer;
@@ -25,7 +22,7 @@ use std::marker::Model;
 /// Contracts see it as the list of the hashes, in the order of the places.
 #[derive(Drop)]
 pub struct SubtreeHashes {
-    hashes: Vec<HashValue>,
+    hashes: Vec<[u8; 32]>,
 }
 
 impl Model for SubtreeHashes {
@@ -37,11 +34,12 @@ impl Model for SubtreeHashes {
 }
 
 /// Puts a hash at a place.
-fn put(hashes: &mut [HashValue], place: u32, hash: HashValue)
-    requires { place < length hashes.old }
-    ensures { hashes.new ≡ slice_set hashes.old place hash }
+fn put(hashes: &mut [[u8; 32]], place: u32, hash: &HashValue)
+    requires place { place < length hashes.old }
+    requires hash { length hash.now ≡ 32 }
+    ensures { hashes.new ≡ slice_set hashes.old place hash.now }
 {
-    hashes[place as usize] = hash;
+    hashes[place as usize] = bytes_of(hash);
 }
 
 /// Hashes the subtree at a place, halves first, and puts the hash of each of its subtrees at the place of that. Each is written into the
@@ -51,7 +49,7 @@ fn put_hashes(
     suite: Suite,
     tree: &PublicTree,
     place: u32,
-    hashes: &mut [HashValue],
+    hashes: &mut [[u8; 32]],
     writer: &mut Writer,
 ) -> Result<HashValue, HashFault>
     requires room { length hashes.old + 1 ≡ 2 * leaf_count tree.now.tree }
@@ -64,7 +62,7 @@ fn put_hashes(
         None => Err(HashFault::NoSuchNode),
         Some(Part::Leaf { index, node }) => {
             let hash = hash_leaf(alloc, suite, index, node, writer)?;
-            put(hashes, place, hash);
+            put(hashes, place, &hash);
             Ok(hash)
         }
         Some(
@@ -78,7 +76,7 @@ fn put_hashes(
             let left = put_hashes(alloc, suite, tree, left, hashes, writer)?;
             let right = put_hashes(alloc, suite, tree, right, hashes, writer)?;
             let hash = hash_parent(suite, node, &LeafSet::empty(), &left, &right, writer)?;
-            put(hashes, place, hash);
+            put(hashes, place, &hash);
             Ok(hash)
         }
     }
@@ -89,8 +87,7 @@ impl SubtreeHashes {
     pub fn new(alloc: Global, suite: Suite, tree: &PublicTree) -> Result<SubtreeHashes, AllocError>
         ensures { IfOk result (λ h. AreSubtreeHashes (hash_of suite) tree.now.tree h) }
     {
-        let unhashed = HashValue::new(&[]).unwrap();
-        let mut hashes = vec![in alloc; unhashed; tree.nodes().len()]?;
+        let mut hashes = vec![in alloc; [0; 32]; tree.nodes().len()]?;
         let root = tree.leaf_count() - 1;
         let mut writer = Writer::new(alloc);
         match put_hashes(alloc, suite, tree, root, hashes.as_mut_slice(), &mut writer) {
@@ -104,93 +101,6 @@ impl SubtreeHashes {
     pub fn get(&self, place: u32) -> Option<HashValue>
         ensures { result ≡ slice_get self.now place }
     {
-        self.hashes.get(place as usize).copied()
-    }
-
-    /// The hash that is kept for a place, where no leaf is left out.
-    fn unchanged(&self, left_out: &LeafSet<'_>, place: u32) -> Option<HashValue>
-        ensures { IfSome result (λ h. (left_out.now ≡ []) × (slice_get self.now place ≡ Some h)) }
-    {
-        if left_out.is_empty() {
-            self.get(place)
-        } else {
-            None
-        }
-    }
-
-    /// The original tree hash of the subtree at a place: that of the subtree without the leaves of the set, all of which lie under it. A
-    /// part of it that has none of these leaves isn't hashed again.
-    fn original_hash(
-        &self,
-        alloc: Global,
-        suite: Suite,
-        tree: &PublicTree,
-        left_out: &LeafSet<'_>,
-        place: u32,
-        writer: &mut Writer,
-    ) -> Result<HashValue, HashFault>
-        requires hashes { AreSubtreeHashes (hash_of suite) tree.now.tree self.now }
-        requires own_leaves { HoldsOwnLeaves tree.now.tree }
-        requires under { AreLeavesUnder tree.now.tree place left_out.now }
-        ensures { HashesSubtree (subtree_at 0 tree.now.tree place)
-            (original_tree_hash_at (hash_of suite) left_out.now tree.now.tree place) result }
-    {
-        if let Some(hash) = self.unchanged(left_out, place) {
-            return Ok(hash);
-        }
-        match tree.part(place) {
-            None => Err(HashFault::NoSuchNode),
-            Some(Part::Leaf { index, node }) => {
-                let node = kept_leaf(index, node, left_out);
-                hash_leaf(alloc, suite, index, node, writer)
-            }
-            Some(
-                Part::Parent {
-                    node,
-                    left,
-                    right,
-                    middle,
-                },
-            ) => {
-                let (before, after) = left_out.split(middle);
-                let left = self.original_hash(alloc, suite, tree, &before, left, writer)?;
-                let right = self.original_hash(alloc, suite, tree, &after, right, writer)?;
-                hash_parent(suite, node, left_out, &left, &right, writer)
-            }
-        }
-    }
-
-    /// The parent hash of the parent that is set at a place, whose child on the copath is the one on that side (RFC 9420, 7.9), as
-    /// [`parent_hash`](crate::parent_hash) gives it, where the kept hashes are those of this tree: a part of the child that has none of the
-    /// parent's unmerged leaves isn't hashed again. `NoSuchNode` where no set parent stands at the place.
-    pub fn parent_hash(
-        &self,
-        alloc: Global,
-        suite: Suite,
-        tree: &PublicTree,
-        place: u32,
-        side: Side,
-    ) -> Result<HashValue, HashFault>
-        requires hashes { AreSubtreeHashes (hash_of suite) tree.now.tree self.now }
-        requires own_leaves { HoldsOwnLeaves tree.now.tree }
-        ensures hash { IfOk result
-            (λ h. parent_hash_at (hash_of suite) tree.now.tree place side ≡ Some h) }
-        ensures no_such_node { (result ≡ Err HashFault.NoSuchNode)
-            ↔ (parent_at tree.now.tree place ≡ None) }
-        ensures else_memory { IfErr result
-            (λ e. (e ≡ HashFault.NoSuchNode) ⊎ (e ≡ HashFault.OutOfMemory)) }
-    {
-        let Some((parent, child, middle)) = parent_and_child(tree, place, side) else {
-            return Err(HashFault::NoSuchNode);
-        };
-        let leaves = sorted(alloc, parent.unmerged.as_slice())?;
-        let (before, after) = LeafSet::new(&leaves).split(middle);
-        let left_out = match side {
-            Side::Left => before,
-            Side::Right => after,
-        };
-        let mut writer = Writer::new(alloc);
-        let original = self.original_hash(alloc, suite, tree, &left_out, child, &mut writer)?;
-        hash_parent_fields(suite, parent, &original, &mut writer)
+        self.hashes.get(place as usize).map(value_of)
     }
 }

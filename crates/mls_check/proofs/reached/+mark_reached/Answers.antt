@@ -9,7 +9,7 @@ pub mark_reached-requires-2 : goal.mark_reached-requires-2
 mark_reached-requires-2 t c =
     let tree : RatchetTree = c.args.tree.now in
     let h = rw c.in-Some-Parent.field-0-is at c.in-Some-Parent.ensures in
-    (omega (arith, c.decreases, right_lower tree _ _ _ _ _ h), (c.requires.hashes, (c.requires.sorted, (c.requires.placed, (omega (arith, c.requires.room, c.mark_reached.auto.reached), c.in_ok-mark_reached.ensures.sound)))))
+    (omega (arith, c.decreases, right_lower tree _ _ _ _ _ h), (c.mark_reached.ensures.known, (c.requires.sorted, (c.requires.placed, (omega (arith, c.requires.room, c.mark_reached.auto.reached), c.in_ok-mark_reached.ensures.sound)))))
 
 pub is_reached-requires-clause-marked : goal.is_reached-requires-clause-marked
 is_reached-requires-clause-marked t c =
@@ -31,4 +31,4 @@ returns-clause-marked t c =
     (under_from_halves (hash_of c.args.suite) c.args.tree.now.tree c.mark_reached-2.new.reached c.args.place _ _ _ _ h
     (kept-marked (hash_of c.args.suite) c.args.tree.now.tree c.mark_reached-2.new.reached c.mark_reached.new.reached _ c.in_ok-mark_reached-2.ensures.kept c.in_ok-mark_reached.ensures.marked)
     c.in_ok-mark_reached-2.ensures.marked)
-    c.in_ok-reached.ensures.1
+    c.in_ok-reached.ensures.reached.1

@@ -2,13 +2,17 @@ use Rattle.std.proofs.Common.{Ok, arith}
 use Rattle.mls_tree.specs.RatchetTree.{RatchetTree}
 use Rattle.mls_hash.specs.Hashing.{hash_of}
 use Rattle.mls_tree.proofs.Descent.{right_lower, inside_bound}
+use Rattle.mls_hash.proofs.Lengths.{length-hashed}
 use Rattle.mls_hash.proofs.Filling.{leaf_hashed, parent_hashed, put_keeps, leaf_put, parent_put, keep_under}
 use Rattle.mls_hash.proofs.subtree_hashes.+put_hashes.Goals as goal
 
 pub put-requires : goal.put-requires
 put-requires t c =
     let part = rw c.in-Some-Leaf.field-0-is at c.in-Some-Leaf.ensures in
-    omega (arith, c.requires.room, inside_bound c.args.tree.now.tree c.args.place _ part)
+    record {
+      place = omega (arith, c.requires.room, inside_bound c.args.tree.now.tree c.args.place _ part);
+      hash = length-hashed c.args.suite _ _ c.in_ok-hash-in-Some-Leaf.ensures;
+    }
 
 pub put_hashes-requires-in-Some-Parent : goal.put_hashes-requires-in-Some-Parent
 put_hashes-requires-in-Some-Parent t c =
@@ -19,7 +23,10 @@ put_hashes-requires-in-Some-Parent t c =
 pub put-requires-in-Some-Parent : goal.put-requires-in-Some-Parent
 put-requires-in-Some-Parent t c =
     let part = rw c.in-Some-Parent.field-0-is at c.in-Some-Parent.ensures in
-    omega (arith, c.requires.room, c.put_hashes.auto.hashes, c.put_hashes-in-Some-Parent.auto.hashes, inside_bound c.args.tree.now.tree c.args.place _ part.whole)
+    record {
+      place = omega (arith, c.requires.room, c.put_hashes.auto.hashes, c.put_hashes-in-Some-Parent.auto.hashes, inside_bound c.args.tree.now.tree c.args.place _ part.whole);
+      hash = length-hashed c.args.suite _ _ c.in_ok-hash-in-Some-Parent.ensures;
+    }
 
 pub returns-in_ok-hash-in-Some-Leaf-clause-kept : goal.returns-in_ok-hash-in-Some-Leaf-clause-kept
 returns-in_ok-hash-in-Some-Leaf-clause-kept t c =

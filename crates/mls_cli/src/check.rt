@@ -1,6 +1,6 @@
 //! The report `check`: which vectors of a file agree with this library.
 
-ghost use Rattle.std.specs.Prelude.{◌≡◌, ◌↔◌, false, true, [], Err, map, IfOk, OnErr, IfErr, option_map, string_bytes};
+ghost use Rattle.std.specs.Prelude.{◌≡◌, ◌↔◌, false, true, [], Err, map, IfOk, OnErr, IfErr, option_map};
 ghost use Rattle.std.specs.Io.KnownBytes.{Appends};
 ghost use Rattle.serde_json.specs.View.{view, items_view};
 ghost use Rattle.mls_cli.specs.Check.{AreOutcomes, Checks, ChecksPart, IsCheckReport, IsNoVectorsReport, IsOutcomeOf, IsOutcomesReport, IsVectorsReport};
@@ -27,7 +27,7 @@ use crate::check::tree_validation::tree_validation_outcome;
 use crate::outcome::{RunFault, Verdict};
 use crate::read::read_all;
 use crate::report::Report;
-use crate::write::write_text;
+use crate::write::write_bytes;
 use mls_wire::{MAX_INPUT, Sink, Source};
 use serde_json::Value;
 use std::alloc::{AllocError, Global};
@@ -104,7 +104,7 @@ fn outcomes_by(
 /// The report of outcomes.
 fn outcomes_report(alloc: Global, outcomes: &[Outcome]) -> Result<Report, AllocError>
     ensures { IfOk result
-        (λ r. IsOutcomesReport (map outcome_of outcomes.now) (string_bytes r.text) r.verdict) }
+        (λ r. IsOutcomesReport (map outcome_of outcomes.now) r.bytes.items r.verdict) }
 {
     let mut text = outcome_lines(alloc, outcomes)?;
     let counts = count(outcomes);
@@ -115,15 +115,15 @@ fn outcomes_report(alloc: Global, outcomes: &[Outcome]) -> Result<Report, AllocE
     } else {
         Verdict::No
     };
-    Ok(Report { text, verdict })
+    Ok(Report::of_text(text, verdict))
 }
 
 /// The report of a file without vectors that can be read.
 fn no_vectors_report(alloc: Global) -> Result<Report, AllocError>
-    ensures { IfOk result (λ r. IsNoVectorsReport (string_bytes r.text) r.verdict) }
+    ensures { IfOk result (λ r. IsNoVectorsReport r.bytes.items r.verdict) }
 {
     Ok(Report {
-        text: String::from_str(alloc, "vectors unreadable\n")?,
+        bytes: Vec::from_slice(alloc, b"vectors unreadable\n")?,
         verdict: Verdict::No,
     })
 }
@@ -131,7 +131,7 @@ fn no_vectors_report(alloc: Global) -> Result<Report, AllocError>
 /// The report of vectors.
 fn vectors_report(alloc: Global, kind: CheckKind, vectors: &[Value]) -> Result<Report, AllocError>
     ensures { IfOk result (λ r.
-        IsVectorsReport kind (items_view vectors.now) (string_bytes r.text) r.verdict) }
+        IsVectorsReport kind (items_view vectors.now) r.bytes.items r.verdict) }
 {
     let outcomes = outcomes_by(alloc, kind, vectors)?;
     outcomes_report(alloc, outcomes.as_slice())
@@ -140,7 +140,7 @@ fn vectors_report(alloc: Global, kind: CheckKind, vectors: &[Value]) -> Result<R
 /// The report of a JSON text.
 fn whole_report(alloc: Global, kind: CheckKind, whole: &Value) -> Result<Report, AllocError>
     ensures { IfOk result
-        (λ r. IsValueReport kind (view whole.now) (string_bytes r.text) r.verdict) }
+        (λ r. IsValueReport kind (view whole.now) r.bytes.items r.verdict) }
 {
     match vectors_in(whole) {
         Some(vectors) => vectors_report(alloc, kind, vectors.as_slice()),
@@ -151,7 +151,7 @@ fn whole_report(alloc: Global, kind: CheckKind, whole: &Value) -> Result<Report,
 /// The report of the bytes of a file.
 fn check_report(alloc: Global, kind: CheckKind, bytes: &[u8]) -> Result<Report, RunFault>
     ensures report { IfOk result
-        (λ r. IsCheckReport kind bytes.now (string_bytes r.text) r.verdict) }
+        (λ r. IsCheckReport kind bytes.now r.bytes.items r.verdict) }
     ensures memory { IfErr result (λ e. e ≡ RunFault.Memory) }
 {
     if bytes.len() > MAX_INPUT {
@@ -202,6 +202,6 @@ pub fn run_check<S: Source, K: Sink>(
 {
     let bytes = read_all(alloc, input)?;
     let report = check_report(alloc, kind, bytes.as_slice())?;
-    write_text(out, report.text.as_str())?;
+    write_bytes(out, report.bytes.as_slice())?;
     Ok(report.verdict)
 }

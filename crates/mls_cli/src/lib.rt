@@ -15,6 +15,7 @@ mod message_text;
 mod opening;
 mod order;
 mod outcome;
+mod pieces;
 mod program;
 mod progress;
 mod read;

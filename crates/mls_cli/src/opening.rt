@@ -81,20 +81,20 @@ pub(crate) struct Inputs {
     pub(crate) tree: Option<PublicTree>,
 }
 
-/// What the bytes of a group info spell, and those of a tree where one is handed in.
+/// What the bytes of a group info spell, and those of a tree where one is handed in. The bytes are dropped.
 pub(crate) fn read_inputs(
     alloc: Global,
-    info_bytes: &[u8],
-    tree_bytes: &Option<Vec<u8>>,
+    info_bytes: Vec<u8>,
+    tree_bytes: Option<Vec<u8>>,
 ) -> Result<Inputs, NoStart>
     ensures read { IfOk result
-        (λ inputs. IsReadAs info_bytes.now (option_map (λ v. v.items) tree_bytes.now)
+        (λ inputs. IsReadAs info_bytes.items (option_map (λ v. v.items) tree_bytes)
         inputs.info inputs.tree) }
     ensures unread { IfErr result
-        (Says (IsUnread info_bytes.now (option_map (λ v. v.items) tree_bytes.now))) }
+        (Says (IsUnread info_bytes.items (option_map (λ v. v.items) tree_bytes))) }
 {
-    let info = read_info(alloc, info_bytes)?;
-    match read_tree(alloc, tree_bytes) {
+    let info = read_info(alloc, info_bytes.as_slice())?;
+    match read_tree(alloc, &tree_bytes) {
         Ok(tree) => Ok(Inputs { info, tree }),
         Err(fault) => {
             drop(info);

@@ -248,7 +248,7 @@ pub fn run_replay<I: Source, T: Source, L: Source, K: Sink>(
 {
     let info_bytes = read_all(alloc, info)?;
     let tree_bytes = read_handed(alloc, tree)?;
-    match read_inputs(alloc, info_bytes.as_slice(), &tree_bytes) {
+    match read_inputs(alloc, info_bytes, tree_bytes) {
         Ok(inputs) => replay_from(alloc, inputs.info, inputs.tree, log, checker, out),
         Err(NoStart::Found(finding)) => tell(alloc, &finding, out),
         Err(NoStart::Fault(fault)) => Err(fault),

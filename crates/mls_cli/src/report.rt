@@ -10,10 +10,23 @@ use std::alloc::{AllocError, Global};
 /// A report that is made, and not written yet.
 #[derive(Drop)]
 pub(crate) struct Report {
-    /// All of its lines.
-    pub(crate) text: String,
+    /// The bytes of its lines.
+    pub(crate) bytes: Vec<u8>,
     /// What it says of its inputs.
     pub(crate) verdict: Verdict,
+}
+
+impl Report {
+    /// The report that is this text.
+    pub(crate) fn of_text(text: String, verdict: Verdict) -> Report
+        ensures bytes { result.bytes.items ≡ string_bytes text }
+        ensures verdict { result.verdict ≡ verdict }
+    {
+        Report {
+            bytes: text.into_bytes(),
+            verdict,
+        }
+    }
 }
 
 /// The line of an input that can't be read.
@@ -27,11 +40,8 @@ fn unreadable_line(alloc: Global, fault: &str) -> Result<String, AllocError>
 /// The report of an input that can't be read.
 pub(crate) fn unreadable_report(alloc: Global, fault: &str) -> Result<Report, AllocError>
     requires { IsOneLine fault.now }
-    ensures { IfOk result (λ r. IsUnreadable (string_bytes r.text) r.verdict) }
+    ensures { IfOk result (λ r. IsUnreadable r.bytes.items r.verdict) }
 {
-    let text = unreadable_line(alloc, fault)?;
-    Ok(Report {
-        text,
-        verdict: Verdict::No,
-    })
+    let line = unreadable_line(alloc, fault)?;
+    Ok(Report::of_text(line, Verdict::No))
 }

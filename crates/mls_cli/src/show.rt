@@ -1,6 +1,6 @@
 //! The report `show`: what an input holds, in lines of text.
 
-ghost use Rattle.std.specs.Prelude.{◌≡◌, ◌≢◌, ◌↔◌, false, true, [], Err, IfOk, OnErr, IfErr, string_bytes};
+ghost use Rattle.std.specs.Prelude.{◌≡◌, ◌≢◌, ◌↔◌, false, true, [], Err, IfOk, OnErr, IfErr};
 ghost use Rattle.std.specs.Io.KnownBytes.{Appends};
 ghost use Rattle.mls_cli.specs.Show.{InfoReport, IsShowReport, IsUnreadable, Shows, ShowsPart};
 
@@ -11,7 +11,7 @@ use crate::outcome::{RunFault, Verdict};
 use crate::read::read_all;
 use crate::report::{Report, unreadable_report};
 use crate::tree_text::tree_text;
-use crate::write::write_text;
+use crate::write::write_bytes;
 use mls_msgs::{Message, decode_message};
 use mls_nodes::NodeFault;
 use mls_tree::PublicTree;
@@ -33,7 +33,7 @@ pub enum ShowKind {
 #[tactic(auto, using(crate::proofs::Lines::node_fault_is_one_line))]
 fn no_tree_report(alloc: Global, fault: NodeFault) -> Result<Report, RunFault>
     ensures report { IfOk result
-        (λ r. (fault ≢ NodeFault.OutOfMemory) × IsUnreadable (string_bytes r.text) r.verdict) }
+        (λ r. (fault ≢ NodeFault.OutOfMemory) × IsUnreadable r.bytes.items r.verdict) }
     ensures memory { IfErr result (λ e. e ≡ RunFault.Memory) }
 {
     match fault {
@@ -48,12 +48,12 @@ fn no_tree_report(alloc: Global, fault: NodeFault) -> Result<Report, RunFault>
 /// The report of the bytes of a tree.
 fn tree_report(alloc: Global, bytes: &[u8]) -> Result<Report, RunFault>
     ensures report { IfOk result
-        (λ r. IsShowReport ShowKind.Tree bytes.now (string_bytes r.text) r.verdict) }
+        (λ r. IsShowReport ShowKind.Tree bytes.now r.bytes.items r.verdict) }
     ensures memory { IfErr result (λ e. e ≡ RunFault.Memory) }
 {
     match PublicTree::decode(alloc, bytes) {
         Ok(tree) => Ok(Report {
-            text: tree_text(alloc, &tree)?,
+            bytes: tree_text(alloc, &tree)?,
             verdict: Verdict::Yes,
         }),
         Err(fault) => no_tree_report(alloc, fault),
@@ -64,7 +64,7 @@ fn tree_report(alloc: Global, bytes: &[u8]) -> Result<Report, RunFault>
 #[tactic(auto, using(crate::proofs::Lines::wire_fault_is_one_line))]
 fn no_message_report(alloc: Global, fault: CodecFault) -> Result<Report, RunFault>
     ensures report { IfOk result
-        (λ r. (fault ≢ CodecFault.OutOfMemory) × IsUnreadable (string_bytes r.text) r.verdict) }
+        (λ r. (fault ≢ CodecFault.OutOfMemory) × IsUnreadable r.bytes.items r.verdict) }
     ensures memory { IfErr result (λ e. e ≡ RunFault.Memory) }
 {
     match fault {
@@ -78,15 +78,12 @@ fn no_message_report(alloc: Global, fault: CodecFault) -> Result<Report, RunFaul
 
 /// The report of a message that is to be a group info.
 fn read_info_report(alloc: Global, message: &Message) -> Result<Report, AllocError>
-    ensures { IfOk result (λ r. InfoReport message.now (string_bytes r.text) r.verdict) }
+    ensures { IfOk result (λ r. InfoReport message.now r.bytes.items r.verdict) }
 {
     match message {
-        Message::GroupInfo(info) => Ok(Report {
-            text: info_text(alloc, info)?,
-            verdict: Verdict::Yes,
-        }),
+        Message::GroupInfo(info) => Ok(Report::of_text(info_text(alloc, info)?, Verdict::Yes)),
         _ => Ok(Report {
-            text: String::from_str(alloc, "unreadable NotGroupInfo\n")?,
+            bytes: Vec::from_slice(alloc, b"unreadable NotGroupInfo\n")?,
             verdict: Verdict::No,
         }),
     }
@@ -95,7 +92,7 @@ fn read_info_report(alloc: Global, message: &Message) -> Result<Report, AllocErr
 /// The report of the bytes of a group info.
 fn info_report(alloc: Global, bytes: &[u8]) -> Result<Report, RunFault>
     ensures report { IfOk result
-        (λ r. IsShowReport ShowKind.Info bytes.now (string_bytes r.text) r.verdict) }
+        (λ r. IsShowReport ShowKind.Info bytes.now r.bytes.items r.verdict) }
     ensures memory { IfErr result (λ e. e ≡ RunFault.Memory) }
 {
     match decode_message(alloc, bytes) {
@@ -111,17 +108,14 @@ fn info_report(alloc: Global, bytes: &[u8]) -> Result<Report, RunFault>
 /// The report of the bytes of a message.
 fn message_report(alloc: Global, bytes: &[u8]) -> Result<Report, RunFault>
     ensures report { IfOk result
-        (λ r. IsShowReport ShowKind.Message bytes.now (string_bytes r.text) r.verdict) }
+        (λ r. IsShowReport ShowKind.Message bytes.now r.bytes.items r.verdict) }
     ensures memory { IfErr result (λ e. e ≡ RunFault.Memory) }
 {
     match decode_message(alloc, bytes) {
         Ok(message) => {
             let line = message_line(alloc, &message);
             drop(message);
-            Ok(Report {
-                text: line?,
-                verdict: Verdict::Yes,
-            })
+            Ok(Report::of_text(line?, Verdict::Yes))
         }
         Err(fault) => no_message_report(alloc, fault),
     }
@@ -130,7 +124,7 @@ fn message_report(alloc: Global, bytes: &[u8]) -> Result<Report, RunFault>
 /// The report of an input's bytes.
 fn show_report(alloc: Global, kind: ShowKind, bytes: &[u8]) -> Result<Report, RunFault>
     ensures report { IfOk result
-        (λ r. IsShowReport kind bytes.now (string_bytes r.text) r.verdict) }
+        (λ r. IsShowReport kind bytes.now r.bytes.items r.verdict) }
     ensures memory { IfErr result (λ e. e ≡ RunFault.Memory) }
 {
     match kind {
@@ -167,6 +161,6 @@ pub fn run_show<S: Source, K: Sink>(
 {
     let bytes = read_all(alloc, input)?;
     let report = show_report(alloc, kind, bytes.as_slice())?;
-    write_text(out, report.text.as_str())?;
+    write_bytes(out, report.bytes.as_slice())?;
     Ok(report.verdict)
 }

@@ -1,88 +1,103 @@
 //! The lines of `show tree`.
 
-ghost use Rattle.std.specs.Prelude.{◌≡◌, ◌++◌, ◌+◌, ◌/◌, length, IfOk, map, codes, string_bytes};
+ghost use Rattle.std.specs.Prelude.{◌≡◌, ◌++◌, ◌+◌, ◌/◌, length, IfOk, OnOk, map, codes};
 ghost use Rattle.std.specs.Fmt.{decimal};
 ghost use Rattle.mls_nodes.specs.Value.{entry_value};
 ghost use Rattle.mls_tree.specs.Tree.{leaves_among, listing};
+ghost use Rattle.mls_cli.specs.Texts.{hex_text};
 ghost use Rattle.mls_cli.specs.TreeText as lines;
 
-use crate::text::{hex_of, numbers_of};
-use mls_nodes::{LeafNode, LeafSource, Lifetime, Node, ParentNode};
+use crate::pieces::{put_hex, put_number, put_numbers, put_text, put_u64};
+use mls_nodes::{LeafNode, LeafSource, Node, ParentNode};
 use mls_tree::PublicTree;
+use mls_wire::Opaque;
 use std::alloc::{AllocError, Global};
 
-/// A lifetime in seconds since 1970.
-fn lifetime_text(alloc: Global, lifetime: Lifetime) -> Result<String, AllocError>
-    ensures { IfOk result
-        (λ text. string_bytes text
-        ≡ codes "key_package "
-        ++ (decimal lifetime.not_before ++ (codes " " ++ decimal lifetime.not_after))) }
-{
-    let Lifetime {
-        not_before,
-        not_after,
-    } = lifetime;
-    format!(in alloc; "key_package {not_before} {not_after}")
-}
-
-/// Where a leaf comes from.
-fn source_text(alloc: Global, source: &LeafSource) -> Result<String, AllocError>
-    ensures { IfOk result (λ text. string_bytes text ≡ lines.source_text source.now) }
+/// Adds where a leaf comes from.
+fn put_source(out: &mut Vec<u8>, source: &LeafSource) -> Result<(), AllocError>
+    ensures { OnOk result (out.new.items ≡ out.old.items ++ lines.source_text source.now) }
 {
     match source {
-        LeafSource::KeyPackage(lifetime) => lifetime_text(alloc, *lifetime),
-        LeafSource::Update => String::from_str(alloc, "update"),
+        LeafSource::KeyPackage(lifetime) => {
+            put_text(out, "key_package ")?;
+            put_u64(out, lifetime.not_before)?;
+            put_text(out, " ")?;
+            put_u64(out, lifetime.not_after)
+        }
+        LeafSource::Update => put_text(out, "update"),
         LeafSource::Commit { parent_hash } => {
-            let parent_hash = hex_of(alloc, parent_hash.as_slice())?;
-            format!(in alloc; "commit {parent_hash}")
+            put_text(out, "commit ")?;
+            put_hex(out, parent_hash.as_slice())
         }
     }
 }
 
-/// The line of a leaf.
-fn leaf_line(alloc: Global, place: usize, leaf: &LeafNode) -> Result<String, AllocError>
-    ensures { IfOk result (λ text. string_bytes text ≡ lines.leaf_line place leaf.now) }
+/// Adds the place and the index with which the line of a leaf begins.
+fn put_leaf_place(out: &mut Vec<u8>, place: usize) -> Result<(), AllocError>
+    ensures { OnOk result (out.new.items ≡ out.old.items
+        ++ (decimal place ++ (codes " leaf " ++ (decimal (place / 2) ++ codes " ")))) }
 {
-    let index = place / 2;
-    let encryption_key = hex_of(alloc, leaf.encryption_key.as_slice())?;
-    let signature_key = hex_of(alloc, leaf.signature_key.as_slice())?;
-    let source = source_text(alloc, &leaf.source)?;
-    format!(in alloc; "{place} leaf {index} {encryption_key} {signature_key} {source}\n")
+    put_number(out, place)?;
+    put_text(out, " leaf ")?;
+    put_number(out, place / 2)?;
+    put_text(out, " ")
 }
 
-/// The line of a parent.
-fn parent_line(alloc: Global, place: usize, parent: &ParentNode) -> Result<String, AllocError>
-    ensures { IfOk result (λ text. string_bytes text ≡ lines.parent_line place parent.now) }
+/// Adds two fields in hexadecimal, each with a space behind it.
+fn put_fields(out: &mut Vec<u8>, first: &Opaque, second: &Opaque) -> Result<(), AllocError>
+    ensures { OnOk result (out.new.items ≡ out.old.items
+        ++ (hex_text first.now ++ (codes " " ++ (hex_text second.now ++ codes " ")))) }
 {
-    let encryption_key = hex_of(alloc, parent.encryption_key.as_slice())?;
-    let parent_hash = hex_of(alloc, parent.parent_hash.as_slice())?;
-    let unmerged = numbers_of(alloc, parent.unmerged.as_slice())?;
-    format!(in alloc; "{place} parent {encryption_key} {parent_hash} {unmerged}\n")
+    put_hex(out, first.as_slice())?;
+    put_text(out, " ")?;
+    put_hex(out, second.as_slice())?;
+    put_text(out, " ")
 }
 
-/// The line of the node at a place.
-fn node_line(alloc: Global, place: usize, node: &Option<Node>) -> Result<String, AllocError>
-    ensures { IfOk result
-        (λ text. string_bytes text ≡ lines.node_line place (entry_value node.now)) }
+/// Adds the line of a leaf.
+fn put_leaf(out: &mut Vec<u8>, place: usize, leaf: &LeafNode) -> Result<(), AllocError>
+    ensures { OnOk result (out.new.items ≡ out.old.items ++ lines.leaf_line place leaf.now) }
+{
+    put_leaf_place(out, place)?;
+    put_fields(out, &leaf.encryption_key, &leaf.signature_key)?;
+    put_source(out, &leaf.source)?;
+    put_text(out, "\n")
+}
+
+/// Adds the line of a parent.
+fn put_parent(out: &mut Vec<u8>, place: usize, parent: &ParentNode) -> Result<(), AllocError>
+    ensures { OnOk result (out.new.items ≡ out.old.items ++ lines.parent_line place parent.now) }
+{
+    put_number(out, place)?;
+    put_text(out, " parent ")?;
+    put_fields(out, &parent.encryption_key, &parent.parent_hash)?;
+    put_numbers(out, parent.unmerged.as_slice())?;
+    put_text(out, "\n")
+}
+
+/// Adds the line of the node at a place.
+fn put_node(out: &mut Vec<u8>, place: usize, node: &Option<Node>) -> Result<(), AllocError>
+    ensures { OnOk result (out.new.items ≡ out.old.items ++ lines.node_line place (entry_value node.now)) }
 {
     match node {
-        None => format!(in alloc; "{place} blank\n"),
-        Some(Node::Leaf(leaf)) => leaf_line(alloc, place, leaf),
-        Some(Node::Parent(parent)) => parent_line(alloc, place, parent),
+        None => {
+            put_number(out, place)?;
+            put_text(out, " blank\n")
+        }
+        Some(Node::Leaf(leaf)) => put_leaf(out, place, leaf),
+        Some(Node::Parent(parent)) => put_parent(out, place, parent),
     }
 }
 
-/// The lines of all nodes.
-fn node_lines(alloc: Global, nodes: &[Option<Node>]) -> Result<String, AllocError>
-    ensures { IfOk result
-        (λ text. string_bytes text ≡ lines.node_lines 0 (map entry_value nodes.now)) }
+/// Adds the lines of all nodes.
+fn put_nodes(out: &mut Vec<u8>, nodes: &[Option<Node>]) -> Result<(), AllocError>
+    ensures { OnOk result (out.new.items ≡ out.old.items
+        ++ lines.node_lines 0 (map entry_value nodes.now)) }
 {
-    let mut text = String::new(alloc);
     for (place, node) in nodes.iter().enumerate() {
-        let line = node_line(alloc, place, node)?;
-        text.push_str(line.as_str())?;
+        put_node(out, place, node)?;
     }
-    Ok(text)
+    Ok(())
 }
 
 /// How many leaves are set.
@@ -101,14 +116,23 @@ fn leaf_count(tree: &PublicTree) -> u32
     tree.leaf_count()
 }
 
-/// The report of a tree.
-pub(crate) fn tree_text(alloc: Global, tree: &PublicTree) -> Result<String, AllocError>
-    ensures { IfOk result (λ text. string_bytes text ≡ lines.tree_text (listing tree.now.tree)) }
+/// Adds the line of the counts.
+fn put_counts(out: &mut Vec<u8>, leaves: u32, members: u32) -> Result<(), AllocError>
+    ensures { OnOk result (out.new.items ≡ out.old.items ++ lines.count_line leaves members) }
 {
-    let mut text = node_lines(alloc, tree.nodes())?;
-    let leaves = leaf_count(tree);
-    let members = member_count(tree);
-    let counts = format!(in alloc; "leaves {leaves} members {members}\n")?;
-    text.push_str(counts.as_str())?;
-    Ok(text)
+    put_text(out, "leaves ")?;
+    put_number(out, leaves as usize)?;
+    put_text(out, " members ")?;
+    put_number(out, members as usize)?;
+    put_text(out, "\n")
+}
+
+/// The report of a tree.
+pub(crate) fn tree_text(alloc: Global, tree: &PublicTree) -> Result<Vec<u8>, AllocError>
+    ensures { IfOk result (λ text. text.items ≡ lines.tree_text (listing tree.now.tree)) }
+{
+    let mut out = Vec::new(alloc);
+    put_nodes(&mut out, tree.nodes())?;
+    put_counts(&mut out, leaf_count(tree), member_count(tree))?;
+    Ok(out)
 }

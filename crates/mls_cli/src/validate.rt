@@ -48,13 +48,13 @@ fn judge_inputs(
 /// What is found of the bytes of a group info, and of a tree where one is handed in.
 fn judge_bytes(
     alloc: Global,
-    info_bytes: &[u8],
-    tree_bytes: &Option<Vec<u8>>,
+    info_bytes: Vec<u8>,
+    tree_bytes: Option<Vec<u8>>,
     checker: Box<dyn SignatureCheck>,
 ) -> Result<Finding, RunFault>
     ensures found { IfOk result
-        (IsStartFinding (meaning checker) info_bytes.now
-        (option_map (λ v. v.items) tree_bytes.now)) }
+        (IsStartFinding (meaning checker) info_bytes.items
+        (option_map (λ v. v.items) tree_bytes)) }
     ensures memory { IfErr result (λ e. e ≡ RunFault.Memory) }
 {
     match read_inputs(alloc, info_bytes, tree_bytes) {
@@ -97,6 +97,6 @@ pub fn run_validate<I: Source, T: Source, K: Sink>(
 {
     let info_bytes = read_all(alloc, info)?;
     let tree_bytes = read_handed(alloc, tree)?;
-    let finding = judge_bytes(alloc, info_bytes.as_slice(), &tree_bytes, checker)?;
+    let finding = judge_bytes(alloc, info_bytes, tree_bytes, checker)?;
     tell(alloc, &finding, out)
 }

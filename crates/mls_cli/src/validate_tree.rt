@@ -82,20 +82,22 @@ fn judge_required(
     }
 }
 
-/// What is found of the bytes of a tree, for a context that is followed.
+/// What is found of the bytes of a tree, for a context that is followed. They are dropped once the tree is read.
 fn judge_tree_bytes(
     alloc: Global,
     suite: Suite,
     context: &GroupContext,
-    tree_bytes: &[u8],
+    tree_bytes: Vec<u8>,
     checker: &dyn SignatureCheck,
 ) -> Result<Finding, RunFault>
     requires { suite ≡ context.now.cipher_suite }
     ensures found { (context_bytes : List ℕ) → IsUsable context_bytes context.now
-        → IfOk result (IsTreeFinding (meaning checker.now) context_bytes tree_bytes.now) }
+        → IfOk result (IsTreeFinding (meaning checker.now) context_bytes tree_bytes.items) }
     ensures memory { IfErr result (λ e. e ≡ RunFault.Memory) }
 {
-    match PublicTree::decode(alloc, tree_bytes) {
+    let tree = PublicTree::decode(alloc, tree_bytes.as_slice());
+    drop(tree_bytes);
+    match tree {
         Ok(tree) => judge_required(alloc, suite, context, &tree, checker),
         Err(NodeFault::OutOfMemory) => Err(RunFault::Memory),
         Err(fault) => Ok(Finding::TreeUnreadable(fault)),
@@ -106,11 +108,11 @@ fn judge_tree_bytes(
 fn judge_context(
     alloc: Global,
     context: &GroupContext,
-    tree_bytes: &[u8],
+    tree_bytes: Vec<u8>,
     checker: &dyn SignatureCheck,
 ) -> Result<Finding, RunFault>
     ensures found { (context_bytes : List ℕ) → IsContext context_bytes context.now
-        → IfOk result (IsTreeFinding (meaning checker.now) context_bytes tree_bytes.now) }
+        → IfOk result (IsTreeFinding (meaning checker.now) context_bytes tree_bytes.items) }
     ensures memory { IfErr result (λ e. e ≡ RunFault.Memory) }
 {
     if context.version != 1 {
@@ -126,11 +128,11 @@ fn judge_context(
 fn judge_bytes(
     alloc: Global,
     context_bytes: &[u8],
-    tree_bytes: &[u8],
+    tree_bytes: Vec<u8>,
     checker: &dyn SignatureCheck,
 ) -> Result<Finding, RunFault>
     ensures found { IfOk result
-        (IsTreeFinding (meaning checker.now) context_bytes.now tree_bytes.now) }
+        (IsTreeFinding (meaning checker.now) context_bytes.now tree_bytes.items) }
     ensures memory { IfErr result (λ e. e ≡ RunFault.Memory) }
 {
     match decode_context(alloc, context_bytes) {
@@ -172,11 +174,6 @@ pub fn run_validate_tree<C: Source, T: Source, K: Sink>(
 {
     let context_bytes = read_all(alloc, context)?;
     let tree_bytes = read_all(alloc, tree)?;
-    let finding = judge_bytes(
-        alloc,
-        context_bytes.as_slice(),
-        tree_bytes.as_slice(),
-        checker,
-    )?;
+    let finding = judge_bytes(alloc, context_bytes.as_slice(), tree_bytes, checker)?;
     tell(alloc, &finding, out)
 }

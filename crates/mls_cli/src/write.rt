@@ -1,4 +1,4 @@
-//! Writing a text to a sink.
+//! Writing to a sink.
 
 ghost use Rattle.std.specs.Prelude.{◌≡◌, ◌↔◌, false, true, IfErr, OnErr, OnOk};
 ghost use Rattle.std.specs.Io.KnownBytes.{Appends};
@@ -7,7 +7,21 @@ ghost use Rattle.mls_wire.specs.Devices.{AppendsPrefix};
 use crate::outcome::RunFault;
 use mls_wire::{DeviceFault, Sink, write_all};
 
-/// Writes a text, in as few pieces as the sink takes. Where the sink fails, a prefix was written.
+/// Writes bytes, in as few pieces as the sink takes. Where the sink fails, a prefix was written.
+pub(crate) fn write_bytes<K: Sink>(out: &mut K, bytes: &[u8]) -> Result<(), RunFault>
+    requires { K.is_failed out.old ≡ false }
+    ensures all { OnOk result (Appends (K.written out.old) (K.written out.new) bytes.now) }
+    ensures part { OnErr result (AppendsPrefix (K.written out.old) (K.written out.new) bytes.now) }
+    ensures fault { IfErr result (λ e. e ≡ RunFault.Write) }
+    ensures write { (result ≡ Err RunFault.Write) ↔ (K.is_failed out.new ≡ true) }
+{
+    match write_all(out, bytes) {
+        Ok(()) => Ok(()),
+        Err(DeviceFault) => Err(RunFault::Write),
+    }
+}
+
+/// Writes a text in the same way.
 pub(crate) fn write_text<K: Sink>(out: &mut K, text: &str) -> Result<(), RunFault>
     requires { K.is_failed out.old ≡ false }
     ensures all { OnOk result (Appends (K.written out.old) (K.written out.new) text.now) }
@@ -15,8 +29,5 @@ pub(crate) fn write_text<K: Sink>(out: &mut K, text: &str) -> Result<(), RunFaul
     ensures fault { IfErr result (λ e. e ≡ RunFault.Write) }
     ensures write { (result ≡ Err RunFault.Write) ↔ (K.is_failed out.new ≡ true) }
 {
-    match write_all(out, text.as_bytes()) {
-        Ok(()) => Ok(()),
-        Err(DeviceFault) => Err(RunFault::Write),
-    }
+    write_bytes(out, text.as_bytes())
 }

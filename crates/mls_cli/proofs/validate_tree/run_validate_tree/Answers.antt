@@ -4,7 +4,7 @@ use Rattle.mls_cli.proofs.validate_tree.run_validate_tree.Goals as goal
 
 pub returns-clause-validated : goal.returns-clause-validated
 returns-clause-validated g c =
-    let found = rw (c.as_slice.ensures.value, c.as_slice-2.ensures.value) at c.in_ok-finding.ensures.found in
+    let found = rw c.as_slice.ensures.value at c.in_ok-finding.ensures.found in
     IfOk-weaker c.tell.result _ _ (λ verdict told. record {
       context_bytes = c.in_ok-context_bytes.context_bytes.items;
       tree_bytes = c.in_ok-tree_bytes.tree_bytes.items;
@@ -18,7 +18,7 @@ returns-clause-validated g c =
 
 pub returns-clause-part : goal.returns-clause-part
 returns-clause-part g c =
-    let found = rw (c.as_slice.ensures.value, c.as_slice-2.ensures.value) at c.in_ok-finding.ensures.found in
+    let found = rw c.as_slice.ensures.value at c.in_ok-finding.ensures.found in
     on_err_weaker c.tell.result (λ told. inr (record {
       context_bytes = c.in_ok-context_bytes.context_bytes.items;
       tree_bytes = c.in_ok-tree_bytes.tree_bytes.items;

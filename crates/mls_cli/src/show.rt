@@ -45,13 +45,15 @@ fn no_tree_report(alloc: Global, fault: NodeFault) -> Result<Report, RunFault>
     }
 }
 
-/// The report of the bytes of a tree.
-fn tree_report(alloc: Global, bytes: &[u8]) -> Result<Report, RunFault>
+/// The report of the bytes of a tree, which are dropped once it is read.
+fn tree_report(alloc: Global, bytes: Vec<u8>) -> Result<Report, RunFault>
     ensures report { IfOk result
-        (λ r. IsShowReport ShowKind.Tree bytes.now r.bytes.items r.verdict) }
+        (λ r. IsShowReport ShowKind.Tree bytes.items r.bytes.items r.verdict) }
     ensures memory { IfErr result (λ e. e ≡ RunFault.Memory) }
 {
-    match PublicTree::decode(alloc, bytes) {
+    let tree = PublicTree::decode(alloc, bytes.as_slice());
+    drop(bytes);
+    match tree {
         Ok(tree) => Ok(Report {
             bytes: tree_text(alloc, &tree)?,
             verdict: Verdict::Yes,
@@ -122,15 +124,15 @@ fn message_report(alloc: Global, bytes: &[u8]) -> Result<Report, RunFault>
 }
 
 /// The report of an input's bytes.
-fn show_report(alloc: Global, kind: ShowKind, bytes: &[u8]) -> Result<Report, RunFault>
+fn show_report(alloc: Global, kind: ShowKind, bytes: Vec<u8>) -> Result<Report, RunFault>
     ensures report { IfOk result
-        (λ r. IsShowReport kind bytes.now r.bytes.items r.verdict) }
+        (λ r. IsShowReport kind bytes.items r.bytes.items r.verdict) }
     ensures memory { IfErr result (λ e. e ≡ RunFault.Memory) }
 {
     match kind {
         ShowKind::Tree => tree_report(alloc, bytes),
-        ShowKind::Info => info_report(alloc, bytes),
-        ShowKind::Message => message_report(alloc, bytes),
+        ShowKind::Info => info_report(alloc, bytes.as_slice()),
+        ShowKind::Message => message_report(alloc, bytes.as_slice()),
     }
 }
 
@@ -160,7 +162,7 @@ pub fn run_show<S: Source, K: Sink>(
     ensures write { (result ≡ Err RunFault.Write) ↔ (K.is_failed out.new ≡ true) }
 {
     let bytes = read_all(alloc, input)?;
-    let report = show_report(alloc, kind, bytes.as_slice())?;
+    let report = show_report(alloc, kind, bytes)?;
     write_bytes(out, report.bytes.as_slice())?;
     Ok(report.verdict)
 }

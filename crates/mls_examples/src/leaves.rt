@@ -1,8 +1,8 @@
 //! Leaf nodes (RFC 9420, 7.2) as bytes and as values, and what is signed of them.
 
 use crate::support::{LEAF, bytes, expect_answers, expect_texts};
-use mls_nodes::{decode_leaf, encode_leaf, leaf_tbs, read_leaf, write_leaf};
-use mls_wire::{CodecFault, Opaque, Reader, TryClone, Writer};
+use mls_nodes::{decode_leaf, encode_leaf, leaf_tbs, put_leaf_tbs, read_leaf, write_leaf};
+use mls_wire::{CodecFault, Draft, Encode, Opaque, Reader, TryClone, Writer};
 use std::alloc::Global;
 use std::test::Fail;
 
@@ -117,4 +117,50 @@ fn what_is_signed_of_a_leaf(rt: HostRuntime) -> Result<(), Fail> {
         ),
     ];
     expect_answers(&rt, rt.alloc(), signed_of, &leaves)
+}
+
+/// The same in a draft, behind the byte `ff`.
+fn signed_behind(alloc: Global, input: &[u8]) -> Result<Vec<u8>, CodecFault> {
+    let group_id = Opaque::copy(alloc, &[0x47])?;
+    let mut draft = Draft::after(Vec::from_slice(alloc, &[0xff])?);
+    let leaf = decode_leaf(alloc, input)?;
+    let put = put_leaf_tbs(alloc, &leaf, &group_id, 3, &mut draft);
+    drop(leaf);
+    put?;
+    Ok(draft.finish())
+}
+
+#[test]
+fn what_is_signed_of_a_leaf_in_a_draft(rt: HostRuntime) -> Result<(), Fail> {
+    let leaves = [
+        (
+            LEAF,
+            "ff01a001b0000101400200010200010000020001010000000000000000ffffffffffffffff00",
+        ),
+        (
+            UPDATED,
+            "ff019301b30001014302000102000100000200010200014700000003",
+        ),
+    ];
+    expect_answers(&rt, rt.alloc(), signed_behind, &leaves)
+}
+
+/// How many bytes a leaf takes.
+fn size_of_leaf(alloc: Global, input: &[u8]) -> Result<Vec<u8>, CodecFault> {
+    let leaf = decode_leaf(alloc, input)?;
+    let size = leaf.size();
+    drop(leaf);
+    Ok(Vec::from_slice(alloc, &[size.unwrap_or(0) as u8])?)
+}
+
+/// Leaves of 39, 23, 26 and 43 bytes.
+#[test]
+fn sizes_of_leaves(rt: HostRuntime) -> Result<(), Fail> {
+    let leaves = [
+        (LEAF, "27"),
+        (UPDATED, "17"),
+        (COMMITTED, "1a"),
+        (CERTIFIED, "2b"),
+    ];
+    expect_answers(&rt, rt.alloc(), size_of_leaf, &leaves)
 }

@@ -98,3 +98,28 @@ fn keys_of_two_parents(rt: HostRuntime) -> Result<(), Fail> {
     }
     Ok(())
 }
+
+/// Whether two leaves with these encryption keys, each with its length, have distinct ones.
+fn are_keys_distinct(alloc: Global, keys: (&str, &str)) -> Result<String, Fail> {
+    let first = format!(in alloc; "{}{}", keys.0, &LEAF[4..])?;
+    let second = format!(in alloc; "{}{}", keys.1, &SECOND_LEAF[4..])?;
+    let mut tree = tree_of(alloc, 2, &[])?;
+    put_leaf(alloc, &mut tree, 0, first.as_str())?;
+    put_leaf(alloc, &mut tree, 1, second.as_str())?;
+    Ok(format!(in alloc; "{}", has_distinct_keys(alloc, &tree)?)?)
+}
+
+/// Keys whose first eight bytes are the same, or would be if a short one went on with zeros.
+#[test]
+fn keys_that_begin_alike(rt: HostRuntime) -> Result<(), Fail> {
+    let keys = [
+        (("01a0", "02a000"), "true"),
+        (("00", "0100"), "true"),
+        (("080102030405060708", "09010203040506070800"), "true"),
+        (("09010203040506070809", "0901020304050607080a"), "true"),
+        (("09010203040506070809", "09010203040506070809"), "false"),
+        (("080102030405060708", "080102030405060708"), "false"),
+        (("02a000", "02a000"), "false"),
+    ];
+    expect_texts(&rt, rt.alloc(), are_keys_distinct, &keys)
+}

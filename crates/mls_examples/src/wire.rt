@@ -2,8 +2,8 @@
 
 use crate::support::{bytes, expect_answers, expect_texts, text};
 use mls_wire::{
-    CodecFault, Items, Opaque, Reader, Sequence, TryClone, Writer, bytes_of, laws, read_all_of,
-    read_input, read_value,
+    CodecFault, Encode, Items, Opaque, Reader, Sequence, TryClone, Writer, add_sizes, bytes_of,
+    laws, read_all_of, read_input, read_value, size_of_list,
 };
 use std::alloc::Global;
 use std::test::Fail;
@@ -174,4 +174,43 @@ fn fields_with(alloc: Global, body: &[u8]) -> Result<Vec<u8>, CodecFault> {
 fn fields_are_written(rt: HostRuntime) -> Result<(), Fail> {
     let fields = [("6162", "0102030405060702616201")];
     expect_answers(&rt, rt.alloc(), fields_with, &fields)
+}
+
+/// How many bytes an optional list of numbers takes.
+fn size_of_numbers(alloc: Global, input: &[u8]) -> Result<Vec<u8>, CodecFault> {
+    let list: Option<Sequence<u32>> = read_all_of(alloc, input)?;
+    let size = list.size();
+    drop(list);
+    Ok(Vec::from_slice(alloc, &[size.unwrap_or(0) as u8])?)
+}
+
+#[test]
+fn sizes_of_optional_lists(rt: HostRuntime) -> Result<(), Fail> {
+    let lists = [
+        ("00", "01"),
+        ("0100", "02"),
+        ("010400000002", "06"),
+        ("01080000000200000003", "0a"),
+    ];
+    expect_answers(&rt, rt.alloc(), size_of_numbers, &lists)
+}
+
+/// A list with a body of 63 bytes has a length of one, and one of 64 a length of two.
+#[test]
+fn sizes_of_lists_of_bytes(rt: HostRuntime) -> Result<(), Fail> {
+    let bytes = [0u8; 64];
+    assert!(rt; size_of_list(&bytes[..0]) == Some(1));
+    assert!(rt; size_of_list(&bytes[..63]) == Some(64));
+    assert!(rt; size_of_list(&bytes) == Some(66));
+    Ok(())
+}
+
+/// A size stops at the greatest number, and what has none has none with another.
+#[test]
+fn sizes_of_two_parts(rt: HostRuntime) -> Result<(), Fail> {
+    assert!(rt; add_sizes(Some(2), Some(3)) == Some(5));
+    assert!(rt; add_sizes(Some(usize::MAX), Some(1)) == Some(usize::MAX));
+    assert!(rt; add_sizes(None, Some(1)).is_none());
+    assert!(rt; add_sizes(Some(1), None).is_none());
+    Ok(())
 }

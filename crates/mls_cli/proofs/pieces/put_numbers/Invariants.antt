@@ -1,5 +1,5 @@
 use Rattle.std.proofs.Common.{◌≡◌, ◌++◌, drop}
-use Rattle.mls_cli.specs.Texts.{more_numbers_text, numbers_text}
+use Rattle.mls_cli.specs.Texts.{more_numbers_text}
 use Rattle.mls_cli.proofs.pieces.put_numbers.Given as goal
 
 -- the numbers so far, and those still to come

@@ -150,17 +150,17 @@ fn size_of_leaf(alloc: Global, input: &[u8]) -> Result<Vec<u8>, CodecFault> {
     let leaf = decode_leaf(alloc, input)?;
     let size = leaf.size();
     drop(leaf);
-    Ok(Vec::from_slice(alloc, &[size.unwrap_or(0) as u8])?)
+    Ok(Vec::from_slice(alloc, &size.unwrap_or(0).to_be_bytes())?)
 }
 
 /// Leaves of 39, 23, 26 and 43 bytes.
 #[test]
 fn sizes_of_leaves(rt: HostRuntime) -> Result<(), Fail> {
     let leaves = [
-        (LEAF, "27"),
-        (UPDATED, "17"),
-        (COMMITTED, "1a"),
-        (CERTIFIED, "2b"),
+        (LEAF, "0000000000000027"),
+        (UPDATED, "0000000000000017"),
+        (COMMITTED, "000000000000001a"),
+        (CERTIFIED, "000000000000002b"),
     ];
     expect_answers(&rt, rt.alloc(), size_of_leaf, &leaves)
 }

@@ -105,6 +105,7 @@ fn log_of_a_held_source(rt: HostRuntime) -> Result<(), Fail> {
         assert_eq!(&rt; name_of(reader.next()?), step);
         expect_text(&rt, text(alloc, reader.body())?, body);
     }
+    drop(reader);
     assert_eq!(&rt; source.left().len(), 1);
     Ok(())
 }

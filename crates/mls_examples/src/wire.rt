@@ -181,16 +181,16 @@ fn size_of_numbers(alloc: Global, input: &[u8]) -> Result<Vec<u8>, CodecFault> {
     let list: Option<Sequence<u32>> = read_all_of(alloc, input)?;
     let size = list.size();
     drop(list);
-    Ok(Vec::from_slice(alloc, &[size.unwrap_or(0) as u8])?)
+    Ok(Vec::from_slice(alloc, &size.unwrap_or(0).to_be_bytes())?)
 }
 
 #[test]
 fn sizes_of_optional_lists(rt: HostRuntime) -> Result<(), Fail> {
     let lists = [
-        ("00", "01"),
-        ("0100", "02"),
-        ("010400000002", "06"),
-        ("01080000000200000003", "0a"),
+        ("00", "0000000000000001"),
+        ("0100", "0000000000000002"),
+        ("010400000002", "0000000000000006"),
+        ("01080000000200000003", "000000000000000a"),
     ];
     expect_answers(&rt, rt.alloc(), size_of_numbers, &lists)
 }

@@ -1,5 +1,5 @@
 -- What is written into a draft that begins empty.
-use Rattle.std.proofs.Common.{◌≡◌, ◌∙◌, ◌++◌, ◌<◌, ◌≤◌, ℕ, List, [], length, Option, Some, None, Err, refl, ap, arith}
+use Rattle.std.proofs.Common.{◌≡◌, ◌∙◌, ◌++◌, ◌<◌, ◌≤◌, ℕ, List, [], length, Option, Some, None, Err, ap, arith}
 use Rattle.std.specs.Prelude.{IsSome}
 use Rattle.mls_wire.specs.Counting.{size}
 use Rattle.mls_wire.specs.Faults.{too_long_at}

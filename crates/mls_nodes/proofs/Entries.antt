@@ -1,6 +1,6 @@
 -- Reading entries one after the other, each at its place, and whole trees.
 use Rattle.std.specs.Int.{w8}
-use Rattle.std.proofs.Common.{◌≡◌, ℕ, suc, ◌+◌, ◌≤◌, ◌<◌, Bool, true, false, ◌&&◌, List, [], ◌∷◌, ◌++◌, length, Option, Some, None, Err, refl, sym, ap, ◌∙◌, append_assoc, arith, length-append, nat_le, slice_get, Result, Ok, cond, eqb, ◌-◌, ◌%◌, map, subst}
+use Rattle.std.proofs.Common.{◌≡◌, ℕ, suc, ◌+◌, ◌≤◌, ◌<◌, Bool, true, false, ◌&&◌, List, [], ◌∷◌, ◌++◌, length, Option, Some, None, Err, refl, sym, ap, ◌∙◌, append_assoc, arith, length-append, nat_le, Result, Ok, cond, eqb, ◌-◌, ◌%◌, map, subst}
 use Rattle.std.proofs.lemmas.Bool.{leb-true, and_left, and_right, and_from, le-leb, lt-leb, eqb-true, and_parts}
 use Rattle.mls_wire.specs.Input.{Input, at}
 use Rattle.mls_wire.specs.Parsing.{number_at, flag_at, items_at, optional_at, body_at, ◌>>=◌}
@@ -14,7 +14,7 @@ use Rattle.mls_wire.specs.Vectors.{body_takes, body_again}
 use Rattle.mls_nodes.specs.Exact.{node_exact}
 use Rattle.mls_nodes.specs.Value.{NodeValue, leaf_node, parent_node, entry_value}
 use Rattle.mls_nodes.specs.Layout.{node}
-use Rattle.mls_nodes.specs.RatchetTree.{stands_at, stand_from, is_placed, is_set, ends_set, ratchet_tree}
+use Rattle.mls_nodes.specs.RatchetTree.{stands_at, stand_from, is_placed, ends_set, ratchet_tree}
 use Rattle.std.specs.Prelude.{IfOk, IfErr}
 use Rattle.std.proofs.Common.{Vec, Global, zero, replicate, ◌*◌}
 use Rattle.std.proofs.lemmas.List.{map_push}
@@ -28,8 +28,6 @@ use Rattle.mls_nodes.specs.declared.parent.ParentNode.{ParentNode}
 use Rattle.mls_nodes.specs.declared.node.Node.{Node}
 use Rattle.mls_nodes.specs.declared.fault.NodeFault.{NodeFault}
 use Rattle.mls_nodes.specs.declared.fault.NodeFault.TheVariants as nodes
-use Rattle.std.specs.Prelude.{option_map}
-use Rattle.std.proofs.lemmas.Option.{slice_get-map}
 use Rattle.std.proofs.lemmas.List.{length-map, append-nil, nil_from_length}
 
 and_assoc : (a b c : Bool) → (a && (b && c)) ≡ ((a && b) && c)

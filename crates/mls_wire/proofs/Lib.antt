@@ -3,4 +3,5 @@ pub mod Pieces
 pub mod KnownBytes
 pub mod Logs
 pub mod LogLaws
+pub mod WriteLaws
 pub mod Sized

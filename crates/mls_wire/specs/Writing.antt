@@ -1,5 +1,5 @@
 -- What a writer has after a text is written.
-use Rattle.std.specs.Prelude.{◌≡◌, ℕ, ◌+◌, List, ◌++◌, length, take, drop, Option, Some, None, IsSome, Result, Ok, Err}
+use Rattle.std.specs.Prelude.{◌≡◌, ◌≢◌, ℕ, ◌+◌, List, ◌++◌, length, take, drop, Option, Some, None, IsSome, Result, Ok, Err, OnOk}
 use Rattle.mls_wire.specs.declared.fault.CodecFault.{CodecFault}
 use Rattle.mls_wire.specs.declared.fault.CodecFault.TheVariants as faults
 use Rattle.mls_wire.specs.declared.fault.WireFaultKind.TheVariants as kinds
@@ -50,3 +50,21 @@ abbrev pub MakesPiece : Option (List ℕ) → Result (List ℕ) CodecFault → T
 MakesPiece text (Ok bytes) = text ≡ Some bytes
 MakesPiece text (Err (faults.Wire f)) = (text ≡ None) × (f ≡ too_long_at 0)
 MakesPiece text (Err faults.OutOfMemory) = IsSome text
+
+-- what a call that writes a text gives, but for want of memory, is one answer, and one thing then stands there
+abbrev pub WritesOnce : Type 0
+WritesOnce = (text : Option (List ℕ)) (old one other : List ℕ) (r s : Result (Unit {0}) CodecFault)
+    → WritesPiece text old one r → WritesPiece text old other s
+    → (r ≢ Err CodecFault.OutOfMemory) → (s ≢ Err CodecFault.OutOfMemory) → (r ≡ s) × (one ≡ other)
+
+-- the same of a call that adds a text to a draft
+abbrev pub PutsOnce : Type 0
+PutsOnce = (text : Option (List ℕ)) (old one other : Added) (r s : Result (Unit {0}) CodecFault)
+    → PutsPiece text old one r → PutsPiece text old other s
+    → (r ≢ Err CodecFault.OutOfMemory) → (s ≢ Err CodecFault.OutOfMemory) → (r ≡ s) × (one.kept ≡ other.kept) × OnOk r (one.more ≡ other.more)
+
+-- the same of a call that makes the bytes
+abbrev pub MakesOnce : Type 0
+MakesOnce = (text : Option (List ℕ)) (r s : Result (List ℕ) CodecFault)
+    → MakesPiece text r → MakesPiece text s
+    → (r ≢ Err CodecFault.OutOfMemory) → (s ≢ Err CodecFault.OutOfMemory) → r ≡ s

@@ -6,6 +6,7 @@ ghost use Rattle.std.specs.Int.{w8, w16, w32, w64};
 ghost use Rattle.mls_wire.specs.Logs.{MeetsOnce};
 ghost use Rattle.mls_wire.specs.Reading.{ReadsOnce};
 ghost use Rattle.mls_wire.specs.Spelling.{SpellsOnce, IsPrefixFree, IsUnambiguous, number, length_form, vector, flag};
+ghost use Rattle.mls_wire.specs.Writing.{WritesOnce, PutsOnce, MakesOnce};
 
 use crate::decode::Decode;
 
@@ -31,4 +32,12 @@ pub fn primitives()
 /// The law of logs: bytes that are known tell what comes next, where it ends, and the body of a record.
 pub fn logs()
     ensures { MeetsOnce }
+{}
+
+/// The law of all that is written: but for want of memory, what a call that writes, puts or makes a text answers is
+/// determined by the text, and so is what then stands there.
+pub fn one_text()
+    ensures written { WritesOnce }
+    ensures put { PutsOnce }
+    ensures made { MakesOnce }
 {}

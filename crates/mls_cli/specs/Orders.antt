@@ -3,16 +3,16 @@ use Rattle.std.specs.Prelude.{List, [], ◌∷◌, ◌≡◌, ◌≢◌, ◌⊎�
 use Rattle.clap.specs.Words.{Text, Row, first_of, fault_of, subcommand_of, IsAmong}
 use Rattle.clap.specs.declared.error.kind.ErrorKind.TheVariants.{DisplayHelp, DisplayVersion}
 use Rattle.mls_cli.specs.Commands.{mlscheck_app}
-use Rattle.mls_cli.specs.declared.check.CheckKind.{CheckKind}
-use Rattle.mls_cli.specs.declared.check.CheckKind.TheVariants as checks
+use Rattle.mls_vectors.specs.declared.check.CheckKind.{CheckKind}
+use Rattle.mls_vectors.specs.declared.check.CheckKind.TheVariants as checks
 use Rattle.mls_cli.specs.declared.order.Checker.{Checker}
 use Rattle.mls_cli.specs.declared.order.Checker.TheVariants as checker
 use Rattle.mls_cli.specs.declared.order.Order.{Order}
 use Rattle.mls_cli.specs.declared.order.Order.TheVariants as order
 use Rattle.mls_cli.specs.declared.order.OrderFault.{OrderFault}
 use Rattle.mls_cli.specs.declared.order.OrderFault.TheVariants.{Help, Usage, Memory}
-use Rattle.mls_cli.specs.declared.show.ShowKind.{ShowKind}
-use Rattle.mls_cli.specs.declared.show.ShowKind.TheVariants as kind
+use Rattle.mls_report.specs.declared.show.ShowKind.{ShowKind}
+use Rattle.mls_report.specs.declared.show.ShowKind.TheVariants as kind
 
 -- the word that names a kind on the command line
 abbrev pub kind_text : ShowKind → Text

@@ -7,28 +7,29 @@ use Rattle.mls_wire.specs.Devices.{AppendsPrefix}
 use Rattle.mls_check.specs.Receipts.{listed, IsReceipts, IsReceiptsFault}
 use Rattle.mls_check.specs.Signatures.{Meaning}
 use Rattle.mls_check.specs.declared.receipts.ReceiptsFault.{ReceiptsFault}
-use Rattle.mls_cli.specs.Check.{Checks, ChecksPart}
+use Rattle.mls_vectors.specs.Check.{Checks, ChecksPart}
 use Rattle.mls_cli.specs.Orders.{IsOrderOf, IsHelp, AsksForHelp, Refuses}
-use Rattle.mls_cli.specs.ReadAll.{ReadsAll, ReadsSome}
-use Rattle.mls_cli.specs.Replay.{Replays, ReplaysPart}
-use Rattle.mls_cli.specs.Show.{Shows, ShowsPart}
-use Rattle.mls_cli.specs.Starting.{has_failed}
-use Rattle.mls_cli.specs.Status.{status, fault_status}
-use Rattle.mls_cli.specs.UnreadableReceipts.{TellsReceipts, receipts_line}
-use Rattle.mls_cli.specs.Validate.{Validates, ValidatesPart}
-use Rattle.mls_cli.specs.ValidateTree.{ValidatesTree, ValidatesTreePart}
-use Rattle.mls_cli.specs.declared.check.CheckKind.{CheckKind}
+use Rattle.mls_report.specs.ReadAll.{ReadsAll, ReadsSome}
+use Rattle.mls_report.specs.Replay.{Replays, ReplaysPart}
+use Rattle.mls_report.specs.Show.{Shows, ShowsPart}
+use Rattle.mls_report.specs.Starting.{has_failed}
+use Rattle.mls_report.specs.Status.{status}
+use Rattle.mls_cli.specs.Status.{fault_status}
+use Rattle.mls_report.specs.UnreadableReceipts.{TellsReceipts, receipts_line}
+use Rattle.mls_report.specs.Validate.{Validates, ValidatesPart}
+use Rattle.mls_report.specs.ValidateTree.{ValidatesTree, ValidatesTreePart}
+use Rattle.mls_vectors.specs.declared.check.CheckKind.{CheckKind}
 use Rattle.mls_cli.specs.declared.order.Checker.{Checker}
 use Rattle.mls_cli.specs.declared.order.Checker.TheVariants.{Trust, Receipts}
 use Rattle.mls_cli.specs.declared.order.Order.{Order}
 use Rattle.mls_cli.specs.declared.order.Order.TheVariants.{Show, ValidateTree, Validate, Replay, Check}
 use Rattle.mls_cli.specs.declared.order.OrderFault.{OrderFault}
 use Rattle.mls_cli.specs.declared.order.OrderFault.TheVariants as order
-use Rattle.mls_cli.specs.declared.outcome.RunFault.{RunFault}
-use Rattle.mls_cli.specs.declared.outcome.RunFault.TheVariants.{Read, Write, Memory}
-use Rattle.mls_cli.specs.declared.outcome.Verdict.{Verdict}
-use Rattle.mls_cli.specs.declared.outcome.Verdict.TheVariants.{Yes}
-use Rattle.mls_cli.specs.declared.show.ShowKind.{ShowKind}
+use Rattle.mls_report.specs.declared.outcome.RunFault.{RunFault}
+use Rattle.mls_report.specs.declared.outcome.RunFault.TheVariants.{Read, Write, Memory}
+use Rattle.mls_report.specs.declared.outcome.Verdict.{Verdict}
+use Rattle.mls_report.specs.declared.outcome.Verdict.TheVariants.{Yes}
+use Rattle.mls_report.specs.declared.show.ShowKind.{ShowKind}
 
 -- how a report ends
 abbrev pub Outcome : Type 0

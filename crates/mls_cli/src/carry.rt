@@ -3,22 +3,20 @@
 ghost use Rattle.std.specs.Prelude.{◌≡◌, ◌↔◌, ◌⊎◌, false, true, None, Err, option_map, IfSome};
 ghost use Rattle.mls_cli.specs.Program.{opener, CarriesOut, CarriesShow, CarriesValidateTree, CarriesValidate, CarriesReplay, CarriesCheck, IsJudgedBy, IsOpened, LacksNamed, EndsUnread, EndsRefused};
 ghost use Rattle.mls_cli.specs.Judges.{judge_meaning};
-ghost use Rattle.mls_cli.specs.Starting.{has_failed};
+ghost use Rattle.mls_report.specs.Starting.{has_failed};
 ghost use Rattle.mls_cli.specs.Judging.{IsJudgeFault};
 
-use crate::check::{CheckKind, run_check};
 use crate::file_name::FileName;
 use crate::files::Files;
 use crate::judge::{Judge, JudgeFault};
 use crate::order::{Checker, Order};
-use crate::outcome::{RunFault, Verdict};
 use crate::read_judge::read_judge;
-use crate::receipts::run_unreadable_receipts;
-use crate::replay::run_replay;
-use crate::show::{ShowKind, run_show};
-use crate::validate::run_validate;
-use crate::validate_tree::run_validate_tree;
 use mls_check::SignatureCheck;
+use mls_report::{
+    RunFault, ShowKind, Verdict, run_replay, run_show, run_unreadable_receipts, run_validate,
+    run_validate_tree,
+};
+use mls_vectors::{CheckKind, run_check};
 use mls_wire::Sink;
 use std::alloc::Global;
 

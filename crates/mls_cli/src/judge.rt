@@ -1,7 +1,7 @@
 //! Who judges signatures in a report.
 
-use crate::outcome::RunFault;
 use mls_check::{Listed, ReceiptsFault, SignatureCheck};
+use mls_report::RunFault;
 
 /// Who judges signatures, once the receipts are read.
 #[derive(Drop)]

@@ -6,12 +6,12 @@ ghost use Rattle.clap.specs.Words.{first_of, rows_of, found_of, subcommand_rows_
 ghost use Rattle.mls_cli.specs.Orders.{IsChecker, IsOrder, IsOrderOf, IsHelp, IsUsage, AsksForHelp, AsksForHelpAlone, Refuses, kind_text, check_kind_text};
 ghost use Rattle.mls_cli.specs.Status.{fault_status};
 
-use crate::check::CheckKind;
 use crate::command::mlscheck_command;
 use crate::file_name::FileName;
-use crate::show::ShowKind;
 use clap::error::ErrorKind;
 use clap::{ArgMatches, Error};
+use mls_report::ShowKind;
+use mls_vectors::CheckKind;
 use std::alloc::{AllocError, Global};
 use thiserror::Error;
 

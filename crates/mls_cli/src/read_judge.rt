@@ -10,9 +10,8 @@ use crate::file_name::FileName;
 use crate::files::Files;
 use crate::judge::{Judge, JudgeFault};
 use crate::order::Checker;
-use crate::outcome::RunFault;
-use crate::read::read_all;
 use mls_check::Listed;
+use mls_report::{RunFault, read_all};
 use std::alloc::Global;
 
 /// The bytes of a file.

@@ -1,8 +1,0 @@
-use Rattle.std.proofs.Common.{◌≡◌, ◌+◌, ◌++◌, map, drop, string_bytes}
-use Rattle.mls_cli.specs.Check as lines
-use Rattle.mls_cli.specs.CheckSeen.{outcome_of}
-use Rattle.mls_cli.proofs.check.lines.outcome_lines.Given as goal
-
--- the lines so far, and those of the outcomes still to come
-abbrev pub invariant-loop-index : goal.invariant-loop-index
-invariant-loop-index l = string_bytes l.text ++ lines.outcome_lines (l.index + 1) (map outcome_of (drop l.index l.outcomes)) ≡ lines.outcome_lines 1 (map outcome_of l.outcomes)

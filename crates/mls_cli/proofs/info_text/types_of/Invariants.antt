@@ -1,7 +1,0 @@
-use Rattle.std.proofs.Common.{◌≡◌, ◌++◌, drop, map}
-use Rattle.mls_nodes.specs.declared.extension.Extension.{Extension}
-use Rattle.mls_cli.proofs.info_text.types_of.Given as goal
-
--- the types so far, and those of the extensions still to come
-abbrev pub invariant-loop-extension : goal.invariant-loop-extension
-invariant-loop-extension l = l.types.items ++ map (λ (e : Extension). e.kind) (drop l.extension-index l.extensions) ≡ map (λ (e : Extension). e.kind) l.extensions

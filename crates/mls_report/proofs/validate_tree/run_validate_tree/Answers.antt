@@ -1,0 +1,30 @@
+use Rattle.std.proofs.Common.{inr}
+use Rattle.std.proofs.lemmas.Result.{IfOk-weaker, on_err_weaker}
+use Rattle.mls_report.proofs.validate_tree.run_validate_tree.Goals as goal
+
+pub returns-clause-validated : goal.returns-clause-validated
+returns-clause-validated g c =
+    let found = rw c.as_slice.ensures.value at c.in_ok-finding.ensures.found in
+    IfOk-weaker c.tell.result _ _ (λ verdict told. record {
+      context_bytes = c.in_ok-context_bytes.context_bytes.items;
+      tree_bytes = c.in_ok-tree_bytes.tree_bytes.items;
+      finding = c.in_ok-finding.finding;
+      context_read = c.in_ok-context_bytes.ensures.all;
+      tree_read = c.in_ok-tree_bytes.ensures.all;
+      found = found;
+      wrote = told.0;
+      verdict_is = told.1;
+    }) c.tell.ensures.told
+
+pub returns-clause-part : goal.returns-clause-part
+returns-clause-part g c =
+    let found = rw c.as_slice.ensures.value at c.in_ok-finding.ensures.found in
+    on_err_weaker c.tell.result (λ told. inr (record {
+      context_bytes = c.in_ok-context_bytes.context_bytes.items;
+      tree_bytes = c.in_ok-tree_bytes.tree_bytes.items;
+      finding = c.in_ok-finding.finding;
+      context_read = c.in_ok-context_bytes.ensures.all;
+      tree_read = c.in_ok-tree_bytes.ensures.all;
+      found = found;
+      wrote = told;
+    })) c.tell.ensures.part

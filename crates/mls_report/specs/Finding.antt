@@ -1,0 +1,42 @@
+-- How a finding is worded, and what it says. Numbers in parentheses are sections of RFC 9420.
+use Rattle.std.specs.Prelude.{ℕ, List, ◌++◌, codes}
+use Rattle.std.specs.Fmt.{decimal}
+use Rattle.mls_report.specs.FaultText.{wire_fault_text, node_fault_text, tree_fault_text, member_fault_text, start_fault_text}
+use Rattle.mls_report.specs.Texts.{hex_text}
+use Rattle.mls_report.specs.declared.finding.Finding.{Finding}
+use Rattle.mls_report.specs.declared.finding.Finding.TheVariants.{ContextUnreadable, InfoUnreadable, NotGroupInfo, TreeUnreadable, UnsupportedVersion, UnsupportedSuite, RequirementsUnreadable, TreeRefused, MembersRefused, StartRefused, TreeValid, Starts}
+use Rattle.mls_report.specs.declared.finding.Started.{Started}
+use Rattle.mls_report.specs.declared.outcome.Verdict.{Verdict}
+use Rattle.mls_report.specs.declared.outcome.Verdict.TheVariants.{Yes, No}
+
+-- what is told of a follower that starts: its epoch, its members, and its tree's hash (8.1)
+abbrev pub started_text : Started → List ℕ
+started_text s =
+    codes "valid epoch " ++ (decimal s.epoch
+    ++ (codes " members " ++ (decimal s.members
+    ++ (codes " tree " ++ hex_text s.tree_hash))))
+
+-- the words of a finding
+abbrev pub finding_text : Finding → List ℕ
+finding_text (ContextUnreadable fault) = codes "context unreadable " ++ wire_fault_text fault
+finding_text (InfoUnreadable fault) = codes "info unreadable " ++ wire_fault_text fault
+finding_text NotGroupInfo = codes "info unreadable NotGroupInfo"
+finding_text (TreeUnreadable fault) = codes "tree unreadable " ++ node_fault_text fault
+finding_text UnsupportedVersion = codes "context refused UnsupportedVersion"
+finding_text UnsupportedSuite = codes "context refused UnsupportedSuite"
+finding_text RequirementsUnreadable = codes "context refused RequirementsUnreadable"
+finding_text (TreeRefused fault) = codes "tree refused " ++ tree_fault_text fault
+finding_text (MembersRefused fault) = codes "members refused " ++ member_fault_text fault
+finding_text (StartRefused fault) = codes "start refused " ++ start_fault_text fault
+finding_text (TreeValid tree_hash) = codes "valid " ++ hex_text tree_hash
+finding_text (Starts started) = started_text started
+
+-- its line
+abbrev pub finding_line : Finding → List ℕ
+finding_line finding = finding_text finding ++ codes "\n"
+
+-- Yes for a valid tree, and for a follower that starts
+abbrev pub finding_verdict : Finding → Verdict
+finding_verdict (TreeValid _) = Yes
+finding_verdict (Starts _) = Yes
+finding_verdict _ = No

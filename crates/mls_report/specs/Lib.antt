@@ -1,0 +1,17 @@
+pub mod FaultText
+pub mod Finding
+pub mod InfoText
+pub mod MessageText
+pub mod OneReport
+pub mod ReadAll
+pub mod Replay
+pub mod ReplaySteps
+pub mod Show
+pub mod Starting
+pub mod StartingSteps
+pub mod Status
+pub mod Texts
+pub mod TreeText
+pub mod UnreadableReceipts
+pub mod Validate
+pub mod ValidateTree

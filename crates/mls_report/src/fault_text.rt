@@ -1,0 +1,133 @@
+//! How a fault is told in a report.
+
+ghost use Rattle.std.specs.Prelude.{◌≡◌, ◌++◌, codes, IfOk, string_bytes};
+ghost use Rattle.mls_report.specs.FaultText as texts;
+
+use mls_check::{MemberFault, TreeFault};
+use mls_follow::StartFault;
+use mls_nodes::NodeFault;
+use mls_wire::{WireFault, WireFaultKind};
+use std::alloc::{AllocError, Global};
+
+/// What is wrong with bytes that can't be read.
+fn wire_kind_text(alloc: Global, kind: WireFaultKind) -> Result<String, AllocError>
+    ensures { IfOk result (λ text. string_bytes text ≡ texts.wire_kind_text kind) }
+{
+    let name = match kind {
+        WireFaultKind::Truncated => "Truncated",
+        WireFaultKind::NotShortest => "NotShortest",
+        WireFaultKind::BadPrefix => "BadPrefix",
+        WireFaultKind::BadOptional => "BadOptional",
+        WireFaultKind::BadTag(value) => return format!(in alloc; "BadTag {value}"),
+        WireFaultKind::OddLength => "OddLength",
+        WireFaultKind::Trailing => "Trailing",
+        WireFaultKind::TooLong => "TooLong",
+    };
+    String::from_str(alloc, name)
+}
+
+/// What is wrong with bytes that can't be read, and where.
+pub(crate) fn wire_fault_text(alloc: Global, fault: WireFault) -> Result<String, AllocError>
+    ensures { IfOk result (λ text. string_bytes text ≡ texts.wire_fault_text fault) }
+{
+    let kind = wire_kind_text(alloc, fault.kind)?;
+    let at = fault.at;
+    format!(in alloc; "{kind} {at}")
+}
+
+/// Why a ratchet tree can't be read.
+pub(crate) fn node_fault_text(alloc: Global, fault: NodeFault) -> Result<String, AllocError>
+    ensures { IfOk result (λ text. string_bytes text ≡ texts.node_fault_text fault) }
+{
+    match fault {
+        NodeFault::Wire(fault) => wire_fault_text(alloc, fault),
+        NodeFault::WrongNodeKind(place) => format!(in alloc; "WrongNodeKind {place}"),
+        NodeFault::LastBlank => String::from_str(alloc, "LastBlank"),
+        NodeFault::EmptyTree => String::from_str(alloc, "EmptyTree"),
+        NodeFault::TooManyLeaves => String::from_str(alloc, "TooManyLeaves"),
+        NodeFault::OutOfMemory => String::from_str(alloc, "OutOfMemory"),
+    }
+}
+
+/// What fails first of a tree, by number, name and place.
+pub(crate) fn tree_fault_text(alloc: Global, fault: TreeFault) -> Result<String, AllocError>
+    ensures { IfOk result (λ text. string_bytes text ≡ texts.tree_fault_text fault) }
+{
+    match fault {
+        TreeFault::HashDiffers => String::from_str(alloc, "1 HashDiffers"),
+        TreeFault::UnmergedUnsorted(place) => format!(in alloc; "2 UnmergedUnsorted {place}"),
+        TreeFault::UnmergedUnsound(place) => format!(in alloc; "3 UnmergedUnsound {place}"),
+        TreeFault::KeyRepeated(place) => format!(in alloc; "4 KeyRepeated {place}"),
+        TreeFault::ParentHashInvalid(place) => format!(in alloc; "5 ParentHashInvalid {place}"),
+        TreeFault::OutOfMemory => String::from_str(alloc, "OutOfMemory"),
+    }
+}
+
+/// What fails first of the members, by number, name and leaf.
+pub(crate) fn member_fault_text(alloc: Global, fault: MemberFault) -> Result<String, AllocError>
+    ensures { IfOk result (λ text. string_bytes text ≡ texts.member_fault_text fault) }
+{
+    match fault {
+        MemberFault::ExtensionUnlisted(leaf) => format!(in alloc; "1 ExtensionUnlisted {leaf}"),
+        MemberFault::RequirementUnmet(leaf) => format!(in alloc; "2 RequirementUnmet {leaf}"),
+        MemberFault::CredentialUnsupported(leaf) => {
+            format!(in alloc; "3 CredentialUnsupported {leaf}")
+        }
+        MemberFault::SignatureKeyRepeated(leaf) => {
+            format!(in alloc; "4 SignatureKeyRepeated {leaf}")
+        }
+        MemberFault::LeafSignature(leaf) => format!(in alloc; "5 LeafSignature {leaf}"),
+        MemberFault::OutOfMemory => String::from_str(alloc, "OutOfMemory"),
+    }
+}
+
+/// The number of a fault of members; 0 for want of memory.
+pub(crate) fn member_number(fault: MemberFault) -> u8
+    ensures { result ≡ texts.member_number fault }
+{
+    match fault {
+        MemberFault::ExtensionUnlisted(_) => 1,
+        MemberFault::RequirementUnmet(_) => 2,
+        MemberFault::CredentialUnsupported(_) => 3,
+        MemberFault::SignatureKeyRepeated(_) => 4,
+        MemberFault::LeafSignature(_) => 5,
+        MemberFault::OutOfMemory => 0,
+    }
+}
+
+/// Why no follower starts because of its tree.
+fn start_tree_text(alloc: Global, fault: TreeFault) -> Result<String, AllocError>
+    ensures { IfOk result
+        (λ text. string_bytes text ≡ codes "5 Tree " ++ texts.tree_fault_text fault) }
+{
+    let fault = tree_fault_text(alloc, fault)?;
+    format!(in alloc; "5 Tree {fault}")
+}
+
+/// Why no follower starts because of its members.
+fn start_member_text(alloc: Global, fault: MemberFault) -> Result<String, AllocError>
+    ensures { IfOk result
+        (λ text. string_bytes text ≡ codes "6 Member " ++ texts.member_fault_text fault) }
+{
+    let fault = member_fault_text(alloc, fault)?;
+    format!(in alloc; "6 Member {fault}")
+}
+
+/// Why no follower starts, by number and name.
+pub(crate) fn start_fault_text(alloc: Global, fault: StartFault) -> Result<String, AllocError>
+    ensures { IfOk result (λ text. string_bytes text ≡ texts.start_fault_text fault) }
+{
+    match fault {
+        StartFault::UnsupportedVersion => String::from_str(alloc, "1 UnsupportedVersion"),
+        StartFault::UnsupportedSuite => String::from_str(alloc, "2 UnsupportedSuite"),
+        StartFault::NoTree => String::from_str(alloc, "3 NoTree"),
+        StartFault::RequirementsUnreadable => {
+            String::from_str(alloc, "4 RequirementsUnreadable")
+        }
+        StartFault::Tree(fault) => start_tree_text(alloc, fault),
+        StartFault::Member(fault) => start_member_text(alloc, fault),
+        StartFault::SignerNotMember => String::from_str(alloc, "7 SignerNotMember"),
+        StartFault::InfoSignature => String::from_str(alloc, "8 InfoSignature"),
+        StartFault::OutOfMemory => String::from_str(alloc, "OutOfMemory"),
+    }
+}

@@ -1,0 +1,20 @@
+//! Laws about the definitions of the reports, which no call of a caller's needs to run.
+
+ghost use Rattle.mls_report.specs.OneReport.{OneTreeFinding, OneStartFinding, OneStart, OneLog, OneReplay};
+
+/// What is found of a context and a tree, and of a group info and a tree, is one function of their bytes and of what the
+/// checker of signatures means, but for which fault is named of an input that can't be read; and so is the state in which
+/// a follower starts.
+pub fn findings_are_determined()
+    ensures tree { OneTreeFinding }
+    ensures start { OneStartFinding }
+    ensures state { OneStart }
+{}
+
+/// The report of a replay is one function of the bytes of its inputs and of what the checker of signatures means, in
+/// whatever pieces they come: which messages a log has, what is answered to each, and whether it is broken; and with them
+/// all that is written, and the verdict.
+pub fn replays_are_determined()
+    ensures log { OneLog }
+    ensures report { OneReplay }
+{}

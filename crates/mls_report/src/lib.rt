@@ -1,0 +1,33 @@
+//! The reports of the program `mlscheck`: what a file shows, whether a tree and a group are in order, and how a group is
+//! followed through a log. Each is written to a sink, and ends with a verdict or with the fault that broke it off.
+#![tactic(auto)]
+
+mod fault_text;
+mod finding;
+mod info_text;
+pub mod laws;
+mod message_text;
+mod opening;
+mod outcome;
+mod pieces;
+mod read;
+mod receipts;
+mod replay;
+mod replay_text;
+mod report;
+mod show;
+mod text;
+mod tree_text;
+mod validate;
+mod validate_tree;
+mod write;
+
+pub use outcome::{RunFault, Verdict, status_of};
+pub use read::read_all;
+pub use receipts::run_unreadable_receipts;
+pub use replay::run_replay;
+pub use report::Report;
+pub use show::{ShowKind, run_show};
+pub use validate::run_validate;
+pub use validate_tree::run_validate_tree;
+pub use write::{write_bytes, write_text};

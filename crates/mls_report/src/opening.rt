@@ -1,0 +1,119 @@
+//! How `validate` and `replay` begin: the group info and the tree are read, and a follower starts from
+//! them.
+
+ghost use Rattle.std.specs.Prelude.{◌≡◌, ◌≢◌, ◌↔◌, List, ℕ, Option, false, true, Err, IfOk, IfErr, option_map};
+ghost use Rattle.mls_report.specs.Starting.{IsInfo, IsHanded, IsHandedUnread, IsReadAs, ReadsHanded, has_failed};
+ghost use Rattle.mls_report.specs.StartingSteps.{Says, IsUnread};
+
+use crate::finding::Finding;
+use crate::outcome::RunFault;
+use crate::read::read_all;
+use mls_follow::StartFault;
+use mls_msgs::{GroupInfo, Message, decode_message};
+use mls_nodes::NodeFault;
+use mls_tree::PublicTree;
+use mls_wire::{CodecFault, Source};
+use std::alloc::Global;
+
+/// Why no follower starts.
+#[derive(Clone, Copy)]
+pub(crate) enum NoStart {
+    /// This is found of the inputs.
+    Found(Finding),
+    /// This came between.
+    Fault(RunFault),
+}
+
+/// Reads a source that is handed in to its end, where one is.
+pub(crate) fn read_handed<T: Source>(
+    alloc: Global,
+    source: &mut Option<T>,
+) -> Result<Option<Vec<u8>>, RunFault>
+    requires { has_failed (option_map T.is_failed source.old) ≡ false }
+    ensures all { IfOk result
+        (λ bytes. ReadsHanded (option_map T.left source.old) (option_map T.left source.new)
+        (option_map (λ v. v.items) bytes)) }
+    ensures read { (result ≡ Err RunFault.Read)
+        ↔ (has_failed (option_map T.is_failed source.new) ≡ true) }
+    ensures fault { IfErr result (λ e. e ≢ RunFault.Write) }
+{
+    match source {
+        Some(source) => Ok(Some(read_all(alloc, source)?)),
+        None => Ok(None),
+    }
+}
+
+/// The group info that the bytes of an input spell.
+fn read_info(alloc: Global, bytes: &[u8]) -> Result<GroupInfo, NoStart>
+    ensures info { IfOk result (IsInfo bytes.now) }
+    ensures unread { (tree_bytes : Option (List ℕ))
+        → IfErr result (Says (IsUnread bytes.now tree_bytes)) }
+{
+    match decode_message(alloc, bytes) {
+        Ok(Message::GroupInfo(info)) => Ok(info),
+        Ok(other) => {
+            drop(other);
+            Err(NoStart::Found(Finding::NotGroupInfo))
+        }
+        Err(CodecFault::OutOfMemory) => Err(NoStart::Fault(RunFault::Memory)),
+        Err(CodecFault::Wire(fault)) => Err(NoStart::Found(Finding::InfoUnreadable(fault))),
+    }
+}
+
+/// The tree that is handed in, where one is.
+fn read_tree(alloc: Global, bytes: &Option<Vec<u8>>) -> Result<Option<PublicTree>, NodeFault>
+    ensures tree { IfOk result (IsHanded (option_map (λ v. v.items) bytes.now)) }
+    ensures unread { IfErr result (λ fault. fault ≢ NodeFault.OutOfMemory
+        → IsHandedUnread (option_map (λ v. v.items) bytes.now)) }
+{
+    match bytes {
+        Some(bytes) => Ok(Some(PublicTree::decode(alloc, bytes.as_slice())?)),
+        None => Ok(None),
+    }
+}
+
+/// What is read of the inputs.
+#[derive(Drop)]
+pub(crate) struct Inputs {
+    /// The group info.
+    pub(crate) info: GroupInfo,
+    /// The tree, where one is handed in.
+    pub(crate) tree: Option<PublicTree>,
+}
+
+/// What the bytes of a group info spell, and those of a tree where one is handed in. The bytes are dropped.
+pub(crate) fn read_inputs(
+    alloc: Global,
+    info_bytes: Vec<u8>,
+    tree_bytes: Option<Vec<u8>>,
+) -> Result<Inputs, NoStart>
+    ensures read { IfOk result
+        (λ inputs. IsReadAs info_bytes.items (option_map (λ v. v.items) tree_bytes)
+        inputs.info inputs.tree) }
+    ensures unread { IfErr result
+        (Says (IsUnread info_bytes.items (option_map (λ v. v.items) tree_bytes))) }
+{
+    let info = read_info(alloc, info_bytes.as_slice())?;
+    match read_tree(alloc, &tree_bytes) {
+        Ok(tree) => Ok(Inputs { info, tree }),
+        Err(fault) => {
+            drop(info);
+            match fault {
+                NodeFault::OutOfMemory => Err(NoStart::Fault(RunFault::Memory)),
+                _ => Err(NoStart::Found(Finding::TreeUnreadable(fault))),
+            }
+        }
+    }
+}
+
+/// What is found of inputs from which no follower starts, for this fault.
+pub(crate) fn refused_start(fault: StartFault) -> Result<Finding, RunFault>
+    ensures found { IfOk result
+        (λ finding. (fault ≢ StartFault.OutOfMemory) × (finding ≡ Finding.StartRefused fault)) }
+    ensures memory { IfErr result (λ e. e ≡ RunFault.Memory) }
+{
+    match fault {
+        StartFault::OutOfMemory => Err(RunFault::Memory),
+        _ => Ok(Finding::StartRefused(fault)),
+    }
+}

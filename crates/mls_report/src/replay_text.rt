@@ -1,0 +1,132 @@
+//! The lines of `replay`.
+
+ghost use Rattle.std.specs.Prelude.{◌≡◌, ◌++◌, ◌+◌, ◌≤◌, codes, IfOk, string_bytes};
+ghost use Rattle.std.specs.Fmt.{decimal};
+ghost use Rattle.mls_follow.specs.Seen.{state_of};
+ghost use Rattle.mls_report.specs.Replay as lines;
+ghost use Rattle.mls_report.specs.Texts.{hex_text};
+
+use crate::fault_text::member_number;
+use crate::text::hex_of;
+use mls_follow::{Follower, Refusal, Taken};
+use mls_nodes::GroupContext;
+use mls_tree::HashValue;
+use std::alloc::{AllocError, Global};
+
+/// What is told of a refusal.
+fn refusal_text(alloc: Global, refusal: &Refusal) -> Result<String, AllocError>
+    ensures { IfOk result (λ text. string_bytes text ≡ lines.refusal_text refusal.now) }
+{
+    match refusal {
+        Refusal::Member(fault) => {
+            let number = member_number(*fault);
+            format!(in alloc; "25 {number}")
+        }
+        _ => {
+            let number = refusal.number();
+            format!(in alloc; "{number}")
+        }
+    }
+}
+
+/// What is told of a refused message.
+fn refused_text(alloc: Global, refusal: &Refusal) -> Result<String, AllocError>
+    ensures { IfOk result
+        (λ text. string_bytes text ≡ codes " refused " ++ lines.refusal_text refusal.now) }
+{
+    let refusal = refusal_text(alloc, refusal)?;
+    format!(in alloc; " refused {refusal}")
+}
+
+/// What is told of a proposal.
+fn proposal_text(alloc: Global, reference: &HashValue) -> Result<String, AllocError>
+    ensures { IfOk result
+        (λ text. string_bytes text ≡ codes " accepted proposal " ++ hex_text reference.now) }
+{
+    let reference = hex_of(alloc, reference.as_slice())?;
+    format!(in alloc; " accepted proposal {reference}")
+}
+
+/// What is told of a commit that began an epoch.
+fn commit_text(alloc: Global, epoch: u64, context: &GroupContext) -> Result<String, AllocError>
+    ensures { IfOk result
+        (λ text. string_bytes text ≡ codes " accepted commit " ++ (decimal epoch
+        ++ (codes " " ++ (hex_text context.now.tree_hash
+        ++ (codes " " ++ hex_text context.now.confirmed))))) }
+{
+    let tree_hash = hex_of(alloc, context.tree_hash.as_slice())?;
+    let confirmed = hex_of(alloc, context.confirmed.as_slice())?;
+    format!(in alloc; " accepted commit {epoch} {tree_hash} {confirmed}")
+}
+
+/// What is told of an answer.
+fn answer_text(
+    alloc: Global,
+    answer: &Result<Taken, Refusal>,
+    follower: &Follower,
+) -> Result<String, AllocError>
+    ensures { IfOk result
+        (λ text. string_bytes text ≡ lines.answer_text answer.now (state_of follower.now)) }
+{
+    match answer {
+        Ok(Taken::Proposal(reference)) => proposal_text(alloc, reference),
+        Ok(Taken::Commit(epoch)) => commit_text(alloc, *epoch, follower.context()),
+        Err(refusal) => refused_text(alloc, refusal),
+    }
+}
+
+/// The line of message n.
+pub(crate) fn turn_line(
+    alloc: Global,
+    n: u32,
+    answer: &Result<Taken, Refusal>,
+    follower: &Follower,
+) -> Result<String, AllocError>
+    ensures { IfOk result
+        (λ text. string_bytes text
+        ≡ decimal n ++ (lines.answer_text answer.now (state_of follower.now) ++ codes "\n")) }
+{
+    let answer = answer_text(alloc, answer, follower)?;
+    format!(in alloc; "{n}{answer}\n")
+}
+
+/// The line of the counts.
+fn counts_line(
+    alloc: Global,
+    accepted: u32,
+    refused: u32,
+    broken: u32,
+    epoch: u64,
+) -> Result<String, AllocError>
+    ensures { IfOk result
+        (λ text. string_bytes text ≡ lines.counts_line accepted refused broken epoch) }
+{
+    format!(in alloc; "accepted {accepted} refused {refused} broken {broken} epoch {epoch}\n")
+}
+
+/// The line of message n, which is broken, before other lines.
+fn broken_line(alloc: Global, n: u32, counts: &str) -> Result<String, AllocError>
+    ensures { IfOk result
+        (λ text. string_bytes text ≡ decimal n ++ (codes " broken\n" ++ counts.now)) }
+{
+    format!(in alloc; "{n} broken\n{counts}")
+}
+
+/// The last lines, behind so many accepted and refused messages.
+pub(crate) fn last_lines(
+    alloc: Global,
+    is_broken: bool,
+    accepted: u32,
+    refused: u32,
+    epoch: u64,
+) -> Result<String, AllocError>
+    requires { accepted + refused ≤ lines.message_limit }
+    ensures { IfOk result
+        (λ text. string_bytes text ≡ lines.last_lines is_broken accepted refused epoch) }
+{
+    if !is_broken {
+        return counts_line(alloc, accepted, refused, 0, epoch);
+    }
+    let counts = counts_line(alloc, accepted, refused, 1, epoch)?;
+    broken_line(alloc, accepted + refused + 1, counts.as_str())
+}

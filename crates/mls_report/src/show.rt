@@ -1,0 +1,168 @@
+//! The report `show`: what an input holds, in lines of text.
+
+ghost use Rattle.std.specs.Prelude.{◌≡◌, ◌≢◌, ◌↔◌, false, true, [], Err, IfOk, OnErr, IfErr};
+ghost use Rattle.std.specs.Io.KnownBytes.{Appends};
+ghost use Rattle.mls_report.specs.Show.{InfoReport, IsShowReport, IsUnreadable, Shows, ShowsPart};
+
+use crate::fault_text::{node_fault_text, wire_fault_text};
+use crate::info_text::info_text;
+use crate::message_text::message_line;
+use crate::outcome::{RunFault, Verdict};
+use crate::read::read_all;
+use crate::report::{Report, unreadable_report};
+use crate::tree_text::tree_text;
+use crate::write::write_bytes;
+use mls_msgs::{Message, decode_message};
+use mls_nodes::NodeFault;
+use mls_tree::PublicTree;
+use mls_wire::{CodecFault, Sink, Source};
+use std::alloc::{AllocError, Global};
+
+/// What an input is to be shown as.
+#[derive(Clone, Copy, Debug, PartialEq, Eq)]
+pub enum ShowKind {
+    /// A ratchet tree (RFC 9420, 12.4.3.3).
+    Tree,
+    /// A group info (RFC 9420, 12.4.3), as a message.
+    Info,
+    /// A message (RFC 9420, 6).
+    Message,
+}
+
+/// The report of bytes that spell no tree.
+#[tactic(auto, using(crate::proofs::Lines::node_fault_is_one_line))]
+fn no_tree_report(alloc: Global, fault: NodeFault) -> Result<Report, RunFault>
+    ensures report { IfOk result
+        (λ r. (fault ≢ NodeFault.OutOfMemory) × IsUnreadable r.bytes.items r.verdict) }
+    ensures memory { IfErr result (λ e. e ≡ RunFault.Memory) }
+{
+    match fault {
+        NodeFault::OutOfMemory => Err(RunFault::Memory),
+        _ => {
+            let fault = node_fault_text(alloc, fault)?;
+            Ok(unreadable_report(alloc, fault.as_str())?)
+        }
+    }
+}
+
+/// The report of the bytes of a tree, which are dropped once it is read.
+fn tree_report(alloc: Global, bytes: Vec<u8>) -> Result<Report, RunFault>
+    ensures report { IfOk result
+        (λ r. IsShowReport ShowKind.Tree bytes.items r.bytes.items r.verdict) }
+    ensures memory { IfErr result (λ e. e ≡ RunFault.Memory) }
+{
+    let tree = PublicTree::decode(alloc, bytes.as_slice());
+    drop(bytes);
+    match tree {
+        Ok(tree) => Ok(Report {
+            bytes: tree_text(alloc, &tree)?,
+            verdict: Verdict::Yes,
+        }),
+        Err(fault) => no_tree_report(alloc, fault),
+    }
+}
+
+/// The report of bytes that spell no message.
+#[tactic(auto, using(crate::proofs::Lines::wire_fault_is_one_line))]
+fn no_message_report(alloc: Global, fault: CodecFault) -> Result<Report, RunFault>
+    ensures report { IfOk result
+        (λ r. (fault ≢ CodecFault.OutOfMemory) × IsUnreadable r.bytes.items r.verdict) }
+    ensures memory { IfErr result (λ e. e ≡ RunFault.Memory) }
+{
+    match fault {
+        CodecFault::OutOfMemory => Err(RunFault::Memory),
+        CodecFault::Wire(fault) => {
+            let fault = wire_fault_text(alloc, fault)?;
+            Ok(unreadable_report(alloc, fault.as_str())?)
+        }
+    }
+}
+
+/// The report of a message that is to be a group info.
+fn read_info_report(alloc: Global, message: &Message) -> Result<Report, AllocError>
+    ensures { IfOk result (λ r. InfoReport message.now r.bytes.items r.verdict) }
+{
+    match message {
+        Message::GroupInfo(info) => Ok(Report::of_text(info_text(alloc, info)?, Verdict::Yes)),
+        _ => Ok(Report {
+            bytes: Vec::from_slice(alloc, b"unreadable NotGroupInfo\n")?,
+            verdict: Verdict::No,
+        }),
+    }
+}
+
+/// The report of the bytes of a group info.
+fn info_report(alloc: Global, bytes: &[u8]) -> Result<Report, RunFault>
+    ensures report { IfOk result
+        (λ r. IsShowReport ShowKind.Info bytes.now r.bytes.items r.verdict) }
+    ensures memory { IfErr result (λ e. e ≡ RunFault.Memory) }
+{
+    match decode_message(alloc, bytes) {
+        Ok(message) => {
+            let report = read_info_report(alloc, &message);
+            drop(message);
+            Ok(report?)
+        }
+        Err(fault) => no_message_report(alloc, fault),
+    }
+}
+
+/// The report of the bytes of a message.
+fn message_report(alloc: Global, bytes: &[u8]) -> Result<Report, RunFault>
+    ensures report { IfOk result
+        (λ r. IsShowReport ShowKind.Message bytes.now r.bytes.items r.verdict) }
+    ensures memory { IfErr result (λ e. e ≡ RunFault.Memory) }
+{
+    match decode_message(alloc, bytes) {
+        Ok(message) => {
+            let line = message_line(alloc, &message);
+            drop(message);
+            Ok(Report::of_text(line?, Verdict::Yes))
+        }
+        Err(fault) => no_message_report(alloc, fault),
+    }
+}
+
+/// The report of an input's bytes.
+fn show_report(alloc: Global, kind: ShowKind, bytes: Vec<u8>) -> Result<Report, RunFault>
+    ensures report { IfOk result
+        (λ r. IsShowReport kind bytes.items r.bytes.items r.verdict) }
+    ensures memory { IfErr result (λ e. e ≡ RunFault.Memory) }
+{
+    match kind {
+        ShowKind::Tree => tree_report(alloc, bytes),
+        ShowKind::Info => info_report(alloc, bytes.as_slice()),
+        ShowKind::Message => message_report(alloc, bytes.as_slice()),
+    }
+}
+
+/// Reads the input to its end, and then writes what it holds, `Yes`: for a tree a line for each node of
+/// the full tree and one with the counts of leaves and members; for a group info nine lines; for a
+/// message one. For an input that is none of its kind, or longer than [`mls_wire::MAX_INPUT`], it writes
+/// one line that begins with `unreadable`, `No`.
+///
+/// `Read` comes where the input fails, and `Write` where the output does; then a prefix of the report
+/// may be written already. Want of memory comes before anything is written.
+pub fn run_show<S: Source, K: Sink>(
+    alloc: Global,
+    kind: ShowKind,
+    input: &mut S,
+    out: &mut K,
+) -> Result<Verdict, RunFault>
+    requires input { S.is_failed input.old ≡ false }
+    requires out { K.is_failed out.old ≡ false }
+    ensures shown { IfOk result
+        (Shows kind (S.left input.old) (S.left input.new) (K.written out.old) (K.written out.new)) }
+    ensures part { OnErr result
+        (ShowsPart kind (S.left input.old) (S.left input.new) (K.written out.old)
+        (K.written out.new)) }
+    ensures memory { result ≡ Err RunFault.Memory
+        → Appends (K.written out.old) (K.written out.new) [] }
+    ensures read { (result ≡ Err RunFault.Read) ↔ (S.is_failed input.new ≡ true) }
+    ensures write { (result ≡ Err RunFault.Write) ↔ (K.is_failed out.new ≡ true) }
+{
+    let bytes = read_all(alloc, input)?;
+    let report = show_report(alloc, kind, bytes)?;
+    write_bytes(out, report.bytes.as_slice())?;
+    Ok(report.verdict)
+}

@@ -1,0 +1,32 @@
+//! Bytes and numbers as they stand in a report.
+
+ghost use Rattle.std.specs.Prelude.{◌≡◌, IfOk, string_bytes};
+ghost use Rattle.mls_report.specs.Texts.{hex_text, numbers_text};
+
+use std::alloc::{AllocError, Global};
+
+/// Bytes in lower-case hexadecimal, or `-` where there are none.
+pub(crate) fn hex_of(alloc: Global, bytes: &[u8]) -> Result<String, AllocError>
+    ensures { IfOk result (λ text. string_bytes text ≡ hex_text bytes.now) }
+{
+    if bytes.is_empty() {
+        String::from_str(alloc, "-")
+    } else {
+        hex::encode(alloc, bytes)
+    }
+}
+
+/// Numbers in decimal, joined by commas, or `-` where there are none.
+pub(crate) fn numbers_of(alloc: Global, numbers: &[u32]) -> Result<String, AllocError>
+    ensures { IfOk result (λ text. string_bytes text ≡ numbers_text numbers.now) }
+{
+    let Some((first, others)) = numbers.split_first() else {
+        return String::from_str(alloc, "-");
+    };
+    let mut text = format!(in alloc; "{first}")?;
+    for number in others {
+        let item = format!(in alloc; ",{number}")?;
+        text.push_str(item.as_str())?;
+    }
+    Ok(text)
+}

@@ -1,0 +1,102 @@
+//! The report `validate`: whether a follower starts from a group info, and in which state.
+
+ghost use Rattle.std.specs.Prelude.{◌≡◌, ◌≤◌, ◌↔◌, ◌⊎◌, List, ℕ, Option, false, true, [], length, Err, IfOk, IfErr, OnErr, option_map};
+ghost use Rattle.std.specs.Io.KnownBytes.{Appends};
+ghost use Rattle.mls_follow.specs.Seen.{state_of};
+ghost use Rattle.mls_report.specs.Starting.{IsReadAs, IsStartFinding, has_failed, started_of};
+ghost use Rattle.mls_report.specs.Validate.{Validates, ValidatesPart};
+
+use crate::finding::{Finding, Started, tell, tree_hash_of};
+use crate::opening::{Inputs, NoStart, read_handed, read_inputs, refused_start};
+use crate::outcome::{RunFault, Verdict};
+use crate::read::read_all;
+use mls_check::SignatureCheck;
+use mls_follow::Follower;
+use mls_wire::{Sink, Source};
+use std::alloc::Global;
+
+/// What is told of a follower that has just started.
+fn started(follower: &Follower) -> Started
+    requires { length (state_of follower.now).context.tree_hash ≤ 64 }
+    ensures { result ≡ started_of (state_of follower.now) }
+{
+    Started {
+        epoch: follower.context().epoch,
+        members: follower.tree().member_count(),
+        tree_hash: tree_hash_of(follower.context()),
+    }
+}
+
+/// What is found of a group info and a tree that can be read.
+#[tactic(auto, using(crate::proofs::Hashes::length_started))]
+fn judge_inputs(
+    alloc: Global,
+    inputs: Inputs,
+    checker: Box<dyn SignatureCheck>,
+) -> Result<Finding, RunFault>
+    ensures found { (info_bytes : List ℕ) (tree_bytes : Option (List ℕ))
+        → IsReadAs info_bytes tree_bytes inputs.info inputs.tree
+        → IfOk result (IsStartFinding (meaning checker) info_bytes tree_bytes) }
+    ensures memory { IfErr result (λ e. e ≡ RunFault.Memory) }
+{
+    match Follower::start(alloc, inputs.info, inputs.tree, checker) {
+        Ok(follower) => Ok(Finding::Starts(started(&follower))),
+        Err(refused) => refused_start(refused.fault),
+    }
+}
+
+/// What is found of the bytes of a group info, and of a tree where one is handed in.
+fn judge_bytes(
+    alloc: Global,
+    info_bytes: Vec<u8>,
+    tree_bytes: Option<Vec<u8>>,
+    checker: Box<dyn SignatureCheck>,
+) -> Result<Finding, RunFault>
+    ensures found { IfOk result
+        (IsStartFinding (meaning checker) info_bytes.items
+        (option_map (λ v. v.items) tree_bytes)) }
+    ensures memory { IfErr result (λ e. e ≡ RunFault.Memory) }
+{
+    match read_inputs(alloc, info_bytes, tree_bytes) {
+        Ok(inputs) => judge_inputs(alloc, inputs, checker),
+        Err(NoStart::Found(finding)) => Ok(finding),
+        Err(NoStart::Fault(fault)) => Err(fault),
+    }
+}
+
+/// Reads the group info to its end, then the tree, where one is handed in, and then writes one line: the
+/// epoch, the members and the tree's hash of the follower that starts from them, `Yes`; or the first cause
+/// for which none does, `No`: the group info can't be read, or the tree; or which condition of a start
+/// fails first.
+///
+/// `Read` comes where an input fails, and `Write` where the output does; then a prefix of the report may
+/// be written already. Want of memory comes before anything is written.
+pub fn run_validate<I: Source, T: Source, K: Sink>(
+    alloc: Global,
+    info: &mut I,
+    tree: &mut Option<T>,
+    checker: Box<dyn SignatureCheck>,
+    out: &mut K,
+) -> Result<Verdict, RunFault>
+    requires info { I.is_failed info.old ≡ false }
+    requires tree { has_failed (option_map T.is_failed tree.old) ≡ false }
+    requires out { K.is_failed out.old ≡ false }
+    ensures validated { IfOk result
+        (Validates (meaning checker) (I.left info.old) (I.left info.new)
+        (option_map T.left tree.old) (option_map T.left tree.new)
+        (K.written out.old) (K.written out.new)) }
+    ensures part { OnErr result
+        (ValidatesPart (meaning checker) (I.left info.old) (I.left info.new)
+        (option_map T.left tree.old) (option_map T.left tree.new)
+        (K.written out.old) (K.written out.new)) }
+    ensures memory { result ≡ Err RunFault.Memory
+        → Appends (K.written out.old) (K.written out.new) [] }
+    ensures read { (result ≡ Err RunFault.Read)
+        ↔ ((I.is_failed info.new ≡ true) ⊎ (has_failed (option_map T.is_failed tree.new) ≡ true)) }
+    ensures write { (result ≡ Err RunFault.Write) ↔ (K.is_failed out.new ≡ true) }
+{
+    let info_bytes = read_all(alloc, info)?;
+    let tree_bytes = read_handed(alloc, tree)?;
+    let finding = judge_bytes(alloc, info_bytes, tree_bytes, checker)?;
+    tell(alloc, &finding, out)
+}

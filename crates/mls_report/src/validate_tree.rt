@@ -1,0 +1,179 @@
+//! The report `validate-tree`: whether a ratchet tree is that of a group context, and its leaves are members.
+
+ghost use Rattle.std.specs.Prelude.{◌≡◌, ◌↔◌, ◌⊎◌, List, ℕ, false, true, [], Err, IfOk, OnErr, IfErr};
+ghost use Rattle.std.specs.Io.KnownBytes.{Appends};
+ghost use Rattle.mls_hash.specs.Hashing.{hash_of};
+ghost use Rattle.mls_check.specs.Valid.{Valid};
+ghost use Rattle.mls_report.specs.ValidateTree.{IsContext, IsUsable, HasTree, IsReadable, HasValidTree, IsTreeFinding, ValidatesTree, ValidatesTreePart};
+
+use crate::finding::{Finding, tell, tree_hash_of};
+use crate::outcome::{RunFault, Verdict};
+use crate::read::read_all;
+use mls_check::{MemberFault, SignatureCheck, TreeFault, validate_members, validate_tree};
+use mls_hash::Suite;
+use mls_nodes::{GroupContext, NodeFault, RequiredCapabilities, decode_context, requirements};
+use mls_tree::PublicTree;
+use mls_wire::{CodecFault, Sink, Source};
+use std::alloc::Global;
+
+/// What is found of a valid tree.
+#[tactic(auto, using(crate::proofs::Hashes::length_valid))]
+fn judge_members(
+    alloc: Global,
+    context: &GroupContext,
+    required: &RequiredCapabilities,
+    tree: &PublicTree,
+    checker: &dyn SignatureCheck,
+) -> Result<Finding, RunFault>
+    requires { Valid (hash_of context.now.cipher_suite) context.now.tree_hash tree.now.tree }
+    ensures found { (context_bytes tree_bytes : List ℕ)
+        → HasValidTree context_bytes tree_bytes context.now tree.now required.now
+        → IfOk result (IsTreeFinding (meaning checker.now) context_bytes tree_bytes) }
+    ensures memory { IfErr result (λ e. e ≡ RunFault.Memory) }
+{
+    let suite = context.cipher_suite;
+    match validate_members(alloc, suite, &context.group_id, required, tree, checker) {
+        Ok(()) => Ok(Finding::TreeValid(tree_hash_of(context))),
+        Err(MemberFault::OutOfMemory) => Err(RunFault::Memory),
+        Err(fault) => Ok(Finding::MembersRefused(fault)),
+    }
+}
+
+/// What is found of a tree, where the group's requirements can be read.
+fn judge_tree(
+    alloc: Global,
+    suite: Suite,
+    context: &GroupContext,
+    required: &RequiredCapabilities,
+    tree: &PublicTree,
+    checker: &dyn SignatureCheck,
+) -> Result<Finding, RunFault>
+    requires { suite ≡ context.now.cipher_suite }
+    ensures found { (context_bytes tree_bytes : List ℕ)
+        → IsReadable context_bytes tree_bytes context.now tree.now required.now
+        → IfOk result (IsTreeFinding (meaning checker.now) context_bytes tree_bytes) }
+    ensures memory { IfErr result (λ e. e ≡ RunFault.Memory) }
+{
+    match validate_tree(alloc, suite, context, tree) {
+        Ok(()) => judge_members(alloc, context, required, tree, checker),
+        Err(TreeFault::OutOfMemory) => Err(RunFault::Memory),
+        Err(fault) => Ok(Finding::TreeRefused(fault)),
+    }
+}
+
+/// What is found of a context, where the tree can be read.
+fn judge_required(
+    alloc: Global,
+    suite: Suite,
+    context: &GroupContext,
+    tree: &PublicTree,
+    checker: &dyn SignatureCheck,
+) -> Result<Finding, RunFault>
+    requires { suite ≡ context.now.cipher_suite }
+    ensures found { (context_bytes tree_bytes : List ℕ)
+        → HasTree context_bytes tree_bytes context.now tree.now
+        → IfOk result (IsTreeFinding (meaning checker.now) context_bytes tree_bytes) }
+    ensures memory { IfErr result (λ e. e ≡ RunFault.Memory) }
+{
+    match requirements(alloc, context) {
+        Ok(required) => judge_tree(alloc, suite, context, &required, tree, checker),
+        Err(CodecFault::OutOfMemory) => Err(RunFault::Memory),
+        Err(CodecFault::Wire(_)) => Ok(Finding::RequirementsUnreadable),
+    }
+}
+
+/// What is found of the bytes of a tree, for a context that is followed. They are dropped once the tree is read.
+fn judge_tree_bytes(
+    alloc: Global,
+    suite: Suite,
+    context: &GroupContext,
+    tree_bytes: Vec<u8>,
+    checker: &dyn SignatureCheck,
+) -> Result<Finding, RunFault>
+    requires { suite ≡ context.now.cipher_suite }
+    ensures found { (context_bytes : List ℕ) → IsUsable context_bytes context.now
+        → IfOk result (IsTreeFinding (meaning checker.now) context_bytes tree_bytes.items) }
+    ensures memory { IfErr result (λ e. e ≡ RunFault.Memory) }
+{
+    let tree = PublicTree::decode(alloc, tree_bytes.as_slice());
+    drop(tree_bytes);
+    match tree {
+        Ok(tree) => judge_required(alloc, suite, context, &tree, checker),
+        Err(NodeFault::OutOfMemory) => Err(RunFault::Memory),
+        Err(fault) => Ok(Finding::TreeUnreadable(fault)),
+    }
+}
+
+/// What is found of a context, and of the bytes of a tree.
+fn judge_context(
+    alloc: Global,
+    context: &GroupContext,
+    tree_bytes: Vec<u8>,
+    checker: &dyn SignatureCheck,
+) -> Result<Finding, RunFault>
+    ensures found { (context_bytes : List ℕ) → IsContext context_bytes context.now
+        → IfOk result (IsTreeFinding (meaning checker.now) context_bytes tree_bytes.items) }
+    ensures memory { IfErr result (λ e. e ≡ RunFault.Memory) }
+{
+    if context.version != 1 {
+        return Ok(Finding::UnsupportedVersion);
+    }
+    match Suite::from_u16(context.cipher_suite) {
+        Ok(suite) => judge_tree_bytes(alloc, suite, context, tree_bytes, checker),
+        Err(_) => Ok(Finding::UnsupportedSuite),
+    }
+}
+
+/// What is found of the bytes of a context and of a tree.
+fn judge_bytes(
+    alloc: Global,
+    context_bytes: &[u8],
+    tree_bytes: Vec<u8>,
+    checker: &dyn SignatureCheck,
+) -> Result<Finding, RunFault>
+    ensures found { IfOk result
+        (IsTreeFinding (meaning checker.now) context_bytes.now tree_bytes.items) }
+    ensures memory { IfErr result (λ e. e ≡ RunFault.Memory) }
+{
+    match decode_context(alloc, context_bytes) {
+        Ok(context) => judge_context(alloc, &context, tree_bytes, checker),
+        Err(CodecFault::OutOfMemory) => Err(RunFault::Memory),
+        Err(CodecFault::Wire(fault)) => Ok(Finding::ContextUnreadable(fault)),
+    }
+}
+
+/// Reads the context and then the tree to their ends, and then writes one line, the first that applies:
+/// that the context can't be read, is of another version than 1 or of a cipher suite that isn't
+/// followed; that the tree can't be read; that the group's requirements can't be; which check of the
+/// tree fails first, and at which place; which rule of members does, and at which leaf; or that both are
+/// in order, with the tree's hash, which alone is `Yes`.
+///
+/// `Read` comes where an input fails, and `Write` where the output does; then a prefix of the report may
+/// be written already. Want of memory comes before anything is written.
+pub fn run_validate_tree<C: Source, T: Source, K: Sink>(
+    alloc: Global,
+    context: &mut C,
+    tree: &mut T,
+    checker: &dyn SignatureCheck,
+    out: &mut K,
+) -> Result<Verdict, RunFault>
+    requires context { C.is_failed context.old ≡ false }
+    requires tree { T.is_failed tree.old ≡ false }
+    requires out { K.is_failed out.old ≡ false }
+    ensures validated { IfOk result
+        (ValidatesTree (meaning checker.now) (C.left context.old) (C.left context.new)
+        (T.left tree.old) (T.left tree.new) (K.written out.old) (K.written out.new)) }
+    ensures part { OnErr result
+        (ValidatesTreePart (meaning checker.now) (C.left context.old) (C.left context.new)
+        (T.left tree.old) (T.left tree.new) (K.written out.old) (K.written out.new)) }
+    ensures memory { result ≡ Err RunFault.Memory
+        → Appends (K.written out.old) (K.written out.new) [] }
+    ensures read { (result ≡ Err RunFault.Read)
+        ↔ ((C.is_failed context.new ≡ true) ⊎ (T.is_failed tree.new ≡ true)) }
+    ensures write { (result ≡ Err RunFault.Write) ↔ (K.is_failed out.new ≡ true) }
+{
+    let context_bytes = read_all(alloc, context)?;
+    let tree_bytes = read_all(alloc, tree)?;
+    let finding = judge_bytes(alloc, context_bytes.as_slice(), tree_bytes, checker)?;
+    tell(alloc, &finding, out)
+}

@@ -1,0 +1,17 @@
+use Rattle.std.proofs.Common.{◌≡◌, ◌↔◌, ◌+◌, ◌*◌, length}
+use Rattle.serde_json.specs.View.{items_view}
+use Rattle.mls_tree.specs.Tree.{leaf_count}
+use Rattle.mls_vectors.specs.TreeValidation.{IsResolution}
+use Rattle.mls_vectors.specs.VectorFile.{AreEntries}
+use Rattle.mls_vectors.proofs.tree_validation.are_resolutions.Given as goal
+
+-- what is asked of all entries is asked of those that are left
+abbrev pub invariant-loop-entry : goal.invariant-loop-entry
+invariant-loop-entry l = record {
+  left : l.place + length l.rest + 1 ≡ 2 * leaf_count l.tree.tree;
+  same : AreEntries (IsResolution l.tree.tree) (leaf_count l.tree.tree) 0 (items_view l.entries)
+      ↔ AreEntries (IsResolution l.tree.tree) (leaf_count l.tree.tree) l.place (items_view l.rest);
+}
+
+abbrev pub decreases-loop-entry : goal.decreases-loop-entry
+decreases-loop-entry l = length l.rest

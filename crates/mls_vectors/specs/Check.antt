@@ -1,0 +1,138 @@
+-- The report `check`: a line for each vector of a file, and their counts.
+use Rattle.std.specs.Prelude.{ℕ, ◌+◌, ◌==◌, List, [], ◌∷◌, ◌++◌, codes, Option, if◌then◌else◌, length, ◌≤◌, ◌≡◌, ◌⊎◌, ◌↔◌}
+use Rattle.std.specs.Fmt.{decimal}
+use Rattle.std.specs.Io.KnownBytes.{Appends}
+use Rattle.serde_json.specs.Data.{Data, Items, no_items, item}
+use Rattle.mls_wire.specs.Devices.{AppendsPrefix}
+use Rattle.mls_wire.specs.Limits.{input_limit}
+use Rattle.mls_vectors.specs.Outcomes.{Outcome, pass, fail, skip}
+use Rattle.mls_report.specs.ReadAll.{ReadsAll}
+use Rattle.mls_vectors.specs.TreeMath.{IsTreeMath}
+use Rattle.mls_vectors.specs.TranscriptVectors.{IsTranscript}
+use Rattle.mls_vectors.specs.TreeOperations.{IsTreeOperation}
+use Rattle.mls_vectors.specs.TreeValidation.{IsOutcomeUnlessSkipped, IsTreeValidation}
+use Rattle.mls_vectors.specs.VectorFile.{HoldsVectors, HoldsNoVectors}
+use Rattle.mls_vectors.specs.declared.check.CheckKind.{CheckKind}
+use Rattle.mls_vectors.specs.declared.check.CheckKind.TheVariants as kind
+use Rattle.mls_report.specs.declared.outcome.Verdict.{Verdict}
+use Rattle.mls_report.specs.declared.outcome.Verdict.TheVariants.{Yes, No}
+
+-- the outcome of a vector of a kind
+abbrev pub IsOutcomeOf : CheckKind → Data → Outcome → Type 0
+IsOutcomeOf kind.TreeMath d o = IsTreeMath d o
+IsOutcomeOf kind.TreeValidation d o = IsOutcomeUnlessSkipped IsTreeValidation d o
+IsOutcomeOf kind.TreeOperations d o = IsOutcomeUnlessSkipped IsTreeOperation d o
+IsOutcomeOf kind.Transcript d o = IsOutcomeUnlessSkipped IsTranscript d o
+
+-- the outcomes of vectors, one for each
+abbrev pub AreOutcomes : CheckKind → Items → List Outcome → Type 0
+AreOutcomes k no_items [] = Unit {0}
+AreOutcomes k no_items (o ∷ os) = ⊥
+AreOutcomes k (item d ds) [] = ⊥
+AreOutcomes k (item d ds) (o ∷ os) = IsOutcomeOf k d o × AreOutcomes k ds os
+
+-- how an outcome is told
+abbrev pub outcome_text : Outcome → List ℕ
+outcome_text pass = codes " pass\n"
+outcome_text (fail name) = codes " fail " ++ (name ++ codes "\n")
+outcome_text skip = codes " skip\n"
+
+-- the lines of outcomes, the first of which has a number
+abbrev pub outcome_lines : ℕ → List Outcome → List ℕ
+outcome_lines n [] = []
+outcome_lines n (o ∷ os) = (decimal n ++ outcome_text o) ++ outcome_lines (n + 1) os
+
+-- how many vectors passed, failed, were skipped
+pub record Counts : Type 0 where
+  pub passed : ℕ
+  pub failed : ℕ
+  pub skipped : ℕ
+
+-- the counts with one more outcome
+abbrev pub counted : Outcome → Counts → Counts
+counted pass c = record c { passed = c.passed + 1 }
+counted (fail name) c = record c { failed = c.failed + 1 }
+counted skip c = record c { skipped = c.skipped + 1 }
+
+-- the counts after further outcomes
+abbrev pub counted_all : List Outcome → Counts → Counts
+counted_all [] c = c
+counted_all (o ∷ os) c = counted_all os (counted o c)
+
+-- the counts of outcomes
+abbrev pub counts : List Outcome → Counts
+counts outcomes = counted_all outcomes (record { passed = 0; failed = 0; skipped = 0 })
+
+-- the last line
+abbrev pub counts_line : Counts → List ℕ
+counts_line c =
+    codes "passed " ++ (decimal c.passed
+    ++ (codes " failed " ++ (decimal c.failed
+    ++ (codes " skipped " ++ (decimal c.skipped ++ codes "\n")))))
+
+-- the report of outcomes: their lines, and the last one; it says Yes where none failed
+pub record IsOutcomesReport (outcomes : List Outcome) (text : List ℕ) (verdict : Verdict)
+    : Type 0 where
+  pub text_is : text ≡ outcome_lines 1 outcomes ++ counts_line (counts outcomes)
+  pub verdict_is : verdict ≡ if (counts outcomes).failed == 0 then Yes else No
+
+-- the report of the outcomes of vectors
+pub record IsVectorsReport (k : CheckKind) (vectors : Items) (text : List ℕ) (verdict : Verdict)
+    : Type 0 where
+  pub outcomes : List Outcome
+  pub are_outcomes : AreOutcomes k vectors outcomes
+  pub report : IsOutcomesReport outcomes text verdict
+
+-- the report where no vectors can be read
+pub record IsNoVectorsReport (text : List ℕ) (verdict : Verdict) : Type 0 where
+  pub text_is : text ≡ codes "vectors unreadable\n"
+  pub verdict_is : verdict ≡ No
+
+-- the bytes hold vectors, and the report is theirs
+pub record IsReadReport (k : CheckKind) (bytes text : List ℕ) (verdict : Verdict) : Type 0 where
+  pub bounded : length bytes ≤ input_limit
+  pub vectors : Items
+  pub holds : HoldsVectors bytes vectors
+  pub report : IsVectorsReport k vectors text verdict
+
+-- the bytes hold no vectors, and the report says so
+pub record IsUnreadReport (bytes text : List ℕ) (verdict : Verdict) : Type 0 where
+  pub no_vectors : HoldsNoVectors bytes
+  pub report : IsNoVectorsReport text verdict
+
+-- the report of the bytes of a file of vectors of a kind, and its verdict
+abbrev pub IsCheckReport : CheckKind → List ℕ → List ℕ → Verdict → Type 0
+IsCheckReport k bytes text verdict =
+    IsUnreadReport bytes text verdict ⊎ IsReadReport k bytes text verdict
+
+-- the report is the line of a file without vectors just where no vectors can be read
+abbrev pub TellsUnreadable : Type 0
+TellsUnreadable =
+    (k : CheckKind) (bytes text : List ℕ) (verdict : Verdict)
+    → IsCheckReport k bytes text verdict
+    → ((text ≡ codes "vectors unreadable\n") ↔ HoldsNoVectors bytes)
+
+-- the input was read to its end, and the report of its bytes was written whole
+pub record Checks (k : CheckKind) (left0 left1 written0 written1 : Option (List ℕ))
+    (verdict : Verdict) : Type 0 where
+  pub bytes : List ℕ
+  pub text : List ℕ
+  pub read : ReadsAll left0 left1 bytes
+  pub report : IsCheckReport k bytes text verdict
+  pub wrote : Appends written0 written1 text
+
+-- the input was read to its end, and a prefix of the report of its bytes was written
+pub record ChecksPrefix (k : CheckKind)
+    (left0 left1 written0 written1 : Option (List ℕ)) : Type 0 where
+  pub bytes : List ℕ
+  pub text : List ℕ
+  pub verdict : Verdict
+  pub read : ReadsAll left0 left1 bytes
+  pub report : IsCheckReport k bytes text verdict
+  pub wrote : AppendsPrefix written0 written1 text
+
+-- nothing was written, or a prefix of the report of an input that had ended
+abbrev pub ChecksPart : CheckKind → Option (List ℕ) → Option (List ℕ) → Option (List ℕ)
+    → Option (List ℕ) → Type 0
+ChecksPart k left0 left1 written0 written1 =
+    Appends written0 written1 [] ⊎ ChecksPrefix k left0 left1 written0 written1

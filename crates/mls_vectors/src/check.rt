@@ -1,0 +1,194 @@
+//! The report `check`: which vectors of a file agree with this library.
+
+ghost use Rattle.std.specs.Prelude.{◌≡◌, ◌↔◌, false, true, [], Err, map, IfOk, OnErr, IfErr, option_map};
+ghost use Rattle.std.specs.Io.KnownBytes.{Appends};
+ghost use Rattle.serde_json.specs.View.{view, items_view};
+ghost use Rattle.mls_vectors.specs.Check.{AreOutcomes, Checks, ChecksPart, IsCheckReport, IsNoVectorsReport, IsOutcomeOf, IsOutcomesReport, IsVectorsReport};
+ghost use Rattle.mls_vectors.specs.CheckSeen.{outcome_of, IsValueReport};
+ghost use Rattle.mls_vectors.specs.VectorFile as vectors;
+ghost use Rattle.mls_vectors.specs.VectorFile.{vectors_of};
+
+use crate::lines::{count, counts_line, outcome_lines};
+use crate::outcome::Outcome;
+use crate::transcript::transcript_outcome;
+use crate::tree_math::tree_math_outcome;
+use crate::tree_operations::tree_operations_outcome;
+use crate::tree_validation::tree_validation_outcome;
+use mls_report::{Report, RunFault, Verdict, read_all, write_bytes};
+use mls_wire::{MAX_INPUT, Sink, Source};
+use serde_json::Value;
+use std::alloc::{AllocError, Global};
+
+/// What the vectors of a file check.
+#[derive(Clone, Copy, Debug, PartialEq, Eq)]
+pub enum CheckKind {
+    /// The places of the nodes of a tree (RFC 9420, 4.1.1 and Appendix C).
+    TreeMath,
+    /// A tree, with its resolutions and tree hashes, which has to be valid (RFC 9420, 4.1.1, 7.8 and 12.4.3.1).
+    TreeValidation,
+    /// A tree before and after one proposal (RFC 9420, 12.1 and 12.3).
+    TreeOperations,
+    /// The transcript hashes before and after a commit (RFC 9420, 8.2).
+    Transcript,
+}
+
+/// Whether each value is an object.
+fn are_objects(values: &[Value]) -> bool
+    ensures { result ≡ vectors.are_objects (items_view values.now) }
+{
+    let mut rest = values;
+    while let Some((value, tail)) = rest.split_first() {
+        if !value.is_object() {
+            return false;
+        }
+        rest = tail;
+    }
+    true
+}
+
+/// The vectors that a value holds: an array of objects.
+fn vectors_in(whole: &Value) -> Option<&Vec<Value>>
+    ensures { option_map (λ v. items_view v.now.items) result ≡ vectors_of (view whole.now) }
+{
+    let list = whole.as_array()?;
+    if are_objects(list.as_slice()) {
+        Some(list)
+    } else {
+        None
+    }
+}
+
+/// The outcome of a vector.
+fn outcome_by(alloc: Global, kind: CheckKind, vector: &Value) -> Result<Outcome, AllocError>
+    ensures { IfOk result (λ o. IsOutcomeOf kind (view vector.now) (outcome_of o)) }
+{
+    match kind {
+        CheckKind::TreeMath => Ok(tree_math_outcome(vector)),
+        CheckKind::TreeValidation => tree_validation_outcome(alloc, vector),
+        CheckKind::TreeOperations => tree_operations_outcome(alloc, vector),
+        CheckKind::Transcript => transcript_outcome(alloc, vector),
+    }
+}
+
+/// The outcomes of vectors.
+fn outcomes_by(
+    alloc: Global,
+    kind: CheckKind,
+    vectors: &[Value],
+) -> Result<Vec<Outcome>, AllocError>
+    ensures { IfOk result
+        (λ v. AreOutcomes kind (items_view vectors.now) (map outcome_of v.items)) }
+{
+    let mut outcomes = Vec::new(alloc);
+    let mut rest = vectors;
+    while let Some((vector, tail)) = rest.split_first() {
+        outcomes.push(outcome_by(alloc, kind, vector)?)?;
+        rest = tail;
+    }
+    Ok(outcomes)
+}
+
+/// The report of outcomes.
+fn outcomes_report(alloc: Global, outcomes: &[Outcome]) -> Result<Report, AllocError>
+    ensures { IfOk result
+        (λ r. IsOutcomesReport (map outcome_of outcomes.now) r.bytes.items r.verdict) }
+{
+    let mut text = outcome_lines(alloc, outcomes)?;
+    let counts = count(outcomes);
+    let last = counts_line(alloc, counts)?;
+    text.push_str(last.as_str())?;
+    let verdict = if counts.failed == 0 {
+        Verdict::Yes
+    } else {
+        Verdict::No
+    };
+    Ok(Report::of_text(text, verdict))
+}
+
+/// The report of a file without vectors that can be read.
+fn no_vectors_report(alloc: Global) -> Result<Report, AllocError>
+    ensures { IfOk result (λ r. IsNoVectorsReport r.bytes.items r.verdict) }
+{
+    Ok(Report {
+        bytes: Vec::from_slice(alloc, b"vectors unreadable\n")?,
+        verdict: Verdict::No,
+    })
+}
+
+/// The report of vectors.
+fn vectors_report(alloc: Global, kind: CheckKind, vectors: &[Value]) -> Result<Report, AllocError>
+    ensures { IfOk result (λ r.
+        IsVectorsReport kind (items_view vectors.now) r.bytes.items r.verdict) }
+{
+    let outcomes = outcomes_by(alloc, kind, vectors)?;
+    outcomes_report(alloc, outcomes.as_slice())
+}
+
+/// The report of a JSON text.
+fn whole_report(alloc: Global, kind: CheckKind, whole: &Value) -> Result<Report, AllocError>
+    ensures { IfOk result
+        (λ r. IsValueReport kind (view whole.now) r.bytes.items r.verdict) }
+{
+    match vectors_in(whole) {
+        Some(vectors) => vectors_report(alloc, kind, vectors.as_slice()),
+        None => no_vectors_report(alloc),
+    }
+}
+
+/// The report of the bytes of a file.
+fn check_report(alloc: Global, kind: CheckKind, bytes: &[u8]) -> Result<Report, RunFault>
+    ensures report { IfOk result
+        (λ r. IsCheckReport kind bytes.now r.bytes.items r.verdict) }
+    ensures memory { IfErr result (λ e. e ≡ RunFault.Memory) }
+{
+    if bytes.len() > MAX_INPUT {
+        return Ok(no_vectors_report(alloc)?);
+    }
+    match Value::from_slice(alloc, bytes) {
+        Ok(whole) => {
+            let report = whole_report(alloc, kind, &whole);
+            drop(whole);
+            Ok(report?)
+        }
+        Err(error) => {
+            if error.is_memory() {
+                Err(RunFault::Memory)
+            } else {
+                Ok(no_vectors_report(alloc)?)
+            }
+        }
+    }
+}
+
+/// Reads a file of test vectors to its end, a JSON array of objects, and then writes a line for each of
+/// them: `N pass`; `N fail` and the name of the first check that fails; or `N skip`, where its cipher suite
+/// is a whole number that is that of no suite that is followed. A last line has the counts of each, and is
+/// `Yes` where none failed. A member that is missing or of another JSON type than its check wants fails at
+/// its turn. Where the input is no such array, or longer than [`mls_wire::MAX_INPUT`], it writes the line
+/// `vectors unreadable`, `No`.
+///
+/// `Read` comes where the input fails, and `Write` where the output does; then a prefix of the report
+/// may be written already. Want of memory comes before anything is written.
+pub fn run_check<S: Source, K: Sink>(
+    alloc: Global,
+    kind: CheckKind,
+    input: &mut S,
+    out: &mut K,
+) -> Result<Verdict, RunFault>
+    requires input { S.is_failed input.old ≡ false }
+    requires out { K.is_failed out.old ≡ false }
+    ensures checked { IfOk result (Checks kind (S.left input.old) (S.left input.new)
+        (K.written out.old) (K.written out.new)) }
+    ensures part { OnErr result
+        (ChecksPart kind (S.left input.old) (S.left input.new) (K.written out.old)
+        (K.written out.new)) }
+    ensures memory { result ≡ Err RunFault.Memory
+        → Appends (K.written out.old) (K.written out.new) [] }
+    ensures read { (result ≡ Err RunFault.Read) ↔ (S.is_failed input.new ≡ true) }
+    ensures write { (result ≡ Err RunFault.Write) ↔ (K.is_failed out.new ≡ true) }
+{
+    let bytes = read_all(alloc, input)?;
+    let report = check_report(alloc, kind, bytes.as_slice())?;
+    write_bytes(out, report.bytes.as_slice())?;
+    Ok(report.verdict)
+}

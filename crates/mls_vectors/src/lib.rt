@@ -1,0 +1,16 @@
+//! The report `check`: which test vectors of a file agree with these libraries.
+#![tactic(auto)]
+
+mod check;
+pub mod laws;
+mod lines;
+mod members;
+mod outcome;
+mod suite;
+mod transcript;
+mod tree_math;
+mod tree_operations;
+mod tree_validation;
+mod trees;
+
+pub use check::{CheckKind, run_check};

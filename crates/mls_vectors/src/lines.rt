@@ -1,0 +1,103 @@
+//! The lines of the report `check`.
+
+ghost use Rattle.std.specs.Prelude.{◌≡◌, ◌++◌, ◌+◌, ◌<◌, IfOk, map, codes, string_bytes, length};
+ghost use Rattle.std.specs.Fmt.{decimal};
+ghost use Rattle.mls_vectors.specs.Check as lines;
+ghost use Rattle.mls_vectors.specs.CheckSeen.{outcome_of, counts_of};
+
+use crate::outcome::Outcome;
+use std::alloc::{AllocError, Global};
+
+/// How many vectors passed, failed and were skipped.
+#[derive(Clone, Copy, Debug, PartialEq, Eq)]
+pub(crate) struct Counts {
+    /// Those that passed.
+    passed: usize,
+    /// Those that failed.
+    pub(crate) failed: usize,
+    /// Those that were skipped.
+    skipped: usize,
+}
+
+/// The line of a vector, by its number.
+fn outcome_line(alloc: Global, number: usize, outcome: Outcome) -> Result<String, AllocError>
+    ensures { IfOk result
+        (λ text. string_bytes text ≡ decimal number ++ lines.outcome_text (outcome_of outcome)) }
+{
+    match outcome {
+        Outcome::Pass => format!(in alloc; "{number} pass\n"),
+        Outcome::Fail(name) => format!(in alloc; "{number} fail {name}\n"),
+        Outcome::Skip => format!(in alloc; "{number} skip\n"),
+    }
+}
+
+/// The lines of all vectors.
+pub(crate) fn outcome_lines(alloc: Global, outcomes: &[Outcome]) -> Result<String, AllocError>
+    ensures { IfOk result
+        (λ text. string_bytes text ≡ lines.outcome_lines 1 (map outcome_of outcomes.now)) }
+{
+    let mut text = String::new(alloc);
+    for (index, outcome) in outcomes.iter().enumerate() {
+        let line = outcome_line(alloc, index + 1, *outcome)?;
+        text.push_str(line.as_str())?;
+    }
+    Ok(text)
+}
+
+/// The counts with one more outcome.
+fn counted(counts: Counts, outcome: Outcome) -> Counts
+    requires { counts.passed + counts.failed + counts.skipped < 18446744073709551615 }
+    ensures counted { counts_of result ≡ lines.counted (outcome_of outcome) (counts_of counts) }
+    ensures one { result.passed + result.failed + result.skipped
+        ≡ counts.passed + counts.failed + counts.skipped + 1 }
+{
+    let Counts {
+        passed,
+        failed,
+        skipped,
+    } = counts;
+    match outcome {
+        Outcome::Pass => Counts {
+            passed: passed + 1,
+            failed,
+            skipped,
+        },
+        Outcome::Fail(_) => Counts {
+            passed,
+            failed: failed + 1,
+            skipped,
+        },
+        Outcome::Skip => Counts {
+            passed,
+            failed,
+            skipped: skipped + 1,
+        },
+    }
+}
+
+/// The counts of all outcomes.
+pub(crate) fn count(outcomes: &[Outcome]) -> Counts
+    ensures { counts_of result ≡ lines.counts (map outcome_of outcomes.now) }
+{
+    let mut counts = Counts {
+        passed: 0,
+        failed: 0,
+        skipped: 0,
+    };
+    for outcome in outcomes {
+        counts = counted(counts, *outcome);
+    }
+    counts
+}
+
+/// The last line.
+pub(crate) fn counts_line(alloc: Global, counts: Counts) -> Result<String, AllocError>
+    ensures { IfOk result (λ text. string_bytes text ≡ lines.counts_line (counts_of counts)) }
+{
+    let Counts {
+        passed,
+        failed,
+        skipped,
+    } = counts;
+    format!(in alloc; "passed {passed} failed {failed} skipped {skipped}\n")
+}

@@ -1,0 +1,162 @@
+//! Vectors of the kind `tree-math`: the places of the nodes of a tree (RFC 9420, 4.1.1 and Appendix C).
+
+ghost use Rattle.std.specs.Prelude.{◌≡◌, ◌↔◌, ◌≤◌, ◌<◌, ◌+◌, ◌*◌, IsTrue, IfSome, IfNone, length};
+ghost use Rattle.serde_json.specs.View.{view, items_view};
+ghost use Rattle.mls_nodes.specs.Limits.{leaf_limit};
+ghost use Rattle.mls_tree.specs.RatchetTree.{RatchetTree};
+ghost use Rattle.mls_tree.specs.Tree.{leaf_count};
+ghost use Rattle.mls_vectors.specs.CheckSeen.{outcome_of, relation, column_name};
+ghost use Rattle.mls_vectors.specs.Outcomes.{IsOutcome};
+ghost use Rattle.mls_vectors.specs.TreeMath.{HasSize, IsEntry, IsTreeMath, place_checks};
+ghost use Rattle.mls_vectors.specs.VectorFile.{AreEntries, HasEntries};
+
+use crate::members::{array_under, has_number, is_number, whole_under};
+use crate::outcome::Outcome;
+use mls_tree::{left, parent, right, root, sibling};
+use serde_json::Value;
+
+/// The most leaves that a tree has.
+const MAX_LEAVES: u64 = 1_048_576;
+
+/// Which place an array of a vector gives for each place.
+#[derive(Clone, Copy, Debug, PartialEq, Eq)]
+enum Column {
+    /// That of the left child.
+    Left,
+    /// That of the right child.
+    Right,
+    /// That of the parent.
+    Parent,
+    /// That of the sibling.
+    Sibling,
+}
+
+/// The name of the array.
+fn name_of(column: Column) -> &'static str
+    ensures { result.now ≡ column_name column }
+{
+    match column {
+        Column::Left => "left",
+        Column::Right => "right",
+        Column::Parent => "parent",
+        Column::Sibling => "sibling",
+    }
+}
+
+/// The place that the array gives for a place.
+fn place_of(column: Column, place: u32, leaves: u32) -> Option<u32>
+    ensures { (t : RatchetTree) → leaf_count t.tree ≡ leaves → relation column t.tree place result }
+{
+    match column {
+        Column::Left => left(place, leaves),
+        Column::Right => right(place, leaves),
+        Column::Parent => parent(place, leaves),
+        Column::Sibling => sibling(place, leaves),
+    }
+}
+
+/// Whether an entry is the one for a place.
+fn is_entry(column: Column, leaves: u32, place: u32, entry: &Value) -> bool
+    ensures { (t : RatchetTree)
+        → leaf_count t.tree ≡ leaves
+        → (IsTrue result ↔ IsEntry (relation column) t.tree place (view entry.now)) }
+{
+    match place_of(column, place, leaves) {
+        None => entry.is_null(),
+        Some(wanted) => is_number(entry, u64::from(wanted)),
+    }
+}
+
+/// Whether the entries are those for all places.
+fn are_entries(column: Column, leaves: u32, entries: &[Value]) -> bool
+    requires { leaves ≤ leaf_limit }
+    ensures { (t : RatchetTree)
+        → leaf_count t.tree ≡ leaves
+        → (IsTrue result
+        ↔ AreEntries (IsEntry (relation column) t.tree) leaves 0 (items_view entries.now)) }
+{
+    if entries.len() + 1 != 2 * leaves as usize {
+        return false;
+    }
+    let mut place = 0;
+    let mut rest = entries;
+    while let Some((entry, tail)) = rest.split_first() {
+        if !is_entry(column, leaves, place, entry) {
+            return false;
+        }
+        rest = tail;
+        place += 1;
+    }
+    true
+}
+
+/// Whether the vector has the array, with the entries for all places.
+fn has_entries(column: Column, leaves: u32, vector: &Value) -> bool
+    requires { leaves ≤ leaf_limit }
+    ensures { (t : RatchetTree)
+        → leaf_count t.tree ≡ leaves
+        → (IsTrue result
+        ↔ HasEntries (IsEntry (relation column) t.tree) leaves (column_name column)
+        (view vector.now)) }
+{
+    match array_under(vector, name_of(column)) {
+        Some(entries) => are_entries(column, leaves, entries.as_slice()),
+        None => false,
+    }
+}
+
+/// The number of leaves that the vector says, where a tree has so many.
+fn size_of(vector: &Value) -> Option<u32>
+    ensures some { IfSome result
+        (λ n. (t : RatchetTree) × (leaf_count t.tree ≡ n) × HasSize (view vector.now) t) }
+    ensures none { IfNone result ((t : RatchetTree) → ¬ HasSize (view vector.now) t) }
+{
+    let leaves = whole_under(vector, "n_leaves")?;
+    if leaves > MAX_LEAVES {
+        return None;
+    }
+    let leaves = leaves as u32;
+    if root(leaves).is_none() {
+        return None;
+    }
+    Some(leaves)
+}
+
+/// The outcome of a vector that says this size of a tree.
+fn place_outcome(leaves: u32, vector: &Value) -> Outcome
+    requires low { leaves ≤ leaf_limit }
+    requires some { 0 < leaves }
+    ensures { (t : RatchetTree)
+        → leaf_count t.tree ≡ leaves
+        → IsOutcome (place_checks t.tree (view vector.now)) (outcome_of result) }
+{
+    if !has_number(vector, "n_nodes", 2 * u64::from(leaves) - 1) {
+        return Outcome::Fail("n_nodes");
+    }
+    if !has_number(vector, "root", u64::from(leaves) - 1) {
+        return Outcome::Fail("root");
+    }
+    if !has_entries(Column::Left, leaves, vector) {
+        return Outcome::Fail("left");
+    }
+    if !has_entries(Column::Right, leaves, vector) {
+        return Outcome::Fail("right");
+    }
+    if !has_entries(Column::Parent, leaves, vector) {
+        return Outcome::Fail("parent");
+    }
+    if !has_entries(Column::Sibling, leaves, vector) {
+        return Outcome::Fail("sibling");
+    }
+    Outcome::Pass
+}
+
+/// The outcome of a vector.
+pub(crate) fn tree_math_outcome(vector: &Value) -> Outcome
+    ensures { IsTreeMath (view vector.now) (outcome_of result) }
+{
+    match size_of(vector) {
+        Some(leaves) => place_outcome(leaves, vector),
+        None => Outcome::Fail("n_leaves"),
+    }
+}

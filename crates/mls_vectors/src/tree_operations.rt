@@ -1,0 +1,230 @@
+//! Vectors of the kind `tree-operations`: a tree before and after one proposal (RFC 9420, 12.1 and 12.3).
+
+ghost use Rattle.std.specs.Prelude.{◌≡◌, ◌↔◌, ℕ, IsTrue, IfOk, IfSome, IfNone, codes, option_map};
+ghost use Rattle.serde_json.specs.View.{view};
+ghost use Rattle.mls_nodes.specs.RatchetTree.{ratchet_tree, trimmed};
+ghost use Rattle.mls_tree.specs.Tree.{listing};
+ghost use Rattle.mls_hash.specs.Hashing.{hash_of};
+ghost use Rattle.mls_vectors.specs.CheckSeen.{outcome_of, AppliesItem, FindsProposal, ReadsProposalOf};
+ghost use Rattle.mls_vectors.specs.Outcomes.{IsOutcome};
+ghost use Rattle.mls_vectors.specs.TreeOperations.{HasProposal, HasSender, HasTreeBytes, HasTreeHash, IsTreeOperation, IsItemOutcome, after_checks};
+ghost use Rattle.mls_vectors.specs.TreeValidation.{HasSuite, HasTree, IsOutcomeUnlessSkipped};
+
+use crate::members::{bytes_under, has_bytes, whole_under};
+use crate::outcome::Outcome;
+use crate::suite::{SuiteMember, suite_of};
+use crate::trees::{tree_under, whole_hash};
+use mls_apply::{Applied, ApplyFault, ListItem, apply_list};
+use mls_hash::Suite;
+use mls_msgs::{Proposal, decode_proposal};
+use mls_nodes::{NodeFault, encode_ratchet_tree};
+use mls_tree::PublicTree;
+use mls_wire::CodecFault;
+use serde_json::Value;
+use std::alloc::{AllocError, Global};
+use std::slice;
+
+/// The proposal that bytes spell. None where they spell none.
+fn proposal_of(alloc: Global, bytes: &[u8]) -> Result<Option<Proposal>, AllocError>
+    ensures { IfOk result (λ o. ReadsProposalOf bytes.now o) }
+{
+    match decode_proposal(alloc, bytes) {
+        Ok(proposal) => Ok(Some(proposal)),
+        Err(CodecFault::OutOfMemory) => Err(AllocError),
+        Err(CodecFault::Wire(_)) => Ok(None),
+    }
+}
+
+/// The proposal of a vector. None where none can be read.
+fn proposal_in(alloc: Global, vector: &Value) -> Result<Option<Proposal>, AllocError>
+    ensures { IfOk result (λ o. FindsProposal (view vector.now) o) }
+{
+    match bytes_under(alloc, vector, "proposal")? {
+        Some(bytes) => proposal_of(alloc, bytes.as_slice()),
+        None => Ok(None),
+    }
+}
+
+/// The leaf of the member that sends the proposal. None where there is no such number.
+fn sender_in(vector: &Value) -> Option<u32>
+    ensures some { IfSome result (λ n. HasSender (view vector.now) n) }
+    ensures none { IfNone result ((n : ℕ) → ¬ HasSender (view vector.now) n) }
+{
+    let sender = whole_under(vector, "proposal_sender")?;
+    if sender > u64::from(u32::MAX) {
+        return None;
+    }
+    Some(sender as u32)
+}
+
+/// Whether a vector has the tree hash of a tree under a name.
+fn has_tree_hash(
+    alloc: Global,
+    suite: Suite,
+    tree: &PublicTree,
+    vector: &Value,
+    name: &str,
+) -> Result<bool, AllocError>
+    ensures { IfOk result (λ b. IsTrue b
+        ↔ HasTreeHash (hash_of suite) name.now tree.now.tree (view vector.now)) }
+{
+    let hash = whole_hash(alloc, suite, tree)?;
+    has_bytes(alloc, vector, name, hash.as_slice())
+}
+
+/// The bytes that spell a tree. None where there are none, since all of its nodes are blank.
+fn spelling_of(alloc: Global, tree: &PublicTree) -> Result<Option<Vec<u8>>, AllocError>
+    ensures { IfOk result (λ o.
+        option_map (λ v. v.items) o ≡ ratchet_tree (trimmed (listing tree.now.tree))) }
+{
+    match encode_ratchet_tree(alloc, tree.nodes()) {
+        Ok(bytes) => Ok(Some(bytes)),
+        Err(fault) => match fault {
+            NodeFault::OutOfMemory => Err(AllocError),
+            _ => Ok(None),
+        },
+    }
+}
+
+/// Whether a vector has the bytes of a tree under a name.
+fn has_tree_bytes(
+    alloc: Global,
+    tree: &PublicTree,
+    vector: &Value,
+    name: &str,
+) -> Result<bool, AllocError>
+    ensures { IfOk result (λ b. IsTrue b
+        ↔ HasTreeBytes name.now tree.now.tree (view vector.now)) }
+{
+    match spelling_of(alloc, tree)? {
+        Some(bytes) => has_bytes(alloc, vector, name, bytes.as_slice()),
+        None => Ok(false),
+    }
+}
+
+/// The outcome of the checks of the tree after the proposal.
+fn after_outcome(
+    alloc: Global,
+    suite: Suite,
+    tree: &PublicTree,
+    vector: &Value,
+) -> Result<Outcome, AllocError>
+    ensures { IfOk result (λ o.
+        IsOutcome (after_checks (hash_of suite) tree.now.tree (view vector.now)) (outcome_of o)) }
+{
+    if !has_tree_bytes(alloc, tree, vector, "tree_after")? {
+        return Ok(Outcome::Fail("tree_after"));
+    }
+    if !has_tree_hash(alloc, suite, tree, vector, "tree_hash_after")? {
+        return Ok(Outcome::Fail("tree_hash_after"));
+    }
+    Ok(Outcome::Pass)
+}
+
+/// The tree after one proposal. None where it can't be applied.
+fn applied(alloc: Global, tree: &PublicTree, item: &ListItem) -> Result<Option<Applied>, AllocError>
+    ensures { IfOk result (λ o. AppliesItem item.now tree.now.tree o) }
+{
+    match apply_list(alloc, tree, slice::from_ref(item)) {
+        Ok(applied) => Ok(Some(applied)),
+        Err(fault) => match fault {
+            ApplyFault::OutOfMemory => Err(AllocError),
+            _ => Ok(None),
+        },
+    }
+}
+
+/// The outcome by what the vector has.
+fn item_outcome(
+    alloc: Global,
+    suite: Suite,
+    tree: &PublicTree,
+    item: &ListItem,
+    vector: &Value,
+) -> Result<Outcome, AllocError>
+    ensures { IfOk result (λ o.
+        IsItemOutcome (hash_of suite) tree.now.tree item.now (view vector.now) (outcome_of o)) }
+{
+    if !has_tree_hash(alloc, suite, tree, vector, "tree_hash_before")? {
+        return Ok(Outcome::Fail("tree_hash_before"));
+    }
+    match applied(alloc, tree, item)? {
+        Some(after) => {
+            let outcome = after_outcome(alloc, suite, &after.tree, vector);
+            drop(after);
+            outcome
+        }
+        None => Ok(Outcome::Fail("apply")),
+    }
+}
+
+/// The outcome by the suite, the tree and the proposal.
+fn proposal_outcome(
+    alloc: Global,
+    suite: Suite,
+    tree: &PublicTree,
+    proposal: Proposal,
+    vector: &Value,
+) -> Result<Outcome, AllocError>
+    requires suite { HasSuite (view vector.now) suite }
+    requires tree { HasTree (codes "tree_before") (view vector.now) tree.now }
+    requires proposal { HasProposal (view vector.now) proposal }
+    ensures { IfOk result (λ o. IsTreeOperation (view vector.now) (outcome_of o)) }
+{
+    match sender_in(vector) {
+        Some(sender) => {
+            let item = ListItem { sender, proposal };
+            let outcome = item_outcome(alloc, suite, tree, &item, vector);
+            drop(item);
+            outcome
+        }
+        None => {
+            drop(proposal);
+            Ok(Outcome::Fail("proposal_sender"))
+        }
+    }
+}
+
+/// The outcome by the suite and the tree.
+fn tree_outcome(
+    alloc: Global,
+    suite: Suite,
+    tree: &PublicTree,
+    vector: &Value,
+) -> Result<Outcome, AllocError>
+    requires suite { HasSuite (view vector.now) suite }
+    requires tree { HasTree (codes "tree_before") (view vector.now) tree.now }
+    ensures { IfOk result (λ o. IsTreeOperation (view vector.now) (outcome_of o)) }
+{
+    match proposal_in(alloc, vector)? {
+        Some(proposal) => proposal_outcome(alloc, suite, tree, proposal, vector),
+        None => Ok(Outcome::Fail("proposal")),
+    }
+}
+
+/// The outcome by the suite.
+fn suite_outcome(alloc: Global, suite: Suite, vector: &Value) -> Result<Outcome, AllocError>
+    requires { HasSuite (view vector.now) suite }
+    ensures { IfOk result (λ o. IsTreeOperation (view vector.now) (outcome_of o)) }
+{
+    match tree_under(alloc, vector, "tree_before")? {
+        Some(tree) => {
+            let outcome = tree_outcome(alloc, suite, &tree, vector);
+            drop(tree);
+            outcome
+        }
+        None => Ok(Outcome::Fail("tree_before")),
+    }
+}
+
+/// The outcome of a vector.
+pub(crate) fn tree_operations_outcome(alloc: Global, vector: &Value) -> Result<Outcome, AllocError>
+    ensures { IfOk result
+        (λ o. IsOutcomeUnlessSkipped IsTreeOperation (view vector.now) (outcome_of o)) }
+{
+    match suite_of(vector) {
+        SuiteMember::Followed(suite) => suite_outcome(alloc, suite, vector),
+        SuiteMember::Other => Ok(Outcome::Skip),
+        SuiteMember::Missing => Ok(Outcome::Fail("cipher_suite")),
+    }
+}

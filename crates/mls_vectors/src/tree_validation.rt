@@ -1,0 +1,297 @@
+//! Vectors of the kind `tree-validation`: a tree with its resolutions and tree hashes, which has to be
+//! valid (RFC 9420, 4.1.1, 7.8 and 12.4.3.1).
+
+ghost use Rattle.std.specs.Prelude.{◌≡◌, ◌↔◌, ◌≤◌, ℕ, List, IsTrue, IfOk, codes, length};
+ghost use Rattle.serde_json.specs.View.{view, items_view};
+ghost use Rattle.mls_wire.specs.Limits.{vector_limit};
+ghost use Rattle.mls_nodes.specs.Limits.{leaf_limit};
+ghost use Rattle.mls_tree.specs.Tree.{leaf_count};
+ghost use Rattle.mls_hash.specs.Hashing.{hash_of};
+ghost use Rattle.mls_check.specs.Valid.{Valid};
+ghost use Rattle.mls_vectors.specs.CheckSeen.{outcome_of, IsKeptHash};
+ghost use Rattle.mls_vectors.specs.Outcomes.{IsOutcome};
+ghost use Rattle.mls_vectors.specs.TreeValidation as trees;
+ghost use Rattle.mls_vectors.specs.TreeValidation.{HasSuite, IsResolution, IsOutcomeUnlessSkipped, IsTreeHash, IsTreeValidation, tree_checks};
+ghost use Rattle.mls_vectors.specs.VectorFile.{AreEntries, HasEntries};
+
+use crate::members::{array_under, gives_bytes, is_number};
+use crate::outcome::Outcome;
+use crate::suite::{SuiteMember, suite_of};
+use crate::trees::{tree_under, whole_hash};
+use mls_check::{TreeFault, validate_tree};
+use mls_hash::{SubtreeHashes, Suite};
+use mls_nodes::{Extensions, GroupContext};
+use mls_tree::{HashValue, PublicTree, TreeError};
+use mls_wire::{CodecFault, Opaque};
+use serde_json::Value;
+use std::alloc::{AllocError, Global};
+
+/// Whether values are these numbers.
+fn are_numbers(values: &[Value], numbers: &[u32]) -> bool
+    ensures { result ≡ trees.are_numbers numbers.now (items_view values.now) }
+{
+    let mut values = values;
+    let mut numbers = numbers;
+    while let Some((value, more)) = values.split_first() {
+        let Some((number, others)) = numbers.split_first() else {
+            return false;
+        };
+        if !is_number(value, u64::from(*number)) {
+            return false;
+        }
+        values = more;
+        numbers = others;
+    }
+    numbers.is_empty()
+}
+
+/// Whether an entry has these numbers.
+fn has_numbers(entry: &Value, numbers: &[u32]) -> bool
+    ensures { result ≡ trees.has_numbers numbers.now (view entry.now) }
+{
+    match entry.as_array() {
+        Some(values) => are_numbers(values.as_slice(), numbers),
+        None => false,
+    }
+}
+
+/// Whether an entry is the resolution of the node at a place.
+fn is_resolution(
+    alloc: Global,
+    tree: &PublicTree,
+    place: u32,
+    entry: &Value,
+) -> Result<bool, AllocError>
+    ensures { IfOk result
+        (λ b. IsTrue b ↔ IsResolution tree.now.tree place (view entry.now)) }
+{
+    match tree.resolution(alloc, place) {
+        Ok(places) => Ok(has_numbers(entry, places.as_slice())),
+        Err(TreeError::NoSuchNode) => Ok(false),
+        Err(_) => Err(AllocError),
+    }
+}
+
+/// Whether the entries are the resolutions of all nodes.
+fn are_resolutions(alloc: Global, tree: &PublicTree, entries: &[Value]) -> Result<bool, AllocError>
+    ensures { IfOk result (λ b. IsTrue b
+        ↔ AreEntries (IsResolution tree.now.tree) (leaf_count tree.now.tree) 0
+        (items_view entries.now)) }
+{
+    if entries.len() + 1 != 2 * tree.leaf_count() as usize {
+        return Ok(false);
+    }
+    let mut place = 0;
+    let mut rest = entries;
+    while let Some((entry, tail)) = rest.split_first() {
+        if !is_resolution(alloc, tree, place, entry)? {
+            return Ok(false);
+        }
+        rest = tail;
+        place += 1;
+    }
+    Ok(true)
+}
+
+/// Whether the vector has the resolutions of all nodes.
+fn has_resolutions(alloc: Global, tree: &PublicTree, vector: &Value) -> Result<bool, AllocError>
+    ensures { IfOk result (λ b. IsTrue b
+        ↔ HasEntries (IsResolution tree.now.tree) (leaf_count tree.now.tree)
+        (codes "resolutions") (view vector.now)) }
+{
+    match array_under(vector, "resolutions") {
+        Some(entries) => are_resolutions(alloc, tree, entries.as_slice()),
+        None => Ok(false),
+    }
+}
+
+/// Whether an entry is the hash that is kept for a place.
+fn is_kept_hash(
+    alloc: Global,
+    hashes: &SubtreeHashes,
+    place: u32,
+    entry: &Value,
+) -> Result<bool, AllocError>
+    ensures { IfOk result (λ b. IsTrue b ↔ IsKeptHash hashes.now place (view entry.now)) }
+{
+    match hashes.get(place) {
+        Some(hash) => gives_bytes(alloc, entry, hash.as_slice()),
+        None => Ok(false),
+    }
+}
+
+/// Whether the entries are the hashes that are kept for all places.
+fn are_kept_hashes(
+    alloc: Global,
+    leaves: u32,
+    hashes: &SubtreeHashes,
+    entries: &[Value],
+) -> Result<bool, AllocError>
+    requires { leaves ≤ leaf_limit }
+    ensures { IfOk result (λ b. IsTrue b
+        ↔ AreEntries (IsKeptHash hashes.now) leaves 0 (items_view entries.now)) }
+{
+    if entries.len() + 1 != 2 * leaves as usize {
+        return Ok(false);
+    }
+    let mut place = 0;
+    let mut rest = entries;
+    while let Some((entry, tail)) = rest.split_first() {
+        if !is_kept_hash(alloc, hashes, place, entry)? {
+            return Ok(false);
+        }
+        rest = tail;
+        place += 1;
+    }
+    Ok(true)
+}
+
+/// Whether the vector has the hashes that are kept for all places.
+fn has_kept_hashes(
+    alloc: Global,
+    leaves: u32,
+    hashes: &SubtreeHashes,
+    vector: &Value,
+) -> Result<bool, AllocError>
+    requires { leaves ≤ leaf_limit }
+    ensures { IfOk result (λ b. IsTrue b
+        ↔ HasEntries (IsKeptHash hashes.now) leaves (codes "tree_hashes") (view vector.now)) }
+{
+    match array_under(vector, "tree_hashes") {
+        Some(entries) => are_kept_hashes(alloc, leaves, hashes, entries.as_slice()),
+        None => Ok(false),
+    }
+}
+
+/// Whether the vector has the tree hashes of all subtrees.
+fn has_tree_hashes(
+    alloc: Global,
+    suite: Suite,
+    tree: &PublicTree,
+    vector: &Value,
+) -> Result<bool, AllocError>
+    ensures { IfOk result (λ b. IsTrue b
+        ↔ HasEntries (IsTreeHash (hash_of suite) tree.now.tree) (leaf_count tree.now.tree)
+        (codes "tree_hashes") (view vector.now)) }
+{
+    let hashes = SubtreeHashes::new(alloc, suite, tree)?;
+    has_kept_hashes(alloc, tree.leaf_count(), &hashes, vector)
+}
+
+/// The bytes of a hash.
+fn opaque_of(alloc: Global, hash: &[u8]) -> Result<Opaque, AllocError>
+    requires { length hash.now ≤ vector_limit }
+    ensures { IfOk result (λ o. o ≡ hash.now) }
+{
+    match Opaque::copy(alloc, hash) {
+        Ok(bytes) => Ok(bytes),
+        Err(CodecFault::OutOfMemory) => Err(AllocError),
+        Err(CodecFault::Wire(_)) => unreachable!(),
+    }
+}
+
+/// No extensions.
+fn no_extensions(alloc: Global) -> Extensions {
+    match Extensions::new(Vec::new(alloc)) {
+        Ok(extensions) => extensions,
+        Err(_) => unreachable!(),
+    }
+}
+
+/// A group context with a tree hash: all else is of no account for the validity of a tree.
+fn context_of(alloc: Global, suite: Suite, hash: &HashValue) -> Result<GroupContext, AllocError>
+    ensures suite { IfOk result (λ c. c.cipher_suite ≡ suite) }
+    ensures hash { IfOk result (λ c. c.tree_hash ≡ hash.now) }
+{
+    Ok(GroupContext {
+        version: 1,
+        cipher_suite: suite.number(),
+        group_id: Opaque::new(Vec::new(alloc)).ok().unwrap(),
+        epoch: 0,
+        tree_hash: opaque_of(alloc, hash.as_slice())?,
+        confirmed: Opaque::new(Vec::new(alloc)).ok().unwrap(),
+        extensions: no_extensions(alloc),
+    })
+}
+
+/// Whether a tree is valid in a context.
+fn is_valid_in(
+    alloc: Global,
+    suite: Suite,
+    context: &GroupContext,
+    tree: &PublicTree,
+) -> Result<bool, AllocError>
+    requires { suite ≡ context.now.cipher_suite }
+    ensures { IfOk result (λ b. IsTrue b
+        ↔ Valid (hash_of suite) context.now.tree_hash tree.now.tree) }
+{
+    match validate_tree(alloc, suite, context, tree) {
+        Ok(()) => Ok(true),
+        Err(fault) => {
+            if fault == TreeFault::OutOfMemory {
+                Err(AllocError)
+            } else {
+                Ok(false)
+            }
+        }
+    }
+}
+
+/// Whether a tree is valid with its own tree hash.
+fn is_valid(alloc: Global, suite: Suite, tree: &PublicTree) -> Result<bool, AllocError>
+    ensures { IfOk result (λ b. IsTrue b
+        ↔ ((hash : List ℕ) × Valid (hash_of suite) hash tree.now.tree)) }
+{
+    let hash = whole_hash(alloc, suite, tree)?;
+    let context = context_of(alloc, suite, &hash)?;
+    is_valid_in(alloc, suite, &context, tree)
+}
+
+/// The outcome of a vector by its suite and its tree.
+fn tree_outcome(
+    alloc: Global,
+    suite: Suite,
+    tree: &PublicTree,
+    vector: &Value,
+) -> Result<Outcome, AllocError>
+    ensures { IfOk result (λ o.
+        IsOutcome (tree_checks (hash_of suite) tree.now.tree (view vector.now)) (outcome_of o)) }
+{
+    if !has_resolutions(alloc, tree, vector)? {
+        return Ok(Outcome::Fail("resolutions"));
+    }
+    if !has_tree_hashes(alloc, suite, tree, vector)? {
+        return Ok(Outcome::Fail("tree_hashes"));
+    }
+    if !is_valid(alloc, suite, tree)? {
+        return Ok(Outcome::Fail("valid"));
+    }
+    Ok(Outcome::Pass)
+}
+
+/// The outcome of a vector by its suite.
+fn suite_outcome(alloc: Global, suite: Suite, vector: &Value) -> Result<Outcome, AllocError>
+    requires { HasSuite (view vector.now) suite }
+    ensures { IfOk result (λ o. IsTreeValidation (view vector.now) (outcome_of o)) }
+{
+    match tree_under(alloc, vector, "tree")? {
+        Some(tree) => {
+            let outcome = tree_outcome(alloc, suite, &tree, vector);
+            drop(tree);
+            outcome
+        }
+        None => Ok(Outcome::Fail("tree")),
+    }
+}
+
+/// The outcome of a vector.
+pub(crate) fn tree_validation_outcome(alloc: Global, vector: &Value) -> Result<Outcome, AllocError>
+    ensures { IfOk result
+        (λ o. IsOutcomeUnlessSkipped IsTreeValidation (view vector.now) (outcome_of o)) }
+{
+    match suite_of(vector) {
+        SuiteMember::Followed(suite) => suite_outcome(alloc, suite, vector),
+        SuiteMember::Other => Ok(Outcome::Skip),
+        SuiteMember::Missing => Ok(Outcome::Fail("cipher_suite")),
+    }
+}

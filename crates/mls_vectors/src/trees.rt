@@ -1,0 +1,56 @@
+//! The trees of vectors.
+
+ghost use Rattle.std.specs.Prelude.{◌≡◌, IfOk, Some};
+ghost use Rattle.serde_json.specs.View.{view};
+ghost use Rattle.mls_tree.specs.TreeHash.{tree_hash};
+ghost use Rattle.mls_hash.specs.Hashing.{hash_of};
+ghost use Rattle.mls_vectors.specs.CheckSeen.{FindsTree, ReadsTreeOf};
+
+use crate::members::bytes_under;
+use mls_hash::{HashFault, Suite, tree_hash};
+use mls_nodes::NodeFault;
+use mls_tree::{HashValue, PublicTree};
+use serde_json::Value;
+use std::alloc::{AllocError, Global};
+
+/// The tree that bytes spell. None where they spell none.
+fn tree_of(alloc: Global, bytes: &[u8]) -> Result<Option<PublicTree>, AllocError>
+    ensures { IfOk result (λ o. ReadsTreeOf bytes.now o) }
+{
+    match PublicTree::decode(alloc, bytes) {
+        Ok(tree) => Ok(Some(tree)),
+        Err(fault) => match fault {
+            NodeFault::OutOfMemory => Err(AllocError),
+            _ => Ok(None),
+        },
+    }
+}
+
+/// The tree that a vector has under a name. None where none can be read.
+pub(crate) fn tree_under(
+    alloc: Global,
+    vector: &Value,
+    name: &str,
+) -> Result<Option<PublicTree>, AllocError>
+    ensures { IfOk result (λ o. FindsTree name.now (view vector.now) o) }
+{
+    match bytes_under(alloc, vector, name)? {
+        Some(bytes) => tree_of(alloc, bytes.as_slice()),
+        None => Ok(None),
+    }
+}
+
+/// The tree hash of a whole tree.
+pub(crate) fn whole_hash(
+    alloc: Global,
+    suite: Suite,
+    tree: &PublicTree,
+) -> Result<HashValue, AllocError>
+    ensures { IfOk result (λ h. tree_hash (hash_of suite) 0 tree.now.tree ≡ Some h) }
+{
+    match tree_hash(alloc, suite, tree, tree.leaf_count() - 1) {
+        Ok(hash) => Ok(hash),
+        Err(HashFault::OutOfMemory) => Err(AllocError),
+        Err(_) => unreachable!(),
+    }
+}

@@ -213,11 +213,16 @@ const FROM_FIFTH: &str =
     b2ea46bb275c6e2d28576f036f308359edfbe745461ecb0db53164c6ce07aa31\n\
     accepted 5 refused 0 broken 0 epoch 8\n";
 
-/// The report of a log from a GroupInfo on.
-fn replayed(alloc: Global, info: &str, log: &str) -> Result<String, Fail> {
+/// The report of a log from a GroupInfo on, where these receipts tell which signatures are good.
+pub(crate) fn replayed(
+    alloc: Global,
+    info: &str,
+    log: &str,
+    receipts: &str,
+) -> Result<String, Fail> {
     let info = bytes(alloc, info)?;
     let log = bytes(alloc, log)?;
-    let listed = Listed::read(alloc, RECEIPTS.as_bytes())?;
+    let listed = Listed::read(alloc, receipts.as_bytes())?;
     let checker = Box::new(alloc, listed)?;
     let mut info = MemorySource::new(info.as_slice(), 1000, None);
     let mut tree: Option<MemorySource> = None;
@@ -231,7 +236,9 @@ fn replayed(alloc: Global, info: &str, log: &str) -> Result<String, Fail> {
 fn a_real_group_is_followed(rt: HostRuntime) -> Result<(), Fail> {
     let alloc = rt.alloc();
     let log = format!(in alloc; "{EARLIER}{LATER}")?;
-    expect_text(&rt, replayed(alloc, FIRST_INFO, log.as_str())?, FROM_FIRST);
-    expect_text(&rt, replayed(alloc, FIFTH_INFO, LATER)?, FROM_FIFTH);
+    let followed = replayed(alloc, FIRST_INFO, log.as_str(), RECEIPTS)?;
+    expect_text(&rt, followed, FROM_FIRST);
+    let followed = replayed(alloc, FIFTH_INFO, LATER, RECEIPTS)?;
+    expect_text(&rt, followed, FROM_FIFTH);
     Ok(())
 }

@@ -2,11 +2,8 @@
 //! commits that came too late, a commit that was taken back, a proposal that was sent twice, and application messages
 //! among it. Its hashes are worked out from what was sent by another SHA-256.
 
-use crate::support::{bytes, expect_text};
-use mls_check::Listed;
-use mls_cli::run_replay;
-use mls_wire::{MemorySink, MemorySource};
-use std::alloc::Global;
+use crate::real_group::replayed;
+use crate::support::expect_text;
 use std::test::Fail;
 
 /// The GroupInfo of epoch 1, with its tree.
@@ -221,23 +218,10 @@ const TAKEN_TOLD: &str =
     fd28e49998cd822d7a8f393f8a5dfb9410ab30e3099f14a9e0a6eee25baf76ca\n\
     accepted 4 refused 0 broken 0 epoch 4\n";
 
-/// The report of a log from epoch 1 on.
-fn replayed(alloc: Global, log: &str) -> Result<String, Fail> {
-    let info = bytes(alloc, INFO)?;
-    let log = bytes(alloc, log)?;
-    let listed = Listed::read(alloc, RECEIPTS.as_bytes())?;
-    let checker = Box::new(alloc, listed)?;
-    let mut info = MemorySource::new(info.as_slice(), 1000, None);
-    let mut tree: Option<MemorySource> = None;
-    let mut log = MemorySource::new(log.as_slice(), 100, None);
-    let mut out = MemorySink::new(alloc, 4000, 1000, None)?;
-    run_replay(alloc, &mut info, &mut tree, &mut log, checker, &mut out)?;
-    Ok(String::from_utf8(Vec::from_slice(alloc, out.bytes())?)?)
-}
-
 #[test]
 fn all_that_was_sent(rt: HostRuntime) -> Result<(), Fail> {
-    expect_text(&rt, replayed(rt.alloc(), SENT)?, ALL_TOLD);
-    expect_text(&rt, replayed(rt.alloc(), TAKEN)?, TAKEN_TOLD);
+    let alloc = rt.alloc();
+    expect_text(&rt, replayed(alloc, INFO, SENT, RECEIPTS)?, ALL_TOLD);
+    expect_text(&rt, replayed(alloc, INFO, TAKEN, RECEIPTS)?, TAKEN_TOLD);
     Ok(())
 }

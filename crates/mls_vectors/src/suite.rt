@@ -25,13 +25,8 @@ fn suite_by(number: u64) -> Option<Suite>
     ensures some { IfSome result (λ s. (s ≡ number) × IsSupported number) }
     ensures none { IfNone result (¬ IsSupported number) }
 {
-    if number > 65535 {
-        return None;
-    }
-    match Suite::from_u16(number as u16) {
-        Ok(suite) => Some(suite),
-        Err(_) => None,
-    }
+    let number = u16::try_from(number).ok()?;
+    Suite::from_u16(number).ok()
 }
 
 /// What a vector says of its cipher suite.

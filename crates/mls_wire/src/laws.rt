@@ -35,8 +35,8 @@ pub fn logs()
 {}
 
 /// The law of all that is written: but for want of memory, what a call that writes, puts or makes a text answers is
-/// determined by the text. So are all bytes after a call that writes, and those of a draft after a text was put there;
-/// a draft that refused a text only keeps what stood before.
+/// determined by the text and what stood before. So are all bytes after a call that writes, and those of a draft after
+/// a text was put there; a draft that refused a text only keeps what stood before.
 pub fn one_text()
     ensures written { WritesOnce }
     ensures put { PutsOnce }

@@ -1,7 +1,7 @@
 //! The program's subcommands and their arguments.
 
 ghost use Rattle.std.specs.Prelude.{◌≡◌, IfOk, false, codes};
-ghost use Rattle.clap.specs.Words.{app_of, rule_of, with_rule, with_subcommand};
+ghost use Rattle.clap.specs.Words.{App, app_of, rule_of, with_rule, with_subcommand};
 ghost use Rattle.clap.specs.declared.builder.command.Command.TheViews.{out-Command as fields_of};
 ghost use Rattle.mls_cli.specs.Commands as specs;
 ghost use Rattle.mls_cli.specs.Commands.{word_rule, file_rule, needed_rule, flag_rule, show_app, validate_tree_app, validate_app, replay_app, check_app, bare_app, mlscheck_app};
@@ -201,15 +201,24 @@ fn check_command<'a>(alloc: Global) -> Result<Command<'a>, AllocError>
         .arg(word(alloc, "FILE", "The file's path"))
 }
 
-/// The command with one subcommand more, the last.
-fn with_command<'a>(command: Command<'a>, sub: Command<'a>) -> Result<Command<'a>, AllocError>
+/// The command with one subcommand more, the last, if that could be made.
+fn with_command<'a>(
+    command: Command<'a>,
+    sub: Result<Command<'a>, AllocError>,
+) -> Result<Command<'a>, AllocError>
     requires command_own { (fields_of command).has_globals ≡ false }
-    requires sub_own { (fields_of sub).has_globals ≡ false }
-    ensures app { IfOk result
-        (λ r. app_of r ≡ with_subcommand (app_of command.entry) (app_of sub.entry).top) }
+    requires sub_own { IfOk sub (λ s. (fields_of s).has_globals ≡ false) }
+    ensures app { (app : App) → IfOk sub.entry (λ s. app_of s ≡ app)
+        → IfOk result (λ r. app_of r ≡ with_subcommand (app_of command.entry) app.top) }
     ensures own { IfOk result (λ r. (fields_of r).has_globals ≡ false) }
 {
-    command.subcommand(sub)
+    match sub {
+        Ok(sub) => command.subcommand(sub),
+        Err(error) => {
+            drop(command);
+            Err(error)
+        }
+    }
 }
 
 /// The program without its subcommands.
@@ -229,9 +238,9 @@ pub(crate) fn mlscheck_command<'a>(alloc: Global) -> Result<Command<'a>, AllocEr
     ensures app { IfOk result (λ c. app_of c ≡ mlscheck_app) }
     ensures own { IfOk result (λ c. (fields_of c).has_globals ≡ false) }
 {
-    let command = with_command(bare_command(alloc), show_command(alloc)?)?;
-    let command = with_command(command, validate_tree_command(alloc)?)?;
-    let command = with_command(command, validate_command(alloc)?)?;
-    let command = with_command(command, replay_command(alloc)?)?;
-    with_command(command, check_command(alloc)?)
+    let command = with_command(bare_command(alloc), show_command(alloc))?;
+    let command = with_command(command, validate_tree_command(alloc))?;
+    let command = with_command(command, validate_command(alloc))?;
+    let command = with_command(command, replay_command(alloc))?;
+    with_command(command, check_command(alloc))
 }

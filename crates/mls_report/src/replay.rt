@@ -50,8 +50,8 @@ impl Tally {
 fn next_record<L: Source>(reader: &mut Records, log: &mut L) -> Result<LogStep, RunFault>
     requires going { reader.old.is_over ≡ false }
     requires log { L.is_failed log.old ≡ false }
-    ensures meets { IfOk result
-        (λ step. Meets (L.left log.old) (L.left log.new) reader.old.most reader.new.body (Ok step)) }
+    ensures meets { IfOk result (λ step.
+        Meets (L.left log.old) (L.left log.new) reader.old.most reader.new.body (Ok step)) }
     ensures goes_on { IfOk result (λ step. GoesOn reader.old reader.new (Ok step)) }
     ensures undecided { OnErr result
         (ReadsUndecided (L.left log.old) (L.left log.new) reader.old.most) }

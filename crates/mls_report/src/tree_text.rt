@@ -77,7 +77,8 @@ fn put_parent(out: &mut Vec<u8>, place: usize, parent: &ParentNode) -> Result<()
 
 /// Adds the line of the node at a place.
 fn put_node(out: &mut Vec<u8>, place: usize, node: &Option<Node>) -> Result<(), AllocError>
-    ensures { OnOk result (out.new.items ≡ out.old.items ++ lines.node_line place (entry_value node.now)) }
+    ensures { OnOk result (out.new.items
+        ≡ out.old.items ++ lines.node_line place (entry_value node.now)) }
 {
     match node {
         None => {

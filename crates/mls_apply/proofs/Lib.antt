@@ -13,3 +13,4 @@ pub mod Paths
 pub mod Refusals
 pub mod PathKeys
 pub mod Counting
+pub mod Beside

@@ -21,5 +21,5 @@ pub use fault::ApplyFault;
 pub use item::{KnownProposal, ListItem, find_known, resolve_list};
 pub use list::check_list;
 pub use outcome::{Applied, Leaves, apply_list};
-pub use path::{expected_parent_hashes, merge_path};
+pub use path::{expected_parent_hashes, merge_path, merge_path_by};
 pub use proposal::check_proposal;

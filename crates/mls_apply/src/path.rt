@@ -1,8 +1,9 @@
 //! Update paths: the parent hashes that a path has to carry, and the tree with a path merged into it (RFC 9420, 7.5,
 //! 7.6 and 7.9).
 
-ghost use Rattle.std.specs.Prelude.{◌≡◌, ◌≢◌, ◌<◌, ◌⊎◌, ◌∷◌, ℕ, List, All, Err, Some, None, IfOk, IfErr, OnOk, is_some, length, map, option_map, true};
+ghost use Rattle.std.specs.Prelude.{◌≡◌, ◌≢◌, ◌<◌, ◌⊎◌, ◌∷◌, ℕ, List, All, Err, Some, None, IfOk, IfErr, IfSome, OnOk, is_some, length, map, option_map, true};
 ghost use Rattle.mls_hash.specs.Hashing.{hash_of};
+ghost use Rattle.mls_hash.specs.SubtreeHashes.{AreAllHashes};
 ghost use Rattle.mls_tree.specs.Tree.{leaf_at, leaf_count, IsParentPlace};
 ghost use Rattle.mls_tree.specs.Paths.{filtered_direct_path};
 ghost use Rattle.mls_apply.specs.Merge.{expected_hashes, merged};
@@ -16,7 +17,7 @@ use crate::fault::ApplyFault;
 use crate::new_parents::{NewParent, NewParents, new_parents, opaque_of, put_path};
 use crate::outcome::Applied;
 use crate::path_rules::{has_new_keys, have_counts};
-use mls_hash::Suite;
+use mls_hash::{SubtreeHashes, Suite};
 use mls_msgs::{PathNode, UpdatePath};
 use mls_nodes::{LeafNode, LeafSource, ParentNode};
 use mls_tree::{HashValue, PublicTree, TreeError};
@@ -122,7 +123,7 @@ pub fn expected_parent_hashes(
         return Err(ApplyFault::PathLength);
     }
     let keys = copies_of(alloc, keys)?;
-    let new = new_parents(alloc, suite, tree, committer, &places, keys)?;
+    let new = new_parents(alloc, suite, tree, None, committer, &places, keys)?;
     Ok(carried(alloc, new)?)
 }
 
@@ -188,14 +189,16 @@ struct NewNodes {
     parents: Vec<NewParent>,
 }
 
-/// The new nodes of a path, where it keeps the rules for paths.
+/// The new nodes of a path, where it keeps the rules for paths. The hashes of the tree's subtrees may be kept.
 fn new_nodes(
     alloc: Global,
     suite: Suite,
     applied: &Applied,
+    kept: Option<&SubtreeHashes>,
     committer: u32,
     path: &UpdatePath,
 ) -> Result<NewNodes, ApplyFault>
+    requires { IfSome kept (λ h. AreAllHashes (hash_of suite) applied.now.tree.tree h.now) }
     ensures leaf { IfOk result (λ new. new.leaf.value ≡ path.now.leaf_node) }
     ensures route { IfOk result (λ new.
         let keys = node_keys path.now in
@@ -212,7 +215,7 @@ fn new_nodes(
 {
     let places = checked_places(alloc, applied, committer, path)?;
     let keys = node_keys(alloc, path.nodes.as_slice())?;
-    let new = new_parents(alloc, suite, &applied.tree, committer, &places, keys)?;
+    let new = new_parents(alloc, suite, &applied.tree, kept, committer, &places, keys)?;
     if !carries(&path.leaf_node.source, &new.hash) {
         return Err(ApplyFault::PathParentHash);
     }
@@ -245,7 +248,30 @@ pub fn merge_path(
         → path_refusal (hash_of suite) g committer path.now ≡ Some e.0) }
     ensures handed_back { IfErr result (λ e. e.1 ≡ applied) }
 {
-    match new_nodes(alloc, suite, &applied, committer, path) {
+    merge_path_by(alloc, suite, applied, None, committer, path)
+}
+
+/// [`merge_path`], by the hashes of the tree's subtrees, where these are kept: then no subtree is hashed again.
+pub fn merge_path_by(
+    alloc: Global,
+    suite: Suite,
+    applied: Applied,
+    kept: Option<&SubtreeHashes>,
+    committer: u32,
+    path: &UpdatePath,
+) -> Result<PublicTree, (ApplyFault, Applied)>
+    requires { IfSome kept (λ h. AreAllHashes (hash_of suite) applied.tree.tree h.now) }
+    ensures merged { IfOk result (λ tree. let keys = node_keys path.now in
+        merged (hash_of suite) applied.tree.tree committer path.now.leaf_node keys
+        ≡ Some tree.tree) }
+    ensures kept { let g = grown applied.tree.tree applied.added in
+        OnOk result (path_refusal (hash_of suite) g committer path.now ≡ None) }
+    ensures refused { let g = grown applied.tree.tree applied.added in
+        IfErr result (λ e. e.0 ≢ ApplyFault.OutOfMemory
+        → path_refusal (hash_of suite) g committer path.now ≡ Some e.0) }
+    ensures handed_back { IfErr result (λ e. e.1 ≡ applied) }
+{
+    match new_nodes(alloc, suite, &applied, kept, committer, path) {
         Ok(new) => {
             let mut tree = applied.tree;
             put_path(&mut tree, committer, new.leaf, new.parents);

@@ -24,4 +24,4 @@ pub use distinct::has_distinct_keys;
 pub use members::{MemberFault, is_leaf_signed, validate_members};
 pub use receipts::{Listed, ReceiptsFault};
 pub use signatures::{OutOfMemory, SignatureCheck, Trusting, signed};
-pub use valid::{TreeFault, validate_tree};
+pub use valid::{TreeFault, validate_tree, validate_tree_by};

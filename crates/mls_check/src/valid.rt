@@ -82,7 +82,24 @@ pub fn validate_tree(
         (λ e. IsFirstTreeFault (hash_of suite) context.now.tree_hash tree.now.tree e) }
 {
     let hashes = SubtreeHashes::new(alloc, suite, tree)?;
-    if !has_hash(tree, &hashes, context.tree_hash.as_slice()) {
+    validate_tree_by(alloc, suite, context, tree, &hashes)
+}
+
+/// [`validate_tree`], by the hashes of the tree's subtrees.
+pub fn validate_tree_by(
+    alloc: Global,
+    suite: Suite,
+    context: &GroupContext,
+    tree: &PublicTree,
+    hashes: &SubtreeHashes,
+) -> Result<(), TreeFault>
+    requires suite_of_context { suite ≡ context.now.cipher_suite }
+    requires hashes { AreSubtreeHashes (hash_of suite) tree.now.tree hashes.now }
+    ensures valid { OnOk result (Valid (hash_of suite) context.now.tree_hash tree.now.tree) }
+    ensures first_fault { IfErr result
+        (λ e. IsFirstTreeFault (hash_of suite) context.now.tree_hash tree.now.tree e) }
+{
+    if !has_hash(tree, hashes, context.tree_hash.as_slice()) {
         return Err(TreeFault::HashDiffers);
     }
     if let Some(place) = first_unsorted(tree) {
@@ -94,7 +111,7 @@ pub fn validate_tree(
     if let Some(place) = first_repeated(alloc, tree)? {
         return Err(TreeFault::KeyRepeated(place));
     }
-    if let Some(place) = first_unreached(alloc, suite, tree, &hashes)? {
+    if let Some(place) = first_unreached(alloc, suite, tree, hashes)? {
         return Err(TreeFault::ParentHashInvalid(place));
     }
     Ok(())

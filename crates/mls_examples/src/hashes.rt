@@ -127,7 +127,22 @@ fn kept_hash(alloc: Global, place: u32) -> Result<String, Fail> {
 #[test]
 fn hashes_are_kept(rt: HostRuntime) -> Result<(), Fail> {
     let places = [(2, SECOND_HASH), (3, PATH_HASH), (5, RIGHT_HASH), (7, "-")];
-    expect_texts(&rt, rt.alloc(), kept_hash, &places)
+    expect_texts(&rt, rt.alloc(), kept_hash, &places)?;
+    expect_texts(&rt, rt.alloc(), rehashed, &places)
+}
+
+/// The same, once leaf 2 and the parents above it are hashed anew.
+fn rehashed(alloc: Global, place: u32) -> Result<String, Fail> {
+    let tree = path_tree(alloc)?;
+    let suite = suite()?;
+    if tree.leaf_count() < 3 {
+        return Err(Fail::from("a leaf 2"));
+    }
+    let kept = SubtreeHashes::new(alloc, suite, &tree)?;
+    match kept.rehashed(alloc, suite, &tree, 2)?.get(place) {
+        Some(hash) => text(alloc, hash.as_slice()),
+        None => Ok(String::from_str(alloc, "-")?),
+    }
 }
 
 /// The hash at a place once leaf 3 was added.

@@ -4,17 +4,18 @@ use crate::support::{
     LEAF, SECOND_LEAF, UPPER, committed_leaf, expect_text, expect_texts, grown_tree, put_leaf,
     put_parent, suite, tree_of,
 };
-use mls_check::validate_tree;
-use mls_hash::tree_hash;
+use mls_check::{validate_tree, validate_tree_by};
+use mls_hash::{SubtreeHashes, tree_hash};
 use mls_nodes::{Extensions, GroupContext};
 use mls_tree::{PublicTree, root};
 use mls_wire::Opaque;
 use std::alloc::Global;
 use std::test::Fail;
 
-/// What is found of a tree in a context with a hash: `valid`, or the first fault.
+/// What is found of a tree in a context with a hash, also by the hashes of its subtrees: `valid`, or the first fault.
 fn judged_with(alloc: Global, tree: &PublicTree, hash: &[u8]) -> Result<String, Fail> {
     let suite = suite()?;
+    let hashes = SubtreeHashes::new(alloc, suite, tree)?;
     let context = GroupContext {
         version: 1,
         cipher_suite: suite.number(),
@@ -25,7 +26,11 @@ fn judged_with(alloc: Global, tree: &PublicTree, hash: &[u8]) -> Result<String, 
         extensions: Extensions::new(Vec::new(alloc))?,
     };
     let answer = validate_tree(alloc, suite, &context, tree);
+    let same = validate_tree_by(alloc, suite, &context, tree, &hashes) == answer;
     drop(context);
+    if !same {
+        return Err(Fail::from("one answer, also by the hashes"));
+    }
     match answer {
         Ok(()) => Ok(String::from_str(alloc, "valid")?),
         Err(fault) => Ok(format!(in alloc; "{fault:?}")?),

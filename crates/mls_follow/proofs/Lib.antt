@@ -14,3 +14,4 @@ pub mod OwnRules
 pub mod Advancing
 pub mod Deciding
 pub mod Holding
+pub mod Unchanged

@@ -1,6 +1,8 @@
 //! The follower.
 
 ghost use Rattle.std.specs.Prelude.{◌≡◌, ◌≢◌, ℕ, List, IsSome, IfOk, IfErr, OnOk, OnErr};
+ghost use Rattle.mls_hash.specs.Hashing.{hash_of};
+ghost use Rattle.mls_hash.specs.SubtreeHashes.{AreAllHashes};
 ghost use Rattle.mls_msgs.specs.Message.{message as message_spelling};
 ghost use Rattle.mls_nodes.specs.Requirements.{Requires};
 ghost use Rattle.mls_follow.specs.State.{Spells};
@@ -40,6 +42,7 @@ fn first_group(
 ) -> Group
     requires suite_of_context { suite ≡ info.context.cipher_suite }
     requires required { Requires info.context judged.required }
+    requires hashed { AreAllHashes (hash_of suite) tree.tree judged.hashes }
     ensures { group_state result ≡ first_state info tree judged.interim }
 {
     Group {
@@ -47,6 +50,7 @@ fn first_group(
         tree,
         interim: judged.interim,
         known: Vec::new(alloc),
+        hashes: judged.hashes,
         suite,
         required: judged.required,
     }

@@ -1,6 +1,8 @@
 //! What a follower starts from, and why it doesn't (RFC 9420, 12.4.3.1).
 
 ghost use Rattle.std.specs.Prelude.{◌≡◌, ◌≢◌, ℕ, List, Option, None, Some, IfOk, IfErr, OnOk};
+ghost use Rattle.mls_hash.specs.Hashing.{hash_of};
+ghost use Rattle.mls_hash.specs.SubtreeHashes.{AreAllHashes};
 ghost use Rattle.mls_check.specs.Signatures.{Meaning};
 ghost use Rattle.mls_tree.specs.RatchetTree.{RatchetTree};
 ghost use Rattle.mls_nodes.specs.Requirements.{Requires, HasNoRequirements};
@@ -8,9 +10,9 @@ ghost use Rattle.mls_follow.specs.Start.{UsesTree, UsesNoTree, IsFollowed, IsSta
 
 use crate::transcript::interim_hash;
 use mls_check::{
-    MemberFault, OutOfMemory, SignatureCheck, TreeFault, signed, validate_members, validate_tree,
+    MemberFault, OutOfMemory, SignatureCheck, TreeFault, signed, validate_members, validate_tree_by,
 };
-use mls_hash::Suite;
+use mls_hash::{SubtreeHashes, Suite};
 use mls_msgs::{GROUP_INFO_LABEL, GroupInfo, info_tbs};
 use mls_nodes::{LeafNode, NodeFault, RequiredCapabilities, find_extension, requirements};
 use mls_tree::{HashValue, PublicTree};
@@ -140,11 +142,19 @@ pub struct StartRefused {
     pub checker: Box<dyn SignatureCheck>,
 }
 
-/// What is found of a group info that a follower starts from.
+/// What is found of a group info and a tree that a follower starts from.
 #[derive(Drop)]
 pub(crate) struct Judged {
     pub(crate) required: RequiredCapabilities,
+    pub(crate) hashes: SubtreeHashes,
     pub(crate) interim: HashValue,
+}
+
+/// The tree hashes of a tree's subtrees, and the interim transcript hash.
+#[derive(Drop)]
+struct Hashes {
+    subtrees: SubtreeHashes,
+    interim: HashValue,
 }
 
 /// The cipher suite of a group info whose version and suite are followed.
@@ -239,34 +249,38 @@ fn check_signer(
     Ok(())
 }
 
-/// The interim transcript hash of a group info that is followed, where a follower starts with this tree.
-fn judged_interim(
+/// The hashes of a group info that is followed and of a tree, where a follower starts with this tree.
+fn judged_hashes(
     alloc: Global,
     suite: Suite,
     info: &GroupInfo,
     required: &RequiredCapabilities,
     tree: &PublicTree,
     checker: &dyn SignatureCheck,
-) -> Result<HashValue, StartFault>
+) -> Result<Hashes, StartFault>
     requires followed { IsFollowed info.now }
     requires suite_of_context { suite ≡ info.now.context.cipher_suite }
     requires required { Requires info.now.context required.now }
-    ensures started { IfOk result (StartsWith (meaning checker.now) info.now tree.now) }
+    ensures hashed { IfOk result (λ h. AreAllHashes (hash_of suite) tree.now.tree h.subtrees) }
+    ensures started { IfOk result (λ h. StartsWith
+        (meaning checker.now) info.now tree.now h.interim) }
     ensures refused { IfErr result (FailsWith (meaning checker.now) info.now tree.now) }
 {
-    validate_tree(alloc, suite, &info.context, tree)?;
-    let group_id = &info.context.group_id;
+    let context = &info.context;
+    let subtrees = SubtreeHashes::new(alloc, suite, tree)?;
+    validate_tree_by(alloc, suite, context, tree, &subtrees)?;
     validate_members(
         alloc,
-        info.context.cipher_suite,
-        group_id,
+        context.cipher_suite,
+        &context.group_id,
         required,
         tree,
         checker,
     )?;
     check_signer(alloc, info, tree, checker)?;
-    let confirmed = info.context.confirmed.as_slice();
-    Ok(interim_hash(alloc, suite, confirmed, &info.confirmation_tag)?)
+    let confirmed = context.confirmed.as_slice();
+    let interim = interim_hash(alloc, suite, confirmed, &info.confirmation_tag)?;
+    Ok(Hashes { subtrees, interim })
 }
 
 /// What is found of a group info that is followed, where a follower starts with this tree: the group's
@@ -282,13 +296,19 @@ pub(crate) fn judge(
     requires followed { IsFollowed info.now }
     requires suite_of_context { suite ≡ info.now.context.cipher_suite }
     ensures required { IfOk result (λ judged. Requires info.now.context judged.required) }
+    ensures hashed { IfOk result (λ judged.
+        AreAllHashes (hash_of suite) tree.now.tree judged.hashes) }
     ensures started { IfOk result (λ judged. StartsWith
         (meaning checker.now) info.now tree.now judged.interim) }
     ensures refused { IfErr result (FailsWith (meaning checker.now) info.now tree.now) }
 {
     let required = required_of(alloc, info)?;
-    match judged_interim(alloc, suite, info, &required, tree, checker) {
-        Ok(interim) => Ok(Judged { required, interim }),
+    match judged_hashes(alloc, suite, info, &required, tree, checker) {
+        Ok(hashes) => Ok(Judged {
+            required,
+            hashes: hashes.subtrees,
+            interim: hashes.interim,
+        }),
         Err(fault) => {
             drop(required);
             Err(fault)
@@ -306,6 +326,8 @@ pub(crate) fn judge_own(
     requires followed { IsFollowed info.now }
     requires suite_of_context { suite ≡ info.now.context.cipher_suite }
     ensures required { IfOk result (λ found. Requires info.now.context found.1.required) }
+    ensures hashed { IfOk result (λ found.
+        AreAllHashes (hash_of suite) found.0.tree found.1.hashes) }
     ensures started { IfOk result (λ found. IsStart (meaning checker.now) info.now None
         (first_state info.now found.0 found.1.interim)) }
     ensures refused { IfErr result (IsStartFault (meaning checker.now) info.now None) }

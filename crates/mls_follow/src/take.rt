@@ -74,8 +74,8 @@ impl Group {
             self.old.required auth.now sender (contents.Commit commit.now))) }
         ensures stays { OnErr result (group_state self.new ≡ group_state self.old) }
     {
-        let tree = check_commit(alloc, self, checker, sender, commit)?;
-        Ok(self.advance(alloc, auth, tree)?)
+        let next = check_commit(alloc, self, checker, sender, commit)?;
+        Ok(self.advance(alloc, auth, next)?)
     }
 
     /// Takes a frame: it is accepted where it keeps every rule, and else refused for the first one that it

@@ -1,14 +1,13 @@
-//! Transcript hashes (RFC 9420, 8.2), and the tree hash of a whole tree.
+//! Transcript hashes (RFC 9420, 8.2).
 
 ghost use Rattle.std.specs.Prelude.{◌≡◌, ◌≤◌, Some, IsSome, IfOk, length};
 ghost use Rattle.mls_hash.specs.Hashing.{hash_of};
 ghost use Rattle.mls_msgs.specs.Signed.{confirmed_input};
-ghost use Rattle.mls_tree.specs.TreeHash.{tree_hash};
 ghost use Rattle.mls_follow.specs.Transcript.{confirmed_hash, interim_hash};
 
-use mls_hash::{HashFault, Suite, hash, tree_hash};
+use mls_hash::{Suite, hash};
 use mls_msgs::{Authenticated, confirmed_input};
-use mls_tree::{HashValue, PublicTree};
+use mls_tree::HashValue;
 use mls_wire::{CodecFault, Opaque, Writer};
 use std::alloc::{AllocError, Global};
 
@@ -47,21 +46,6 @@ pub fn interim_hash(
         Ok(()) => Ok(hash(suite, confirmed, writer.bytes())),
         Err(CodecFault::OutOfMemory) => Err(AllocError),
         Err(CodecFault::Wire(_)) => unreachable!(),
-    }
-}
-
-/// The tree hash of a whole tree (RFC 9420, 7.8).
-pub(crate) fn whole_hash(
-    alloc: Global,
-    suite: Suite,
-    tree: &PublicTree,
-) -> Result<HashValue, AllocError>
-    ensures { IfOk result (λ h. tree_hash (hash_of suite) 0 tree.now.tree ≡ Some h) }
-{
-    match tree_hash(alloc, suite, tree, tree.leaf_count() - 1) {
-        Ok(hash) => Ok(hash),
-        Err(HashFault::OutOfMemory) => Err(AllocError),
-        Err(_) => unreachable!(),
     }
 }
 

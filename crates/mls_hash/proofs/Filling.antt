@@ -1,10 +1,10 @@
 -- The hashes of all subtrees, put into a list halves first.
-use Rattle.std.proofs.Common.{◌≡◌, ◌≢◌, ℕ, ◌+◌, ◌*◌, ◌-◌, ◌<◌, List, [], ◌++◌, take, length, map, Option, Some, IsSome, Result, refl, sym, ap, subst, ◌∙◌, arith, inl, inr}
+use Rattle.std.proofs.Common.{◌≡◌, ◌≢◌, ℕ, ◌+◌, ◌*◌, ◌-◌, ◌<◌, List, [], ◌++◌, take, length, map, get_or, Option, Some, None, IsSome, Result, refl, sym, ap, subst, ◌∙◌, arith, inl, inr}
 use Rattle.std.specs.Prelude.{option_map, option_and_then, slice_get, slice_set}
 use Rattle.std.proofs.Math.Seq.{take-append_seam}
 use Rattle.std.proofs.lemmas.Bool.{cases_order, cases_lt}
 use Rattle.std.proofs.lemmas.List.{length-map}
-use Rattle.std.proofs.lemmas.Option.{same_Some, slice_get_past}
+use Rattle.std.proofs.lemmas.Option.{none-some, same_Some, slice_get_past, slice_get-get_or}
 use Rattle.mls_nodes.specs.declared.leaf.LeafNode.{LeafNode}
 use Rattle.mls_nodes.specs.declared.parent.ParentNode.{ParentNode}
 use Rattle.mls_nodes.specs.declared.node.Node.{Node}
@@ -14,12 +14,13 @@ use Rattle.mls_tree.specs.RatchetTree.{RatchetTree}
 use Rattle.mls_tree.specs.TreeHash.{leaf_hash_input, parent_hash_input, tree_hash}
 use Rattle.mls_tree.proofs.Arrays.{slice_get-set_same, slice_get-set_other}
 use Rattle.mls_tree.proofs.Coordinates.{root-seen}
+use Rattle.mls_tree.proofs.Descent.{inside_bound}
 use Rattle.mls_tree.proofs.Trees.{length-listing, subtree_at-stands, subtree_at-root, subtree_at-some, subtree_at-none, subtree_at-in_left, subtree_at-in_right, root_place-above, root_place-below}
 use Rattle.mls_hash.specs.declared.fault.HashFault.{HashFault}
 use Rattle.mls_hash.specs.Inputs.{HashesText, HashesSubtree}
 use Rattle.mls_tree.specs.Parts.{HasChildren}
 use Rattle.mls_hash.specs.Strip.{stripped_parent, tree_hash_at}
-use Rattle.mls_hash.specs.SubtreeHashes.{IsSubtreeHashAt, AreSubtreeHashes, AreHashesKept, AreHashesUnder}
+use Rattle.mls_hash.specs.SubtreeHashes.{AreAllHashes, IsSubtreeHashAt, AreSubtreeHashes, AreHashesKept, AreHashesUnder}
 use Rattle.mls_hash.proofs.Answers.{leaf_answer, parent_answer, whole_tree}
 
 module _ (H : List ℕ → List ℕ) (t : Tree) where
@@ -100,3 +101,15 @@ root_there t n e = subst (λ (p : ℕ). IsSome (subtree_at 0 t.tree p)) (sym (ro
 -- a vector after its whole slice was written
 pub written_back : {X : Type 0} (new rest : List X) (n : ℕ) → n ≡ length new → take n (new ++ rest) ≡ new
 written_back new rest n e = ap (λ (k : ℕ). take k (new ++ rest)) e ∙ take-append_seam new rest
+
+-- ---- a list of all hashes is read
+
+some_of : (o : Option Subtree) → IsSome o → (s : Subtree) × (o ≡ Some s)
+some_of None h = absurd (cc)
+some_of (Some s) h = (s, refl)
+
+-- it has one at each place of the tree
+pub hash_there : (H : List ℕ → List ℕ) (t : Tree) (hashes : List (List ℕ)) → AreAllHashes H t hashes → (p : ℕ) → IsSome (subtree_at 0 t p) → slice_get hashes p ≡ None → ⊥
+hash_there H t hashes all p there none =
+    let s = some_of (subtree_at 0 t p) there in
+    none-some (get_or hashes p []) (sym none ∙ slice_get-get_or hashes p [] (omega (arith, all.count, inside_bound t p s.0 s.1)))

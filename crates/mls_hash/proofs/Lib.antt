@@ -7,3 +7,4 @@ pub mod Answers
 pub mod Alike
 pub mod Known
 pub mod Filling
+pub mod Beside

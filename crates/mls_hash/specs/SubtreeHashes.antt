@@ -1,5 +1,7 @@
 -- The tree hashes of all subtrees of a tree, each at the place of its subtree (RFC 9420, 7.8).
-use Rattle.std.specs.Prelude.{◌≡◌, ℕ, ◌+◌, ◌≤◌, ◌<◌, List, Some, All, slice_get}
+use Rattle.std.specs.Prelude.{◌≡◌, ℕ, ◌+◌, ◌*◌, ◌≤◌, ◌<◌, List, Some, All, length, slice_get}
+use Rattle.std.specs.Coded.{Coded-set, coded_ℕ, coded_list, coded_option}
+use native.Mathlib.Nat.{ℕ_set}
 use Rattle.mls_nodes.specs.declared.parent.ParentNode.{ParentNode}
 use Rattle.mls_tree.specs.Tree.{Tree, leaf_count, Subtree, subtree_at}
 use Rattle.mls_hash.specs.ParentHash.{root_parent}
@@ -13,9 +15,36 @@ IsSubtreeHashAt H t hashes p = slice_get hashes p ≡ tree_hash_at H t p
 abbrev pub AreSubtreeHashes : (List ℕ → List ℕ) → Tree → List (List ℕ) → Type 0
 AreSubtreeHashes H t hashes = (p : ℕ) → IsSubtreeHashAt H t hashes p
 
+-- the same, and each subtree has one
+pub record AreAllHashes (H : List ℕ → List ℕ) (t : Tree) (hashes : List (List ℕ)) : Type 0 where
+  pub each : AreSubtreeHashes H t hashes
+  pub count : length hashes + 1 ≡ 2 * leaf_count t
+
+-- that a list has them has one proof at most
+pub AreAllHashes-prop : (H : List ℕ → List ℕ) (t : Tree) (hashes : List (List ℕ)) → IsProp (AreAllHashes H t hashes)
+AreAllHashes-prop H t hashes x y = λ i. record {
+  each = λ p. Coded-set (coded_option (coded_list coded_ℕ)) (slice_get hashes p) (tree_hash_at H t p) (x.each p) (y.each p) i;
+  count = ℕ_set (length hashes + 1) (2 * leaf_count t) x.count y.count i;
+}
+
 -- index i is that of a leaf of the subtree
 abbrev pub IsLeafOf : Subtree → ℕ → Type 0
 IsLeafOf s i = (s.first ≤ i) × (i < s.first + leaf_count s.tree)
+
+-- the subtree at place p has leaf i
+pub record HasLeafUnder (t : Tree) (p i : ℕ) : Type 0 where
+  pub subtree : Subtree
+  pub there : subtree_at 0 t p ≡ Some subtree
+  pub inside : IsLeafOf subtree i
+
+-- the list has the tree hash of the subtree at each place whose subtree doesn't have leaf i, and nothing where there is no subtree
+abbrev pub AreHashesBeside : (List ℕ → List ℕ) → Tree → ℕ → List (List ℕ) → Type 0
+AreHashesBeside H t i hashes = (p : ℕ) → ¬ (HasLeafUnder t p i) → IsSubtreeHashAt H t hashes p
+
+-- the first tree has at each place whose subtree doesn't have leaf i, in the second, the subtree that the second has there: they differ at
+-- most at leaf i and at the parents above it
+abbrev pub IsSameBeside : Tree → Tree → ℕ → Type 0
+IsSameBeside t u i = (p : ℕ) → ¬ (HasLeafUnder u p i) → subtree_at 0 t p ≡ subtree_at 0 u p
 
 -- each entry of the unmerged list of the parent at place p, if one is set there, is the index of a leaf under it
 abbrev pub HoldsOwnLeavesAt : Tree → ℕ → Type 0

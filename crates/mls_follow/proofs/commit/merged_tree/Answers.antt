@@ -1,18 +1,42 @@
-use Rattle.std.proofs.Common.{ap, ◌∙◌}
+use Rattle.std.proofs.Common.{◌∙◌, arith, ap}
 use Rattle.std.specs.Prelude.{option_map}
+use Rattle.mls_tree.specs.Tree.{Tree}
 use Rattle.mls_hash.specs.Hashing.{hash_of}
+use Rattle.mls_hash.proofs.Beside.{hashes_beside}
 use Rattle.mls_apply.specs.Outcome.{grown}
+use Rattle.mls_apply.specs.PathRules.{node_keys}
+use Rattle.mls_apply.proofs.Beside.{merged-size, merged-beside}
+use Rattle.mls_apply.proofs.Paths.{set_inside}
 use Rattle.mls_follow.specs.Rules.{refusal_of}
 use Rattle.mls_follow.proofs.Committing.{path_word}
 use Rattle.mls_follow.proofs.commit.merged_tree.Goals as goal
 
-pub returns-in-Ok-clause-kept : goal.returns-in-Ok-clause-kept
-returns-in-Ok-clause-kept c =
-    rw c.in-Some.is (path_word (hash_of c.args.suite) (grown c.args.applied.tree.tree c.args.applied.added) c.args.committer c.in-Some.path c.requires.member
-    ∙ ap (option_map refusal_of) c.in-Ok.ensures.kept)
+pub rehashed-requires-clause-inside : goal.rehashed-requires-clause-inside
+rehashed-requires-clause-inside c =
+    let t : Tree = c.args.applied.tree.tree in
+    let inside = set_inside t c.args.committer c.requires.member in
+    omega (arith, inside, merged-size (hash_of c.args.suite) t c.in-Ok.tree.tree c.args.committer c.args.path.now.leaf_node (node_keys c.args.path.now) inside c.in-Ok.ensures.merged)
+
+pub rehashed-requires-clause-beside : goal.rehashed-requires-clause-beside
+rehashed-requires-clause-beside c =
+    let t : Tree = c.args.applied.tree.tree in
+    let inside = set_inside t c.args.committer c.requires.member in
+    hashes_beside (hash_of c.args.suite) t c.in-Ok.tree.tree c.args.committer c.args.hashes.now c.requires.hashed.each
+    (merged-beside (hash_of c.args.suite) t c.in-Ok.tree.tree c.args.committer c.args.path.now.leaf_node (node_keys c.args.path.now) inside c.in-Ok.ensures.merged)
+
+pub rehashed-requires-clause-count : goal.rehashed-requires-clause-count
+rehashed-requires-clause-count c =
+    let t : Tree = c.args.applied.tree.tree in
+    let inside = set_inside t c.args.committer c.requires.member in
+    omega (arith, c.requires.hashed.count, merged-size (hash_of c.args.suite) t c.in-Ok.tree.tree c.args.committer c.args.path.now.leaf_node (node_keys c.args.path.now) inside c.in-Ok.ensures.merged)
+
+pub returns-in-Ok-rehashed-clause-kept : goal.returns-in-Ok-rehashed-clause-kept
+returns-in-Ok-rehashed-clause-kept c =
+    path_word (hash_of c.args.suite) (grown c.args.applied.tree.tree c.args.applied.added) c.args.committer c.args.path.now c.requires.member
+    ∙ ap (option_map refusal_of) c.in-Ok.ensures.kept
 
 pub returns-in-Err-clause-refused : goal.returns-in-Err-clause-refused
 returns-in-Err-clause-refused c =
-    rw (c.in-Some.is, c.from.ensures) (λ own.
-    path_word (hash_of c.args.suite) (grown c.args.applied.tree.tree c.args.applied.added) c.args.committer c.in-Some.path c.requires.member
+    rw c.from.ensures (λ own.
+    path_word (hash_of c.args.suite) (grown c.args.applied.tree.tree c.args.applied.added) c.args.committer c.args.path.now c.requires.member
     ∙ ap (option_map refusal_of) (c.in-Err.ensures.refused (λ e. own (ap refusal_of e))))

@@ -20,7 +20,7 @@ returns c =
     let H = hash_of c.args.suite in
     let d = view c.args.vector.now in
     let hashes = c.in_ok-hashes.hashes in
-    let all = c.in_ok-hashes.ensures in
+    let all = c.in_ok-hashes.ensures.each in
     IfOk-weaker c.has_kept_hashes.result _ _ (λ b h. (
       λ t. HasEntries-weaker (IsKeptHash hashes) (IsTreeHash H tree.tree) (kept-tree_hash H tree.tree hashes all) (leaf_count tree.tree) (codes "tree_hashes") d (subst (λ (n : ℕ). HasEntries (IsKeptHash hashes) n (codes "tree_hashes") d) c.leaf_count.ensures (h.0 t)),
       λ t. h.1 (subst (λ (n : ℕ). HasEntries (IsKeptHash hashes) n (codes "tree_hashes") d) (sym c.leaf_count.ensures) (HasEntries-weaker (IsTreeHash H tree.tree) (IsKeptHash hashes) (tree_hash-kept H tree.tree hashes all) (leaf_count tree.tree) (codes "tree_hashes") d t)),

@@ -5,7 +5,7 @@ use Rattle.mls_apply.specs.PathRules.{node_keys}
 use Rattle.mls_apply.specs.Route.{changed}
 use Rattle.mls_apply.specs.Seen.{change_of}
 use Rattle.mls_apply.proofs.Routes.{merged-changes}
-use Rattle.mls_apply.proofs.path.merge_path.Goals as goal
+use Rattle.mls_apply.proofs.path.merge_path_by.Goals as goal
 use Rattle.std.proofs.Common.{map}
 
 pub returns-in-Ok-clause-merged : goal.returns-in-Ok-clause-merged

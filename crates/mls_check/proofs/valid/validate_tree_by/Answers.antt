@@ -3,11 +3,11 @@ use Rattle.mls_hash.specs.Hashing.{hash_of}
 use Rattle.mls_check.specs.Distinct.{HasOwnKeyAt}
 use Rattle.mls_check.specs.FirstFailure.{IsFirstFailureIn}
 use Rattle.mls_check.specs.Reached.{IsReachedAt}
-use Rattle.mls_check.proofs.valid.validate_tree.Goals as goal
+use Rattle.mls_check.proofs.valid.validate_tree_by.Goals as goal
 
 pub returns-in-Some-3-clause-first_fault : goal.returns-in-Some-3-clause-first_fault
 returns-in-Some-3-clause-first_fault c = record {
-  hashed = (c.has_hash.ensures (hash_of c.args.suite) c.in_ok-hashes.ensures).0 c.if-not-has_hash.false ∙ ap Some c.as_slice.ensures.bytes;
+  hashed = (c.has_hash.ensures (hash_of c.args.suite) c.requires.hashes).0 c.if-not-has_hash.false ∙ ap Some c.as_slice.ensures.bytes;
   sorted = c.in_default.ensures;
   placed = c.in_default-first_unplaced.ensures;
   distinct = subst (λ o. IsFirstFailureIn (HasOwnKeyAt c.args.tree.now.tree) o) c.in_default-2.is c.in_ok-place.ensures;
@@ -16,7 +16,7 @@ returns-in-Some-3-clause-first_fault c = record {
 
 pub returns-clause-valid : goal.returns-clause-valid
 returns-clause-valid c = record {
-  hashed = (c.has_hash.ensures (hash_of c.args.suite) c.in_ok-hashes.ensures).0 c.if-not-has_hash.false ∙ ap Some c.as_slice.ensures.bytes;
+  hashed = (c.has_hash.ensures (hash_of c.args.suite) c.requires.hashes).0 c.if-not-has_hash.false ∙ ap Some c.as_slice.ensures.bytes;
   sorted = c.in_default.ensures;
   placed = c.in_default-first_unplaced.ensures;
   distinct = subst (λ o. IsFirstFailureIn (HasOwnKeyAt c.args.tree.now.tree) o) c.in_default-2.is c.in_ok-place.ensures;

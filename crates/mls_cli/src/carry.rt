@@ -170,7 +170,8 @@ fn refuse<F: Files, K: Sink>(
     requires fault { IsJudgeFault
         (opener (F.gives files.now) (F.lacks files.now) F.File.left F.File.is_failed)
         checker.now fault }
-    ensures ended { let opened = opener (F.gives files.now) (F.lacks files.now) F.File.left F.File.is_failed in
+    ensures ended { let opened = opener (F.gives files.now) (F.lacks files.now)
+        F.File.left F.File.is_failed in
         EndsUnread opened checker.now (K.written out.old) (K.written out.new) result
         ⊎ EndsRefused opened checker.now (K.written out.old) (K.written out.new) result }
     ensures write { (result ≡ Err RunFault.Write) ↔ (K.is_failed out.new ≡ true) }

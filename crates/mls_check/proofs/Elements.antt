@@ -66,20 +66,21 @@ unmerged-in n (x ∷ xs) i c l =
           ])
     ]
 
-listed-more : (x : ℕ) (xs : List ℕ) (u : ℕ) → IsListed xs u → IsListed (x ∷ xs) u
-listed-more x xs u l = (l.0, contains-tail x xs l.0 l.1, l.2)
-
-pub unmerged-from : (n : ℕ) (xs : List ℕ) (u : ℕ) → Contains (unmerged_places n xs) u → IsListed xs u
+-- the places of unmerged leaves are those of entries that are leaves of the whole tree
+pub unmerged-from : (n : ℕ) (xs : List ℕ) (u : ℕ) → Contains (unmerged_places n xs) u → (i : ℕ) × Contains xs i × (i < n) × (u ≡ 2 * i)
 unmerged-from n [] u c = absurd (contains-nil u c)
 unmerged-from n (x ∷ xs) u c =
     elim (cases_lt x n) [
       | inl b ↦
           elim (contains-cons (2 * x) (unmerged_places n xs) u (subst (λ ys. Contains ys u) (kept-below n x xs b) c)) [
-            | inl e ↦ (x, contains-head x xs, sym e)
-            | inr d ↦ listed-more x xs u (unmerged-from n xs u d)
+            | inl e ↦ (x, contains-head x xs, b, sym e)
+            | inr d ↦ (let w = unmerged-from n xs u d in (w.0, contains-tail x xs w.0 w.1, w.2, w.3))
           ]
-      | inr g ↦ listed-more x xs u (unmerged-from n xs u (subst (λ ys. Contains ys u) (left_out n x xs g) c))
+      | inr g ↦ (let w = unmerged-from n xs u (subst (λ ys. Contains ys u) (left_out n x xs g) c) in (w.0, contains-tail x xs w.0 w.1, w.2, w.3))
     ]
+
+pub unmerged-listed : (n : ℕ) (xs : List ℕ) (u : ℕ) → Contains (unmerged_places n xs) u → IsListed xs u
+unmerged-listed n xs u c = let w = unmerged-from n xs u c in (w.0, w.1, w.3)
 
 pub found-at : (xs : List ℕ) (i k : ℕ) → k < length xs → get_or xs k i ≡ i → list_any (λ x. x == i) xs ≡ true
 found-at xs i k l e = list_any_at (λ x. x == i) xs k i l ((Decides-eqb (get_or xs k i) i).1 e)

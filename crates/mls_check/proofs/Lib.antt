@@ -27,3 +27,10 @@ pub mod SortedLists
 pub mod Walks
 pub mod Resolutions
 pub mod Contents
+pub mod Entering
+pub mod Everywhere
+pub mod Carrying
+pub mod Touching
+pub mod SoundSubtrees
+pub mod Remaining
+pub mod Adding

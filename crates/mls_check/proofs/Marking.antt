@@ -9,8 +9,8 @@ use Rattle.mls_tree.specs.Tree.{Tree, leaf, branch, leaf_count, Subtree, subtree
 use Rattle.mls_tree.proofs.Trees.{subtree_at-stands, subtree_at-root, subtree_at-nested, subtree_at-in_left, subtree_at-in_right}
 use Rattle.mls_check.specs.FirstFailure.{IsFirstFailureIn}
 use Rattle.mls_tree.specs.Parts.{HasChildren, parent_of}
-use Rattle.mls_check.specs.Reached.{Reached, IsReachedAt, HasSetParent}
-use Rattle.mls_check.specs.Marks.{IsMarked, IsMarkedAt, AreSound, AreKept, AreAllMarkedAt, AreAllMarkedUnder, IsReachedHere}
+use Rattle.mls_check.specs.Reached.{Reached, IsReachedAt, HasSetParent, IsReachedHere}
+use Rattle.mls_check.specs.Marks.{IsMarked, IsMarkedAt, AreSound, AreKept, AreAllMarkedAt, AreAllMarkedUnder}
 use Rattle.mls_check.proofs.Outside.{outside_above}
 
 -- an answer that was true exactly where P holds

@@ -15,10 +15,10 @@ use Rattle.mls_hash.specs.declared.side.Side.{Side}
 use Rattle.mls_hash.specs.declared.side.Side.TheVariants.{Left, Right}
 use Rattle.mls_check.specs.Sound.{is_entered, is_placed, lists, IsPlaced}
 use Rattle.mls_tree.specs.Parts.{HasChildren}
-use Rattle.mls_check.specs.Reached.{linked_hash, AreHalves, IsUnmergedUnder, Link, Step, IsLeaf, Reached, from_leaf, from_parent}
-use Rattle.mls_check.specs.Marks.{IsLone, IsMarked, IsChainEnd, IsCandidateIn, CarriesHash, AreSound, AreAllMarkedUnder, IsReachedHere}
+use Rattle.mls_check.specs.Reached.{linked_hash, AreHalves, IsUnmergedUnder, Link, Step, IsLeaf, Reached, from_leaf, from_parent, IsReachedHere}
+use Rattle.mls_check.specs.Marks.{IsLone, IsMarked, IsChainEnd, IsCandidateIn, CarriesHash, AreSound, AreAllMarkedUnder}
 use Rattle.mls_check.proofs.Lone.{lone_once}
-use Rattle.mls_check.proofs.Elements.{contains-nil, contains-cons, contains-head, contains-tail, contains-found, all-each, and-left, and-right, unmerged-in, unmerged-from}
+use Rattle.mls_check.proofs.Elements.{contains-nil, contains-cons, contains-head, contains-tail, contains-found, all-each, and-left, and-right, unmerged-in, unmerged-listed}
 
 -- ---- entered leaves
 
@@ -61,12 +61,12 @@ entered-resolved n i first (branch l (Some p) r) lt h =
 abbrev pub PlacedIn : ℕ → Tree → Type 0
 PlacedIn first t = (p : ℕ) (s : Subtree) → subtree_at first t p ≡ Some s → IsTrue (is_placed s.first s.tree)
 
-in_left : (first : ℕ) (l : Tree) (n : Option ParentNode) (r : Tree) (p : ℕ) (s : Subtree) → subtree_at first l p ≡ Some s → subtree_at first (branch l n r) p ≡ Some s
+pub in_left : (first : ℕ) (l : Tree) (n : Option ParentNode) (r : Tree) (p : ℕ) (s : Subtree) → subtree_at first l p ≡ Some s → subtree_at first (branch l n r) p ≡ Some s
 in_left first l n r p s e =
     let at = subtree_at-stands first l p s e in
     subtree_at-in_left first l n r p (omega (arith, at.place, at.to_right, root_place-below s.first s.tree)) ∙ e
 
-in_right : (first : ℕ) (l : Tree) (n : Option ParentNode) (r : Tree) (p : ℕ) (s : Subtree) → subtree_at (first + leaf_count l) r p ≡ Some s → subtree_at first (branch l n r) p ≡ Some s
+pub in_right : (first : ℕ) (l : Tree) (n : Option ParentNode) (r : Tree) (p : ℕ) (s : Subtree) → subtree_at (first + leaf_count l) r p ≡ Some s → subtree_at first (branch l n r) p ≡ Some s
 in_right first l n r p s e =
     let at = subtree_at-stands (first + leaf_count l) r p s e in
     subtree_at-in_right first l n r p (omega (arith, at.place, at.from_left, root_place-above s.first s.tree)) ∙ e
@@ -94,7 +94,7 @@ resolution-inside n first (branch l (Some p) r) h u c =
     elim (contains-cons (2 * (first + leaf_count l) - 1) (unmerged_places n p.unmerged) u c) [
       | inl e ↦ (omega (arith, leaf_count-positive l), omega (arith, leaf_count-positive l, leaf_count-positive r))
       | inr d ↦
-          (let w = unmerged-from n p.unmerged u d in
+          (let w = unmerged-listed n p.unmerged u d in
           let k = entered-range w.0 first (branch l None r) (entry-entered first l p r h w.0 w.1) in
           let e = w.2 in
           (omega (arith, k.0), omega (arith, k.1)))

@@ -15,7 +15,7 @@ use Rattle.mls_hash.specs.SubtreeHashes.{IsLeafOf}
 use Rattle.mls_hash.specs.ParentHash.{root_parent}
 use Rattle.mls_check.specs.Sound.{IsSorted, IsPlaced, HasSortedList}
 use Rattle.mls_check.specs.Marks.{RisesInLeaves}
-use Rattle.mls_check.proofs.Elements.{contains-nil, contains-cons, contains-head, contains-tail, unmerged-from, kept-below, left_out}
+use Rattle.mls_check.proofs.Elements.{contains-nil, contains-cons, contains-head, contains-tail, unmerged-listed, kept-below, left_out}
 use Rattle.mls_check.proofs.OwnLeaves.{own_leaves}
 use Rattle.mls_check.proofs.Walks.{increasing-tail, increasing-above}
 
@@ -32,7 +32,7 @@ rises-unmerged n (x ∷ xs) h =
     elim (cases_lt x n) [
       | inl l ↦
           subst (λ ps. RisesInLeaves ps) (sym (kept-below n x xs l))
-          (λ e u c f. (let w = unmerged-from n xs u c in let k = increasing-above x xs w.0 h w.1 in let d = w.2 in omega (arith, k, d)), rises-unmerged n xs (increasing-tail x xs h))
+          (λ e u c f. (let w = unmerged-listed n xs u c in let k = increasing-above x xs w.0 h w.1 in let d = w.2 in omega (arith, k, d)), rises-unmerged n xs (increasing-tail x xs h))
       | inr g ↦ subst (λ ps. RisesInLeaves ps) (sym (left_out n x xs g)) (rises-unmerged n xs (increasing-tail x xs h))
     ]
 
@@ -63,7 +63,7 @@ inside n first (branch l (Some p) r) h u c e =
     elim (contains-cons (2 * (first + leaf_count l) - 1) (unmerged_places n p.unmerged) u c) [
       | inl a ↦ (let k = leaf_count-positive l in absurd (omega (arith, a, e, k)))
       | inr b ↦
-          (let w = unmerged-from n p.unmerged u b in
+          (let w = unmerged-listed n p.unmerged u b in
           let lists = (h (root_place first (branch l (Some p) r)) _ p (subtree_at-root first (branch l (Some p) r)) refl).1 in
           let k = All-contains (IsLeafOf (record { first = first; tree = branch l (Some p) r })) p.unmerged w.0 lists w.1 in
           let d = w.2 in

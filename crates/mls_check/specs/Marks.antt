@@ -67,10 +67,6 @@ abbrev pub AreAllMarkedUnder : (List ℕ → List ℕ) → Tree → List Bool �
 AreAllMarkedUnder H t marks place =
     (s : Subtree) → subtree_at 0 t place ≡ Some s → (q : ℕ) (u : Subtree) → q ≢ place → subtree_at s.first s.tree q ≡ Some u → Reached H (leaf_count t) u → IsMarked marks q
 
--- a set parent stands at the place, and is reached
-abbrev pub IsReachedHere : (List ℕ → List ℕ) → Tree → ℕ → Type 0
-IsReachedHere H t place = (s : Subtree) × (subtree_at 0 t place ≡ Some s) × Reached H (leaf_count t) s
-
 -- the parent at place p is marked, if a set parent stands there
 abbrev pub IsMarkedAt : Tree → List Bool → ℕ → Type 0
 IsMarkedAt t marks p = (s : Subtree) → subtree_at 0 t p ≡ Some s → HasSetParent s.tree → IsMarked marks p

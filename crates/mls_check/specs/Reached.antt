@@ -73,3 +73,7 @@ IsReachedAt H t p = (s : Subtree) → subtree_at 0 t p ≡ Some s → HasSetPare
 -- every set parent is reached
 abbrev pub IsReached : (List ℕ → List ℕ) → Tree → Type 0
 IsReached H t = (p : ℕ) → IsReachedAt H t p
+
+-- a set parent stands at the place, and is reached
+abbrev pub IsReachedHere : (List ℕ → List ℕ) → Tree → ℕ → Type 0
+IsReachedHere H t place = (s : Subtree) × (subtree_at 0 t place ≡ Some s) × Reached H (leaf_count t) s

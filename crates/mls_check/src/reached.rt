@@ -13,8 +13,8 @@ ghost use Rattle.mls_hash.specs.ParentHash.{parent_at};
 ghost use Rattle.mls_hash.specs.SubtreeHashes.{AreSubtreeHashes};
 ghost use Rattle.mls_check.specs.FirstFailure.{IsFirstFailureIn};
 ghost use Rattle.mls_check.specs.Sound.{IsSorted, IsPlaced};
-ghost use Rattle.mls_check.specs.Reached.{linked_hash, IsReachedAt};
-ghost use Rattle.mls_check.specs.Marks.{RisesInLeaves, IsLone, IsChainEnd, IsCandidateIn, CarriesHash, AreSound, AreKept, AreAllMarkedAt, AreAllMarkedUnder, IsMarkedAt, IsReachedHere};
+ghost use Rattle.mls_check.specs.Reached.{linked_hash, IsReachedAt, IsReachedHere};
+ghost use Rattle.mls_check.specs.Marks.{RisesInLeaves, IsLone, IsChainEnd, IsCandidateIn, CarriesHash, AreSound, AreKept, AreAllMarkedAt, AreAllMarkedUnder, IsMarkedAt};
 
 use crate::leaf_lists::starts_with;
 use crate::places::place_count;

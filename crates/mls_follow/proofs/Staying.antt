@@ -16,6 +16,7 @@ use Rattle.mls_tree.proofs.FirstBlanks.{first_blank_leaf-leftmost}
 use Rattle.mls_tree.proofs.Trees.{leaf_count-positive}
 use Rattle.mls_tree.proofs.Kept.{leaf_at-put_leaf_other, leaf_at-change_above, leaf_at-shrink, leaf_at-grow}
 use Rattle.mls_apply.proofs.Leaves.{leaf_inside}
+use Rattle.mls_apply.proofs.SoundOutcomes.{unless, where_so, mapped}
 use Rattle.mls_apply.specs.declared.item.ListItem.{ListItem}
 use Rattle.mls_apply.specs.ListRules.{list_refusal, is_leaf_number, replaced_leaf, removed_leaf, has_no_update_by, has_no_remove_of, concern_once, needs_path}
 use Rattle.mls_nodes.specs.Limits.{leaf_limit}
@@ -82,18 +83,6 @@ module _ (i : ℕ) (t : Tree) (x : LeafNode) (set : IsSome (leaf_at 0 t i)) wher
 
   add-stays : IsSome (leaf_at 0 (add t x) i)
   add-stays = beside (first_blank_leaf 0 t) (first_blank_leaf-leftmost t)
-
-unless : (b : Bool) (o : Option Grown) (g : Grown) → (if b then None else o) ≡ Some g → o ≡ Some g
-unless true o g e = absurd (none-some g e)
-unless false o g e = e
-
-where_so : (b : Bool) (o : Option Grown) (g : Grown) → (if b then o else None) ≡ Some g → o ≡ Some g
-where_so true o g e = e
-where_so false o g e = absurd (none-some g e)
-
-mapped : (j : ℕ) (o : Option Grown) (g : Grown) → option_map (after_leaf j) o ≡ Some g → (h : Grown) × (o ≡ Some h) × (h.tree ≡ g.tree)
-mapped j None g e = absurd (none-some g e)
-mapped j (Some h) g e = (h, refl, ap (λ (v : Grown). v.tree) (same_Some (after_leaf j h) g e))
 
 pub adds_stay : (i : ℕ) (xs : List LeafNode) (t : Tree) (g : Grown) → after_adds xs t ≡ Some g → IsSome (leaf_at 0 t i) → IsSome (leaf_at 0 g.tree i)
 unfolding after_adds

@@ -8,3 +8,4 @@ pub mod FindingsOnce
 pub mod ReplaysOnce
 pub mod StartsOnce
 pub mod TurnsOnce
+mod ValidEpochs

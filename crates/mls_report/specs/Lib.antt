@@ -15,3 +15,4 @@ pub mod TreeText
 pub mod UnreadableReceipts
 pub mod Validate
 pub mod ValidateTree
+pub mod ValidEpochs

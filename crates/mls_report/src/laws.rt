@@ -1,6 +1,7 @@
 //! Laws about the definitions of the reports, which no call of a caller's needs to run.
 
 ghost use Rattle.mls_report.specs.OneReport.{OneTreeFinding, OneStartFinding, OneStart, OneLog, OneReplay};
+ghost use Rattle.mls_report.specs.ValidEpochs.{StartedEpochsAreValid, ToldEpochsAreValid};
 
 /// What is found of a context and a tree, and of a group info and a tree, is one function of their bytes and of what the
 /// checker of signatures means, but for which fault is named of an input that can't be read; and so is the state in which
@@ -17,4 +18,11 @@ pub fn findings_are_determined()
 pub fn replays_are_determined()
     ensures log { OneLog }
     ensures report { OneReplay }
+{}
+
+/// Each epoch that `validate` or `replay` tells is one whose tree is valid by the group context's tree hash, and whose
+/// leaves are members by what the context requires, though the tree is validated only where a follower starts.
+pub fn told_epochs_are_valid()
+    ensures started { StartedEpochsAreValid }
+    ensures told { ToldEpochsAreValid }
 {}

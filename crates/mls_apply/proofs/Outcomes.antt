@@ -1,9 +1,13 @@
 -- The outcome of a list, in the steps that the code takes.
-use Rattle.std.proofs.Common.{◌≡◌, ◌∙◌, ◌+◌, List, length, true, false, Some, None, IsSome, ap}
+use Rattle.std.proofs.Common.{◌≡◌, ◌∙◌, ℕ, ◌+◌, List, [], ◌∷◌, length, true, false, Some, None, IsSome, refl, sym, ap}
 use Rattle.std.specs.Prelude.{nat_le, if◌then◌else◌, is_some, option_and_then}
+use Rattle.std.proofs.lemmas.Bool.{false≢true, or_parts}
 use Rattle.mls_nodes.specs.Limits.{leaf_limit}
+use Rattle.mls_msgs.specs.declared.proposal.Proposal.{Proposal}
+use Rattle.mls_msgs.specs.declared.proposal.Proposal.TheVariants.{Add, Update, Remove}
 use Rattle.mls_tree.specs.Tree.{Tree, member_count}
-use Rattle.mls_apply.specs.Outcome.{after_updates, after_removes, after_adds, new_members, without_adds, with_members, outcome}
+use Rattle.mls_apply.specs.ListRules.{concerned_leaf, has_concerned_leaf}
+use Rattle.mls_apply.specs.Outcome.{after_update, after_updates, after_remove, after_removes, after_adds, new_members, without_adds, with_members, outcome}
 use Rattle.mls_apply.specs.declared.item.ListItem.{ListItem}
 
 -- an Update can't be applied
@@ -35,3 +39,32 @@ module _ (items : List ListItem) (t u v : Tree) (updated : after_updates items t
     pub outcome-adds : nat_le (member_count v + length (new_members items)) leaf_limit ≡ true → outcome items t ≡ after_adds (new_members items) v
     unfolding with_members
     outcome-adds e = outcome-members ∙ ap (λ b. if b then after_adds (new_members items) v else None) e
+
+-- ---- a list of Adds alone
+
+adds_alone : (sender : ℕ) (p : Proposal) (t : Tree) → is_some (concerned_leaf sender p) ≡ false → (after_update sender p t ≡ Some t) × (after_remove p t ≡ Some t)
+adds_alone sender (Add k) t e = (refl, refl)
+adds_alone sender (Update x) t e = absurd (false≢true (sym e))
+adds_alone sender (Remove i) t e = absurd (false≢true (sym e))
+
+pub updates-no_leaf : (items : List ListItem) (t : Tree) → has_concerned_leaf items ≡ false → after_updates items t ≡ Some t
+unfolding after_updates
+updates-no_leaf [] t e = refl
+updates-no_leaf (x ∷ xs) t e =
+    let parts = or_parts (is_some (concerned_leaf x.sender x.proposal)) (has_concerned_leaf xs) e in
+    ap (option_and_then (after_updates xs)) (adds_alone x.sender x.proposal t parts.0).0 ∙ updates-no_leaf xs t parts.1
+
+pub removes-no_leaf : (items : List ListItem) (t : Tree) → has_concerned_leaf items ≡ false → after_removes items t ≡ Some t
+unfolding after_removes
+removes-no_leaf [] t e = refl
+removes-no_leaf (x ∷ xs) t e =
+    let parts = or_parts (is_some (concerned_leaf x.sender x.proposal)) (has_concerned_leaf xs) e in
+    ap (option_and_then (after_removes xs)) (adds_alone x.sender x.proposal t parts.0).1 ∙ removes-no_leaf xs t parts.1
+
+-- it can't be applied where there is no room for them
+pub adds-no_room : (items : List ListItem) (t : Tree) → has_concerned_leaf items ≡ false → nat_le (member_count t + length (new_members items)) leaf_limit ≡ false
+    → IsSome (without_adds items t) × (outcome items t ≡ None)
+adds-no_room items t none full =
+    let updated = updates-no_leaf items t none in
+    let removed = removes-no_leaf items t none in
+    (without_adds-set items t t t updated removed, outcome-full items t t t updated removed full)

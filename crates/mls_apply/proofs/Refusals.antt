@@ -1,19 +1,23 @@
 -- The first rule that fails, of those for the keys of a path and of those for a path.
-use Rattle.std.proofs.Common.{◌≡◌, ◌≢◌, ℕ, List, ◌∷◌, length, Option, Some, None, Bool, true, false, refl, sym, ap, ◌∙◌, arith}
+use Rattle.std.proofs.Common.{◌≡◌, ◌≢◌, ◌↔◌, ℕ, List, [], ◌∷◌, length, Option, Some, None, Result, Err, Bool, true, false, refl, sym, ap, ◌∙◌, arith}
 use Rattle.std.specs.Prelude.{is_some, ◌==◌, map, option_map, reverse}
+use Rattle.std.proofs.lemmas.Bool.{false≢true}
 use Rattle.std.proofs.lemmas.Bool.Decides.{nat_tests}
 use Rattle.mls_nodes.specs.declared.leaf.LeafNode.{LeafNode}
 use Rattle.mls_msgs.specs.declared.commit.PathNode.{PathNode}
 use Rattle.mls_msgs.specs.declared.commit.UpdatePath.{UpdatePath}
 use Rattle.mls_tree.specs.Tree.{Tree, leaf_count, leaf_at}
 use Rattle.mls_tree.specs.Paths.{filtered_direct_path}
+use Rattle.mls_apply.specs.declared.fault.ApplyFault.{ApplyFault}
 use Rattle.mls_apply.specs.declared.fault.ApplyFault.TheVariants.{NoSuchLeaf, PathLength, PathSource, PathKeyUsed, CiphertextCount, PathParentHash}
 use Rattle.mls_apply.specs.Outcome.{Grown}
-use Rattle.mls_apply.specs.PathRules.{keys_refusal, path_refusal, path_length, has_path_length, has_new_keys, has_ciphertexts, has_expected_hash, carries_first, node_keys}
+use Rattle.mls_apply.specs.Rules.{rule}
+use Rattle.mls_apply.specs.PathRules.{keys_refusal, path_refusal, path_rules, path_length, has_path_length, has_new_keys, has_ciphertexts, has_expected_hash, carries_first, node_keys}
 use Rattle.mls_apply.specs.Proposals.{is_from_commit}
 use Rattle.mls_apply.specs.Route.{Change, Route, carried, path_route}
 use Rattle.mls_apply.specs.Seen.{hash_refusal}
 use Rattle.mls_apply.proofs.Routes.{expected-route}
+use Rattle.mls_apply.proofs.RuleLists.{no_rules, one_more, it_fails}
 
 same_number : (a b : ℕ) → a ≡ b → (a == b) ≡ true
 same_number a b e = grind (arith, nat_tests)
@@ -26,7 +30,22 @@ pub path-long : (t : Tree) (i count : ℕ) (nodes all : List PathNode) (places :
     → length nodes ≡ count → length all ≡ path_length t i
 path-long t i count nodes all places n p a b = let d = ap length n in let e = ap length p in omega arith
 
+pub blank : (o : Option LeafNode) → is_some o ≡ false → o ≡ None
+blank None e = refl
+blank (Some x) e = absurd (false≢true (sym e))
+
+-- an error of one call is that of another
+same_error : {A B : Type 0} (e f g : ApplyFault) → e ≡ f → ◌≡◌ {A = Result A ApplyFault} (Err e) (Err g) → ◌≡◌ {A = Result B ApplyFault} (Err f) (Err g)
+same_error e f g same h = let h' : e ≡ g = cc in ap Err (sym same ∙ h')
+
 module _ (t : Tree) (i : ℕ) (keys : List (List ℕ)) where
+  -- of these refusals only the first rule's is named so
+  pub keys-told : keys_refusal t i keys ≡ Some NoSuchLeaf → leaf_at 0 t i ≡ None
+  unfolding keys_refusal
+  keys-told h =
+      blank (leaf_at 0 t i)
+      (it_fails NoSuchLeaf (is_some (leaf_at 0 t i)) (rule PathLength (length keys == path_length t i) ∷ []) (one_more (λ e. cc) no_rules) h)
+
   pub keys-no_leaf : leaf_at 0 t i ≡ None → keys_refusal t i keys ≡ Some NoSuchLeaf
   unfolding keys_refusal
   keys-no_leaf e = rw (ap (λ (o : Option LeafNode). is_some o) e) refl
@@ -39,10 +58,36 @@ module _ (t : Tree) (i : ℕ) (keys : List (List ℕ)) where
   unfolding keys_refusal
   keys-kept set same = let e = same_number (length keys) (path_length t i) same in rw (set, e) refl
 
+  -- a set leaf isn't refused so
+  pub keys-set : {A : Type 0} (r : Result A ApplyFault) → (r ≡ Err NoSuchLeaf → ⊥) → is_some (leaf_at 0 t i) ≡ true
+      → (r ≡ Err NoSuchLeaf) ↔ (keys_refusal t i keys ≡ Some NoSuchLeaf)
+  keys-set r other set =
+      (λ h. absurd (other h), λ h. absurd (false≢true (sym (ap (λ (o : Option LeafNode). is_some o) (keys-told h)) ∙ set)))
+
+  -- what a call said of the leaf is said of the keys
+  pub keys-by_leaf : {A B : Type 0} (e f : ApplyFault) → f ≡ e → ◌≡◌ {A = Result A ApplyFault} (Err e) (Err NoSuchLeaf) ↔ (leaf_at 0 t i ≡ None)
+      → ◌≡◌ {A = Result B ApplyFault} (Err f) (Err NoSuchLeaf) ↔ (keys_refusal t i keys ≡ Some NoSuchLeaf)
+  keys-by_leaf {A} {B} e f same of_leaf =
+      (λ h. keys-no_leaf (of_leaf.0 (same_error {A = B} {B = A} f e NoSuchLeaf same h)), λ h. same_error {A = A} {B = B} e f NoSuchLeaf (sym same) (of_leaf.1 (keys-told h)))
+
 module _ (g : Grown) (i : ℕ) (path : UpdatePath) (H : List ℕ → List ℕ) where
+  -- of these refusals only the first rule's is named so
+  pub path-told : path_refusal H g i path ≡ Some NoSuchLeaf → leaf_at 0 g.tree i ≡ None
+  unfolding path_refusal
+  path-told h =
+      blank (leaf_at 0 g.tree i)
+      (it_fails NoSuchLeaf (is_some (leaf_at 0 g.tree i)) (path_rules H g i path)
+      (one_more (λ e. cc) (one_more (λ e. cc) (one_more (λ e. cc) (one_more (λ e. cc) (one_more (λ e. cc) no_rules))))) h)
+
   pub path-no_leaf : leaf_at 0 g.tree i ≡ None → path_refusal H g i path ≡ Some NoSuchLeaf
   unfolding path_refusal
   path-no_leaf e = rw (ap (λ (o : Option LeafNode). is_some o) e) refl
+
+  -- what a call said of the leaf is said of the path, with what it hands back
+  pub path-by_leaf : {A B C : Type 0} (e : ApplyFault) (back : C) → ◌≡◌ {A = Result A ApplyFault} (Err e) (Err NoSuchLeaf) ↔ (leaf_at 0 g.tree i ≡ None)
+      → ◌≡◌ {A = Result B (ApplyFault × C)} (Err (e, back)) (Err (NoSuchLeaf, back)) ↔ (path_refusal H g i path ≡ Some NoSuchLeaf)
+  path-by_leaf {C = C} e back of_leaf =
+      (λ h. let both : ◌≡◌ {A = ApplyFault × C} (e, back) (NoSuchLeaf, back) = cc in path-no_leaf (of_leaf.0 (λ i. Err (both i).0)), λ h. let told = of_leaf.1 (path-told h) in let same : e ≡ NoSuchLeaf = cc in ap (λ f. Err (f, back)) same)
 
   module _ (set : is_some (leaf_at 0 g.tree i) ≡ true) where
     pub path-other_length : length path.nodes ≢ path_length g.tree i → path_refusal H g i path ≡ Some PathLength

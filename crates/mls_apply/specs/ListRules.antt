@@ -50,10 +50,14 @@ unfoldable pub concern_once : List ListItem → Bool
 concern_once [] = true
 concern_once (x ∷ xs) = not (concerns xs (concerned_leaf x.sender x.proposal)) && concern_once xs
 
+-- whether a list has an Update or a Remove
+abbrev pub has_concerned_leaf : List ListItem → Bool
+has_concerned_leaf items = list_any (λ x. is_some (concerned_leaf x.sender x.proposal)) items
+
 -- a commit needs a path where its list is empty, or has an Update or a Remove (12.4)
 unfoldable pub needs_path : List ListItem → Bool
 needs_path [] = true
-needs_path (x ∷ xs) = list_any (λ y. is_some (concerned_leaf y.sender y.proposal)) (x ∷ xs)
+needs_path (x ∷ xs) = has_concerned_leaf (x ∷ xs)
 
 -- the rules for the list, with or without a path
 abbrev pub list_rules : ℕ → List ListItem → Bool → List (Rule ApplyFault)

@@ -40,30 +40,49 @@ unfoldable pub is_package_signed : Meaning → ℕ → KeyPackage → Bool
 is_package_signed G suite k =
     is_signed_text G suite k.leaf_node.signature_key package_label (package_tbs k) k.signature
 
--- A key package may be added (10.1, 7.3): it is of the group's version and cipher suite; its leaf is meant for a key
--- package, whose own key is another one; the client has signed both. What is signed of such a leaf names no group and
--- no place.
-unfoldable pub is_valid_add : Meaning → GroupContext → KeyPackage → Bool
-is_valid_add G context k =
+-- A key package fits a group (10.1, 7.3): it is of the group's version and cipher suite; its leaf is meant for a key
+-- package, whose own key is another one.
+unfoldable pub fits_group : GroupContext → KeyPackage → Bool
+fits_group context k =
     k.version == context.version
     && k.cipher_suite == context.cipher_suite
     && is_from_key_package k.leaf_node.source
     && not (bytes_eq k.init_key k.leaf_node.encryption_key)
+
+-- A key package may be added (10.1, 7.3): it fits the group, and the client has signed both its leaf and the package.
+-- What is signed of such a leaf names no group and no place.
+unfoldable pub is_valid_add : Meaning → GroupContext → KeyPackage → Bool
+is_valid_add G context k =
+    fits_group context k
     && is_leaf_signed G context.cipher_suite context.group_id 0 k.leaf_node
     && is_package_signed G context.cipher_suite k
 
--- A leaf node may take the place of the sender's present one (12.1.2, 7.3): it is meant for an update, has another
--- key, and is signed for this group and this leaf, under the signature key that it has itself.
+-- A leaf node fits the place of the sender's present one (12.1.2, 7.3): it is meant for an update, and has another key.
+unfoldable pub fits_leaf : Option LeafNode → LeafNode → Bool
+fits_leaf None x = false
+fits_leaf (Some present) x = is_from_update x.source && not (bytes_eq x.encryption_key present.encryption_key)
+
+-- A leaf node may take the place of the sender's present one (12.1.2, 7.3): it fits there, and is signed for this group
+-- and this leaf, under the signature key that it has itself.
 unfoldable pub is_valid_update : Meaning → GroupContext → ℕ → Option LeafNode → LeafNode → Bool
-is_valid_update G context sender None x = false
-is_valid_update G context sender (Some present) x =
-    is_from_update x.source
-    && not (bytes_eq x.encryption_key present.encryption_key)
-    && is_leaf_signed G context.cipher_suite context.group_id sender x
+is_valid_update G context sender present x =
+    fits_leaf present x && is_leaf_signed G context.cipher_suite context.group_id sender x
 
 -- a leaf may be removed: it is set (12.1.3)
 unfoldable pub is_valid_remove : Tree → ℕ → Bool
 is_valid_remove t i = is_some (leaf_at 0 t i)
+
+-- what is asked of a proposal if it is an Add, but for the signatures
+abbrev pub adds_fittingly : GroupContext → Proposal → Bool
+adds_fittingly context (Add k) = fits_group context k
+adds_fittingly context (Update x) = true
+adds_fittingly context (Remove i) = true
+
+-- what is asked of a sender's proposal if it is an Update, but for the signature
+abbrev pub updates_fittingly : Tree → ℕ → Proposal → Bool
+updates_fittingly t sender (Add k) = true
+updates_fittingly t sender (Update x) = fits_leaf (leaf_at 0 t sender) x
+updates_fittingly t sender (Remove i) = true
 
 -- what is asked of a proposal if it is an Add
 abbrev pub adds_validly : Meaning → GroupContext → Proposal → Bool

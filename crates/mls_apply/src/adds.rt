@@ -70,8 +70,8 @@ fn leaf_for_member(tree: &mut PublicTree, start: u32) -> Result<u32, ApplyFault>
     let index = tree.leaf_count();
     match tree.extend() {
         Ok(()) => Ok(index),
-        Err(TreeError::TooManyLeaves) => unreachable!(),
-        Err(_) => Err(ApplyFault::OutOfMemory),
+        Err(TreeError::OutOfMemory) => Err(ApplyFault::OutOfMemory),
+        Err(_) => unreachable!(),
     }
 }
 

@@ -35,7 +35,7 @@ pub enum ApplyFault {
     #[error("a path is missing")]
     PathMissing,
     /// Refusal 18: after a commit's list, the group would have more than 1,048,576 members, or a list of unmerged
-    /// leaves more entries.
+    /// leaves more than 1,048,576 entries.
     #[error("a tree has at most 1,048,576 leaves")]
     TooManyLeaves,
     /// Refusal 19: a path has another number of nodes than the committer's filtered direct path (RFC 9420, 7.5).

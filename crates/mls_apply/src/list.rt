@@ -1,9 +1,9 @@
 //! The rules for the list of proposals that a commit applies (RFC 9420, 12.2 and 12.4).
 
-ghost use Rattle.std.specs.Prelude.{◌≡◌, ◌≢◌, Some, None, IfOk, IfErr, OnOk, is_some};
+ghost use Rattle.std.specs.Prelude.{◌≡◌, ◌≢◌, ◌↔◌, Some, None, Err, IfOk, IfErr, OnOk};
 ghost use Rattle.std.specs.List.{list_any};
 ghost use Rattle.mls_apply.specs.ListRules.{is_leaf_number, replaced_leaf, removed_leaf, concerned_leaf};
-ghost use Rattle.mls_apply.specs.ListRules.{concern_once, needs_path, list_refusal};
+ghost use Rattle.mls_apply.specs.ListRules.{has_concerned_leaf, concern_once, needs_path, list_refusal};
 
 use crate::fault::ApplyFault;
 use crate::item::ListItem;
@@ -18,6 +18,8 @@ use std::collections::BTreeSet;
 /// 2. `RemovesCommitter`: no Remove removes the committer.
 /// 3. `SameLeafTwice`: no two Updates or Removes concern one leaf, an Update its sender's.
 /// 4. `PathMissing`: the commit has a path, or its list has an Add and nothing else.
+///
+/// The first two are judged before memory is taken.
 #[tactic(auto, unfolding(crate::specs::ListRules::list_refusal, crate::specs::ListRules::has_no_update_by, crate::specs::ListRules::has_no_remove_of))]
 pub fn check_list(
     alloc: Global,
@@ -28,6 +30,10 @@ pub fn check_list(
     ensures kept { OnOk result (list_refusal committer items.now has_path ≡ None) }
     ensures refused { IfErr result (λ e. e ≢ ApplyFault.OutOfMemory
         → list_refusal committer items.now has_path ≡ Some e) }
+    ensures update_by_committer { (result ≡ Err ApplyFault.UpdateByCommitter)
+        ↔ (list_refusal committer items.now has_path ≡ Some ApplyFault.UpdateByCommitter) }
+    ensures removes_committer { (result ≡ Err ApplyFault.RemovesCommitter)
+        ↔ (list_refusal committer items.now has_path ≡ Some ApplyFault.RemovesCommitter) }
 {
     if has_update_by(committer, items) {
         return Err(ApplyFault::UpdateByCommitter);
@@ -108,8 +114,8 @@ fn concern_once(alloc: Global, items: &[ListItem]) -> Result<bool, AllocError>
 }
 
 /// Whether some item is an Update or a Remove.
-fn has_concerned_leaf(items: &[ListItem]) -> bool
-    ensures { result ≡ list_any (λ x. is_some (concerned_leaf x.sender x.proposal)) items.now }
+pub(crate) fn has_concerned_leaf(items: &[ListItem]) -> bool
+    ensures { result ≡ has_concerned_leaf items.now }
 {
     items.iter().any(|item| concerned_leaf(item).is_some())
 }

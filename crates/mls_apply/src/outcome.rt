@@ -1,14 +1,18 @@
 //! A tree after the proposals of a commit (RFC 9420, 12.3).
 
-ghost use Rattle.std.specs.Prelude.{◌≡◌, ◌⊎◌, Err, Some, None, IfOk, IfErr, IsSome};
-ghost use Rattle.mls_apply.specs.Outcome.{outcome, without_adds, grown};
+ghost use Rattle.std.specs.Prelude.{◌≡◌, ◌+◌, ◌<◌, ◌⊎◌, Err, Some, None, IfOk, IfErr, IsSome, false, length};
+ghost use Rattle.mls_nodes.specs.Limits.{leaf_limit};
+ghost use Rattle.mls_tree.specs.Tree.{member_count};
+ghost use Rattle.mls_apply.specs.ListRules.{has_concerned_leaf};
+ghost use Rattle.mls_apply.specs.Outcome.{outcome, without_adds, new_members, grown};
 
 use crate::adds::{apply_adds, has_room};
 use crate::fault::ApplyFault;
 use crate::item::ListItem;
+use crate::list::has_concerned_leaf;
 use crate::removes::apply_removes;
 use crate::updates::apply_updates;
-use mls_tree::PublicTree;
+use mls_tree::{PublicTree, TreeError};
 use mls_wire::Sequence;
 use std::alloc::Global;
 
@@ -44,10 +48,23 @@ fn apply_all(alloc: Global, tree: &mut PublicTree, items: &[ListItem]) -> Result
     apply_adds(alloc, tree, items)
 }
 
+/// A second tree, equal to this one.
+fn copy_of(alloc: Global, tree: &PublicTree) -> Result<PublicTree, ApplyFault>
+    ensures same { IfOk result (λ copy. copy ≡ tree.now) }
+    ensures memory { IfErr result (λ e. e ≡ ApplyFault.OutOfMemory) }
+{
+    match tree.try_clone(alloc) {
+        Ok(copy) => Ok(copy),
+        Err(TreeError::OutOfMemory) => Err(ApplyFault::OutOfMemory),
+        Err(_) => unreachable!(),
+    }
+}
+
 /// The tree after a list of proposals (RFC 9420, 12.3): the Updates of the list, then its Removes, then its Adds,
 /// each kind in the order of the list. The tree that is handed in stays. `NoSuchLeaf` where an Update or a Remove
 /// meets a leaf that isn't set at its turn, else `TooManyLeaves` where the set leaves after the Removes plus the Adds
-/// are more than 1,048,576, or a list of unmerged leaves would get more entries.
+/// are more than 1,048,576, or a list of unmerged leaves would get more entries. Where the list has neither an Update
+/// nor a Remove, whether there is room for its Adds is judged before the tree is copied.
 pub fn apply_list(
     alloc: Global,
     tree: &PublicTree,
@@ -62,10 +79,14 @@ pub fn apply_list(
     ensures else_memory { IfErr result (λ e.
         (e ≡ ApplyFault.NoSuchLeaf) ⊎ (e ≡ ApplyFault.TooManyLeaves)
         ⊎ (e ≡ ApplyFault.OutOfMemory)) }
+    ensures no_room { has_concerned_leaf items.now ≡ false
+        → leaf_limit < member_count tree.now.tree + length (new_members items.now)
+        → result ≡ Err ApplyFault.TooManyLeaves }
 {
-    let Ok(mut after) = tree.try_clone(alloc) else {
-        return Err(ApplyFault::OutOfMemory);
-    };
+    if !has_concerned_leaf(items) && !has_room(tree, items) {
+        return Err(ApplyFault::TooManyLeaves);
+    }
+    let mut after = copy_of(alloc, tree)?;
     match apply_all(alloc, &mut after, items) {
         Ok(added) => Ok(Applied { tree: after, added }),
         Err(fault) => Err(fault),

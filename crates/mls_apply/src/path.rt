@@ -1,7 +1,7 @@
 //! Update paths: the parent hashes that a path has to carry, and the tree with a path merged into it (RFC 9420, 7.5,
 //! 7.6 and 7.9).
 
-ghost use Rattle.std.specs.Prelude.{◌≡◌, ◌≢◌, ◌<◌, ◌⊎◌, ◌∷◌, ℕ, List, All, Err, Some, None, IfOk, IfErr, IfSome, OnOk, is_some, length, map, option_map, true};
+ghost use Rattle.std.specs.Prelude.{◌≡◌, ◌≢◌, ◌<◌, ◌⊎◌, ◌↔◌, ◌∷◌, ℕ, List, All, Err, Some, None, IfOk, IfErr, IfSome, OnOk, is_some, length, map, option_map, true};
 ghost use Rattle.mls_hash.specs.Hashing.{hash_of};
 ghost use Rattle.mls_hash.specs.SubtreeHashes.{AreAllHashes};
 ghost use Rattle.mls_tree.specs.Tree.{leaf_at, leaf_count, IsParentPlace};
@@ -17,6 +17,7 @@ use crate::fault::ApplyFault;
 use crate::new_parents::{NewParent, NewParents, new_parents, opaque_of, put_path};
 use crate::outcome::Applied;
 use crate::path_rules::{has_new_keys, have_counts};
+use crate::replace::leaf_of;
 use mls_hash::{SubtreeHashes, Suite};
 use mls_msgs::{PathNode, UpdatePath};
 use mls_nodes::{LeafNode, LeafSource, ParentNode};
@@ -29,7 +30,8 @@ fn path_places(alloc: Global, tree: &PublicTree, leaf: u32) -> Result<Vec<u32>, 
     ensures places { IfOk result (λ places. let t = tree.now.tree in
         places.items ≡ filtered_direct_path (leaf_count t) 0 t leaf) }
     ensures set { OnOk result (is_some (leaf_at 0 tree.now.tree leaf) ≡ true) }
-    ensures not_set { result ≡ Err ApplyFault.NoSuchLeaf → leaf_at 0 tree.now.tree leaf ≡ None }
+    ensures not_set { (result ≡ Err ApplyFault.NoSuchLeaf)
+        ↔ (leaf_at 0 tree.now.tree leaf ≡ None) }
     ensures else_memory { IfErr result (λ e.
         (e ≡ ApplyFault.NoSuchLeaf) ⊎ (e ≡ ApplyFault.OutOfMemory)) }
 {
@@ -76,17 +78,6 @@ fn node_keys(alloc: Global, nodes: &[PathNode]) -> Result<Vec<Opaque>, AllocErro
     Ok(keys)
 }
 
-/// A leaf node equal to this one.
-fn leaf_of(alloc: Global, leaf: &LeafNode) -> Result<Box<LeafNode>, AllocError>
-    ensures { IfOk result (λ copy. copy.value ≡ leaf.now) }
-{
-    match leaf.try_clone(alloc) {
-        Ok(copy) => Ok(Box::new(alloc, copy)?),
-        Err(CodecFault::OutOfMemory) => Err(AllocError),
-        Err(CodecFault::Wire(_)) => unreachable!(),
-    }
-}
-
 /// The parent hashes that came down to a leaf and to each new parent above it, the leaf's first.
 fn carried(alloc: Global, new: NewParents) -> Result<Vec<Opaque>, AllocError>
     ensures { IfOk result (λ hashes. hashes.items ≡ carried (route_of new)) }
@@ -103,8 +94,8 @@ fn carried(alloc: Global, new: NewParents) -> Result<Vec<Opaque>, AllocError>
 
 /// The parent hashes that an update path of the committer with these keys, the lowest node's first, has to carry (RFC
 /// 9420, 7.9): first the leaf's, then one for each node, the last of which is empty. `NoSuchLeaf` where the
-/// committer's leaf isn't set, else `PathLength` where the filtered direct path has another number of nodes than
-/// there are keys.
+/// committer's leaf isn't set, which is judged before memory is taken, else `PathLength` where the filtered direct
+/// path has another number of nodes than there are keys.
 pub fn expected_parent_hashes(
     alloc: Global,
     suite: Suite,
@@ -117,6 +108,8 @@ pub fn expected_parent_hashes(
     ensures kept { OnOk result (keys_refusal tree.now.tree committer keys.now ≡ None) }
     ensures refused { IfErr result (λ e. e ≢ ApplyFault.OutOfMemory
         → keys_refusal tree.now.tree committer keys.now ≡ Some e) }
+    ensures no_such_leaf { (result ≡ Err ApplyFault.NoSuchLeaf)
+        ↔ (keys_refusal tree.now.tree committer keys.now ≡ Some ApplyFault.NoSuchLeaf) }
 {
     let places = path_places(alloc, tree, committer)?;
     if keys.len() != places.len() {
@@ -162,6 +155,8 @@ fn checked_places(
     ensures refused { IfErr result (λ e. e ≢ ApplyFault.OutOfMemory → (H : List ℕ → List ℕ)
         → path_refusal H (grown applied.now.tree.tree applied.now.added) committer path.now
         ≡ Some e) }
+    ensures not_set { (result ≡ Err ApplyFault.NoSuchLeaf)
+        ↔ (leaf_at 0 applied.now.tree.tree committer ≡ None) }
 {
     let tree = &applied.tree;
     let nodes = path.nodes.as_slice();
@@ -212,6 +207,8 @@ fn new_nodes(
     ensures refused { let g = grown applied.now.tree.tree applied.now.added in
         IfErr result (λ e. e ≢ ApplyFault.OutOfMemory
         → path_refusal (hash_of suite) g committer path.now ≡ Some e) }
+    ensures not_set { (result ≡ Err ApplyFault.NoSuchLeaf)
+        ↔ (leaf_at 0 applied.now.tree.tree committer ≡ None) }
 {
     let places = checked_places(alloc, applied, committer, path)?;
     let keys = node_keys(alloc, path.nodes.as_slice())?;
@@ -228,9 +225,9 @@ fn new_nodes(
 
 /// The tree with an update path of the committer merged into it (RFC 9420, 7.5): its leaf is that of the path, the
 /// parents of its filtered direct path have the path's keys and no unmerged leaves, and the other parents above it
-/// are blank. `NoSuchLeaf` where the committer's leaf isn't set, else the first of `PathLength`, `PathSource`,
-/// `PathKeyUsed`, `CiphertextCount` and `PathParentHash` that applies. After any fault, also for want of memory, what
-/// was handed in comes back as it was.
+/// are blank. `NoSuchLeaf` where the committer's leaf isn't set, which is judged before memory is taken, else the
+/// first of `PathLength`, `PathSource`, `PathKeyUsed`, `CiphertextCount` and `PathParentHash` that applies. After any
+/// fault, also for want of memory, what was handed in comes back as it was.
 pub fn merge_path(
     alloc: Global,
     suite: Suite,
@@ -246,6 +243,9 @@ pub fn merge_path(
     ensures refused { let g = grown applied.tree.tree applied.added in
         IfErr result (λ e. e.0 ≢ ApplyFault.OutOfMemory
         → path_refusal (hash_of suite) g committer path.now ≡ Some e.0) }
+    ensures no_such_leaf { let g = grown applied.tree.tree applied.added in
+        (result ≡ Err (ApplyFault.NoSuchLeaf, applied))
+        ↔ (path_refusal (hash_of suite) g committer path.now ≡ Some ApplyFault.NoSuchLeaf) }
     ensures handed_back { IfErr result (λ e. e.1 ≡ applied) }
 {
     merge_path_by(alloc, suite, applied, None, committer, path)
@@ -269,6 +269,9 @@ pub fn merge_path_by(
     ensures refused { let g = grown applied.tree.tree applied.added in
         IfErr result (λ e. e.0 ≢ ApplyFault.OutOfMemory
         → path_refusal (hash_of suite) g committer path.now ≡ Some e.0) }
+    ensures no_such_leaf { let g = grown applied.tree.tree applied.added in
+        (result ≡ Err (ApplyFault.NoSuchLeaf, applied))
+        ↔ (path_refusal (hash_of suite) g committer path.now ≡ Some ApplyFault.NoSuchLeaf) }
     ensures handed_back { IfErr result (λ e. e.1 ≡ applied) }
 {
     match new_nodes(alloc, suite, &applied, kept, committer, path) {

@@ -1,8 +1,10 @@
 //! Whether a single proposal is valid (RFC 9420, 12.1.1 to 12.1.3).
 
-ghost use Rattle.std.specs.Prelude.{◌≡◌, ◌≢◌, Some, None, IfOk, IfErr, OnOk};
+ghost use Rattle.std.specs.Prelude.{◌≡◌, ◌≢◌, ◌↔◌, Some, None, Ok, Err, IfOk, IfErr, IsSome, OnOk, false};
 ghost use Rattle.mls_check.specs.Signatures.{is_signed_text};
+ghost use Rattle.mls_tree.specs.Tree.{leaf_at};
 ghost use Rattle.mls_apply.specs.Proposals.{is_from_key_package, is_from_update, is_package_signed};
+ghost use Rattle.mls_apply.specs.Proposals.{fits_group, fits_leaf, adds_fittingly, updates_fittingly};
 ghost use Rattle.mls_apply.specs.Proposals.{is_valid_add, is_valid_update, checked_refusal};
 
 use crate::fault::ApplyFault;
@@ -26,7 +28,7 @@ use std::alloc::Global;
 ///    key that it has itself.
 /// 4. `RemoveInvalid`: a leaf that is to be removed is set.
 ///
-/// What is too long to be signed counts as not signed.
+/// What is too long to be signed counts as not signed. Memory is taken for signatures alone, which are looked at last.
 #[tactic(auto, unfolding(crate::specs::Proposals::checked_refusal, crate::specs::Proposals::is_valid_remove))]
 pub fn check_proposal(
     alloc: Global,
@@ -44,6 +46,17 @@ pub fn check_proposal(
     ensures refused { IfErr result (λ e. e ≢ ApplyFault.OutOfMemory
         → checked_refusal (meaning checker.now) context.now tree.now.tree sender proposal.now
         ≡ Some e) }
+    ensures no_such_leaf { (result ≡ Err ApplyFault.NoSuchLeaf)
+        ↔ (checked_refusal (meaning checker.now) context.now tree.now.tree sender proposal.now
+        ≡ Some ApplyFault.NoSuchLeaf) }
+    ensures unfit_add { IsSome (leaf_at 0 tree.now.tree sender)
+        → adds_fittingly context.now proposal.now ≡ false → result ≡ Err ApplyFault.AddInvalid }
+    ensures unfit_update { IsSome (leaf_at 0 tree.now.tree sender)
+        → updates_fittingly tree.now.tree sender proposal.now ≡ false
+        → result ≡ Err ApplyFault.UpdateInvalid }
+    ensures remove_invalid { (result ≡ Err ApplyFault.RemoveInvalid)
+        ↔ (checked_refusal (meaning checker.now) context.now tree.now.tree sender proposal.now
+        ≡ Some ApplyFault.RemoveInvalid) }
 {
     let Some(present) = tree.leaf(sender) else {
         return Err(ApplyFault::NoSuchLeaf);
@@ -109,6 +122,18 @@ fn is_package_signed(
     )
 }
 
+/// Whether a key package fits a group, but for its signatures.
+#[tactic(auto, unfolding(crate::specs::Proposals::fits_group))]
+fn fits_group(context: &GroupContext, key_package: &KeyPackage) -> bool
+    ensures { result ≡ fits_group context.now key_package.now }
+{
+    let leaf = &key_package.leaf_node;
+    key_package.version == context.version
+        && key_package.cipher_suite == context.cipher_suite
+        && is_from_key_package(&leaf.source)
+        && key_package.init_key.as_slice() != leaf.encryption_key.as_slice()
+}
+
 /// Whether a key package may be added to a group. Its signatures are looked at last. What is signed of a leaf node of
 /// a key package has no index in it.
 #[tactic(auto, unfolding(crate::specs::Proposals::is_valid_add))]
@@ -120,23 +145,27 @@ fn is_valid_add(
     checker: &dyn SignatureCheck,
 ) -> Result<bool, OutOfMemory>
     requires suite_of_context { suite ≡ context.now.cipher_suite }
-    ensures { IfOk result (λ valid.
+    ensures valid { IfOk result (λ valid.
         valid ≡ is_valid_add (meaning checker.now) context.now key_package.now) }
+    ensures unfit { fits_group context.now key_package.now ≡ false → result ≡ Ok false }
 {
+    if !fits_group(context, key_package) {
+        return Ok(false);
+    }
     let leaf = &key_package.leaf_node;
-    if key_package.version != context.version || key_package.cipher_suite != suite.number() {
-        return Ok(false);
-    }
-    if !is_from_key_package(&leaf.source) {
-        return Ok(false);
-    }
-    if key_package.init_key.as_slice() == leaf.encryption_key.as_slice() {
-        return Ok(false);
-    }
     if !is_leaf_signed(alloc, suite.number(), &context.group_id, 0, leaf, checker)? {
         return Ok(false);
     }
     is_package_signed(alloc, suite.number(), key_package, checker)
+}
+
+/// Whether a leaf node fits the place of a member's present one, but for its signature.
+#[tactic(auto, unfolding(crate::specs::Proposals::fits_leaf))]
+fn fits_leaf(present: &LeafNode, leaf: &LeafNode) -> bool
+    ensures { result ≡ fits_leaf (Some present.now) leaf.now }
+{
+    is_from_update(&leaf.source)
+        && leaf.encryption_key.as_slice() != present.encryption_key.as_slice()
 }
 
 /// Whether a leaf node may take the place of a member's present one. Its signature is looked at last.
@@ -151,14 +180,12 @@ fn is_valid_update(
     checker: &dyn SignatureCheck,
 ) -> Result<bool, OutOfMemory>
     requires suite_of_context { suite ≡ context.now.cipher_suite }
-    ensures { IfOk result (λ valid.
+    ensures valid { IfOk result (λ valid.
         valid
         ≡ is_valid_update (meaning checker.now) context.now sender (Some present.now) leaf.now) }
+    ensures unfit { fits_leaf (Some present.now) leaf.now ≡ false → result ≡ Ok false }
 {
-    if !is_from_update(&leaf.source) {
-        return Ok(false);
-    }
-    if leaf.encryption_key.as_slice() == present.encryption_key.as_slice() {
+    if !fits_leaf(present, leaf) {
         return Ok(false);
     }
     is_leaf_signed(

@@ -1,14 +1,25 @@
 //! Changes of single leaves that the three kinds of proposals share.
 
-ghost use Rattle.std.specs.Prelude.{◌≡◌, ◌<◌, Some, None, IfErr, OnOk};
+ghost use Rattle.std.specs.Prelude.{◌≡◌, ◌<◌, Some, None, IfOk, IfErr, OnOk};
 ghost use Rattle.mls_tree.specs.Tree.{leaf_count};
 ghost use Rattle.mls_tree.specs.Changes.{put_leaf, clear_path};
 
 use crate::fault::ApplyFault;
 use mls_nodes::LeafNode;
 use mls_tree::PublicTree;
-use mls_wire::TryClone;
-use std::alloc::Global;
+use mls_wire::{CodecFault, TryClone};
+use std::alloc::{AllocError, Global};
+
+/// A leaf node equal to this one.
+pub(crate) fn leaf_of(alloc: Global, leaf: &LeafNode) -> Result<Box<LeafNode>, AllocError>
+    ensures { IfOk result (λ copy. copy.value ≡ leaf.now) }
+{
+    match leaf.try_clone(alloc) {
+        Ok(copy) => Ok(Box::new(alloc, copy)?),
+        Err(CodecFault::OutOfMemory) => Err(AllocError),
+        Err(CodecFault::Wire(_)) => unreachable!(),
+    }
+}
 
 /// Replaces a leaf of the tree by a copy of this one.
 pub(crate) fn put_copy(
@@ -21,10 +32,7 @@ pub(crate) fn put_copy(
     ensures put { OnOk result (tree.new.tree ≡ put_leaf 0 tree.old.tree index (Some leaf.now)) }
     ensures memory { IfErr result (λ e. e ≡ ApplyFault.OutOfMemory) }
 {
-    let Ok(copy) = leaf.try_clone(alloc) else {
-        return Err(ApplyFault::OutOfMemory);
-    };
-    let copy = Box::new(alloc, copy)?;
+    let copy = leaf_of(alloc, leaf)?;
     let Ok(()) = tree.set_leaf(index, Some(copy)) else {
         unreachable!();
     };

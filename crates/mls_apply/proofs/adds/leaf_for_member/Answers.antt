@@ -1,4 +1,4 @@
-use Rattle.std.proofs.Common.{◌≡◌, ◌∙◌, Some, Err, sym, ap, arith}
+use Rattle.std.proofs.Common.{◌≡◌, ◌∙◌, Some, Err, sym, ap, inl, inr, arith, rules}
 use Rattle.mls_tree.specs.Tree.{height, leaf_count}
 use Rattle.mls_tree.specs.Blanks.{first_blank_leaf}
 use Rattle.mls_tree.specs.Changes.{blank_tree, number_or, grown_for}
@@ -24,7 +24,10 @@ pub unreachable-requires : goal.unreachable-requires
 unreachable-requires c =
     let t = c.args.tree.now.tree in
     let none = sym (next_blank_leaf-first t c.args.start c.requires.set) ∙ sym c.in_default.ensures in
-    room_to_grow t none c.requires.room (c.in-Err-TooManyLeaves.ensures.too_many_leaves.0 (ap Err c.in-Err-TooManyLeaves.field-0-is))
+    elim c.in-Err.ensures.else_memory [
+      | inl e ↦ room_to_grow t none c.requires.room (c.in-Err.ensures.too_many_leaves.0 (ap Err e))
+      | inr e ↦ search rules
+    ]
 
 pub returns-in-Ok-clause-index : goal.returns-in-Ok-clause-index
 returns-in-Ok-clause-index c =

@@ -12,7 +12,7 @@ returns-in_err-places-clause-refused c =
     let p = err_from_is_err_and c.from_residual.result c.from_residual.ensures.1 in
     rw (p.1, p.2) (λ not_memory H.
     elim c.in_err-places.ensures.else_memory [
-      | inl e ↦ path-no_leaf (grown c.args.applied.now.tree.tree c.args.applied.now.added) c.args.committer c.args.path.now H (c.in_err-places.ensures.not_set (ap Err e)) ∙ ap Some (sym e)
+      | inl e ↦ path-no_leaf (grown c.args.applied.now.tree.tree c.args.applied.now.added) c.args.committer c.args.path.now H (c.in_err-places.ensures.not_set.0 (ap Err e)) ∙ ap Some (sym e)
       | inr e ↦ absurd (not_memory e)
     ])
 

@@ -1,12 +1,13 @@
-use Rattle.std.proofs.Common.{◌≡◌, ◌≢◌, ◌∙◌, [], Some, Err, length, ap, sym, inl, inr, arith}
+use Rattle.std.proofs.Common.{◌≡◌, ◌≢◌, ◌∙◌, [], Some, Ok, Err, length, ap, sym, inl, inr, arith}
 use Rattle.std.specs.Prelude.{option_map, reverse}
 use Rattle.std.proofs.lemmas.Result.{err_from_is_err_and}
 use Rattle.mls_hash.specs.Hashing.{hash_of}
+use Rattle.mls_apply.specs.declared.fault.ApplyFault.TheVariants.{PathLength, OutOfMemory}
 use Rattle.mls_apply.specs.PathRules.{path_length}
 use Rattle.mls_apply.specs.Route.{carried, route, path_route}
 use Rattle.mls_apply.specs.Seen.{route_of}
 use Rattle.mls_apply.proofs.Paths.{filtered-parents}
-use Rattle.mls_apply.proofs.Refusals.{keys-no_leaf, keys-other_length, keys-kept}
+use Rattle.mls_apply.proofs.Refusals.{keys-no_leaf, keys-other_length, keys-kept, keys-set, keys-by_leaf}
 use Rattle.mls_apply.proofs.Routes.{expected-route}
 use Rattle.mls_apply.proofs.path.expected_parent_hashes.Goals as goal
 
@@ -15,7 +16,7 @@ returns-in_err-places-clause-refused c =
     let p = err_from_is_err_and c.from_residual.result c.from_residual.ensures.1 in
     rw (p.1, p.2) (λ not_memory.
     elim c.in_err-places.ensures.else_memory [
-      | inl e ↦ keys-no_leaf c.args.tree.now.tree c.args.committer c.args.keys.now (c.in_err-places.ensures.not_set (ap Err e)) ∙ ap Some (sym e)
+      | inl e ↦ keys-no_leaf c.args.tree.now.tree c.args.committer c.args.keys.now (c.in_err-places.ensures.not_set.0 (ap Err e)) ∙ ap Some (sym e)
       | inr e ↦ absurd (not_memory e)
     ])
 
@@ -44,3 +45,31 @@ returns-clause-kept c =
     let kept = c.in_ok-places.places.ok in
     let same = c.if-keys-len.false in
     keys-kept c.args.tree.now.tree c.args.committer c.args.keys.now c.in_ok-places.ensures.set (omega arith)
+
+pub returns-in_err-places-clause-no_such_leaf : goal.returns-in_err-places-clause-no_such_leaf
+returns-in_err-places-clause-no_such_leaf c =
+    let p = err_from_is_err_and c.from_residual.result c.from_residual.ensures.1 in
+    rw p.1 (keys-by_leaf c.args.tree.now.tree c.args.committer c.args.keys.now _ p.0 p.2 c.in_err-places.ensures.not_set)
+
+pub returns-then-keys-len-clause-no_such_leaf : goal.returns-then-keys-len-clause-no_such_leaf
+returns-then-keys-len-clause-no_such_leaf c =
+    keys-set c.args.tree.now.tree c.args.committer c.args.keys.now (Err PathLength) (λ e. cc) c.in_ok-places.ensures.set
+
+pub returns-in_err-keys-clause-no_such_leaf : goal.returns-in_err-keys-clause-no_such_leaf
+returns-in_err-keys-clause-no_such_leaf c =
+    let p = err_from_is_err_and c.from_residual-in_err-keys.result c.from_residual-in_err-keys.ensures.1 in
+    rw (p.1, p.2) (keys-set c.args.tree.now.tree c.args.committer c.args.keys.now (Err OutOfMemory) (λ e. cc) c.in_ok-places.ensures.set)
+
+pub returns-in_err-new-clause-no_such_leaf : goal.returns-in_err-new-clause-no_such_leaf
+returns-in_err-new-clause-no_such_leaf c =
+    let p = err_from_is_err_and c.from_residual-in_err-new.result c.from_residual-in_err-new.ensures.1 in
+    rw (p.1, p.2) (keys-set c.args.tree.now.tree c.args.committer c.args.keys.now (Err OutOfMemory) (λ e. cc) c.in_ok-places.ensures.set)
+
+pub returns-in_err-carried-clause-no_such_leaf : goal.returns-in_err-carried-clause-no_such_leaf
+returns-in_err-carried-clause-no_such_leaf c =
+    let p = err_from_is_err_and c.from_residual-in_err-carried.result c.from_residual-in_err-carried.ensures.1 in
+    rw (p.1, p.2) (keys-set c.args.tree.now.tree c.args.committer c.args.keys.now (Err OutOfMemory) (λ e. cc) c.in_ok-places.ensures.set)
+
+pub returns-clause-no_such_leaf : goal.returns-clause-no_such_leaf
+returns-clause-no_such_leaf c =
+    keys-set c.args.tree.now.tree c.args.committer c.args.keys.now (Ok c.in_ok-carried.field-0) (λ e. cc) c.in_ok-places.ensures.set

@@ -1,12 +1,12 @@
 //! Lists of unmerged leaves (RFC 9420, 4.1.1 and 7.1).
 
-ghost use Rattle.std.specs.Prelude.{◌≡◌, ◌≤◌, ◌<◌, length, MatchResult};
+ghost use Rattle.std.specs.Prelude.{◌≡◌, ◌≤◌, ◌<◌, insert, length, remove, slice_index_or, MatchResult, OnErr, OnOk};
 ghost use Rattle.mls_nodes.specs.Limits.{leaf_limit};
 
 use mls_wire::{
     CodecFault, Decode, Draft, Encode, Items, Reader, TryClone, WireFault, WireFaultKind,
 };
-use std::alloc::Global;
+use std::alloc::{AllocError, Global};
 use std::marker::Model;
 
 /// The most entries that a list of unmerged leaves has, as many as a tree has leaves.
@@ -50,6 +50,28 @@ impl Unmerged {
         ensures limit { length self.now ≤ leaf_limit }
     {
         self.leaves.as_slice()
+    }
+
+    /// Puts a leaf at an index of the list, before those that stood from there on. For want of memory the list stays.
+    pub fn insert(&mut self, index: usize, leaf: u32) -> Result<(), AllocError>
+        requires inside { index ≤ length self.old }
+        requires room { length self.old < leaf_limit }
+        ensures ok { OnOk result (self.new ≡ insert self.old index leaf) }
+        ensures err { OnErr result (self.new ≡ self.old) }
+    {
+        match self.leaves.insert(index, leaf) {
+            Ok(()) => Ok(()),
+            Err(_) => Err(AllocError),
+        }
+    }
+
+    /// Takes out the leaf at an index of the list. Those behind it move up. It takes no memory.
+    pub fn remove(&mut self, index: usize) -> u32
+        requires { index < length self.old }
+        ensures value { result ≡ slice_index_or self.old index result }
+        ensures leaves { self.new ≡ remove self.old index }
+    {
+        self.leaves.remove(index)
     }
 }
 

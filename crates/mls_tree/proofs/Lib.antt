@@ -23,3 +23,8 @@ pub mod Padding
 pub mod Filled
 pub mod Positions
 pub mod Replacing
+pub mod AlongPaths
+pub mod Entering
+pub mod TakenBack
+pub mod ParentEntries
+pub mod Rejoining

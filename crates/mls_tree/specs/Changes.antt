@@ -4,7 +4,8 @@ use Rattle.std.specs.List.{list_any}
 use Rattle.mls_nodes.specs.Limits.{leaf_limit}
 use Rattle.mls_nodes.specs.declared.leaf.LeafNode.{LeafNode}
 use Rattle.mls_nodes.specs.declared.parent.ParentNode.{ParentNode}
-use Rattle.mls_tree.specs.Tree.{Tree, leaf, branch, height, leaf_count}
+use Rattle.mls_tree.specs.Tree.{Tree, leaf, branch, height, leaf_count, subtree_at, entry_of}
+use Rattle.mls_tree.specs.Parts.{parent_of}
 use Rattle.mls_tree.specs.Blanks.{first_blank_leaf}
 
 -- leaf i becomes x
@@ -22,6 +23,10 @@ put_parent first (branch l n r) p x =
     else (if nat_lt (p + 1) (2 * (first + leaf_count l))
     then branch (put_parent first l p x) n r
     else branch l n (put_parent (first + leaf_count l) r p x))
+
+-- the parent at place p is changed by f
+abbrev pub change_parent : (Option ParentNode → Option ParentNode) → ℕ → Tree → ℕ → Tree
+change_parent f first t p = put_parent first t p (f (parent_of (entry_of (subtree_at first t p))))
 
 -- each parent above leaf i is changed by f
 abbrev pub change_above : (Option ParentNode → Option ParentNode) → ℕ → Tree → ℕ → Tree
@@ -46,6 +51,16 @@ insert_number i xs = if list_any (λ x. x == i) xs then xs else insert_before i 
 abbrev pub with_unmerged : ℕ → Option ParentNode → Option ParentNode
 with_unmerged i None = None
 with_unmerged i (Some p) = Some (record p { unmerged = insert_number i p.unmerged })
+
+-- the first entry that is i leaves a list
+abbrev pub without_number : ℕ → List ℕ → List ℕ
+without_number i [] = []
+without_number i (x ∷ xs) = if x == i then xs else x ∷ without_number i xs
+
+-- i leaves the list of unmerged leaves of a set parent
+abbrev pub without_unmerged : ℕ → Option ParentNode → Option ParentNode
+without_unmerged i None = None
+without_unmerged i (Some p) = Some (record p { unmerged = without_number i p.unmerged })
 
 -- i enters the list of unmerged leaves of each set parent above leaf i (12.1.1)
 abbrev pub enter_unmerged : Tree → ℕ → Tree
@@ -81,6 +96,20 @@ shrink (branch l n r) = if has_set_leaf r then branch l n r else shrink l
 abbrev pub blank_tree : ℕ → Tree
 blank_tree zero = leaf None
 blank_tree (suc h) = branch (blank_tree h) None (blank_tree h)
+
+-- the left half, where there are halves
+abbrev pub left_half : Tree → Tree
+left_half (leaf x) = leaf x
+left_half (branch l _ _) = l
+
+-- the tree t in the place of the left half of w
+abbrev pub with_left : Tree → Tree → Tree
+with_left t (leaf x) = leaf x
+with_left t (branch _ n r) = branch t n r
+
+-- the same, where t is as high as a half of w; else t
+abbrev pub rejoined : Tree → Tree → Tree
+rejoined t w = if (height t + 1) == height w then with_left t w else t
 
 -- the tree as the left half of one twice as large, whose other nodes are blank (7.7)
 abbrev pub grow : Tree → Tree

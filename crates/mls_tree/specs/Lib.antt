@@ -5,6 +5,7 @@ pub mod Parts
 pub mod Paths
 pub mod Blanks
 pub mod Changes
+pub mod Journals
 pub mod Sizes
 pub mod Array
 pub mod NewLists

@@ -9,7 +9,9 @@ mod blanks;
 mod decode;
 mod entries;
 mod error;
+mod exchange;
 mod hash_value;
+mod journal;
 pub mod laws;
 mod part;
 mod paths;
@@ -22,6 +24,7 @@ mod unmerged;
 
 pub use error::TreeError;
 pub use hash_value::HashValue;
+pub use journal::Journal;
 pub use part::Part;
 pub use places::{left, level, parent, right, root, sibling};
 pub use public_tree::PublicTree;

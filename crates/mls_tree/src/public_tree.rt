@@ -1,25 +1,30 @@
 //! The public tree of a group, kept as one array of nodes.
-ghost use Rattle.std.specs.Prelude.{◌≡◌, ℕ, ◌≤◌, ◌<◌, length, IfOk, IfErr, Err, MatchOption, OnOk, OnErr, IsOk, IsErr, ◌↔◌, ◌⊎◌, None, Some, map, option_map, option_copied};
+ghost use Rattle.std.specs.Prelude.{◌≡◌, ℕ, ◌≤◌, ◌<◌, length, IfOk, IfErr, Err, MatchOption, OnOk, OnErr, IsOk, IsErr, ◌↔◌, ◌⊎◌, None, Some, false, map, option_map, option_copied};
 ghost use Rattle.std.specs.Bool.{OnTrue, OnFalse};
 ghost use Rattle.mls_nodes.specs.Limits.{leaf_limit};
 ghost use Rattle.mls_nodes.specs.Value.{entry_value, node_value};
-ghost use Rattle.mls_tree.specs.Tree.{leaf_count, member_count, height, listing, node_at, leaf_at, IsParentPlace};
+ghost use Rattle.mls_tree.specs.Tree.{leaf_count, member_count, height, listing, node_at, leaf_at, IsBranch, IsParentPlace};
 ghost use Rattle.mls_tree.specs.Paths.{direct_path, copath, filtered_direct_path, resolution_at};
 ghost use Rattle.mls_tree.specs.Blanks.{first_blank_leaf, next_blank_leaf, IsFirstBlank, AllLeavesSet};
-ghost use Rattle.mls_tree.specs.Changes.{put_leaf, put_parent, clear_path, enter_unmerged, IsOverfull, shrink, blank_tree, grow};
+ghost use Rattle.mls_tree.specs.Changes.{put_leaf, put_parent, clear_path, change_parent, with_unmerged, without_unmerged, enter_unmerged, is_overfilled, is_overfilled_above, IsOverfull, shrink, blank_tree, grow, left_half, rejoined};
+ghost use Rattle.mls_tree.specs.Parts.{parent_of};
 ghost use Rattle.mls_tree.specs.Sizes.{IsPowerOfTwo, IsTooLong, IsListing};
 
 use crate::blanks::{blank_above, has_set_leaf, push_blanks};
-use crate::entries::{all_fit, as_leaf, clone_entries, count_leaves, leaf_entry, parent_entry};
+use crate::entries::{
+    all_fit, as_leaf, clone_entries, count_leaves, into_leaf, into_parent, leaf_entry, parent_entry,
+};
 use crate::error::TreeError;
+use crate::exchange::swap_front;
 use crate::paths::{push_copath, push_direct_path, push_filtered_direct_path};
 use crate::places::level_inside;
 use crate::resolution::push_resolution;
 use crate::sizes::{height_of, height_of_length, leaves_of};
-use crate::unmerged::{is_overfilled_above, push_new_lists, put_lists};
+use crate::unmerged::{enter, is_overfilled_above, leave, push_new_lists, put_lists};
 use mls_nodes::{LeafNode, Node, ParentNode};
-use std::alloc::Global;
+use std::alloc::{AllocError, Global};
 use std::marker::Model;
+use std::mem;
 
 /// The public tree of a group (RFC 9420, 4.1.1): a perfect binary tree of 1 to 1,048,576 leaves, a power of two, whose leaves and parents
 /// are each blank or set. A call that is refused leaves the tree as it was.
@@ -274,6 +279,36 @@ impl PublicTree {
         Ok(())
     }
 
+    /// Replaces a leaf, by a blank one for None, and hands out the one that stood there. Takes no memory.
+    pub(crate) fn replace_leaf(
+        &mut self,
+        index: u32,
+        leaf: Option<Box<LeafNode>>,
+    ) -> Option<Box<LeafNode>>
+        requires { index < leaf_count self.old.tree }
+        ensures put { self.new.tree
+            ≡ put_leaf 0 self.old.tree index (option_map (λ b. b.value) leaf) }
+        ensures former { option_map (λ b. b.value) result ≡ leaf_at 0 self.old.tree index }
+    {
+        let former = mem::replace(&mut self.nodes[2 * index as usize], leaf_entry(leaf));
+        into_leaf(former)
+    }
+
+    /// Replaces a parent, by a blank one for None, and hands out the one that stood there. Takes no memory.
+    pub(crate) fn replace_parent(
+        &mut self,
+        place: u32,
+        parent: Option<Box<ParentNode>>,
+    ) -> Option<Box<ParentNode>>
+        requires { IsParentPlace self.old.tree place }
+        ensures put { self.new.tree
+            ≡ put_parent 0 self.old.tree place (option_map (λ b. b.value) parent) }
+        ensures former { option_map (λ b. b.value) result ≡ parent_of (node_at self.old.tree place) }
+    {
+        let former = mem::replace(&mut self.nodes[place as usize], parent_entry(parent));
+        into_parent(former)
+    }
+
     /// Makes the parents above a leaf blank (RFC 9420, 12.1.2 and 12.1.3). The leaf stays. `NoSuchNode` where the tree has no such leaf.
     pub fn blank_path(&mut self, index: u32) -> Result<(), TreeError>
         ensures ok { OnOk result (self.new.tree ≡ clear_path self.old.tree index) }
@@ -318,30 +353,110 @@ impl PublicTree {
         Ok(())
     }
 
-    // Takes the left half, where there is one and the right half has no set leaf.
-    fn halve(&mut self) -> bool
-        ensures same { shrink self.new.tree ≡ shrink self.old.tree }
-        ensures lower { OnTrue result (height self.new.tree < height self.old.tree) }
-        ensures done { OnFalse result (shrink self.new.tree ≡ self.new.tree) }
+    /// Whether the list of a set parent above a leaf is full and doesn't have the leaf's index.
+    pub(crate) fn is_overfull(&self, index: u32) -> bool
+        ensures { result ≡ is_overfilled_above 0 self.now.tree index }
+    {
+        is_overfilled_above(self.nodes.as_slice(), self.height, 0, index)
+    }
+
+    /// Puts a leaf's index into the list of the parent at a place, in place, unless that is blank or its list has the
+    /// index. Tells whether the list has changed.
+    pub(crate) fn enter_at(&mut self, place: u32, index: u32) -> Result<bool, AllocError>
+        requires there { IsParentPlace self.old.tree place }
+        requires room { is_overfilled index (parent_of (node_at self.old.tree place)) ≡ false }
+        ensures entered { OnOk result
+            (self.new.tree ≡ change_parent (with_unmerged index) 0 self.old.tree place) }
+        ensures back { IfOk result (λ changed. OnTrue changed
+            (change_parent (without_unmerged index) 0 self.new.tree place ≡ self.old.tree)) }
+        ensures same { IfOk result (λ changed. OnFalse changed (self.new.tree ≡ self.old.tree)) }
+        ensures err { OnErr result (self.new.tree ≡ self.old.tree) }
+    {
+        let Some(mut parent) = self.replace_parent(place, None) else {
+            return Ok(false);
+        };
+        let changed = enter(&mut parent.unmerged, index);
+        self.replace_parent(place, Some(parent));
+        changed
+    }
+
+    /// Takes a leaf's index out of the list of the parent at a place, where there is one that has it. Takes no memory.
+    pub(crate) fn leave_at(&mut self, place: u32, index: u32)
+        ensures { self.new.tree ≡ change_parent (without_unmerged index) 0 self.old.tree place }
+    {
+        if place as usize >= self.nodes.len() || place % 2 == 0 {
+            return;
+        }
+        let Some(mut parent) = self.replace_parent(place, None) else {
+            return;
+        };
+        leave(&mut parent.unmerged, index);
+        self.replace_parent(place, Some(parent));
+    }
+
+    /// Takes the left half of the tree, where there is one. Takes no memory.
+    pub(crate) fn cut(&mut self)
+        ensures { self.new.tree ≡ left_half self.old.tree }
+    {
+        if self.height == 0 {
+            return;
+        }
+        let below = self.height - 1;
+        self.nodes.truncate(2 * leaves_of(below) as usize - 1);
+        self.height = below;
+    }
+
+    /// Whether the tree has halves, and the right one has no set leaf.
+    pub(crate) fn can_be_halved(&self) -> bool
+        ensures halves { OnTrue result (IsBranch self.now.tree) }
+        ensures smaller { OnTrue result
+            (shrink self.now.tree ≡ shrink (left_half self.now.tree)) }
+        ensures done { OnFalse result (shrink self.now.tree ≡ self.now.tree) }
     {
         if self.height == 0 {
             return false;
         }
         let below = self.height - 1;
-        let half = leaves_of(below);
-        if has_set_leaf(self.nodes.as_slice(), below, half) {
-            return false;
-        }
-        self.nodes.truncate(2 * half as usize - 1);
-        self.height = below;
-        true
+        !has_set_leaf(self.nodes.as_slice(), below, leaves_of(below))
     }
 
     /// Takes the left half of the tree for as long as there is one and the right half has no set leaf (RFC 9420, 7.7). Takes no memory.
     pub fn truncate(&mut self)
         ensures { self.new.tree ≡ shrink self.old.tree }
     {
-        while self.halve() {}
+        while self.can_be_halved() {
+            self.cut();
+        }
+    }
+
+    /// Takes the left half out of the tree, which has blank nodes there then.
+    pub(crate) fn take_left(&mut self, alloc: Global) -> Result<PublicTree, AllocError>
+        requires { IsBranch self.old.tree }
+        ensures left { IfOk result (λ l. l.tree ≡ left_half self.old.tree) }
+        ensures rest { IfOk result (λ l. rejoined l.tree self.new.tree ≡ self.old.tree) }
+        ensures err { OnErr result (self.new ≡ self.old) }
+    {
+        let below = self.height - 1;
+        let mut nodes = Vec::new(alloc);
+        push_blanks(&mut nodes, 2 * leaves_of(below) - 1)?;
+        swap_front(&mut self.nodes, &mut nodes);
+        let left = PublicTree {
+            nodes,
+            height: below,
+        };
+        Ok(left)
+    }
+
+    /// Puts the tree in the place of the left half of another one, and that one in its place. A tree of another
+    /// height stays. Takes no memory.
+    pub(crate) fn rejoin(&mut self, mut whole: PublicTree)
+        ensures { self.new.tree ≡ rejoined self.old.tree whole.tree }
+    {
+        if self.height + 1 != whole.height {
+            return;
+        }
+        swap_front(&mut whole.nodes, &mut self.nodes);
+        *self = whole;
     }
 
     /// Doubles the tree, which becomes the left half of one whose other nodes are blank (RFC 9420, 7.7). `TooManyLeaves` where the tree has

@@ -2,11 +2,12 @@
 //! new lists are made, which may want memory, before one of them is put in place.
 //!
 //! Each walk is over a subtree given by its height `level` and the index of its first leaf `first`, and goes at most 20 halves deep.
-ghost use Rattle.std.specs.Prelude.{◌≡◌, ℕ, ◌≤◌, ◌<◌, ◌+◌, ◌*◌, ◌-◌, ◌++◌, Some, false, length, take, drop, insert, All, slice_get, option_copied, OnOk, IfOk, IfSome};
+ghost use Rattle.std.specs.Prelude.{◌≡◌, ℕ, ◌≤◌, ◌<◌, ◌+◌, ◌*◌, ◌-◌, ◌++◌, Some, false, length, take, drop, insert, remove, All, slice_get, option_copied, OnOk, OnErr, IfOk, IfSome, MatchOption};
+ghost use Rattle.std.specs.Bool.{OnTrue, OnFalse};
 ghost use Rattle.mls_nodes.specs.Limits.{leaf_limit};
 ghost use Rattle.mls_tree.specs.Tree.{leaves_at};
 ghost use Rattle.mls_tree.specs.Array.{tree_in, ChangesWithin, parent_part, IsNoLeaf};
-ghost use Rattle.mls_tree.specs.Changes.{change_above, insert_before, insert_number, with_unmerged, is_overfilled, is_overfilled_above};
+ghost use Rattle.mls_tree.specs.Changes.{change_above, insert_before, insert_number, without_number, with_unmerged, is_overfilled, is_overfilled_above};
 ghost use Rattle.mls_tree.specs.NewLists.{changed_list, new_lists, with_new_list};
 
 use crate::entries::as_parent;
@@ -162,5 +163,46 @@ pub(crate) fn put_lists(
         put_lists(nodes, lists, level - 1, first, leaf);
     } else {
         put_lists(nodes, lists, level - 1, middle, leaf);
+    }
+}
+
+/// Puts a number into the list in place, before the first entry that is not less, unless the list has it. Tells
+/// whether the list has changed.
+pub(crate) fn enter(list: &mut Unmerged, number: u32) -> Result<bool, AllocError>
+    requires { length (insert_number number list.old) ≤ leaf_limit }
+    ensures entered { OnOk result (list.new ≡ insert_number number list.old) }
+    ensures back { IfOk result (λ changed.
+        OnTrue changed (without_number number list.new ≡ list.old)) }
+    ensures same { IfOk result (λ changed. OnFalse changed (list.new ≡ list.old)) }
+    ensures err { OnErr result (list.new ≡ list.old) }
+{
+    let leaves = list.as_slice();
+    if leaves.contains(&number) {
+        return Ok(false);
+    }
+    let at = insertion_point(leaves, number);
+    list.insert(at, number)?;
+    Ok(true)
+}
+
+// Where the first entry stands that is the number.
+fn position_of(items: &[u32], number: u32) -> Option<usize>
+    ensures { MatchOption result (without_number number items.now ≡ items.now) (λ at.
+        (at < length items.now) × (without_number number items.now ≡ remove items.now at)) }
+{
+    for (index, item) in items.iter().enumerate() {
+        if *item == number {
+            return Some(index);
+        }
+    }
+    None
+}
+
+/// Takes the first entry that is the number out of the list. It takes no memory.
+pub(crate) fn leave(list: &mut Unmerged, number: u32)
+    ensures { list.new ≡ without_number number list.old }
+{
+    if let Some(at) = position_of(list.as_slice(), number) {
+        list.remove(at);
     }
 }

@@ -5,3 +5,4 @@ pub mod Logs
 pub mod LogLaws
 pub mod WriteLaws
 pub mod Sized
+mod Edited

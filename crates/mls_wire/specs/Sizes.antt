@@ -75,7 +75,7 @@ module _ {A : Type 0} (s : A → Option (List ℕ)) where
       let b = items_split xs ys a.1 a.3 in
       (a.0 ++ b.0, b.1, join _ _ _ _ a.2 b.2, a.4 ∙ ap (λ (r : List ℕ). a.0 ++ r) b.3 ∙ sym (append_assoc a.0 b.0 b.1))
 
-  list_some : (xs : List A) → IsSome (list s xs) → (t : List ℕ) × (items s xs ≡ Some t) × (length t ≤ vector_limit)
+  pub list_some : (xs : List A) → IsSome (list s xs) → (t : List ℕ) × (items s xs ≡ Some t) × (length t ≤ vector_limit)
   unfolding list
   list_some xs h =
       let f = is_some_has (sized (items s xs)) h in

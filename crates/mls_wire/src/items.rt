@@ -1,6 +1,6 @@
 //! Lists that fit into one vector.
 
-ghost use Rattle.std.specs.Prelude.{◌≡◌, ◌↔◌, IsSome, IsTrue, MatchResult};
+ghost use Rattle.std.specs.Prelude.{◌≡◌, ◌↔◌, ◌<◌, ◌≤◌, IsSome, IsTrue, IfErr, MatchResult, OnErr, OnOk, insert, length, remove, slice_index_or};
 ghost use Rattle.mls_wire.specs.Spelling.{list};
 
 use crate::decode::{Decode, read_list};
@@ -9,7 +9,7 @@ use crate::encode::{Encode, put_list};
 use crate::fault::CodecFault;
 use crate::reader::Reader;
 use crate::size::size_of_list;
-use std::alloc::Global;
+use std::alloc::{AllocFailed, Global};
 use std::marker::Model;
 
 /// Whether the values, one after the other, take no more bytes than the body of a vector may have (RFC 9420,
@@ -72,6 +72,28 @@ impl<T: Encode> Items<T> {
         ensures limit { IsSome (list T.spelling self.now) }
     {
         self.items.as_slice()
+    }
+
+    /// Puts an item at an index, before those that stood from there on. The list with it must fit into one vector.
+    /// For want of memory the list stays, and the item comes back.
+    pub fn insert(&mut self, index: usize, item: T) -> Result<(), AllocFailed<T>>
+        requires inside { index ≤ length self.old }
+        requires fits { IsSome (list T.spelling self.old)
+            → IsSome (list T.spelling (insert self.old index item)) }
+        ensures ok { OnOk result (self.new ≡ insert self.old index item) }
+        ensures err { OnErr result (self.new ≡ self.old) }
+        ensures handed_back { IfErr result (λ failed. failed.value ≡ item) }
+    {
+        self.items.insert(index, item)
+    }
+
+    /// Takes out the item at an index. Those behind it move up. It takes no memory.
+    pub fn remove(&mut self, index: usize) -> T
+        requires { index < length self.old }
+        ensures value { result ≡ slice_index_or self.old index result }
+        ensures items { self.new ≡ remove self.old index }
+    {
+        self.items.remove(index)
     }
 }
 

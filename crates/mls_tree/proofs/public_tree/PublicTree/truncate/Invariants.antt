@@ -3,8 +3,8 @@ use Rattle.mls_tree.specs.Tree.{height}
 use Rattle.mls_tree.specs.Changes.{shrink}
 use Rattle.mls_tree.proofs.public_tree.PublicTree.truncate.Given as goal
 
-abbrev pub invariant-loop : goal.invariant-loop
-invariant-loop l = shrink l.self.tree ≡ shrink l.fn.self.tree
+abbrev pub invariant-loop-self : goal.invariant-loop-self
+invariant-loop-self l = shrink l.self.tree ≡ shrink l.fn.self.tree
 
-abbrev pub decreases-loop : goal.decreases-loop
-decreases-loop l = height l.self.tree
+abbrev pub decreases-loop-self : goal.decreases-loop-self
+decreases-loop-self l = height l.self.tree

@@ -1,0 +1,19 @@
+use Rattle.std.proofs.Common.{◌≡◌, vec_len}
+use Rattle.std.specs.Prelude.{All}
+use Rattle.mls_tree.specs.Tree.{IsParentPlace}
+use Rattle.mls_tree.specs.Changes.{with_unmerged}
+use Rattle.mls_tree.specs.Journals.{before}
+use Rattle.mls_tree.proofs.AlongPaths.{changed}
+use Rattle.mls_tree.proofs.Entering.{HasRoom}
+use Rattle.mls_tree.proofs.journal.Journal.add_unmerged.Given as goal
+
+abbrev pub invariant-loop-place : goal.invariant-loop-place
+invariant-loop-place l = record {
+  left : changed (with_unmerged l.index) 0 l.initial.tree.tree l.initial.places.items ≡ changed (with_unmerged l.index) 0 l.tree.tree l.places.items;
+  parents : All (IsParentPlace l.tree.tree) l.places.items;
+  room : All (HasRoom l.index 0 l.tree.tree) l.places.items;
+  same_before : before l.self l.tree.tree ≡ before l.initial.self l.initial.tree.tree;
+}
+
+abbrev pub decreases-loop-place : goal.decreases-loop-place
+decreases-loop-place l = vec_len l.places

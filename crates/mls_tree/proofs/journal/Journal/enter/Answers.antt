@@ -1,0 +1,8 @@
+use Rattle.mls_tree.proofs.TakenBack.{entered-kept_back}
+use Rattle.mls_tree.proofs.Entering.{true_gives}
+use Rattle.mls_tree.proofs.journal.Journal.enter.Goals as goal
+
+pub returns-then-branch-clause-before : goal.returns-then-branch-clause-before
+returns-then-branch-clause-before c =
+    entered-kept_back _ _ _ _ _ c.try_reserve.ensures.items c.args.place c.args.index
+    (true_gives c.in_ok-enter_at.field-0 c.if-branch.true c.in_ok-enter_at.ensures.back) c.push_reserved.ensures.items

@@ -19,7 +19,8 @@ use Rattle.mls_apply.specs.Outcome.{Grown, without_adds, outcome}
 use Rattle.mls_apply.specs.PathRules.{keys_refusal, path_length, path_refusal, path_rules, node_keys}
 use Rattle.mls_apply.specs.Proposals.{checked_rules, checked_refusal}
 use Rattle.mls_apply.specs.Rules.{Rule, rule, first_failing}
-use Rattle.mls_apply.proofs.Expected.{AreKeys-reverse, hashes_there, path_merged}
+use Rattle.mls_apply.proofs.Expected.{hashes_there, path_merged}
+use Rattle.mls_apply.proofs.Making.{All-reverse}
 use Rattle.mls_apply.proofs.Refusals.{blank, keys-no_leaf, keys-other_length, keys-kept}
 use Rattle.mls_apply.proofs.RuleLists.{AreKept, passed, AreOthers, no_rules, one_more}
 use Rattle.mls_apply.proofs.Spellings.{taken_out, put_back}
@@ -67,7 +68,7 @@ module _ (H : List ℕ → List ℕ) (t : Tree) (committer : ℕ) (keys : List (
     (written : All (λ k. IsSome (vector k)) keys) where
   expected : length keys ≡ path_length t committer → IsSome (expected_hashes H t committer keys)
   expected long =
-      hashes_there H short (leaf_count t) committer 0 t [] (reverse keys) there (vector_some [] (omega arith)) (AreKeys-reverse keys written) (length-reverse keys ∙ long)
+      hashes_there H short (leaf_count t) committer 0 t [] (reverse keys) there (vector_some [] (omega arith)) (All-reverse (λ k. IsSome (vector k)) keys written) (length-reverse keys ∙ long)
 
   hashes : (b : Bool) → is_some (leaf_at 0 t committer) ≡ b → (c : Bool) → (length keys == path_length t committer) ≡ c
       → IsAnswered (λ hashes. (keys_refusal t committer keys ≡ None) × (expected_hashes H t committer keys ≡ Some hashes)) (λ e. keys_refusal t committer keys ≡ Some e)

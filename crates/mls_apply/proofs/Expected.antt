@@ -3,8 +3,7 @@
 use Rattle.std.proofs.Common.{◌≡◌, ◌∙◌, ℕ, ◌+◌, ◌*◌, ◌-◌, List, [], ◌∷◌, ◌++◌, length, Bool, true, false, Option, Some, None, IsSome, refl, sym, ap, subst, arith, length-append}
 use Rattle.std.specs.Prelude.{if◌then◌else◌, nat_lt, All, reverse, option_map, option_and_then}
 use Rattle.std.proofs.lemmas.Bool.{false≢true}
-use Rattle.std.proofs.lemmas.List.Elements.{All-head, All-tail, All-push}
-use Rattle.std.proofs.lemmas.List.{reverse-append}
+use Rattle.std.proofs.lemmas.List.Elements.{All-head, All-tail}
 use Rattle.std.proofs.lemmas.Option.{none-some, same_Some}
 use Rattle.mls_wire.specs.Spelling.{◌⊕◌, vector}
 use Rattle.mls_nodes.specs.declared.leaf.LeafNode.{LeafNode}
@@ -24,12 +23,6 @@ use Rattle.mls_apply.proofs.Spellings.{taken_out, mapped, both_spelled, parts_so
 -- keys that have spellings
 abbrev pub AreKeys : List (List ℕ) → Type 0
 AreKeys keys = All (λ k. IsSome (vector k)) keys
-
-pub AreKeys-reverse : (keys : List (List ℕ)) → AreKeys keys → AreKeys (reverse keys)
-AreKeys-reverse [] h = h
-AreKeys-reverse (k ∷ ks) h =
-    subst AreKeys (sym (reverse-append (k ∷ []) ks))
-    (All-push (λ k. IsSome (vector k)) (reverse ks) k (AreKeys-reverse ks (All-tail (λ k. IsSome (vector k)) k ks h)) (All-head (λ k. IsSome (vector k)) k ks h))
 
 module _ (H : List ℕ → List ℕ) (short : (m : List ℕ) → IsSome (vector (H m))) where
   -- a tree hash has a spelling

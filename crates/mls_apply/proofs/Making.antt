@@ -110,7 +110,7 @@ module _ (t u : Tree) (before after : List NewParent) (p : NewParent) (split : b
       (λ q. IsParentPlace-like t u (ap leaf_count put ∙ leaf_count-put_parent 0 t p.place (Some p.node.value)) q.place) after
       ((All-pop (λ q. IsParentPlace t q.place) before after (Some p) split h).0)
 
-All-reverse : (P : ℕ → Type 0) (ps : List ℕ) → All P ps → All P (reverse ps)
+pub All-reverse : {X : Type 0} (P : X → Type 0) (ps : List X) → All P ps → All P (reverse ps)
 All-reverse P [] h = All-nil P
 All-reverse P (p ∷ ps) h = subst (All P) (sym (reverse-append (p ∷ []) ps)) (All-push P (reverse ps) p (All-reverse P ps (All-tail P p ps h)) (All-head P p ps h))
 

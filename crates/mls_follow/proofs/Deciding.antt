@@ -1,5 +1,5 @@
 -- There is an answer to any bytes.
-use Rattle.std.proofs.Common.{◌≡◌, ◌∙◌, ℕ, List, length, Bool, true, false, Option, Some, None, Result, Ok, Err, refl, sym, inl, inr, arith}
+use Rattle.std.proofs.Common.{◌≡◌, ◌∙◌, ℕ, List, length, Bool, true, false, Option, Some, None, Result, Ok, Err, refl, sym, ap, inl, inr, arith}
 use Rattle.std.specs.Prelude.{nat_le}
 use Rattle.std.proofs.lemmas.Bool.{false≢true}
 use Rattle.std.proofs.lemmas.Bool.Decides.{nat_tests}
@@ -20,7 +20,7 @@ use Rattle.mls_follow.specs.Runs.{IsAnswered, IsHeld, SomeAnswer}
 use Rattle.mls_follow.specs.declared.refusal.Refusal.{Refusal}
 use Rattle.mls_follow.specs.declared.refusal.Refusal.TheVariants.{Malformed, OutOfMemory}
 use Rattle.mls_follow.specs.declared.taken.Taken.{Taken}
-use Rattle.mls_follow.proofs.Spellings.{put_back}
+use Rattle.mls_apply.proofs.Spellings.{put_back}
 use Rattle.mls_follow.proofs.OwnRules.{of_message}
 use Rattle.mls_follow.proofs.Advancing.{next_there}
 
@@ -58,7 +58,7 @@ module _ (G : Meaning) (s : State) (required : RequiredCapabilities) (bytes : Li
     s,
     record {
       takes = (refl, λ own. inr (record { message = m; spelled = spelled; required = required; requires = requires; fails = fails }));
-      memory = λ h. (of_message G s required m).own e fails (same_error e OutOfMemory h);
+      memory = λ h. (of_message G s required m).never (fails ∙ ap Some (same_error e OutOfMemory h));
     },
   )
 

@@ -22,7 +22,7 @@ use Rattle.mls_follow.specs.declared.taken.Taken.{Taken}
 use Rattle.mls_follow.proofs.Advancing.{Leads, next_there}
 use Rattle.mls_follow.proofs.Answering.{one_message}
 use Rattle.mls_follow.proofs.Deciding.{an_answer}
-use Rattle.mls_follow.proofs.Spellings.{put_back}
+use Rattle.mls_apply.proofs.Spellings.{put_back}
 
 -- a state that a follower may hold, whose group's requirements can be read
 record IsSteady (s : State) : Type 0 where

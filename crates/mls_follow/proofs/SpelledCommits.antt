@@ -35,8 +35,10 @@ use Rattle.mls_apply.specs.Outcome.{Grown, after_update, after_updates, after_re
 use Rattle.mls_apply.specs.PathRules.{node_keys}
 use Rattle.mls_apply.proofs.Adding.{blank_inside, member_count-add}
 use Rattle.mls_apply.proofs.Members.{member_count-full}
-use Rattle.mls_follow.proofs.Spellings.{left_spelled, right_spelled, number_spelled, list_each}
-use Rattle.mls_follow.proofs.SpelledTrees.{IsSpelled, IsSpelled-update, IsSpelled-remove, IsSpelled-add, AreKeys}
+use Rattle.mls_apply.proofs.Expected.{AreKeys}
+use Rattle.mls_apply.proofs.Spellings.{left_spelled, right_spelled}
+use Rattle.mls_follow.proofs.Spellings.{number_spelled, list_each}
+use Rattle.mls_follow.proofs.SpelledTrees.{IsSpelled, IsSpelled-update, IsSpelled-remove, IsSpelled-add}
 
 -- ---- a proposal
 

@@ -1,7 +1,8 @@
 -- Every node of a tree has a spelling, so the tree has a hash; and a commit keeps that.
 use Rattle.std.proofs.Common.{◌≡◌, ◌∙◌, sym, ℕ, zero, suc, ◌+◌, ◌≤◌, List, [], ◌∷◌, length, Bool, true, false, Option, Some, None, IsSome, refl, ap, subst, arith}
-use Rattle.std.specs.Prelude.{if◌then◌else◌, nat_lt, ◌||◌, All, option_map, option_and_then}
+use Rattle.std.specs.Prelude.{if◌then◌else◌, nat_lt, option_map, option_and_then}
 use Rattle.std.specs.Int.{w8, w32}
+use Rattle.std.proofs.lemmas.Bool.{or_parts}
 use Rattle.std.proofs.lemmas.Option.{none-some, same_Some, option_and_then_some}
 use Rattle.std.proofs.lemmas.List.Elements.{All-head, All-tail}
 use Rattle.mls_wire.specs.Sizes.{vector_some}
@@ -10,14 +11,16 @@ use Rattle.mls_nodes.specs.Layout as layout
 use Rattle.mls_nodes.specs.declared.leaf.LeafNode.{LeafNode}
 use Rattle.mls_nodes.specs.declared.parent.ParentNode.{ParentNode}
 use Rattle.mls_tree.specs.Tree.{Tree, leaf, branch, height, leaf_count, IsPerfect}
-use Rattle.mls_tree.specs.TreeHash.{tree_hash, hash_of_parent, leaf_hash_input, parent_hash_input}
+use Rattle.mls_tree.specs.TreeHash.{tree_hash, leaf_hash_input, parent_hash_input}
 use Rattle.mls_tree.specs.Blanks.{first_blank_leaf}
 use Rattle.mls_tree.specs.Paths.{resolution}
 use Rattle.mls_tree.specs.Changes.{put_leaf, change_above, clear_path, has_set_leaf, shrink, blank_tree, grow, update, remove, with_unmerged, is_overfilled, is_overfilled_above, enter_unmerged, add, added_leaf, grown_for}
 use Rattle.mls_tree.proofs.Kept.{either}
 use Rattle.mls_hash.specs.ParentHash as parents
-use Rattle.mls_apply.specs.Merge.{Handed, handed, handed_by, path_parent, path_hash, merged_from, hashes_from, behind}
-use Rattle.mls_follow.proofs.Spellings.{put_back, both_spelled, left_spelled, right_spelled, number_spelled, none_unmerged, parent_spelled, entered_spelled}
+use Rattle.mls_apply.specs.Merge.{Handed, handed, handed_by, path_parent, path_hash, merged_from}
+use Rattle.mls_apply.proofs.Expected.{AreKeys}
+use Rattle.mls_apply.proofs.Spellings.{put_back, both_spelled, right_spelled, mapped_some, parts_some}
+use Rattle.mls_follow.proofs.Spellings.{number_spelled, none_unmerged, parent_spelled, entered_spelled}
 
 -- each node has a spelling
 abbrev pub IsSpelled : Tree → Type 0
@@ -39,18 +42,6 @@ blank_leaf_spelled = refl
 -- ---- hashes
 
 -- a tree whose hash exists has nodes with spellings
-mapped_some : (H : List ℕ → List ℕ) (o : Option (List ℕ)) → IsSome (option_map H o) → IsSome o
-mapped_some H None h = h
-mapped_some H (Some x) h = refl
-
-parts_some : (H : List ℕ → List ℕ) (p : Option ParentNode) (a b : Option (List ℕ)) → IsSome (hash_of_parent H p a b)
-    → IsSome a × IsSome (optional layout.parent p) × IsSome b
-parts_some H p None b h = absurd (cc)
-parts_some H p (Some x) None h = absurd (cc)
-parts_some H p (Some x) (Some y) h =
-    let whole = mapped_some H (parent_hash_input p x y) h in
-    (refl, left_spelled (optional layout.parent p) (vector x ⊕ vector y) (right_spelled (number w8 2) (optional layout.parent p ⊕ vector x ⊕ vector y) whole), refl)
-
 pub hashed_spelled : (H : List ℕ → List ℕ) (first : ℕ) (t : Tree) → IsSome (tree_hash H first t) → IsSpelled t
 hashed_spelled H first (leaf x) h =
     right_spelled (number w32 first) (optional layout.leaf x) (right_spelled (number w8 1) (number w32 first ⊕ optional layout.leaf x) (mapped_some H (leaf_hash_input first x) h))
@@ -99,15 +90,11 @@ IsSpelled-clear first (branch l p r) i h =
     either IsSpelled (nat_lt i (first + leaf_count l)) (branch (change_above (λ _. None) first l i) None r) (branch l None (change_above (λ _. None) (first + leaf_count l) r i))
     (IsSpelled-clear first l i h.0, blank_parent, h.2) (h.0, blank_parent, IsSpelled-clear (first + leaf_count l) r i h.2)
 
-either_false : (a b : Bool) → (a || b) ≡ false → (a ≡ false) × (b ≡ false)
-either_false true b e = absurd (cc)
-either_false false b e = (refl, e)
-
 pub IsSpelled-enter : (first : ℕ) (t : Tree) (i : ℕ) → IsSome (number w32 i) → is_overfilled_above first t i ≡ false → IsSpelled t
     → IsSpelled (change_above (with_unmerged i) first t i)
 IsSpelled-enter first (leaf x) i n room h = h
 IsSpelled-enter first (branch l p r) i n room h =
-    let rooms = either_false (if nat_lt i (first + leaf_count l) then is_overfilled_above first l i else is_overfilled_above (first + leaf_count l) r i) (is_overfilled i p) room in
+    let rooms = or_parts (if nat_lt i (first + leaf_count l) then is_overfilled_above first l i else is_overfilled_above (first + leaf_count l) r i) (is_overfilled i p) room in
     go (nat_lt i (first + leaf_count l)) (IsSpelled-enter first l i n) (IsSpelled-enter (first + leaf_count l) r i n) rooms.0 (entered_spelled i p n rooms.1 h.1)
   where
     go : (b : Bool) → (is_overfilled_above first l i ≡ false → IsSpelled l → IsSpelled (change_above (with_unmerged i) first l i))
@@ -146,10 +133,6 @@ IsSpelled-add t x s n room h =
     (IsSpelled-enter 0 (grown_for (first_blank_leaf 0 t) t) (added_leaf t) n room (IsSpelled-grown t (first_blank_leaf 0 t) h))
 
 -- ---- a path
-
--- the keys that are handed down
-abbrev pub AreKeys : List (List ℕ) → Type 0
-AreKeys keys = All (λ k. IsSome (vector k)) keys
 
 -- what is handed down has spellings
 record IsHanded (n : Handed) : Type 0 where
@@ -228,38 +211,3 @@ module _ (H : List ℕ → List ℕ) (short : (m : List ℕ) → length (H m) �
             rebuilt (branch a p b) (λ t. branch a n.parent t) b (merged_from H leaves (first + leaf_count a) b i x n.hash n.keys)
             (λ v m. record { spelled = (h.0, k.parent, m.spelled); as_high = refl; perfect = λ p. (p.0 ∙ sym m.as_high, p.1, m.perfect p.2) })
             (λ v q. in_right n.hash n.keys v k.hash k.keys h.2 q) u g)
-
--- where a path has the hashes expected, there is a tree
-module _ (H : List ℕ → List ℕ) (leaves i : ℕ) (x : LeafNode) where
-  both_there : {A B : Type 0} (f : A → Option B) (g : A → Option Tree) (o : Option A) → ((a : A) → IsSome (f a) → IsSome (g a))
-      → IsSome (option_and_then f o) → IsSome (option_and_then g o)
-  both_there f g None each h = h
-  both_there f g (Some a) each h = each a h
-
-  mapped_there : {A B : Type 0} (f : A → A) (g : B → B) (a : Option A) (b : Option B) → (IsSome a → IsSome b) → IsSome (option_map f a) → IsSome (option_map g b)
-  mapped_there f g None b each h = absurd (cc)
-  mapped_there {B} f g (Some x) None each h = let bad : IsSome {T = B} None = each refl in absurd cc
-  mapped_there f g (Some x) (Some y) each h = refl
-
-  pub merged_there : (first : ℕ) (t : Tree) (hash : List ℕ) (keys : List (List ℕ)) → IsSome (hashes_from H leaves first t i hash keys)
-      → IsSome (merged_from H leaves first t i x hash keys)
-  merged_there first (leaf y) hash keys h = refl
-  merged_there first (branch a p b) hash keys h =
-      go (nat_lt i (first + leaf_count a)) (λ m g. merged_there first a m g) (λ m g. merged_there (first + leaf_count a) b m g) h
-    where
-      go : (c : Bool) → ((m : List ℕ) (g : List (List ℕ)) → IsSome (hashes_from H leaves first a i m g) → IsSome (merged_from H leaves first a i x m g))
-          → ((m : List ℕ) (g : List (List ℕ)) → IsSome (hashes_from H leaves (first + leaf_count a) b i m g) → IsSome (merged_from H leaves (first + leaf_count a) b i x m g))
-          → IsSome (if c
-          then option_and_then (λ n. option_map (behind n.parent hash) (hashes_from H leaves first a i n.hash n.keys)) (handed H leaves (first + leaf_count a) b hash keys)
-          else option_and_then (λ n. option_map (behind n.parent hash) (hashes_from H leaves (first + leaf_count a) b i n.hash n.keys)) (handed H leaves first a hash keys))
-          → IsSome (if c
-          then option_and_then (λ n. option_map (λ t. branch t n.parent b) (merged_from H leaves first a i x n.hash n.keys)) (handed H leaves (first + leaf_count a) b hash keys)
-          else option_and_then (λ n. option_map (λ t. branch a n.parent t) (merged_from H leaves (first + leaf_count a) b i x n.hash n.keys)) (handed H leaves first a hash keys))
-      go true in_left in_right h =
-          both_there (λ n. option_map (behind n.parent hash) (hashes_from H leaves first a i n.hash n.keys)) (λ n. option_map (λ t. branch t n.parent b) (merged_from H leaves first a i x n.hash n.keys))
-          (handed H leaves (first + leaf_count a) b hash keys)
-          (λ n. mapped_there (behind n.parent hash) (λ t. branch t n.parent b) (hashes_from H leaves first a i n.hash n.keys) (merged_from H leaves first a i x n.hash n.keys) (in_left n.hash n.keys)) h
-      go false in_left in_right h =
-          both_there (λ n. option_map (behind n.parent hash) (hashes_from H leaves (first + leaf_count a) b i n.hash n.keys)) (λ n. option_map (λ t. branch a n.parent t) (merged_from H leaves (first + leaf_count a) b i x n.hash n.keys))
-          (handed H leaves first a hash keys)
-          (λ n. mapped_there (behind n.parent hash) (λ t. branch a n.parent t) (hashes_from H leaves (first + leaf_count a) b i n.hash n.keys) (merged_from H leaves (first + leaf_count a) b i x n.hash n.keys) (in_right n.hash n.keys)) h

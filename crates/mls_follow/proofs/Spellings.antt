@@ -1,11 +1,10 @@
 -- Which spellings there are.
-use Rattle.std.proofs.Common.{◌≡◌, ℕ, ◌^◌, ◌<◌, ◌≤◌, List, [], ◌∷◌, length, Bool, true, false, Option, Some, None, IsSome, refl, sym, subst, arith}
-use Rattle.std.specs.Prelude.{◌==◌, if◌then◌else◌, nat_lt, nat_le, All, reverse}
+use Rattle.std.proofs.Common.{◌≡◌, ℕ, ◌^◌, ◌<◌, ◌≤◌, List, [], ◌∷◌, length, Bool, true, false, Option, Some, None, IsSome, refl, arith}
+use Rattle.std.specs.Prelude.{◌==◌, if◌then◌else◌, nat_lt, nat_le, All}
 use Rattle.std.specs.Int.{Width, w32}
 use Rattle.std.specs.List.{list_any}
 use Rattle.std.proofs.lemmas.Bool.Decides.{nat_tests}
-use Rattle.std.proofs.lemmas.List.{reverse-append}
-use Rattle.std.proofs.lemmas.List.Elements.{All-nil, All-cons, All-push, All-head, All-tail}
+use Rattle.std.proofs.lemmas.List.Elements.{All-nil, All-cons}
 use Rattle.mls_wire.specs.Lists.{sized_parts}
 use Rattle.mls_wire.specs.Numbers.{number_made, wide32, items_width}
 use Rattle.mls_wire.specs.Sizes.{vector_some}
@@ -14,34 +13,10 @@ use Rattle.mls_nodes.specs.Layout.{unmerged, parent}
 use Rattle.mls_nodes.specs.declared.parent.ParentNode.{ParentNode}
 use Rattle.mls_tree.specs.Changes.{insert_before, insert_number, with_unmerged, is_overfilled}
 use Rattle.mls_tree.proofs.Kept.{either}
+use Rattle.mls_apply.proofs.Spellings.{taken_out, put_back, both_spelled, left_spelled, right_spelled}
 use mir.Val.{bits}
 
--- what is there
-pub taken_out : {A : Type 0} (o : Option A) → IsSome o → (x : A) × (o ≡ Some x)
-taken_out None h = absurd (cc)
-taken_out (Some x) h = (x, refl)
-
-pub put_back : {A : Type 0} (o : Option A) (x : A) → o ≡ Some x → IsSome o
-put_back {A} o x e = subst (λ (y : Option A). IsSome y) (sym e) refl
-
--- ---- one after the other
-
-pub both_spelled : (a b : Option (List ℕ)) → IsSome a → IsSome b → IsSome (a ⊕ b)
-unfolding ◌⊕◌
-both_spelled None b p q = absurd (cc)
-both_spelled (Some x) None p q = absurd (cc)
-both_spelled (Some x) (Some y) p q = refl
-
-pub left_spelled : (a b : Option (List ℕ)) → IsSome (a ⊕ b) → IsSome a
-unfolding ◌⊕◌
-left_spelled None b h = h
-left_spelled (Some x) b h = refl
-
-pub right_spelled : (a b : Option (List ℕ)) → IsSome (a ⊕ b) → IsSome b
-unfolding ◌⊕◌
-right_spelled None b h = absurd (cc)
-right_spelled (Some x) None h = h
-right_spelled (Some x) (Some y) h = refl
+-- ---- numbers
 
 pub number_spelled : (w : Width) (n : ℕ) → n < 2 ^ bits w → IsSome (number w n)
 number_spelled w n lt = put_back (number w n) _ (number_made w n lt)
@@ -59,11 +34,6 @@ list_each s xs h =
     let front = taken_out (sized (items s xs)) h in
     let body = sized_parts (items s xs) front.0 front.1 in
     items_each s xs (put_back (items s xs) body.0 body.1)
-
-pub All-reverse : {A : Type 0} (P : A → Type 0) (xs : List A) → All P xs → All P (reverse xs)
-All-reverse P [] h = h
-All-reverse {A} P (x ∷ xs) h =
-    subst (λ (ys : List A). All P ys) (sym (reverse-append (x ∷ []) xs)) (All-push P (reverse xs) x (All-reverse P xs (All-tail P x xs h)) (All-head P x xs h))
 
 -- ---- a list of unmerged leaves
 

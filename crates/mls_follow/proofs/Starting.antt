@@ -1,5 +1,5 @@
 -- What each check of a start says of the whole start.
-use Rattle.std.proofs.Common.{◌≡◌, ◌≢◌, ℕ, List, false, Option, Some, None, refl}
+use Rattle.std.proofs.Common.{◌≡◌, ◌≢◌, ◌↔◌, ℕ, List, false, Option, Some, None, refl, subst}
 use Rattle.mls_nodes.specs.declared.required_capabilities.RequiredCapabilities.{RequiredCapabilities}
 use Rattle.mls_nodes.specs.declared.leaf.LeafNode.{LeafNode}
 use Rattle.mls_tree.specs.RatchetTree.{RatchetTree}
@@ -14,9 +14,17 @@ use Rattle.mls_check.specs.declared.valid.TreeFault.{TreeFault}
 use Rattle.mls_check.specs.declared.valid.TreeFault.TheVariants as trees
 use Rattle.mls_msgs.specs.declared.group_info.GroupInfo.{GroupInfo}
 use Rattle.mls_nodes.specs.Requirements.{Requires, HasNoRequirements}
-use Rattle.mls_follow.specs.Start.{UsesTree, IsFollowed, HasTree, IsReadable, HasValidTree, HasMembers, IsSignedIn, StartsWith, FailsWith, FailsSigned, FailsValid, FailsMembers, is_info_signed, info_interim, tree_fault_of, member_fault_of}
+use Rattle.mls_follow.specs.Start.{UsesTree, IsFollowed, HasTree, IsReadable, HasValidTree, HasMembers, IsSignedIn, StartsWith, FailsWith, FailsSigned, IsStartFault, FailsSuite, FailsValid, FailsMembers, is_info_signed, info_interim, tree_fault_of, member_fault_of}
 use Rattle.mls_follow.specs.declared.start.StartFault.{StartFault}
-use Rattle.mls_follow.specs.declared.start.StartFault.TheVariants.{RequirementsUnreadable, SignerNotMember, InfoSignature, OutOfMemory}
+use Rattle.mls_follow.specs.declared.start.StartFault.TheVariants.{UnsupportedVersion, UnsupportedSuite, RequirementsUnreadable, SignerNotMember, InfoSignature, OutOfMemory}
+
+-- a later fault of an info that is followed is neither of the first two
+module _ (G : Meaning) (info : GroupInfo) (handed : Option RatchetTree) (fault : StartFault) (followed : IsFollowed info) (h : IsStartFault G info handed fault) where
+  pub version_followed : (fault ≡ UnsupportedVersion) ↔ (info.context.version ≢ 1)
+  version_followed = (λ e. subst (λ (f : StartFault). IsStartFault G info handed f) e h, λ other. absurd (other followed.version))
+
+  pub suite_followed : (fault ≡ UnsupportedSuite) ↔ FailsSuite info
+  suite_followed = (λ e. subst (λ (f : StartFault). IsStartFault G info handed f) e h, λ fails. absurd (fails.unsupported followed.suite))
 
 -- the signer's leaf isn't set
 pub unset : (G : Meaning) (info : GroupInfo) (t : RatchetTree) → leaf_at 0 t.tree info.signer ≡ None → FailsSigned G info t SignerNotMember

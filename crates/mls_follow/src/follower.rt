@@ -1,20 +1,20 @@
 //! The follower.
 
-ghost use Rattle.std.specs.Prelude.{◌≡◌, ◌≢◌, ℕ, List, IsSome, IfOk, IfErr, OnOk, OnErr};
+ghost use Rattle.std.specs.Prelude.{◌≡◌, ◌≢◌, ◌↔◌, ℕ, List, None, IsSome, IfOk, IfErr, OnOk, OnErr, IsErrAnd};
 ghost use Rattle.mls_hash.specs.Hashing.{hash_of};
 ghost use Rattle.mls_hash.specs.SubtreeHashes.{AreAllHashes};
 ghost use Rattle.mls_msgs.specs.Message.{message as message_spelling};
-ghost use Rattle.mls_nodes.specs.Requirements.{Requires};
+ghost use Rattle.mls_nodes.specs.Requirements.{extension_of, Requires};
 ghost use Rattle.mls_follow.specs.State.{Spells};
 ghost use Rattle.mls_follow.specs.Seen.{state_of, group_state, boxed_checker_of};
 ghost use Rattle.mls_follow.specs.Judging.{IsAcceptable, IsNext, IsFirstRefusal};
 ghost use Rattle.mls_follow.specs.Runs.{Takes};
-ghost use Rattle.mls_follow.specs.Start.{IsStart, IsStartFault, first_state};
+ghost use Rattle.mls_follow.specs.Start.{FailsSuite, IsFollowed, IsStart, IsStartFault, first_state};
 
 use crate::frame::read_message;
 use crate::group::Group;
 use crate::refusal::Refusal;
-use crate::start::{Judged, StartRefused, followed_suite, judge, judge_own};
+use crate::start::{Judged, StartFault, StartRefused, followed_suite, judge, judge_own};
 use crate::taken::Taken;
 use mls_apply::KnownProposal;
 use mls_check::SignatureCheck;
@@ -70,7 +70,8 @@ impl Follower {
     /// 8. The signer has signed the info.
     ///
     /// Where one fails the first is answered, and all that was handed in comes back as it was, as it does
-    /// where memory runs out.
+    /// where memory runs out. The first two, and that no tree is handed in and none in the info, are judged
+    /// before memory is taken.
     pub fn start(
         alloc: Global,
         info: GroupInfo,
@@ -80,6 +81,12 @@ impl Follower {
         ensures started { IfOk result (λ f. IsStart (meaning checker) info tree (state_of f)) }
         ensures checker { IfOk result (λ f. meaning (boxed_checker_of f) ≡ meaning checker) }
         ensures refused { IfErr result (λ r. IsStartFault (meaning checker) info tree r.fault) }
+        ensures unsupported_version { IsErrAnd result
+            (λ r. r.fault ≡ StartFault.UnsupportedVersion) ↔ (info.context.version ≢ 1) }
+        ensures unsupported_suite { IsErrAnd result
+            (λ r. r.fault ≡ StartFault.UnsupportedSuite) ↔ FailsSuite info }
+        ensures no_tree { IsFollowed info → tree ≡ None → extension_of 2 info.extensions ≡ None
+            → IsErrAnd result (λ r. r.fault ≡ StartFault.NoTree) }
         ensures handed_back { IfErr result (λ r. (r.info ≡ info) × (r.tree ≡ tree) × (r.checker
             ≡ checker)) }
     {

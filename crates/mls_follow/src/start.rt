@@ -1,12 +1,12 @@
 //! What a follower starts from, and why it doesn't (RFC 9420, 12.4.3.1).
 
-ghost use Rattle.std.specs.Prelude.{◌≡◌, ◌≢◌, ℕ, List, Option, None, Some, IfOk, IfErr, OnOk};
+ghost use Rattle.std.specs.Prelude.{◌≡◌, ◌≢◌, ◌↔◌, ℕ, List, Option, None, Some, Err, IfOk, IfErr, OnOk, OnErr};
 ghost use Rattle.mls_hash.specs.Hashing.{hash_of};
 ghost use Rattle.mls_hash.specs.SubtreeHashes.{AreAllHashes};
 ghost use Rattle.mls_check.specs.Signatures.{Meaning};
 ghost use Rattle.mls_tree.specs.RatchetTree.{RatchetTree};
-ghost use Rattle.mls_nodes.specs.Requirements.{Requires, HasNoRequirements};
-ghost use Rattle.mls_follow.specs.Start.{UsesTree, UsesNoTree, IsFollowed, IsStart, IsStartFault, StartsWith, FailsWith, IsSignedIn, FailsSigned, first_state, is_info_signed};
+ghost use Rattle.mls_nodes.specs.Requirements.{extension_of, Requires, HasNoRequirements};
+ghost use Rattle.mls_follow.specs.Start.{FailsSuite, UsesTree, UsesNoTree, IsFollowed, IsStart, IsStartFault, StartsWith, FailsWith, IsSignedIn, FailsSigned, first_state, is_info_signed};
 
 use crate::transcript::interim_hash;
 use mls_check::{
@@ -163,6 +163,10 @@ pub(crate) fn followed_suite(info: &GroupInfo) -> Result<Suite, StartFault>
     ensures suite { IfOk result (λ suite. suite ≡ info.now.context.cipher_suite) }
     ensures refused { IfErr result (λ e. (G : Meaning) (handed : Option RatchetTree)
         → IsStartFault G info.now handed e) }
+    ensures unfollowed { OnErr result (¬ IsFollowed info.now) }
+    ensures unsupported_version { (result ≡ Err StartFault.UnsupportedVersion)
+        ↔ (info.now.context.version ≢ 1) }
+    ensures unsupported_suite { (result ≡ Err StartFault.UnsupportedSuite) ↔ FailsSuite info.now }
 {
     if info.context.version != 1 {
         return Err(StartFault::UnsupportedVersion);
@@ -178,6 +182,8 @@ fn tree_in(alloc: Global, info: &GroupInfo) -> Result<PublicTree, StartFault>
     ensures tree { IfOk result (UsesTree None info.now.extensions) }
     ensures none { IfErr result (λ e. e ≢ StartFault.OutOfMemory → (e ≡ StartFault.NoTree)
         × UsesNoTree None info.now.extensions) }
+    ensures no_extension { extension_of 2 info.now.extensions ≡ None
+        → result ≡ Err StartFault.NoTree }
 {
     let Some(body) = find_extension(info.extensions.as_slice(), RATCHET_TREE) else {
         return Err(StartFault::NoTree);
@@ -331,6 +337,8 @@ pub(crate) fn judge_own(
     ensures started { IfOk result (λ found. IsStart (meaning checker.now) info.now None
         (first_state info.now found.0 found.1.interim)) }
     ensures refused { IfErr result (IsStartFault (meaning checker.now) info.now None) }
+    ensures no_extension { extension_of 2 info.now.extensions ≡ None
+        → result ≡ Err StartFault.NoTree }
 {
     let tree = tree_in(alloc, info)?;
     match judge(alloc, suite, info, &tree, checker) {

@@ -45,7 +45,7 @@ module _ (G : Meaning) (s : State) (required : RequiredCapabilities) (bytes : Li
   -- they spell this one
   judged : (m : Message) → Spells m bytes → (o : Option Refusal) → first_failing (message_rules G s required m) ≡ o → Answered
   judged m spelled None kept =
-      let step = next_there s held G required m (put_back (message m) bytes spelled.spelled) kept in (
+      let step = next_there s held G required m (bytes, spelled) kept in (
         Ok step.step.taken,
         step.step.state,
         record {

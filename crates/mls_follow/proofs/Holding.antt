@@ -52,7 +52,7 @@ module _ (G : Meaning) (s : State) (steady : IsSteady s) (bytes : List ℕ) wher
   -- what is accepted leads to one
   accepted_steady : (step : Step) → IsAcceptable G s bytes → IsNext s bytes step → IsSteady step.state
   accepted_steady step a n =
-      let l : Leads s steady.held (next s a.message) = next_there s steady.held G a.required a.message (put_back (message a.message) bytes a.spelled.spelled) a.kept in
+      let l : Leads s steady.held (next s a.message) = next_there s steady.held G a.required a.message (bytes, a.spelled) a.kept in
       let same = same_Some l.step step (sym l.is ∙ ap (next s) (one_message a.message n.message bytes a.spelled n.spelled) ∙ n.after) in
       subst (λ (t : Step). IsSteady t.state) same (record { held = l.still; required = steady.required; requires = kept_requirements l.step.state l.extensions })
 

@@ -1,15 +1,17 @@
 -- What has a spelling where a whole message has one.
-use Rattle.std.proofs.Common.{◌≡◌, ◌∙◌, ◌++◌, ℕ, List, [], ◌∷◌, true, false, Option, Some, None, IsSome, refl, sym, ap, subst, eqb-true}
-use Rattle.std.specs.Prelude.{nat_eq, if◌then◌else◌}
+use Rattle.std.proofs.Common.{◌≡◌, ◌∙◌, ◌++◌, ℕ, ◌≤◌, List, [], ◌∷◌, length, true, false, Option, Some, None, IsSome, refl, sym, ap, subst, eqb-true, arith, length-append}
+use Rattle.std.specs.Prelude.{nat_eq, if◌then◌else◌, option_map, option_and_then}
 use Rattle.std.specs.Int.{w8, w16, w64}
-use Rattle.std.proofs.lemmas.Option.{none-some}
+use Rattle.std.proofs.lemmas.Option.{none-some, same_Some}
 use Rattle.mls_wire.specs.Joined.{joined, join}
+use Rattle.mls_wire.specs.Sizes.{vector_some}
 use Rattle.mls_wire.specs.Spelling.{◌⊕◌, number, vector}
-use Rattle.mls_msgs.specs.Authenticated.{tag_if, signed_frame, frame_auth}
+use Rattle.mls_hash.specs.Hashing.{hash_of, ref_hash_input}
+use Rattle.mls_msgs.specs.Authenticated.{tag_if, frame_format, signed_frame, frame_auth, authenticated_content}
 use Rattle.mls_msgs.specs.Layout.{commit, sender, proposal, content, framed_content, is_member, is_commit}
 use Rattle.mls_msgs.specs.Message.{header, message}
 use Rattle.mls_msgs.specs.PublicMessage.{public_frame, public_message}
-use Rattle.mls_msgs.specs.Signed.{confirmed_input}
+use Rattle.mls_msgs.specs.Signed.{confirmed_input, reference_label}
 use Rattle.mls_msgs.specs.declared.authenticated.AuthenticatedParts.{AuthenticatedParts}
 use Rattle.mls_msgs.specs.declared.commit.Commit.{Commit}
 use Rattle.mls_msgs.specs.declared.frame.Content.{Content}
@@ -18,6 +20,8 @@ use Rattle.mls_msgs.specs.declared.frame.FramedContent.{FramedContent}
 use Rattle.mls_msgs.specs.declared.message.Message.TheVariants as messages
 use Rattle.mls_msgs.specs.declared.proposal.Proposal.{Proposal}
 use Rattle.mls_msgs.specs.declared.public_message.PublicParts.{PublicParts}
+use Rattle.mls_apply.proofs.Spellings.{both_spelled, mapped}
+use Rattle.mls_follow.specs.Judging.{ReferencesExist}
 
 there : (o : Option (List ℕ)) (x : List ℕ) → o ≡ Some x → IsSome o
 there o x e = subst (λ (y : Option (List ℕ)). IsSome y) (sym e) refl
@@ -54,6 +58,39 @@ spelled_parts p bytes e =
 -- of a message in the open: what of it goes into the transcript hash
 pub confirmed_exists : (p : PublicParts) → IsSome (message (messages.Public p)) → IsSome (confirmed_input p.auth)
 confirmed_exists p there = let s = spelling_of (message (messages.Public p)) there in spelled_parts p s.0 s.1
+
+-- its reference
+frame_one : (n : ℕ) → n ≡ 1 → frame_format n ≡ Some (0 ∷ 1 ∷ [])
+unfolding frame_format number
+frame_one n e = ap frame_format e ∙ refl
+
+header_one : (x : List ℕ) → header 1 ≡ Some x → length x ≡ 4
+unfolding header number ◌⊕◌
+header_one x e = ap length (sym (same_Some (0 ∷ 1 ∷ 0 ∷ 1 ∷ []) x e))
+
+authenticated : (p : PublicParts) (bytes : List ℕ) → message (messages.Public p) ≡ Some bytes
+    → (value : List ℕ) × (authenticated_content p.auth ≡ Some value) × (length value ≤ length bytes)
+unfolding message public_message authenticated_content
+authenticated p bytes e =
+    let whole = joined (header 1) (public_message p) bytes e in
+    let body = joined (public_frame p.auth) (tag_if (is_member p.auth.content.sender) p.membership_tag) whole.1 whole.3 in
+    let frame = framed p.auth body.0 body.2 in
+    let long = header_one whole.0 whole.2 in
+    let all = ap length whole.4 in
+    let part = ap length body.4 in (
+      (0 ∷ 1 ∷ []) ++ body.0,
+      join (frame_format p.auth.wire_format) (signed_frame p.auth) (0 ∷ 1 ∷ []) body.0 (frame_one p.auth.wire_format frame.0) frame.1,
+      omega (arith, length-append whole.0 whole.1, length-append body.0 body.1, length-append (0 ∷ 1 ∷ []) body.0),
+    )
+
+pub reference_exists : ReferencesExist
+reference_exists context p input =
+    let a = authenticated p input.0 input.1.spelled in
+    let bounded = input.1.bounded in
+    let text = both_spelled (vector reference_label) (vector a.0) (vector_some reference_label (omega arith)) (vector_some a.0 (omega (arith, a.2))) in
+    subst
+    (λ (o : Option (List ℕ)). IsSome (option_and_then (λ (value : List ℕ). option_map (hash_of context.cipher_suite) (ref_hash_input reference_label value)) o))
+    (sym a.1) (mapped (hash_of context.cipher_suite) (ref_hash_input reference_label a.0) text)
 
 -- of a commit in the open: the commit itself, and its confirmation tag
 tagged : (o : Option (List ℕ)) (x : List ℕ) → tag_if true o ≡ Some x → (tag : List ℕ) × (o ≡ Some tag) × IsSome (vector tag)

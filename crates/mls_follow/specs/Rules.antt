@@ -70,14 +70,14 @@ reference_of context a =
     (λ value. option_map (hash_of context.cipher_suite) (ref_hash_input reference_label value))
     (authenticated_content a)
 
--- whether there is a reference, and no known proposal has it
-abbrev pub is_new_reference : List KnownProposal → Option (List ℕ) → Bool
-is_new_reference known None = false
-is_new_reference known (Some reference) = not (is_some (find_known known reference))
+-- whether a known proposal has a reference, where there is one
+abbrev pub is_known_reference : List KnownProposal → Option (List ℕ) → Bool
+is_known_reference known None = false
+is_known_reference known (Some reference) = is_some (find_known known reference)
 
--- a proposal's message has a reference that no known proposal has (5.2)
+-- no known proposal has the reference of a proposal's message (5.2), which has one where an input's bytes spell it
 unfoldable pub is_new_proposal : State → AuthenticatedParts → Bool
-is_new_proposal s a = is_new_reference s.known (reference_of s.context a)
+is_new_proposal s a = not (is_known_reference s.known (reference_of s.context a))
 
 -- the frame is signed by the sender's present leaf, over the present context (6.1)
 unfoldable pub is_frame_signed : Meaning → GroupContext → LeafNode → AuthenticatedParts → Bool
@@ -160,23 +160,25 @@ is_handshake (contents.Application _) = false
 is_handshake (contents.Proposal _) = true
 is_handshake (contents.Commit _) = true
 
--- the rules for what member i has sent and signed
+-- the rules for what member i has sent and signed, where it is a proposal or a commit
 abbrev pub handshake_rules : Meaning → State → RequiredCapabilities → AuthenticatedParts → ℕ
-    → Content → List (Rule Refusal)
-handshake_rules G s required a i (contents.Application _) = []
-handshake_rules G s required a i (contents.Proposal p) = offer_rules G s a i p
-handshake_rules G s required a i (contents.Commit c) = commit_rules G s required i c
+    → Content → Option (List (Rule Refusal))
+handshake_rules G s required a i (contents.Application _) = None
+handshake_rules G s required a i (contents.Proposal p) = Some (offer_rules G s a i p)
+handshake_rules G s required a i (contents.Commit c) = Some (commit_rules G s required i c)
+
+-- the same, behind those for what the leaf x has sent: it is a proposal or a commit, and signed (6.1)
+abbrev pub signed_rules : Meaning → GroupContext → LeafNode → AuthenticatedParts
+    → Option (List (Rule Refusal)) → List (Rule Refusal)
+signed_rules G context x a None = refuse NotHandshake
+signed_rules G context x a (Some rules) =
+    rule BadSignature (is_frame_signed G context x a) ∷ rules
 
 -- the rules for what member i, whose leaf is x, has sent (6.1, 6.2)
 abbrev pub content_rules : Meaning → State → RequiredCapabilities → AuthenticatedParts → ℕ
     → LeafNode → Content → List (Rule Refusal)
-content_rules G s required a i x (contents.Application _) = refuse NotHandshake
-content_rules G s required a i x (contents.Proposal p) =
-    rule BadSignature (is_frame_signed G s.context x a) ∷
-    handshake_rules G s required a i (contents.Proposal p)
-content_rules G s required a i x (contents.Commit c) =
-    rule BadSignature (is_frame_signed G s.context x a) ∷
-    handshake_rules G s required a i (contents.Commit c)
+content_rules G s required a i x content =
+    signed_rules G s.context x a (handshake_rules G s required a i content)
 
 -- the rules for what a leaf has sent, where it is set
 abbrev pub leaf_rules : Meaning → State → RequiredCapabilities → AuthenticatedParts → ℕ
@@ -219,7 +221,7 @@ frame_refusal G s required a = first_failing (frame_rules G s required a)
 unfoldable pub handshake_refusal : Meaning → State → RequiredCapabilities → AuthenticatedParts → ℕ
     → Content → Option Refusal
 handshake_refusal G s required a i content =
-    first_failing (handshake_rules G s required a i content)
+    option_and_then first_failing (handshake_rules G s required a i content)
 
 -- the first rule for a commit of member i that fails
 unfoldable pub commit_refusal : Meaning → State → RequiredCapabilities → ℕ → Commit → Option Refusal

@@ -20,6 +20,10 @@ pub record Spells (m : Message) (bytes : List ℕ) : Type 0 where
   pub spelled : message m ≡ Some bytes
   pub bounded : length bytes ≤ input_limit
 
+-- the bytes of some input spell it
+abbrev pub IsInput : Message → Type 0
+IsInput m = (bytes : List ℕ) × Spells m bytes
+
 -- the last epoch that a context can tell (8.1): its number has 64 bits
 abbrev pub last_epoch : ℕ
 last_epoch = 18446744073709551615

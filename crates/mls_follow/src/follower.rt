@@ -1,11 +1,10 @@
 //! The follower.
 
-ghost use Rattle.std.specs.Prelude.{◌≡◌, ◌≢◌, ◌↔◌, ℕ, List, None, IsSome, IfOk, IfErr, OnOk, OnErr, IsErrAnd};
+ghost use Rattle.std.specs.Prelude.{◌≡◌, ◌≢◌, ◌↔◌, ℕ, List, None, IfOk, IfErr, OnOk, OnErr, IsErrAnd};
 ghost use Rattle.mls_hash.specs.Hashing.{hash_of};
 ghost use Rattle.mls_hash.specs.SubtreeHashes.{AreAllHashes};
-ghost use Rattle.mls_msgs.specs.Message.{message as message_spelling};
 ghost use Rattle.mls_nodes.specs.Requirements.{extension_of, Requires};
-ghost use Rattle.mls_follow.specs.State.{Spells};
+ghost use Rattle.mls_follow.specs.State.{IsInput, Spells};
 ghost use Rattle.mls_follow.specs.Seen.{state_of, group_state, boxed_checker_of};
 ghost use Rattle.mls_follow.specs.Judging.{IsAcceptable, IsNext, IsFirstRefusal};
 ghost use Rattle.mls_follow.specs.Runs.{Takes};
@@ -161,7 +160,7 @@ impl Follower {
 
     /// Takes a message that was read from bytes.
     fn take_message(&mut self, message: &Message) -> Result<Taken, Refusal>
-        requires { IsSome (message_spelling message.now) }
+        requires { IsInput message.now }
         ensures takes { (bytes : List ℕ) → Spells message.now bytes
             → Takes (meaning (boxed_checker_of self.old)) (state_of self.old) bytes result
             (state_of self.new) }

@@ -17,20 +17,21 @@ use mls_tree::HashValue;
 use mls_wire::CodecFault;
 use std::alloc::{AllocError, Global};
 
-/// The reference of a proposal's message (RFC 9420, 5.2). `None` where the message is too long for one.
-fn reference_of(
-    alloc: Global,
-    group: &Group,
-    auth: &Authenticated,
-) -> Result<Option<HashValue>, AllocError>
-    ensures { IfOk result (λ reference. reference ≡ reference_of group.now.context auth.now) }
+/// The reference of a proposal's message (RFC 9420, 5.2).
+fn reference_of(alloc: Global, group: &Group, auth: &Authenticated) -> Result<HashValue, AllocError>
+    requires { IsSome (reference_of group.now.context auth.now) }
+    ensures { IfOk result (λ reference.
+        reference_of group.now.context auth.now ≡ Some reference) }
 {
     let value = match encode_authenticated(alloc, auth) {
         Ok(value) => value,
-        Err(CodecFault::Wire(_)) => return Ok(None),
         Err(CodecFault::OutOfMemory) => return Err(AllocError),
+        Err(CodecFault::Wire(_)) => unreachable!(),
     };
-    Ok(ref_hash(group.suite, PROPOSAL_REFERENCE_LABEL, value.as_slice()).ok())
+    let Ok(reference) = ref_hash(group.suite, PROPOSAL_REFERENCE_LABEL, value.as_slice()) else {
+        unreachable!();
+    };
+    Ok(reference)
 }
 
 /// The reference of a member's proposal, where the proposal is new and keeps the rules for it.
@@ -44,6 +45,7 @@ pub(crate) fn check_offer(
     proposal: &Proposal,
 ) -> Result<HashValue, Refusal>
     requires member { IsSome (leaf_at 0 group.now.tree.tree sender) }
+    requires referenced { IsSome (reference_of group.now.context auth.now) }
     ensures kept { OnOk result (first_failing
         (offer_rules (meaning checker.now) (group_state group.now) auth.now sender proposal.now)
         ≡ None) }
@@ -52,9 +54,7 @@ pub(crate) fn check_offer(
     ensures refused { IfErr result (Refuses (first_failing
         (offer_rules (meaning checker.now) (group_state group.now) auth.now sender proposal.now))) }
 {
-    let Some(reference) = reference_of(alloc, group, auth)? else {
-        return Err(Refusal::AlreadyKnown);
-    };
+    let reference = reference_of(alloc, group, auth)?;
     if find_known(group.known.as_slice(), reference.as_slice()).is_some() {
         return Err(Refusal::AlreadyKnown);
     }

@@ -3,13 +3,12 @@
 ghost use Rattle.std.specs.Prelude.{◌≡◌, ℕ, List, Some, None, IsSome, IsTrue, IfOk, IfErr, OnOk, OnErr};
 ghost use Rattle.mls_tree.specs.Tree.{leaf_at};
 ghost use Rattle.mls_msgs.specs.Layout.{is_commit};
-ghost use Rattle.mls_msgs.specs.Message.{message as message_spelling};
 ghost use Rattle.mls_msgs.specs.Signed.{confirmed_input};
 ghost use Rattle.mls_msgs.specs.declared.frame.Content.TheVariants as contents;
 ghost use Rattle.mls_follow.specs.Seen.{group_state};
-ghost use Rattle.mls_follow.specs.Rules.{frame_refusal, handshake_refusal};
+ghost use Rattle.mls_follow.specs.Rules.{frame_refusal, handshake_refusal, reference_of};
 ghost use Rattle.mls_follow.specs.Next.{after_content, after_sender};
-ghost use Rattle.mls_follow.specs.State.{Spells};
+ghost use Rattle.mls_follow.specs.State.{IsInput, Spells};
 ghost use Rattle.mls_follow.specs.Judging.{Refuses};
 ghost use Rattle.mls_follow.specs.Runs.{Takes};
 
@@ -35,6 +34,7 @@ impl Group {
         proposal: &Proposal,
     ) -> Result<Taken, Refusal>
         requires member { IsSome (leaf_at 0 self.old.tree.tree sender) }
+        requires referenced { IsSome (reference_of self.old.context auth.now) }
         ensures kept { OnOk result (handshake_refusal (meaning checker.now)
             (group_state self.old) self.old.required
             auth.now sender (contents.Proposal proposal.now) ≡ None) }
@@ -88,6 +88,7 @@ impl Group {
         auth: &Authenticated,
     ) -> Result<Taken, Refusal>
         requires hashed { IsSome (confirmed_input auth.now) }
+        requires referenced { IsSome (reference_of self.old.context auth.now) }
         ensures kept { OnOk result (frame_refusal (meaning checker.now)
             (group_state self.old) self.old.required
             auth.now ≡ None) }
@@ -116,7 +117,7 @@ impl Group {
         checker: &dyn SignatureCheck,
         message: &Message,
     ) -> Result<Taken, Refusal>
-        requires { IsSome (message_spelling message.now) }
+        requires { IsInput message.now }
         ensures { (bytes : List ℕ) → Spells message.now bytes
             → Takes (meaning checker.now) (group_state self.old) bytes result
             (group_state self.new) }

@@ -1,16 +1,20 @@
-use Rattle.std.proofs.Common.{IsSome, subst}
+use Rattle.std.proofs.Common.{subst}
 use Rattle.mls_msgs.specs.Message.{message}
-use Rattle.mls_msgs.specs.declared.message.Message.{Message}
+use Rattle.mls_msgs.specs.declared.message.Message.TheVariants as messages
+use Rattle.mls_apply.proofs.Spellings.{put_back}
+use Rattle.mls_follow.specs.State.{IsInput}
 use Rattle.mls_follow.specs.Seen.{group_state}
-use Rattle.mls_follow.proofs.Spelled.{confirmed_exists}
+use Rattle.mls_follow.proofs.Spelled.{confirmed_exists, reference_exists}
 use Rattle.mls_follow.proofs.Taking.{frame_taken}
 use Rattle.mls_follow.proofs.group.Group.take.Goals as goal
 
 pub take_frame-requires : goal.take_frame-requires
-take_frame-requires g c = record {
-  hashed =
-      rw c.auth.ensures.value (confirmed_exists c.in-Public.public (subst (λ (m : Message). IsSome (message m)) c.in-Public.is c.requires));
-}
+take_frame-requires g c =
+    let input = subst IsInput c.in-Public.is c.requires in
+    record {
+      hashed = rw c.auth.ensures.value (confirmed_exists c.in-Public.public (put_back (message (messages.Public c.in-Public.public)) input.0 input.1.spelled));
+      referenced = rw c.auth.ensures.value (reference_exists c.args.self.now.context c.in-Public.public input);
+    }
 
 pub returns-in-Public : goal.returns-in-Public
 returns-in-Public g c =

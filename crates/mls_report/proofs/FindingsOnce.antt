@@ -1,9 +1,7 @@
 -- What is found of the inputs of a report is determined: of the conditions each is met by what comes to a later one, and by nothing
 -- for which it fails.
-use Rattle.std.proofs.Common.{◌≡◌, ◌≢◌, ◌∙◌, ℕ, ◌<◌, List, Bool, true, false, Option, Some, None, refl, sym, ap, subst, arith}
-use Rattle.std.specs.Prelude.{nat_lt}
-use Rattle.std.proofs.lemmas.Bool.Decides.{nat_tests}
-use Rattle.std.proofs.lemmas.Option.{none-some, same_Some}
+use Rattle.std.proofs.Common.{◌≡◌, ◌≢◌, ◌∙◌, ℕ, List, Option, Some, None, refl, sym, ap, subst, below_none, below_more}
+use Rattle.std.proofs.lemmas.Option.{same_Some}
 use Rattle.mls_wire.specs.Laws.{one_value}
 use Rattle.mls_nodes.proofs.RequiredOnce.{Requires-one}
 use Rattle.mls_nodes.specs.Requirements.{Requires}
@@ -17,22 +15,20 @@ use Rattle.mls_tree.specs.RatchetTree.{RatchetTree}
 use Rattle.mls_hash.specs.Hashing.{hash_of}
 use Rattle.mls_hash.specs.Suites.{IsSupported}
 use Rattle.mls_check.proofs.Faulted.{fault-not_valid, fault-unique}
-use Rattle.mls_check.proofs.FirstFault.{fault-first, members-faultless}
-use Rattle.mls_check.specs.Members.{Members, IsMemberFault, member_fault}
+use Rattle.mls_check.specs.Members.{Members}
 use Rattle.mls_check.specs.Signatures.{Meaning}
 use Rattle.mls_check.specs.Valid.{Valid, IsFirstTreeFault}
-use Rattle.mls_check.specs.declared.members.MemberFault.{MemberFault}
-use Rattle.mls_check.specs.declared.members.MemberFault.TheVariants as members
 use Rattle.mls_msgs.specs.MessageExact.{message_again}
 use Rattle.mls_msgs.specs.declared.group_info.GroupInfo.{GroupInfo}
 use Rattle.mls_msgs.specs.declared.message.Message.{Message}
 use Rattle.mls_msgs.specs.declared.message.Message.TheVariants as messages
 use Rattle.mls_follow.specs.Start.{IsStart, IsStartFault}
 use Rattle.mls_follow.specs.State.{State}
-use Rattle.mls_report.proofs.StartsOnce.{one_tree_of, one_start, no_fault_of_start, one_start_fault}
+use Rattle.mls_report.proofs.InOrder.{first_then, no_more, MetBefore, one_place, other_place}
+use Rattle.mls_report.proofs.StartsOnce.{one_tree_of, one_members_fault, no_members_fault, one_start, no_fault_of_start, one_start_fault}
 use Rattle.mls_report.specs.OneReport.{AreAlike, OneTreeFinding, OneStartFinding, OneStart}
 use Rattle.mls_report.specs.Show.{IsMessage}
-use Rattle.mls_report.specs.Starting.{IsInfo, IsHanded, IsHandedUnread, IsStarted, IsStartFinding, started_of}
+use Rattle.mls_report.specs.Starting.{IsInfo, IsHanded, IsHandedUnread, IsReadAs, IsStarted, IsStartFinding, started_of}
 use Rattle.mls_report.specs.ValidateTree.{IsContext, IsUsable, HasTree, IsReadable, HasValidTree, IsTreeFinding}
 use Rattle.mls_report.specs.declared.finding.Finding.{Finding}
 use Rattle.mls_report.specs.declared.finding.Finding.TheVariants.{ContextUnreadable, InfoUnreadable, NotGroupInfo, TreeUnreadable, UnsupportedVersion, UnsupportedSuite, RequirementsUnreadable, TreeRefused, MembersRefused, StartRefused, TreeValid, Starts}
@@ -66,19 +62,16 @@ not_handed (Some bytes) (Some t) a b = a b.nodes b.is_tree
 
 -- ---- a context and a tree
 
-abbrev tree_turn : Finding → ℕ
-tree_turn (ContextUnreadable x) = 1
-tree_turn UnsupportedVersion = 2
-tree_turn UnsupportedSuite = 3
-tree_turn (TreeUnreadable x) = 4
-tree_turn RequirementsUnreadable = 5
-tree_turn (TreeRefused x) = 6
-tree_turn (MembersRefused x) = 7
-tree_turn (TreeValid x) = 8
-tree_turn (InfoUnreadable x) = 9
-tree_turn NotGroupInfo = 9
-tree_turn (StartRefused x) = 9
-tree_turn (Starts x) = 9
+abbrev tree_place : Finding → ℕ
+tree_place (ContextUnreadable x) = 0
+tree_place UnsupportedVersion = 1
+tree_place UnsupportedSuite = 2
+tree_place (TreeUnreadable x) = 3
+tree_place RequirementsUnreadable = 4
+tree_place (TreeRefused x) = 5
+tree_place (MembersRefused x) = 6
+tree_place (TreeValid x) = 7
+tree_place _ = 8
 
 module _ (G : Meaning) (context_bytes tree_bytes : List ℕ) where
   abbrev Found : Finding → Type 0
@@ -105,527 +98,192 @@ module _ (G : Meaning) (context_bytes tree_bytes : List ℕ) where
   same_required : (c d : GroupContext) (r s : RequiredCapabilities) → c ≡ d → Requires c r → Requires d s → r ≡ s
   same_required c d r s e a b = Requires-one d r s (subst (λ (x : GroupContext). Requires x r) e a) b
 
-  -- the condition is met that a finding says fails
-  abbrev Met : Finding → Type 0
-  Met (ContextUnreadable x) = (c : GroupContext) × IsGiven c
-  Met UnsupportedVersion = (c : GroupContext) × IsGiven c × (c.version ≡ 1)
-  Met UnsupportedSuite = (c : GroupContext) × IsGiven c × IsSupported c.cipher_suite
-  Met (TreeUnreadable x) = (t : RatchetTree) × Uses t
-  Met RequirementsUnreadable = (c : GroupContext) × (r : RequiredCapabilities) × IsGiven c × Requires c r
-  Met (TreeRefused x) = (c : GroupContext) × (t : RatchetTree) × IsGiven c × Uses t × IsValid c t
-  Met (MembersRefused x) = (c : GroupContext) × (t : RatchetTree) × (r : RequiredCapabilities) × IsGiven c × Uses t × Requires c r × AreMembers c r t
-  Met (TreeValid x) = ⊥
-  Met (InfoUnreadable x) = ⊥
-  Met NotGroupInfo = ⊥
-  Met (StartRefused x) = ⊥
-  Met (Starts x) = ⊥
-
-  one_members_fault : (c d : GroupContext) (r s : RequiredCapabilities) (t u : RatchetTree) (f g : MemberFault) → c ≡ d → r ≡ s → t ≡ u
-      → f ≢ members.OutOfMemory → g ≢ members.OutOfMemory → IsMemberFault G c.cipher_suite c.group_id r t.tree f → IsMemberFault G d.cipher_suite d.group_id s u.tree g → f ≡ g
-  one_members_fault c d r s t u f g ec er et of og a b =
-      same_Some f g (sym ((fault-first G c.cipher_suite c.group_id r t.tree f of).0 a)
-      ∙ (λ i. member_fault G (ec i).cipher_suite (ec i).group_id (er i) (et i).tree)
-      ∙ (fault-first G d.cipher_suite d.group_id s u.tree g og).0 b)
-
-  no_members_fault : (c d : GroupContext) (r s : RequiredCapabilities) (t u : RatchetTree) (f : MemberFault) → c ≡ d → r ≡ s → t ≡ u
-      → f ≢ members.OutOfMemory → IsMemberFault G c.cipher_suite c.group_id r t.tree f → AreMembers d s u → ⊥
-  no_members_fault c d r s t u f ec er et of a m =
-      none-some f (sym ((members-faultless G d.cipher_suite d.group_id s u.tree).0 m)
-      ∙ (λ i. member_fault G (sym ec i).cipher_suite (sym ec i).group_id (sym er i) (sym et i).tree)
-      ∙ (fault-first G c.cipher_suite c.group_id r t.tree f of).0 a)
+  -- the conditions, in their order
+  abbrev Met : ℕ → Type 0
+  Met =
+      first_then ((c : GroupContext) × IsGiven c)
+      (first_then ((c : GroupContext) × IsGiven c × (c.version ≡ 1))
+      (first_then ((c : GroupContext) × IsGiven c × IsSupported c.cipher_suite)
+      (first_then ((t : RatchetTree) × Uses t)
+      (first_then ((c : GroupContext) × (r : RequiredCapabilities) × IsGiven c × Requires c r)
+      (first_then ((c : GroupContext) × (t : RatchetTree) × IsGiven c × Uses t × IsValid c t)
+      (first_then ((c : GroupContext) × (t : RatchetTree) × (r : RequiredCapabilities) × IsGiven c × Uses t × Requires c r × AreMembers c r t)
+      no_more))))))
 
   -- a condition that fails is not met
-  apart : (f : Finding) → Found f → Met f → ⊥
-  apart (ContextUnreadable x) a m = a m.0 m.1
-  apart UnsupportedVersion a m = a.2 (ap (λ (c : GroupContext). c.version) (same_context a.0 m.0 a.1 m.1) ∙ m.2)
-  apart UnsupportedSuite a m = a.3 (subst (λ (c : GroupContext). IsSupported c.cipher_suite) (same_context m.0 a.0 m.1 a.1) m.2)
-  apart (TreeUnreadable x) a m = a.2 m.1.nodes m.1.is_tree
-  apart RequirementsUnreadable a m =
+  fails : (f : Finding) → Found f → Met (tree_place f) → ⊥
+  fails (ContextUnreadable x) a m = a m.0 m.1
+  fails UnsupportedVersion a m = a.2 (ap (λ (c : GroupContext). c.version) (same_context a.0 m.0 a.1 m.1) ∙ m.2)
+  fails UnsupportedSuite a m = a.3 (subst (λ (c : GroupContext). IsSupported c.cipher_suite) (same_context m.0 a.0 m.1 a.1) m.2)
+  fails (TreeUnreadable x) a m = a.2 m.1.nodes m.1.is_tree
+  fails RequirementsUnreadable a m =
       a.3 m.1 (subst (λ (c : GroupContext). Requires c m.1) (same_context m.0 a.0 m.2 a.2.usable.is_context) m.3)
-  apart (TreeRefused x) a m =
+  fails (TreeRefused x) a m =
       let ec = same_context m.0 a.0 m.2 a.3.has_tree.usable.is_context in
       let et = same_tree m.1 a.1 m.3 a.3.has_tree.is_tree in
       fault-not_valid (hash_of a.0.cipher_suite) a.0.tree_hash a.1.tree x a.4 a.5
       (subst (λ (t : RatchetTree). IsValid a.0 t) et (subst (λ (c : GroupContext). IsValid c m.1) ec m.4))
-  apart (MembersRefused x) a m =
+  fails (MembersRefused x) a m =
       let ec = same_context a.0 m.0 a.3.readable.has_tree.usable.is_context m.3 in
-      no_members_fault a.0 m.0 a.2 m.2 a.1 m.1 x ec (same_required a.0 m.0 a.2 m.2 ec a.3.readable.requires m.5)
+      no_members_fault G a.0 m.0 a.2 m.2 a.1 m.1 x ec (same_required a.0 m.0 a.2 m.2 ec a.3.readable.requires m.5)
       (same_tree a.1 m.1 a.3.readable.has_tree.is_tree m.4) a.4 a.5 m.6
-  apart (TreeValid x) a m = absurd m
-  apart (InfoUnreadable x) a m = absurd m
-  apart NotGroupInfo a m = absurd m
-  apart (StartRefused x) a m = absurd m
-  apart (Starts x) a m = absurd m
+  fails (TreeValid x) a m = absurd m
+  fails _ a m = absurd a
 
-  -- ---- what comes to a condition meets those before it
+  -- what comes to a condition meets those before it
 
-  met_given : (c : GroupContext) (h : IsGiven c) (f : Finding) → tree_turn f < 2 → Met f
-  met_given c h (ContextUnreadable x) lt = (c, h)
-  met_given c h UnsupportedVersion lt = absurd (omega (arith, lt))
-  met_given c h UnsupportedSuite lt = absurd (omega (arith, lt))
-  met_given c h (TreeUnreadable x) lt = absurd (omega (arith, lt))
-  met_given c h RequirementsUnreadable lt = absurd (omega (arith, lt))
-  met_given c h (TreeRefused x) lt = absurd (omega (arith, lt))
-  met_given c h (MembersRefused x) lt = absurd (omega (arith, lt))
-  met_given c h (TreeValid x) lt = absurd (omega (arith, lt))
-  met_given c h (InfoUnreadable x) lt = absurd (omega (arith, lt))
-  met_given c h NotGroupInfo lt = absurd (omega (arith, lt))
-  met_given c h (StartRefused x) lt = absurd (omega (arith, lt))
-  met_given c h (Starts x) lt = absurd (omega (arith, lt))
+  met_version : (c : GroupContext) → IsGiven c → MetBefore Met 1
+  met_version c h = below_more Met 0 (below_none Met) (c, h)
 
-  met_version : (c : GroupContext) (h : IsGiven c) (one : c.version ≡ 1) (f : Finding) → tree_turn f < 3 → Met f
-  met_version c h one (ContextUnreadable x) lt = met_given c h (ContextUnreadable x) (omega (arith))
-  met_version c h one UnsupportedVersion lt = (c, h, one)
-  met_version c h one UnsupportedSuite lt = absurd (omega (arith, lt))
-  met_version c h one (TreeUnreadable x) lt = absurd (omega (arith, lt))
-  met_version c h one RequirementsUnreadable lt = absurd (omega (arith, lt))
-  met_version c h one (TreeRefused x) lt = absurd (omega (arith, lt))
-  met_version c h one (MembersRefused x) lt = absurd (omega (arith, lt))
-  met_version c h one (TreeValid x) lt = absurd (omega (arith, lt))
-  met_version c h one (InfoUnreadable x) lt = absurd (omega (arith, lt))
-  met_version c h one NotGroupInfo lt = absurd (omega (arith, lt))
-  met_version c h one (StartRefused x) lt = absurd (omega (arith, lt))
-  met_version c h one (Starts x) lt = absurd (omega (arith, lt))
+  met_suite : (c : GroupContext) → IsGiven c → c.version ≡ 1 → MetBefore Met 2
+  met_suite c h one = below_more Met 1 (met_version c h) (c, h, one)
 
-  met_usable : (c : GroupContext) (h : IsUsable context_bytes c) (f : Finding) → tree_turn f < 4 → Met f
-  met_usable c h (ContextUnreadable x) lt = met_version c h.is_context h.version (ContextUnreadable x) (omega (arith))
-  met_usable c h UnsupportedVersion lt = met_version c h.is_context h.version UnsupportedVersion (omega (arith))
-  met_usable c h UnsupportedSuite lt = (c, h.is_context, h.suite)
-  met_usable c h (TreeUnreadable x) lt = absurd (omega (arith, lt))
-  met_usable c h RequirementsUnreadable lt = absurd (omega (arith, lt))
-  met_usable c h (TreeRefused x) lt = absurd (omega (arith, lt))
-  met_usable c h (MembersRefused x) lt = absurd (omega (arith, lt))
-  met_usable c h (TreeValid x) lt = absurd (omega (arith, lt))
-  met_usable c h (InfoUnreadable x) lt = absurd (omega (arith, lt))
-  met_usable c h NotGroupInfo lt = absurd (omega (arith, lt))
-  met_usable c h (StartRefused x) lt = absurd (omega (arith, lt))
-  met_usable c h (Starts x) lt = absurd (omega (arith, lt))
+  met_usable : (c : GroupContext) → IsUsable context_bytes c → MetBefore Met 3
+  met_usable c h = below_more Met 2 (met_suite c h.is_context h.version) (c, h.is_context, h.suite)
 
-  met_tree : (c : GroupContext) (t : RatchetTree) (h : HasTree context_bytes tree_bytes c t) (f : Finding) → tree_turn f < 5 → Met f
-  met_tree c t h (ContextUnreadable x) lt = met_usable c h.usable (ContextUnreadable x) (omega (arith))
-  met_tree c t h UnsupportedVersion lt = met_usable c h.usable UnsupportedVersion (omega (arith))
-  met_tree c t h UnsupportedSuite lt = met_usable c h.usable UnsupportedSuite (omega (arith))
-  met_tree c t h (TreeUnreadable x) lt = (t, h.is_tree)
-  met_tree c t h RequirementsUnreadable lt = absurd (omega (arith, lt))
-  met_tree c t h (TreeRefused x) lt = absurd (omega (arith, lt))
-  met_tree c t h (MembersRefused x) lt = absurd (omega (arith, lt))
-  met_tree c t h (TreeValid x) lt = absurd (omega (arith, lt))
-  met_tree c t h (InfoUnreadable x) lt = absurd (omega (arith, lt))
-  met_tree c t h NotGroupInfo lt = absurd (omega (arith, lt))
-  met_tree c t h (StartRefused x) lt = absurd (omega (arith, lt))
-  met_tree c t h (Starts x) lt = absurd (omega (arith, lt))
+  met_tree : (c : GroupContext) (t : RatchetTree) → HasTree context_bytes tree_bytes c t → MetBefore Met 4
+  met_tree c t h = below_more Met 3 (met_usable c h.usable) (t, h.is_tree)
 
-  met_readable : (c : GroupContext) (t : RatchetTree) (r : RequiredCapabilities) (h : IsReadable context_bytes tree_bytes c t r) (f : Finding) → tree_turn f < 6 → Met f
-  met_readable c t r h (ContextUnreadable x) lt = met_tree c t h.has_tree (ContextUnreadable x) (omega (arith))
-  met_readable c t r h UnsupportedVersion lt = met_tree c t h.has_tree UnsupportedVersion (omega (arith))
-  met_readable c t r h UnsupportedSuite lt = met_tree c t h.has_tree UnsupportedSuite (omega (arith))
-  met_readable c t r h (TreeUnreadable x) lt = met_tree c t h.has_tree (TreeUnreadable x) (omega (arith))
-  met_readable c t r h RequirementsUnreadable lt = (c, r, h.has_tree.usable.is_context, h.requires)
-  met_readable c t r h (TreeRefused x) lt = absurd (omega (arith, lt))
-  met_readable c t r h (MembersRefused x) lt = absurd (omega (arith, lt))
-  met_readable c t r h (TreeValid x) lt = absurd (omega (arith, lt))
-  met_readable c t r h (InfoUnreadable x) lt = absurd (omega (arith, lt))
-  met_readable c t r h NotGroupInfo lt = absurd (omega (arith, lt))
-  met_readable c t r h (StartRefused x) lt = absurd (omega (arith, lt))
-  met_readable c t r h (Starts x) lt = absurd (omega (arith, lt))
+  met_readable : (c : GroupContext) (t : RatchetTree) (r : RequiredCapabilities) → IsReadable context_bytes tree_bytes c t r → MetBefore Met 5
+  met_readable c t r h = below_more Met 4 (met_tree c t h.has_tree) (c, r, h.has_tree.usable.is_context, h.requires)
 
-  met_valid : (c : GroupContext) (t : RatchetTree) (r : RequiredCapabilities) (h : HasValidTree context_bytes tree_bytes c t r) (f : Finding) → tree_turn f < 7 → Met f
-  met_valid c t r h (ContextUnreadable x) lt = met_readable c t r h.readable (ContextUnreadable x) (omega (arith))
-  met_valid c t r h UnsupportedVersion lt = met_readable c t r h.readable UnsupportedVersion (omega (arith))
-  met_valid c t r h UnsupportedSuite lt = met_readable c t r h.readable UnsupportedSuite (omega (arith))
-  met_valid c t r h (TreeUnreadable x) lt = met_readable c t r h.readable (TreeUnreadable x) (omega (arith))
-  met_valid c t r h RequirementsUnreadable lt = met_readable c t r h.readable RequirementsUnreadable (omega (arith))
-  met_valid c t r h (TreeRefused x) lt = (c, t, h.readable.has_tree.usable.is_context, h.readable.has_tree.is_tree, h.valid)
-  met_valid c t r h (MembersRefused x) lt = absurd (omega (arith, lt))
-  met_valid c t r h (TreeValid x) lt = absurd (omega (arith, lt))
-  met_valid c t r h (InfoUnreadable x) lt = absurd (omega (arith, lt))
-  met_valid c t r h NotGroupInfo lt = absurd (omega (arith, lt))
-  met_valid c t r h (StartRefused x) lt = absurd (omega (arith, lt))
-  met_valid c t r h (Starts x) lt = absurd (omega (arith, lt))
+  met_valid : (c : GroupContext) (t : RatchetTree) (r : RequiredCapabilities) → HasValidTree context_bytes tree_bytes c t r → MetBefore Met 6
+  met_valid c t r h =
+      below_more Met 5 (met_readable c t r h.readable) (c, t, h.readable.has_tree.usable.is_context, h.readable.has_tree.is_tree, h.valid)
 
-  -- a finding meets the conditions before its own
-  met_before : (g : Finding) → Found g → (f : Finding) → tree_turn f < tree_turn g → Met f
-  met_before (ContextUnreadable y) a (ContextUnreadable x) lt = absurd (omega (arith, lt))
-  met_before (ContextUnreadable y) a UnsupportedVersion lt = absurd (omega (arith, lt))
-  met_before (ContextUnreadable y) a UnsupportedSuite lt = absurd (omega (arith, lt))
-  met_before (ContextUnreadable y) a (TreeUnreadable x) lt = absurd (omega (arith, lt))
-  met_before (ContextUnreadable y) a RequirementsUnreadable lt = absurd (omega (arith, lt))
-  met_before (ContextUnreadable y) a (TreeRefused x) lt = absurd (omega (arith, lt))
-  met_before (ContextUnreadable y) a (MembersRefused x) lt = absurd (omega (arith, lt))
-  met_before (ContextUnreadable y) a (TreeValid x) lt = absurd (omega (arith, lt))
-  met_before (ContextUnreadable y) a (InfoUnreadable x) lt = absurd (omega (arith, lt))
-  met_before (ContextUnreadable y) a NotGroupInfo lt = absurd (omega (arith, lt))
-  met_before (ContextUnreadable y) a (StartRefused x) lt = absurd (omega (arith, lt))
-  met_before (ContextUnreadable y) a (Starts x) lt = absurd (omega (arith, lt))
-  met_before UnsupportedVersion a f lt = met_given a.0 a.1 f lt
-  met_before UnsupportedSuite a f lt = met_version a.0 a.1 a.2 f lt
-  met_before (TreeUnreadable y) a f lt = met_usable a.0 a.1 f lt
-  met_before RequirementsUnreadable a f lt = met_tree a.0 a.1 a.2 f lt
-  met_before (TreeRefused y) a f lt = met_readable a.0 a.1 a.2 a.3 f lt
-  met_before (MembersRefused y) a f lt = met_valid a.0 a.1 a.2 a.3 f lt
-  met_before (TreeValid y) a (ContextUnreadable x) lt = met_valid a.0 a.1 a.2 a.3 (ContextUnreadable x) (omega (arith))
-  met_before (TreeValid y) a UnsupportedVersion lt = met_valid a.0 a.1 a.2 a.3 UnsupportedVersion (omega (arith))
-  met_before (TreeValid y) a UnsupportedSuite lt = met_valid a.0 a.1 a.2 a.3 UnsupportedSuite (omega (arith))
-  met_before (TreeValid y) a (TreeUnreadable x) lt = met_valid a.0 a.1 a.2 a.3 (TreeUnreadable x) (omega (arith))
-  met_before (TreeValid y) a RequirementsUnreadable lt = met_valid a.0 a.1 a.2 a.3 RequirementsUnreadable (omega (arith))
-  met_before (TreeValid y) a (TreeRefused x) lt = met_valid a.0 a.1 a.2 a.3 (TreeRefused x) (omega (arith))
-  met_before (TreeValid y) a (MembersRefused x) lt = (a.0, a.1, a.2, a.3.readable.has_tree.usable.is_context, a.3.readable.has_tree.is_tree, a.3.readable.requires, a.4)
-  met_before (TreeValid y) a (TreeValid x) lt = absurd (omega (arith, lt))
-  met_before (TreeValid y) a (InfoUnreadable x) lt = absurd (omega (arith, lt))
-  met_before (TreeValid y) a NotGroupInfo lt = absurd (omega (arith, lt))
-  met_before (TreeValid y) a (StartRefused x) lt = absurd (omega (arith, lt))
-  met_before (TreeValid y) a (Starts x) lt = absurd (omega (arith, lt))
-  met_before (InfoUnreadable y) a f lt = absurd a
-  met_before NotGroupInfo a f lt = absurd a
-  met_before (StartRefused y) a f lt = absurd a
-  met_before (Starts y) a f lt = absurd a
+  met_before : (f : Finding) → Found f → MetBefore Met (tree_place f)
+  met_before (ContextUnreadable x) a = below_none Met
+  met_before UnsupportedVersion a = met_version a.0 a.1
+  met_before UnsupportedSuite a = met_suite a.0 a.1 a.2
+  met_before (TreeUnreadable x) a = met_usable a.0 a.1
+  met_before RequirementsUnreadable a = met_tree a.0 a.1 a.2
+  met_before (TreeRefused x) a = met_readable a.0 a.1 a.2 a.3
+  met_before (MembersRefused x) a = met_valid a.0 a.1 a.2 a.3
+  met_before (TreeValid x) a =
+      let h = a.3.readable in
+      below_more Met 6 (met_valid a.0 a.1 a.2 a.3) (a.0, a.1, a.2, h.has_tree.usable.is_context, h.has_tree.is_tree, h.requires, a.4)
+  met_before _ a = absurd a
 
   -- two findings of one condition
-  alike : (f g : Finding) → tree_turn f ≡ tree_turn g → Found f → Found g → AreAlike f g
+  alike : (f g : Finding) → tree_place f ≡ tree_place g → Found f → Found g → AreAlike f g
   alike (ContextUnreadable x) (ContextUnreadable y) e a b = tt
-  alike (ContextUnreadable x) UnsupportedVersion e a b = absurd (omega (arith, e))
-  alike (ContextUnreadable x) UnsupportedSuite e a b = absurd (omega (arith, e))
-  alike (ContextUnreadable x) (TreeUnreadable y) e a b = absurd (omega (arith, e))
-  alike (ContextUnreadable x) RequirementsUnreadable e a b = absurd (omega (arith, e))
-  alike (ContextUnreadable x) (TreeRefused y) e a b = absurd (omega (arith, e))
-  alike (ContextUnreadable x) (MembersRefused y) e a b = absurd (omega (arith, e))
-  alike (ContextUnreadable x) (TreeValid y) e a b = absurd (omega (arith, e))
-  alike (ContextUnreadable x) (InfoUnreadable y) e a b = absurd b
-  alike (ContextUnreadable x) NotGroupInfo e a b = absurd b
-  alike (ContextUnreadable x) (StartRefused y) e a b = absurd b
-  alike (ContextUnreadable x) (Starts y) e a b = absurd b
-  alike UnsupportedVersion (ContextUnreadable y) e a b = absurd (omega (arith, e))
   alike UnsupportedVersion UnsupportedVersion e a b = refl
-  alike UnsupportedVersion UnsupportedSuite e a b = absurd (omega (arith, e))
-  alike UnsupportedVersion (TreeUnreadable y) e a b = absurd (omega (arith, e))
-  alike UnsupportedVersion RequirementsUnreadable e a b = absurd (omega (arith, e))
-  alike UnsupportedVersion (TreeRefused y) e a b = absurd (omega (arith, e))
-  alike UnsupportedVersion (MembersRefused y) e a b = absurd (omega (arith, e))
-  alike UnsupportedVersion (TreeValid y) e a b = absurd (omega (arith, e))
-  alike UnsupportedVersion (InfoUnreadable y) e a b = absurd b
-  alike UnsupportedVersion NotGroupInfo e a b = absurd b
-  alike UnsupportedVersion (StartRefused y) e a b = absurd b
-  alike UnsupportedVersion (Starts y) e a b = absurd b
-  alike UnsupportedSuite (ContextUnreadable y) e a b = absurd (omega (arith, e))
-  alike UnsupportedSuite UnsupportedVersion e a b = absurd (omega (arith, e))
   alike UnsupportedSuite UnsupportedSuite e a b = refl
-  alike UnsupportedSuite (TreeUnreadable y) e a b = absurd (omega (arith, e))
-  alike UnsupportedSuite RequirementsUnreadable e a b = absurd (omega (arith, e))
-  alike UnsupportedSuite (TreeRefused y) e a b = absurd (omega (arith, e))
-  alike UnsupportedSuite (MembersRefused y) e a b = absurd (omega (arith, e))
-  alike UnsupportedSuite (TreeValid y) e a b = absurd (omega (arith, e))
-  alike UnsupportedSuite (InfoUnreadable y) e a b = absurd b
-  alike UnsupportedSuite NotGroupInfo e a b = absurd b
-  alike UnsupportedSuite (StartRefused y) e a b = absurd b
-  alike UnsupportedSuite (Starts y) e a b = absurd b
-  alike (TreeUnreadable x) (ContextUnreadable y) e a b = absurd (omega (arith, e))
-  alike (TreeUnreadable x) UnsupportedVersion e a b = absurd (omega (arith, e))
-  alike (TreeUnreadable x) UnsupportedSuite e a b = absurd (omega (arith, e))
   alike (TreeUnreadable x) (TreeUnreadable y) e a b = tt
-  alike (TreeUnreadable x) RequirementsUnreadable e a b = absurd (omega (arith, e))
-  alike (TreeUnreadable x) (TreeRefused y) e a b = absurd (omega (arith, e))
-  alike (TreeUnreadable x) (MembersRefused y) e a b = absurd (omega (arith, e))
-  alike (TreeUnreadable x) (TreeValid y) e a b = absurd (omega (arith, e))
-  alike (TreeUnreadable x) (InfoUnreadable y) e a b = absurd b
-  alike (TreeUnreadable x) NotGroupInfo e a b = absurd b
-  alike (TreeUnreadable x) (StartRefused y) e a b = absurd b
-  alike (TreeUnreadable x) (Starts y) e a b = absurd b
-  alike RequirementsUnreadable (ContextUnreadable y) e a b = absurd (omega (arith, e))
-  alike RequirementsUnreadable UnsupportedVersion e a b = absurd (omega (arith, e))
-  alike RequirementsUnreadable UnsupportedSuite e a b = absurd (omega (arith, e))
-  alike RequirementsUnreadable (TreeUnreadable y) e a b = absurd (omega (arith, e))
   alike RequirementsUnreadable RequirementsUnreadable e a b = refl
-  alike RequirementsUnreadable (TreeRefused y) e a b = absurd (omega (arith, e))
-  alike RequirementsUnreadable (MembersRefused y) e a b = absurd (omega (arith, e))
-  alike RequirementsUnreadable (TreeValid y) e a b = absurd (omega (arith, e))
-  alike RequirementsUnreadable (InfoUnreadable y) e a b = absurd b
-  alike RequirementsUnreadable NotGroupInfo e a b = absurd b
-  alike RequirementsUnreadable (StartRefused y) e a b = absurd b
-  alike RequirementsUnreadable (Starts y) e a b = absurd b
-  alike (TreeRefused x) (ContextUnreadable y) e a b = absurd (omega (arith, e))
-  alike (TreeRefused x) UnsupportedVersion e a b = absurd (omega (arith, e))
-  alike (TreeRefused x) UnsupportedSuite e a b = absurd (omega (arith, e))
-  alike (TreeRefused x) (TreeUnreadable y) e a b = absurd (omega (arith, e))
-  alike (TreeRefused x) RequirementsUnreadable e a b = absurd (omega (arith, e))
   alike (TreeRefused x) (TreeRefused y) e a b =
       let ec = same_context a.0 b.0 a.3.has_tree.usable.is_context b.3.has_tree.usable.is_context in
       let et = same_tree a.1 b.1 a.3.has_tree.is_tree b.3.has_tree.is_tree in
       ap TreeRefused (fault-unique (hash_of b.0.cipher_suite) b.0.tree_hash b.1.tree x y a.4 b.4
       (subst (λ (t : RatchetTree). IsFirstTreeFault (hash_of b.0.cipher_suite) b.0.tree_hash t.tree x) et
       (subst (λ (c : GroupContext). IsFirstTreeFault (hash_of c.cipher_suite) c.tree_hash a.1.tree x) ec a.5)) b.5)
-  alike (TreeRefused x) (MembersRefused y) e a b = absurd (omega (arith, e))
-  alike (TreeRefused x) (TreeValid y) e a b = absurd (omega (arith, e))
-  alike (TreeRefused x) (InfoUnreadable y) e a b = absurd b
-  alike (TreeRefused x) NotGroupInfo e a b = absurd b
-  alike (TreeRefused x) (StartRefused y) e a b = absurd b
-  alike (TreeRefused x) (Starts y) e a b = absurd b
-  alike (MembersRefused x) (ContextUnreadable y) e a b = absurd (omega (arith, e))
-  alike (MembersRefused x) UnsupportedVersion e a b = absurd (omega (arith, e))
-  alike (MembersRefused x) UnsupportedSuite e a b = absurd (omega (arith, e))
-  alike (MembersRefused x) (TreeUnreadable y) e a b = absurd (omega (arith, e))
-  alike (MembersRefused x) RequirementsUnreadable e a b = absurd (omega (arith, e))
-  alike (MembersRefused x) (TreeRefused y) e a b = absurd (omega (arith, e))
   alike (MembersRefused x) (MembersRefused y) e a b =
       let ec = same_context a.0 b.0 a.3.readable.has_tree.usable.is_context b.3.readable.has_tree.usable.is_context in
-      ap MembersRefused (one_members_fault a.0 b.0 a.2 b.2 a.1 b.1 x y ec (same_required a.0 b.0 a.2 b.2 ec a.3.readable.requires b.3.readable.requires)
+      ap MembersRefused (one_members_fault G a.0 b.0 a.2 b.2 a.1 b.1 x y ec (same_required a.0 b.0 a.2 b.2 ec a.3.readable.requires b.3.readable.requires)
       (same_tree a.1 b.1 a.3.readable.has_tree.is_tree b.3.readable.has_tree.is_tree) a.4 b.4 a.5 b.5)
-  alike (MembersRefused x) (TreeValid y) e a b = absurd (omega (arith, e))
-  alike (MembersRefused x) (InfoUnreadable y) e a b = absurd b
-  alike (MembersRefused x) NotGroupInfo e a b = absurd b
-  alike (MembersRefused x) (StartRefused y) e a b = absurd b
-  alike (MembersRefused x) (Starts y) e a b = absurd b
-  alike (TreeValid x) (ContextUnreadable y) e a b = absurd (omega (arith, e))
-  alike (TreeValid x) UnsupportedVersion e a b = absurd (omega (arith, e))
-  alike (TreeValid x) UnsupportedSuite e a b = absurd (omega (arith, e))
-  alike (TreeValid x) (TreeUnreadable y) e a b = absurd (omega (arith, e))
-  alike (TreeValid x) RequirementsUnreadable e a b = absurd (omega (arith, e))
-  alike (TreeValid x) (TreeRefused y) e a b = absurd (omega (arith, e))
-  alike (TreeValid x) (MembersRefused y) e a b = absurd (omega (arith, e))
   alike (TreeValid x) (TreeValid y) e a b =
       let ec = same_context a.0 b.0 a.3.readable.has_tree.usable.is_context b.3.readable.has_tree.usable.is_context in
       ap TreeValid (a.5 ∙ ap (λ (c : GroupContext). c.tree_hash) ec ∙ sym b.5)
-  alike (TreeValid x) (InfoUnreadable y) e a b = absurd b
-  alike (TreeValid x) NotGroupInfo e a b = absurd b
-  alike (TreeValid x) (StartRefused y) e a b = absurd b
-  alike (TreeValid x) (Starts y) e a b = absurd b
-  alike (InfoUnreadable x) (ContextUnreadable y) e a b = absurd a
-  alike (InfoUnreadable x) UnsupportedVersion e a b = absurd a
-  alike (InfoUnreadable x) UnsupportedSuite e a b = absurd a
-  alike (InfoUnreadable x) (TreeUnreadable y) e a b = absurd a
-  alike (InfoUnreadable x) RequirementsUnreadable e a b = absurd a
-  alike (InfoUnreadable x) (TreeRefused y) e a b = absurd a
-  alike (InfoUnreadable x) (MembersRefused y) e a b = absurd a
-  alike (InfoUnreadable x) (TreeValid y) e a b = absurd a
-  alike (InfoUnreadable x) (InfoUnreadable y) e a b = absurd a
-  alike (InfoUnreadable x) NotGroupInfo e a b = absurd a
-  alike (InfoUnreadable x) (StartRefused y) e a b = absurd a
-  alike (InfoUnreadable x) (Starts y) e a b = absurd a
-  alike NotGroupInfo (ContextUnreadable y) e a b = absurd a
-  alike NotGroupInfo UnsupportedVersion e a b = absurd a
-  alike NotGroupInfo UnsupportedSuite e a b = absurd a
-  alike NotGroupInfo (TreeUnreadable y) e a b = absurd a
-  alike NotGroupInfo RequirementsUnreadable e a b = absurd a
-  alike NotGroupInfo (TreeRefused y) e a b = absurd a
-  alike NotGroupInfo (MembersRefused y) e a b = absurd a
-  alike NotGroupInfo (TreeValid y) e a b = absurd a
-  alike NotGroupInfo (InfoUnreadable y) e a b = absurd a
-  alike NotGroupInfo NotGroupInfo e a b = absurd a
-  alike NotGroupInfo (StartRefused y) e a b = absurd a
-  alike NotGroupInfo (Starts y) e a b = absurd a
-  alike (StartRefused x) (ContextUnreadable y) e a b = absurd a
-  alike (StartRefused x) UnsupportedVersion e a b = absurd a
-  alike (StartRefused x) UnsupportedSuite e a b = absurd a
-  alike (StartRefused x) (TreeUnreadable y) e a b = absurd a
-  alike (StartRefused x) RequirementsUnreadable e a b = absurd a
-  alike (StartRefused x) (TreeRefused y) e a b = absurd a
-  alike (StartRefused x) (MembersRefused y) e a b = absurd a
-  alike (StartRefused x) (TreeValid y) e a b = absurd a
-  alike (StartRefused x) (InfoUnreadable y) e a b = absurd a
-  alike (StartRefused x) NotGroupInfo e a b = absurd a
-  alike (StartRefused x) (StartRefused y) e a b = absurd a
-  alike (StartRefused x) (Starts y) e a b = absurd a
-  alike (Starts x) (ContextUnreadable y) e a b = absurd a
-  alike (Starts x) UnsupportedVersion e a b = absurd a
-  alike (Starts x) UnsupportedSuite e a b = absurd a
-  alike (Starts x) (TreeUnreadable y) e a b = absurd a
-  alike (Starts x) RequirementsUnreadable e a b = absurd a
-  alike (Starts x) (TreeRefused y) e a b = absurd a
-  alike (Starts x) (MembersRefused y) e a b = absurd a
-  alike (Starts x) (TreeValid y) e a b = absurd a
-  alike (Starts x) (InfoUnreadable y) e a b = absurd a
-  alike (Starts x) NotGroupInfo e a b = absurd a
-  alike (Starts x) (StartRefused y) e a b = absurd a
-  alike (Starts x) (Starts y) e a b = absurd a
-
-  one_found : (f g : Finding) → Found f → Found g → AreAlike f g
-  one_found f g a b = by_order (nat_lt (tree_turn f) (tree_turn g)) refl (nat_lt (tree_turn g) (tree_turn f)) refl
-    where
-      by_order : (x : Bool) → nat_lt (tree_turn f) (tree_turn g) ≡ x → (y : Bool) → nat_lt (tree_turn g) (tree_turn f) ≡ y → AreAlike f g
-      by_order true p y q = absurd (apart f a (met_before g b f (grind (arith, nat_tests))))
-      by_order false p true q = absurd (apart g b (met_before f a g (grind (arith, nat_tests))))
-      by_order false p false q = alike f g (grind (arith, nat_tests)) a b
+  alike (InfoUnreadable x) g e a b = absurd a
+  alike NotGroupInfo g e a b = absurd a
+  alike (StartRefused x) g e a b = absurd a
+  alike (Starts x) g e a b = absurd a
+  alike f g e a b = absurd (other_place (tree_place f) (tree_place g) refl e)
 
 pub one_tree_finding : OneTreeFinding
-one_tree_finding G context_bytes tree_bytes = one_found G context_bytes tree_bytes
+one_tree_finding G context_bytes tree_bytes f g a b =
+    alike G context_bytes tree_bytes f g
+    (one_place tree_place (Met G context_bytes tree_bytes) (Found G context_bytes tree_bytes)
+    (met_before G context_bytes tree_bytes) (fails G context_bytes tree_bytes) f g a b) a b
 
 -- ---- a group info and a tree
+
+abbrev start_place : Finding → ℕ
+start_place (InfoUnreadable x) = 0
+start_place NotGroupInfo = 1
+start_place (TreeUnreadable x) = 2
+start_place (StartRefused x) = 3
+start_place (Starts x) = 4
+start_place _ = 5
 
 module _ (G : Meaning) (info_bytes : List ℕ) (tree_bytes : Option (List ℕ)) where
   abbrev Begins : Finding → Type 0
   Begins finding = IsStartFinding G info_bytes tree_bytes finding
 
+  -- two readings are of one group info and one tree
+  moved : (P : GroupInfo → Option RatchetTree → Type 0) (x y : GroupInfo) (t u : Option RatchetTree) → IsReadAs info_bytes tree_bytes x t
+      → IsReadAs info_bytes tree_bytes y u → P x t → P y u
+  moved P x y t u a b p =
+      subst (λ (h : Option RatchetTree). P y h) (one_handed tree_bytes t u a.is_handed b.is_handed)
+      (subst (λ (z : GroupInfo). P z t) (one_info info_bytes x y a.is_info b.is_info) p)
+
   -- the start is one
   same_start : (s u : State) → IsStarted G info_bytes tree_bytes s → IsStarted G info_bytes tree_bytes u → s ≡ u
   same_start s u a b =
-      let ei = one_info info_bytes a.info b.info a.is_read.is_info b.is_read.is_info in
-      let eh = one_handed tree_bytes a.handed b.handed a.is_read.is_handed b.is_read.is_handed in
       one_start G b.info b.handed s u
-      (subst (λ (h : Option RatchetTree). IsStart G b.info h s) eh (subst (λ (x : GroupInfo). IsStart G x a.handed s) ei a.start)) b.start
+      (moved (λ (x : GroupInfo) (h : Option RatchetTree). IsStart G x h s) a.info b.info a.handed b.handed a.is_read b.is_read a.start) b.start
 
   -- another message is no group info
   no_other : (m : Message) (x : GroupInfo) → IsMessage info_bytes m → ((info : GroupInfo) → m ≢ messages.GroupInfo info) → IsInfo info_bytes x → ⊥
   no_other m x a none b = none x (one_message info_bytes m (messages.GroupInfo x) a b)
 
-  alike_start : (f g : Finding) → Begins f → Begins g → AreAlike f g
-  alike_start (InfoUnreadable x) (InfoUnreadable y) a b = tt
-  alike_start (InfoUnreadable x) NotGroupInfo a b = absurd (a b.0 b.1)
-  alike_start (InfoUnreadable x) (TreeUnreadable y) a b = absurd (a (messages.GroupInfo b.0) b.1)
-  alike_start (InfoUnreadable x) (StartRefused y) a b = absurd (a (messages.GroupInfo b.0) b.2.is_info)
-  alike_start (InfoUnreadable x) (Starts y) a b = absurd (a (messages.GroupInfo b.1.info) b.1.is_read.is_info)
-  alike_start (InfoUnreadable x) (ContextUnreadable y) a b = absurd b
-  alike_start (InfoUnreadable x) UnsupportedVersion a b = absurd b
-  alike_start (InfoUnreadable x) UnsupportedSuite a b = absurd b
-  alike_start (InfoUnreadable x) RequirementsUnreadable a b = absurd b
-  alike_start (InfoUnreadable x) (TreeRefused y) a b = absurd b
-  alike_start (InfoUnreadable x) (MembersRefused y) a b = absurd b
-  alike_start (InfoUnreadable x) (TreeValid y) a b = absurd b
-  alike_start NotGroupInfo (InfoUnreadable y) a b = absurd (b a.0 a.1)
-  alike_start NotGroupInfo NotGroupInfo a b = refl
-  alike_start NotGroupInfo (TreeUnreadable y) a b = absurd (no_other a.0 b.0 a.1 a.2 b.1)
-  alike_start NotGroupInfo (StartRefused y) a b = absurd (no_other a.0 b.0 a.1 a.2 b.2.is_info)
-  alike_start NotGroupInfo (Starts y) a b = absurd (no_other a.0 b.1.info a.1 a.2 b.1.is_read.is_info)
-  alike_start NotGroupInfo (ContextUnreadable y) a b = absurd b
-  alike_start NotGroupInfo UnsupportedVersion a b = absurd b
-  alike_start NotGroupInfo UnsupportedSuite a b = absurd b
-  alike_start NotGroupInfo RequirementsUnreadable a b = absurd b
-  alike_start NotGroupInfo (TreeRefused y) a b = absurd b
-  alike_start NotGroupInfo (MembersRefused y) a b = absurd b
-  alike_start NotGroupInfo (TreeValid y) a b = absurd b
-  alike_start (TreeUnreadable x) (InfoUnreadable y) a b = absurd (b (messages.GroupInfo a.0) a.1)
-  alike_start (TreeUnreadable x) NotGroupInfo a b = absurd (no_other b.0 a.0 b.1 b.2 a.1)
-  alike_start (TreeUnreadable x) (TreeUnreadable y) a b = tt
-  alike_start (TreeUnreadable x) (StartRefused y) a b = absurd (not_handed tree_bytes b.1 a.2 b.2.is_handed)
-  alike_start (TreeUnreadable x) (Starts y) a b = absurd (not_handed tree_bytes b.1.handed a.2 b.1.is_read.is_handed)
-  alike_start (TreeUnreadable x) (ContextUnreadable y) a b = absurd b
-  alike_start (TreeUnreadable x) UnsupportedVersion a b = absurd b
-  alike_start (TreeUnreadable x) UnsupportedSuite a b = absurd b
-  alike_start (TreeUnreadable x) RequirementsUnreadable a b = absurd b
-  alike_start (TreeUnreadable x) (TreeRefused y) a b = absurd b
-  alike_start (TreeUnreadable x) (MembersRefused y) a b = absurd b
-  alike_start (TreeUnreadable x) (TreeValid y) a b = absurd b
-  alike_start (StartRefused x) (InfoUnreadable y) a b = absurd (b (messages.GroupInfo a.0) a.2.is_info)
-  alike_start (StartRefused x) NotGroupInfo a b = absurd (no_other b.0 a.0 b.1 b.2 a.2.is_info)
-  alike_start (StartRefused x) (TreeUnreadable y) a b = absurd (not_handed tree_bytes a.1 b.2 a.2.is_handed)
-  alike_start (StartRefused x) (StartRefused y) a b =
-      let ei = one_info info_bytes a.0 b.0 a.2.is_info b.2.is_info in
-      let eh = one_handed tree_bytes a.1 b.1 a.2.is_handed b.2.is_handed in
+  -- the conditions, in their order
+  abbrev Ready : ℕ → Type 0
+  Ready =
+      first_then ((m : Message) × IsMessage info_bytes m)
+      (first_then ((info : GroupInfo) × IsInfo info_bytes info)
+      (first_then ((handed : Option RatchetTree) × IsHanded tree_bytes handed)
+      (first_then ((s : State) × IsStarted G info_bytes tree_bytes s)
+      no_more)))
+
+  -- a condition that fails is not met
+  not_ready : (f : Finding) → Begins f → Ready (start_place f) → ⊥
+  not_ready (InfoUnreadable x) a m = a m.0 m.1
+  not_ready NotGroupInfo a m = no_other a.0 m.0 a.1 a.2 m.1
+  not_ready (TreeUnreadable x) a m = not_handed tree_bytes m.0 a.2 m.1
+  not_ready (StartRefused x) a m =
+      no_fault_of_start G a.0 a.1 m.0 x a.3
+      (moved (λ (z : GroupInfo) (h : Option RatchetTree). IsStart G z h m.0) m.1.info a.0 m.1.handed a.1 m.1.is_read a.2 m.1.start) a.4
+  not_ready (Starts x) a m = absurd m
+  not_ready _ a m = absurd a
+
+  -- what comes to a condition meets those before it
+
+  ready_info : (info : GroupInfo) → IsInfo info_bytes info → MetBefore Ready 2
+  ready_info info h = below_more Ready 1 (below_more Ready 0 (below_none Ready) (messages.GroupInfo info, h)) (info, h)
+
+  ready_both : (info : GroupInfo) (handed : Option RatchetTree) → IsReadAs info_bytes tree_bytes info handed → MetBefore Ready 3
+  ready_both info handed h = below_more Ready 2 (ready_info info h.is_info) (handed, h.is_handed)
+
+  ready_before : (f : Finding) → Begins f → MetBefore Ready (start_place f)
+  ready_before (InfoUnreadable x) a = below_none Ready
+  ready_before NotGroupInfo a = below_more Ready 0 (below_none Ready) (a.0, a.1)
+  ready_before (TreeUnreadable x) a = ready_info a.0 a.1
+  ready_before (StartRefused x) a = ready_both a.0 a.1 a.2
+  ready_before (Starts x) a = below_more Ready 3 (ready_both a.1.info a.1.handed a.1.is_read) (a.0, a.1)
+  ready_before _ a = absurd a
+
+  -- two findings of one condition
+  alike_start : (f g : Finding) → start_place f ≡ start_place g → Begins f → Begins g → AreAlike f g
+  alike_start (InfoUnreadable x) (InfoUnreadable y) e a b = tt
+  alike_start NotGroupInfo NotGroupInfo e a b = refl
+  alike_start (TreeUnreadable x) (TreeUnreadable y) e a b = tt
+  alike_start (StartRefused x) (StartRefused y) e a b =
       ap StartRefused (one_start_fault G b.0 b.1 x y a.3 b.3
-      (subst (λ (h : Option RatchetTree). IsStartFault G b.0 h x) eh (subst (λ (z : GroupInfo). IsStartFault G z a.1 x) ei a.4)) b.4)
-  alike_start (StartRefused x) (Starts y) a b =
-      let ei = one_info info_bytes b.1.info a.0 b.1.is_read.is_info a.2.is_info in
-      let eh = one_handed tree_bytes b.1.handed a.1 b.1.is_read.is_handed a.2.is_handed in
-      absurd (no_fault_of_start G a.0 a.1 b.0 x a.3
-      (subst (λ (h : Option RatchetTree). IsStart G a.0 h b.0) eh (subst (λ (z : GroupInfo). IsStart G z b.1.handed b.0) ei b.1.start)) a.4)
-  alike_start (StartRefused x) (ContextUnreadable y) a b = absurd b
-  alike_start (StartRefused x) UnsupportedVersion a b = absurd b
-  alike_start (StartRefused x) UnsupportedSuite a b = absurd b
-  alike_start (StartRefused x) RequirementsUnreadable a b = absurd b
-  alike_start (StartRefused x) (TreeRefused y) a b = absurd b
-  alike_start (StartRefused x) (MembersRefused y) a b = absurd b
-  alike_start (StartRefused x) (TreeValid y) a b = absurd b
-  alike_start (Starts x) (InfoUnreadable y) a b = absurd (b (messages.GroupInfo a.1.info) a.1.is_read.is_info)
-  alike_start (Starts x) NotGroupInfo a b = absurd (no_other b.0 a.1.info b.1 b.2 a.1.is_read.is_info)
-  alike_start (Starts x) (TreeUnreadable y) a b = absurd (not_handed tree_bytes a.1.handed b.2 a.1.is_read.is_handed)
-  alike_start (Starts x) (StartRefused y) a b =
-      let ei = one_info info_bytes a.1.info b.0 a.1.is_read.is_info b.2.is_info in
-      let eh = one_handed tree_bytes a.1.handed b.1 a.1.is_read.is_handed b.2.is_handed in
-      absurd (no_fault_of_start G b.0 b.1 a.0 y b.3
-      (subst (λ (h : Option RatchetTree). IsStart G b.0 h a.0) eh (subst (λ (z : GroupInfo). IsStart G z a.1.handed a.0) ei a.1.start)) b.4)
-  alike_start (Starts x) (Starts y) a b = ap Starts (a.2 ∙ ap started_of (same_start a.0 b.0 a.1 b.1) ∙ sym b.2)
-  alike_start (Starts x) (ContextUnreadable y) a b = absurd b
-  alike_start (Starts x) UnsupportedVersion a b = absurd b
-  alike_start (Starts x) UnsupportedSuite a b = absurd b
-  alike_start (Starts x) RequirementsUnreadable a b = absurd b
-  alike_start (Starts x) (TreeRefused y) a b = absurd b
-  alike_start (Starts x) (MembersRefused y) a b = absurd b
-  alike_start (Starts x) (TreeValid y) a b = absurd b
-  alike_start (ContextUnreadable x) (InfoUnreadable y) a b = absurd a
-  alike_start (ContextUnreadable x) NotGroupInfo a b = absurd a
-  alike_start (ContextUnreadable x) (TreeUnreadable y) a b = absurd a
-  alike_start (ContextUnreadable x) (StartRefused y) a b = absurd a
-  alike_start (ContextUnreadable x) (Starts y) a b = absurd a
-  alike_start (ContextUnreadable x) (ContextUnreadable y) a b = absurd a
-  alike_start (ContextUnreadable x) UnsupportedVersion a b = absurd a
-  alike_start (ContextUnreadable x) UnsupportedSuite a b = absurd a
-  alike_start (ContextUnreadable x) RequirementsUnreadable a b = absurd a
-  alike_start (ContextUnreadable x) (TreeRefused y) a b = absurd a
-  alike_start (ContextUnreadable x) (MembersRefused y) a b = absurd a
-  alike_start (ContextUnreadable x) (TreeValid y) a b = absurd a
-  alike_start UnsupportedVersion (InfoUnreadable y) a b = absurd a
-  alike_start UnsupportedVersion NotGroupInfo a b = absurd a
-  alike_start UnsupportedVersion (TreeUnreadable y) a b = absurd a
-  alike_start UnsupportedVersion (StartRefused y) a b = absurd a
-  alike_start UnsupportedVersion (Starts y) a b = absurd a
-  alike_start UnsupportedVersion (ContextUnreadable y) a b = absurd a
-  alike_start UnsupportedVersion UnsupportedVersion a b = absurd a
-  alike_start UnsupportedVersion UnsupportedSuite a b = absurd a
-  alike_start UnsupportedVersion RequirementsUnreadable a b = absurd a
-  alike_start UnsupportedVersion (TreeRefused y) a b = absurd a
-  alike_start UnsupportedVersion (MembersRefused y) a b = absurd a
-  alike_start UnsupportedVersion (TreeValid y) a b = absurd a
-  alike_start UnsupportedSuite (InfoUnreadable y) a b = absurd a
-  alike_start UnsupportedSuite NotGroupInfo a b = absurd a
-  alike_start UnsupportedSuite (TreeUnreadable y) a b = absurd a
-  alike_start UnsupportedSuite (StartRefused y) a b = absurd a
-  alike_start UnsupportedSuite (Starts y) a b = absurd a
-  alike_start UnsupportedSuite (ContextUnreadable y) a b = absurd a
-  alike_start UnsupportedSuite UnsupportedVersion a b = absurd a
-  alike_start UnsupportedSuite UnsupportedSuite a b = absurd a
-  alike_start UnsupportedSuite RequirementsUnreadable a b = absurd a
-  alike_start UnsupportedSuite (TreeRefused y) a b = absurd a
-  alike_start UnsupportedSuite (MembersRefused y) a b = absurd a
-  alike_start UnsupportedSuite (TreeValid y) a b = absurd a
-  alike_start RequirementsUnreadable (InfoUnreadable y) a b = absurd a
-  alike_start RequirementsUnreadable NotGroupInfo a b = absurd a
-  alike_start RequirementsUnreadable (TreeUnreadable y) a b = absurd a
-  alike_start RequirementsUnreadable (StartRefused y) a b = absurd a
-  alike_start RequirementsUnreadable (Starts y) a b = absurd a
-  alike_start RequirementsUnreadable (ContextUnreadable y) a b = absurd a
-  alike_start RequirementsUnreadable UnsupportedVersion a b = absurd a
-  alike_start RequirementsUnreadable UnsupportedSuite a b = absurd a
-  alike_start RequirementsUnreadable RequirementsUnreadable a b = absurd a
-  alike_start RequirementsUnreadable (TreeRefused y) a b = absurd a
-  alike_start RequirementsUnreadable (MembersRefused y) a b = absurd a
-  alike_start RequirementsUnreadable (TreeValid y) a b = absurd a
-  alike_start (TreeRefused x) (InfoUnreadable y) a b = absurd a
-  alike_start (TreeRefused x) NotGroupInfo a b = absurd a
-  alike_start (TreeRefused x) (TreeUnreadable y) a b = absurd a
-  alike_start (TreeRefused x) (StartRefused y) a b = absurd a
-  alike_start (TreeRefused x) (Starts y) a b = absurd a
-  alike_start (TreeRefused x) (ContextUnreadable y) a b = absurd a
-  alike_start (TreeRefused x) UnsupportedVersion a b = absurd a
-  alike_start (TreeRefused x) UnsupportedSuite a b = absurd a
-  alike_start (TreeRefused x) RequirementsUnreadable a b = absurd a
-  alike_start (TreeRefused x) (TreeRefused y) a b = absurd a
-  alike_start (TreeRefused x) (MembersRefused y) a b = absurd a
-  alike_start (TreeRefused x) (TreeValid y) a b = absurd a
-  alike_start (MembersRefused x) (InfoUnreadable y) a b = absurd a
-  alike_start (MembersRefused x) NotGroupInfo a b = absurd a
-  alike_start (MembersRefused x) (TreeUnreadable y) a b = absurd a
-  alike_start (MembersRefused x) (StartRefused y) a b = absurd a
-  alike_start (MembersRefused x) (Starts y) a b = absurd a
-  alike_start (MembersRefused x) (ContextUnreadable y) a b = absurd a
-  alike_start (MembersRefused x) UnsupportedVersion a b = absurd a
-  alike_start (MembersRefused x) UnsupportedSuite a b = absurd a
-  alike_start (MembersRefused x) RequirementsUnreadable a b = absurd a
-  alike_start (MembersRefused x) (TreeRefused y) a b = absurd a
-  alike_start (MembersRefused x) (MembersRefused y) a b = absurd a
-  alike_start (MembersRefused x) (TreeValid y) a b = absurd a
-  alike_start (TreeValid x) (InfoUnreadable y) a b = absurd a
-  alike_start (TreeValid x) NotGroupInfo a b = absurd a
-  alike_start (TreeValid x) (TreeUnreadable y) a b = absurd a
-  alike_start (TreeValid x) (StartRefused y) a b = absurd a
-  alike_start (TreeValid x) (Starts y) a b = absurd a
-  alike_start (TreeValid x) (ContextUnreadable y) a b = absurd a
-  alike_start (TreeValid x) UnsupportedVersion a b = absurd a
-  alike_start (TreeValid x) UnsupportedSuite a b = absurd a
-  alike_start (TreeValid x) RequirementsUnreadable a b = absurd a
-  alike_start (TreeValid x) (TreeRefused y) a b = absurd a
-  alike_start (TreeValid x) (MembersRefused y) a b = absurd a
-  alike_start (TreeValid x) (TreeValid y) a b = absurd a
+      (moved (λ (z : GroupInfo) (h : Option RatchetTree). IsStartFault G z h x) a.0 b.0 a.1 b.1 a.2 b.2 a.4) b.4)
+  alike_start (Starts x) (Starts y) e a b = ap Starts (a.2 ∙ ap started_of (same_start a.0 b.0 a.1 b.1) ∙ sym b.2)
+  alike_start (InfoUnreadable x) g e a b = absurd (other_place 0 (start_place g) refl e)
+  alike_start NotGroupInfo g e a b = absurd (other_place 1 (start_place g) refl e)
+  alike_start (TreeUnreadable x) g e a b = absurd (other_place 2 (start_place g) refl e)
+  alike_start (StartRefused x) g e a b = absurd (other_place 3 (start_place g) refl e)
+  alike_start (Starts x) g e a b = absurd (other_place 4 (start_place g) refl e)
+  alike_start _ g e a b = absurd a
 
 pub one_start_finding : OneStartFinding
-one_start_finding G info_bytes tree_bytes = alike_start G info_bytes tree_bytes
+one_start_finding G info_bytes tree_bytes f g a b =
+    alike_start G info_bytes tree_bytes f g
+    (one_place start_place (Ready G info_bytes tree_bytes) (Begins G info_bytes tree_bytes)
+    (ready_before G info_bytes tree_bytes) (not_ready G info_bytes tree_bytes) f g a b) a b
 
 pub one_started : OneStart
 one_started G info_bytes tree_bytes = same_start G info_bytes tree_bytes

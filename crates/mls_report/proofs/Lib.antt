@@ -4,6 +4,7 @@ pub mod Lines
 pub mod Outcomes
 pub mod Replaying
 pub mod Answered
+pub mod InOrder
 pub mod FindingsOnce
 pub mod ReplaysOnce
 pub mod StartsOnce

@@ -1,8 +1,8 @@
 //! How `validate` and `replay` begin: the group info and the tree are read, and a follower starts from
 //! them.
 
-ghost use Rattle.std.specs.Prelude.{◌≡◌, ◌≢◌, ◌↔◌, List, ℕ, Option, false, true, Err, IfOk, IfErr, option_map};
-ghost use Rattle.mls_report.specs.Starting.{IsInfo, IsHanded, IsHandedUnread, IsReadAs, ReadsHanded, has_failed};
+ghost use Rattle.std.specs.Prelude.{◌≡◌, ◌≢◌, ◌↔◌, ◌⊎◌, List, ℕ, Option, false, true, Err, IfOk, IfErr, option_map};
+ghost use Rattle.mls_report.specs.Starting.{IsInfo, IsHanded, IsHandedUnread, IsReadAs, ReadsBoth, ReadsHanded, has_failed};
 ghost use Rattle.mls_report.specs.StartingSteps.{Says, IsUnread};
 
 use crate::finding::Finding;
@@ -40,6 +40,41 @@ pub(crate) fn read_handed<T: Source>(
     match source {
         Some(source) => Ok(Some(read_all(alloc, source)?)),
         None => Ok(None),
+    }
+}
+
+/// The bytes of the inputs.
+#[derive(Drop)]
+pub(crate) struct InputBytes {
+    /// Those of the group info.
+    pub(crate) info: Vec<u8>,
+    /// Those of the tree, where one is handed in.
+    pub(crate) tree: Option<Vec<u8>>,
+}
+
+/// Reads the group info to its end, and then the tree, where one is handed in.
+pub(crate) fn read_both<I: Source, T: Source>(
+    alloc: Global,
+    info: &mut I,
+    tree: &mut Option<T>,
+) -> Result<InputBytes, RunFault>
+    requires info { I.is_failed info.old ≡ false }
+    requires tree { has_failed (option_map T.is_failed tree.old) ≡ false }
+    ensures both { IfOk result
+        (λ bytes. ReadsBoth (I.left info.old) (I.left info.new)
+        (option_map T.left tree.old) (option_map T.left tree.new)
+        bytes.info.items (option_map (λ v. v.items) bytes.tree)) }
+    ensures read { (result ≡ Err RunFault.Read)
+        ↔ ((I.is_failed info.new ≡ true) ⊎ (has_failed (option_map T.is_failed tree.new) ≡ true)) }
+    ensures fault { IfErr result (λ e. e ≢ RunFault.Write) }
+{
+    let info = read_all(alloc, info)?;
+    match read_handed(alloc, tree) {
+        Ok(tree) => Ok(InputBytes { info, tree }),
+        Err(fault) => {
+            drop(info);
+            Err(fault)
+        }
     }
 }
 

@@ -8,9 +8,8 @@ ghost use Rattle.mls_report.specs.Replay.{message_limit, one_if, IsVerdict, Tell
 ghost use Rattle.mls_report.specs.ReplaySteps.{ReadsUndecided, TellsTurn, StopsAt, FollowsLog, ReplaysStart, ReplaysStartPart};
 
 use crate::finding::tell;
-use crate::opening::{NoStart, read_handed, read_inputs, refused_start};
+use crate::opening::{NoStart, read_both, read_inputs, refused_start};
 use crate::outcome::{RunFault, Verdict};
-use crate::read::read_all;
 use crate::replay_text::{last_lines, turn_line};
 use crate::write::write_text;
 use mls_check::SignatureCheck;
@@ -197,12 +196,18 @@ fn replay_from<L: Source, K: Sink>(
     match Follower::start(alloc, info, tree, checker) {
         Ok(started) => {
             let mut follower = started;
-            tell_log(alloc, &mut follower, log, out)
+            let verdict = tell_log(alloc, &mut follower, log, out);
+            drop(follower);
+            verdict
         }
-        Err(refused) => match refused_start(refused.fault) {
-            Ok(finding) => tell(alloc, &finding, out),
-            Err(fault) => Err(fault),
-        },
+        Err(refused) => {
+            let fault = refused.fault;
+            drop(refused);
+            match refused_start(fault) {
+                Ok(finding) => tell(alloc, &finding, out),
+                Err(fault) => Err(fault),
+            }
+        }
     }
 }
 
@@ -246,9 +251,8 @@ pub fn run_replay<I: Source, T: Source, L: Source, K: Sink>(
         ⊎ (L.is_failed log.new ≡ true))) }
     ensures write { (result ≡ Err RunFault.Write) ↔ (K.is_failed out.new ≡ true) }
 {
-    let info_bytes = read_all(alloc, info)?;
-    let tree_bytes = read_handed(alloc, tree)?;
-    match read_inputs(alloc, info_bytes, tree_bytes) {
+    let bytes = read_both(alloc, info, tree)?;
+    match read_inputs(alloc, bytes.info, bytes.tree) {
         Ok(inputs) => replay_from(alloc, inputs.info, inputs.tree, log, checker, out),
         Err(NoStart::Found(finding)) => tell(alloc, &finding, out),
         Err(NoStart::Fault(fault)) => Err(fault),

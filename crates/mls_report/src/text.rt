@@ -1,6 +1,7 @@
 //! Bytes and numbers as they stand in a report.
 
-ghost use Rattle.std.specs.Prelude.{◌≡◌, IfOk, string_bytes};
+ghost use Rattle.std.specs.Prelude.{◌≡◌, ◌++◌, codes, IfOk, OnOk, string_bytes};
+ghost use Rattle.std.specs.Fmt.{decimal};
 ghost use Rattle.mls_report.specs.Texts.{hex_text, numbers_text};
 
 use std::alloc::{AllocError, Global};
@@ -16,6 +17,15 @@ pub(crate) fn hex_of(alloc: Global, bytes: &[u8]) -> Result<String, AllocError>
     }
 }
 
+/// Adds a number to those before it, behind a comma.
+fn add_number(alloc: Global, text: &mut String, number: u32) -> Result<(), AllocError>
+    ensures { OnOk result
+        (string_bytes text.new ≡ string_bytes text.old ++ (codes "," ++ decimal number)) }
+{
+    let item = format!(in alloc; ",{number}")?;
+    text.push_str(item.as_str())
+}
+
 /// Numbers in decimal, joined by commas, or `-` where there are none.
 pub(crate) fn numbers_of(alloc: Global, numbers: &[u32]) -> Result<String, AllocError>
     ensures { IfOk result (λ text. string_bytes text ≡ numbers_text numbers.now) }
@@ -25,8 +35,7 @@ pub(crate) fn numbers_of(alloc: Global, numbers: &[u32]) -> Result<String, Alloc
     };
     let mut text = format!(in alloc; "{first}")?;
     for number in others {
-        let item = format!(in alloc; ",{number}")?;
-        text.push_str(item.as_str())?;
+        add_number(alloc, &mut text, *number)?;
     }
     Ok(text)
 }

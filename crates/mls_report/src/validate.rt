@@ -7,9 +7,8 @@ ghost use Rattle.mls_report.specs.Starting.{IsReadAs, IsStartFinding, has_failed
 ghost use Rattle.mls_report.specs.Validate.{Validates, ValidatesPart};
 
 use crate::finding::{Finding, Started, tell, tree_hash_of};
-use crate::opening::{Inputs, NoStart, read_handed, read_inputs, refused_start};
+use crate::opening::{Inputs, NoStart, read_both, read_inputs, refused_start};
 use crate::outcome::{RunFault, Verdict};
-use crate::read::read_all;
 use mls_check::SignatureCheck;
 use mls_follow::Follower;
 use mls_wire::{Sink, Source};
@@ -40,8 +39,16 @@ fn judge_inputs(
     ensures memory { IfErr result (λ e. e ≡ RunFault.Memory) }
 {
     match Follower::start(alloc, inputs.info, inputs.tree, checker) {
-        Ok(follower) => Ok(Finding::Starts(started(&follower))),
-        Err(refused) => refused_start(refused.fault),
+        Ok(follower) => {
+            let started = started(&follower);
+            drop(follower);
+            Ok(Finding::Starts(started))
+        }
+        Err(refused) => {
+            let fault = refused.fault;
+            drop(refused);
+            refused_start(fault)
+        }
     }
 }
 
@@ -95,8 +102,7 @@ pub fn run_validate<I: Source, T: Source, K: Sink>(
         ↔ ((I.is_failed info.new ≡ true) ⊎ (has_failed (option_map T.is_failed tree.new) ≡ true)) }
     ensures write { (result ≡ Err RunFault.Write) ↔ (K.is_failed out.new ≡ true) }
 {
-    let info_bytes = read_all(alloc, info)?;
-    let tree_bytes = read_handed(alloc, tree)?;
-    let finding = judge_bytes(alloc, info_bytes, tree_bytes, checker)?;
+    let bytes = read_both(alloc, info, tree)?;
+    let finding = judge_bytes(alloc, bytes.info, bytes.tree, checker)?;
     tell(alloc, &finding, out)
 }

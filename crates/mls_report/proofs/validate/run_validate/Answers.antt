@@ -1,0 +1,31 @@
+use Rattle.std.proofs.Common.{inr}
+use Rattle.std.specs.Prelude.{option_map}
+use Rattle.std.proofs.lemmas.Result.{IfOk-weaker, on_err_weaker}
+use Rattle.mls_report.proofs.Outcomes.{read-nothing}
+use Rattle.mls_report.proofs.validate.run_validate.Goals as goal
+
+pub returns-clause-read : goal.returns-clause-read
+returns-clause-read g c = read-nothing c.tell.result c.tell.ensures.fault (λ failed. let read = c.in_ok-bytes.ensures.read.1 failed in absurd cc)
+
+pub returns-clause-validated : goal.returns-clause-validated
+returns-clause-validated g c =
+    IfOk-weaker c.tell.result _ _ (λ verdict told. record {
+      info_bytes = c.in_ok-bytes.bytes.info.items;
+      tree_bytes = option_map (λ v. v.items) c.in_ok-bytes.bytes.tree;
+      finding = c.in_ok-finding.finding;
+      read = c.in_ok-bytes.ensures.both;
+      found = c.in_ok-finding.ensures.found;
+      wrote = told.0;
+      verdict_is = told.1;
+    }) c.tell.ensures.told
+
+pub returns-clause-part : goal.returns-clause-part
+returns-clause-part g c =
+    on_err_weaker c.tell.result (λ told. inr (record {
+      info_bytes = c.in_ok-bytes.bytes.info.items;
+      tree_bytes = option_map (λ v. v.items) c.in_ok-bytes.bytes.tree;
+      finding = c.in_ok-finding.finding;
+      read = c.in_ok-bytes.ensures.both;
+      found = c.in_ok-finding.ensures.found;
+      wrote = told;
+    })) c.tell.ensures.part

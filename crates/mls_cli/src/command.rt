@@ -1,7 +1,7 @@
 //! The program's subcommands and their arguments.
 
 ghost use Rattle.std.specs.Prelude.{◌≡◌, IfOk, false, codes};
-ghost use Rattle.clap.specs.Words.{App, app_of, rule_of, with_rule, with_subcommand};
+ghost use Rattle.clap.specs.Words.{App, app_of, new_app, rule_of, with_rule, with_subcommand};
 ghost use Rattle.clap.specs.declared.builder.command.Command.TheViews.{out-Command as fields_of};
 ghost use Rattle.mls_cli.specs.Commands as specs;
 ghost use Rattle.mls_cli.specs.Commands.{word_rule, file_rule, needed_rule, flag_rule, show_app, validate_tree_app, validate_app, replay_app, check_app, bare_app, mlscheck_app};
@@ -86,6 +86,14 @@ fn flag<'a>(alloc: Global, name: &'a str, help: &'a str) -> Arg<'a>
         .help(help)
 }
 
+/// A command of this name, with what help says of it and below it.
+fn titled<'a>(alloc: Global, name: &'a str, about: &'a str, below: &'a str) -> Command<'a>
+    ensures app { app_of result ≡ new_app name.entry.now }
+    ensures own { (fields_of result).has_globals ≡ false }
+{
+    Command::new(alloc, name).about(about).after_help(below)
+}
+
 /// The command with one argument more, the last.
 fn with<'a>(command: Command<'a>, arg: Arg<'a>) -> Result<Command<'a>, AllocError>
     requires command_own { (fields_of command).has_globals ≡ false }
@@ -97,16 +105,29 @@ fn with<'a>(command: Command<'a>, arg: Arg<'a>) -> Result<Command<'a>, AllocErro
     command.arg(arg)
 }
 
+/// The command with the two words KIND and FILE.
+fn with_words<'a>(
+    alloc: Global,
+    command: Command<'a>,
+    kind_help: &'a str,
+) -> Result<Command<'a>, AllocError>
+    requires { (fields_of command).has_globals ≡ false }
+    ensures app { IfOk result
+        (λ r. app_of r ≡ with_rule (with_rule (app_of command.entry)
+        (word_rule (codes "KIND"))) (word_rule (codes "FILE"))) }
+    ensures own { IfOk result (λ r. (fields_of r).has_globals ≡ false) }
+{
+    let command = with(command, word(alloc, "KIND", kind_help))?;
+    with(command, word(alloc, "FILE", "The file's path"))
+}
+
 /// `show KIND FILE`.
 fn show_command<'a>(alloc: Global) -> Result<Command<'a>, AllocError>
     ensures app { IfOk result (λ c. app_of c ≡ show_app) }
     ensures own { IfOk result (λ c. (fields_of c).has_globals ≡ false) }
 {
-    Command::new(alloc, "show")
-        .about("Prints what a file holds")
-        .after_help(SHOW_HELP)
-        .arg(word(alloc, "KIND", "What the file holds: tree, info or message"))?
-        .arg(word(alloc, "FILE", "The file's path"))
+    let command = titled(alloc, "show", "Prints what a file holds", SHOW_HELP);
+    with_words(alloc, command, "What the file holds: tree, info or message")
 }
 
 /// The command with the two options of who judges signatures, in a group of help that says to give one.
@@ -116,8 +137,8 @@ fn with_checker<'a>(alloc: Global, command: Command<'a>) -> Result<Command<'a>, 
     ensures own { IfOk result (λ r. (fields_of r).has_globals ≡ false) }
 {
     let trust = flag(alloc, "trust", "Takes every signature as good");
-    let receipts = file(alloc, "receipts", "The path of the list of good signatures");
     let command = with(command, trust.help_heading(SIGNATURES))?;
+    let receipts = file(alloc, "receipts", "The path of the list of good signatures");
     with(command, receipts.help_heading(SIGNATURES))
 }
 
@@ -126,9 +147,8 @@ fn validate_tree_command<'a>(alloc: Global) -> Result<Command<'a>, AllocError>
     ensures app { IfOk result (λ c. app_of c ≡ validate_tree_app) }
     ensures own { IfOk result (λ c. (fields_of c).has_globals ≡ false) }
 {
-    let command = Command::new(alloc, "validate-tree")
-        .about("Checks a tree against a group context")
-        .after_help(VALIDATE_TREE_HELP);
+    let about = "Checks a tree against a group context";
+    let command = titled(alloc, "validate-tree", about, VALIDATE_TREE_HELP);
     let context = needed(alloc, "context", "The group context's path");
     let command = with(command, context)?;
     let tree = needed(alloc, "tree", "The ratchet tree's path");
@@ -159,9 +179,8 @@ fn validate_command<'a>(alloc: Global) -> Result<Command<'a>, AllocError>
     ensures app { IfOk result (λ c. app_of c ≡ validate_app) }
     ensures own { IfOk result (λ c. (fields_of c).has_globals ≡ false) }
 {
-    let command = Command::new(alloc, "validate")
-        .about("Checks a group as its info shows it")
-        .after_help(VALIDATE_HELP);
+    let about = "Checks a group as its info shows it";
+    let command = titled(alloc, "validate", about, VALIDATE_HELP);
     let command = with_start(alloc, command)?;
     with_checker(alloc, command)
 }
@@ -171,9 +190,8 @@ fn replay_command<'a>(alloc: Global) -> Result<Command<'a>, AllocError>
     ensures app { IfOk result (λ c. app_of c ≡ replay_app) }
     ensures own { IfOk result (λ c. (fields_of c).has_globals ≡ false) }
 {
-    let command = Command::new(alloc, "replay")
-        .about("Follows a group through a log of its handshakes")
-        .after_help(REPLAY_HELP);
+    let about = "Follows a group through a log of its handshakes";
+    let command = titled(alloc, "replay", about, REPLAY_HELP);
     let command = with_start(alloc, command)?;
     let log = needed(
         alloc,
@@ -189,16 +207,17 @@ fn check_command<'a>(alloc: Global) -> Result<Command<'a>, AllocError>
     ensures app { IfOk result (λ c. app_of c ≡ check_app) }
     ensures own { IfOk result (λ c. (fields_of c).has_globals ≡ false) }
 {
-    let kind = word(
+    let command = titled(
         alloc,
-        "KIND",
-        "What the vectors check: tree-math, tree-validation, tree-operations or transcript",
+        "check",
+        "Checks the test vectors of a file",
+        CHECK_HELP,
     );
-    Command::new(alloc, "check")
-        .about("Checks the test vectors of a file")
-        .after_help(CHECK_HELP)
-        .arg(kind)?
-        .arg(word(alloc, "FILE", "The file's path"))
+    with_words(
+        alloc,
+        command,
+        "What the vectors check: tree-math, tree-validation, tree-operations or transcript",
+    )
 }
 
 /// The command with one subcommand more, the last, if that could be made.

@@ -317,19 +317,39 @@ fn check_order(alloc: Global, matches: &ArgMatches<'_>) -> Result<Order, OrderFa
     Ok(Order::Check { kind, file })
 }
 
+/// The subcommand that was given: its name, and its own matches.
+fn subcommand<'m, 'a>(matches: &'m ArgMatches<'a>) -> Option<(&'a str, &'m ArgMatches<'a>)>
+    ensures { option_map (λ p. (p.0.now, rows_of (found_of p.1.now))) result
+        ≡ subcommand_rows_of matches.now }
+{
+    matches.subcommand()
+}
+
+/// The order of the subcommand of this name.
+fn named_order(alloc: Global, name: &str, matches: &ArgMatches<'_>) -> Result<Order, OrderFault>
+    ensures order { IfOk result (IsOrder (Some (name.now, rows_of (found_of matches.now)))) }
+    ensures refused { IfErr result
+        (Refuses (IsOrder (Some (name.now, rows_of (found_of matches.now))))) }
+    ensures own { IfErr result (λ e. IsHelp e → ⊥) }
+{
+    match name {
+        "show" => show_order(alloc, matches),
+        "validate-tree" => validate_tree_order(alloc, matches),
+        "validate" => validate_order(alloc, matches),
+        "replay" => replay_order(alloc, matches),
+        "check" => check_order(alloc, matches),
+        _ => Err(usage(alloc, "usage: no such command\n")),
+    }
+}
+
 /// The order that clap's matches give.
 fn read_order(alloc: Global, matches: &ArgMatches<'_>) -> Result<Order, OrderFault>
     ensures order { IfOk result (IsOrder (subcommand_rows_of matches.now)) }
     ensures refused { IfErr result (Refuses (IsOrder (subcommand_rows_of matches.now))) }
     ensures own { IfErr result (λ e. IsHelp e → ⊥) }
 {
-    match matches.subcommand() {
-        Some((name, inner)) if name == "show" => show_order(alloc, inner),
-        Some((name, inner)) if name == "validate-tree" => validate_tree_order(alloc, inner),
-        Some((name, inner)) if name == "validate" => validate_order(alloc, inner),
-        Some((name, inner)) if name == "replay" => replay_order(alloc, inner),
-        Some((name, inner)) if name == "check" => check_order(alloc, inner),
-        Some(_) => Err(usage(alloc, "usage: no such command\n")),
+    match subcommand(matches) {
+        Some((name, inner)) => named_order(alloc, name, inner),
         None => Err(usage(alloc, "usage: a command is missing\n")),
     }
 }
@@ -347,7 +367,15 @@ pub fn order_of(alloc: Global, words: &[String]) -> Result<Order, OrderFault>
 {
     let command = mlscheck_command(alloc)?;
     match command.try_get_matches_from(words) {
-        Ok(matches) => read_order(alloc, &matches),
-        Err(error) => Err(refusal(alloc, &error)),
+        Ok(matches) => {
+            let order = read_order(alloc, &matches);
+            drop(matches);
+            order
+        }
+        Err(error) => {
+            let fault = refusal(alloc, &error);
+            drop(error);
+            Err(fault)
+        }
     }
 }

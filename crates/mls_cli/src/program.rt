@@ -112,7 +112,15 @@ pub fn run_program<F: Files, K: Sink, N: Sink>(
         (map string_bytes words.now) }
 {
     match order_of(alloc, words) {
-        Ok(order) => run_order(alloc, &order, files, out, notes),
-        Err(fault) => run_fault(&fault, out, notes),
+        Ok(order) => {
+            let status = run_order(alloc, &order, files, out, notes);
+            drop(order);
+            status
+        }
+        Err(fault) => {
+            let status = run_fault(&fault, out, notes);
+            drop(fault);
+            status
+        }
     }
 }

@@ -28,24 +28,24 @@ returns-in-Ok-clause-order c =
     let words : List Text = map string_bytes c.args.words.now in
     let found = (c.in-Ok.ensures.matches (ap is_simple app_is ∙ app_is_simple)).1 ∙ ap (λ (a : App). subcommand_of a words) app_is in
     let passes = ap (λ (a : App). fault_of a words) (sym app_is) ∙ c.in-Ok.ensures.kinds (ap is_simple_and_free app_is ∙ app_is_free) in
-    IfOk-weaker c.read_order.result _ _ (λ o h. record { passes = passes; found = subst (λ f. IsOrder f o) found h }) c.read_order.ensures.order
+    IfOk-weaker c.read_order-order.result _ _ (λ o h. record { passes = passes; found = subst (λ f. IsOrder f o) found h }) c.read_order-order.ensures.order
 
 pub returns-in-Ok-clause-refused : goal.returns-in-Ok-clause-refused
 returns-in-Ok-clause-refused c =
     let app_is = c.in_ok-command.ensures.app in
     let words : List Text = map string_bytes c.args.words.now in
     let found = (c.in-Ok.ensures.matches (ap is_simple app_is ∙ app_is_simple)).1 ∙ ap (λ (a : App). subcommand_of a words) app_is in
-    IfErr-weaker c.read_order.result _ _ (λ e h not_memory o is_order. h not_memory o (subst (λ f. IsOrder f o) (sym found) is_order.found)) c.read_order.ensures.refused
+    IfErr-weaker c.read_order-order.result _ _ (λ e h not_memory o is_order. h not_memory o (subst (λ f. IsOrder f o) (sym found) is_order.found)) c.read_order-order.ensures.refused
 
 pub returns-in-Ok-clause-help : goal.returns-in-Ok-clause-help
-returns-in-Ok-clause-help c = IfErr-weaker c.read_order.result _ _ (λ e h help. absurd (h help)) c.read_order.ensures.own
+returns-in-Ok-clause-help c = IfErr-weaker c.read_order-order.result _ _ (λ e h help. absurd (h help)) c.read_order-order.ensures.own
 
 pub returns-in-Err-clause-refused : goal.returns-in-Err-clause-refused
 returns-in-Err-clause-refused c not_memory o is_order =
     let app_is = c.in_ok-command.ensures.app in
     let words : List Text = map string_bytes c.args.words.now in
     elim (c.in-Err.ensures.kinds (ap is_simple_and_free app_is ∙ app_is_free)) [
-      | inl memory ↦ not_memory (c.refusal.ensures.memory memory)
+      | inl memory ↦ not_memory (c.refusal-fault.ensures.memory memory)
       | inr among ↦ none_among _ _ among (ap (λ (a : App). fault_of a words) app_is ∙ is_order.passes)
     ]
 
@@ -54,7 +54,7 @@ returns-in-Err-clause-help c help =
     let app_is = c.in_ok-command.ensures.app in
     let words : List Text = map string_bytes c.args.words.now in
     let kinds = c.in-Err.ensures.kinds (ap is_simple_and_free app_is ∙ app_is_free) in
-    elim (c.refusal.ensures.help help) [
+    elim (c.refusal-fault.ensures.help help) [
       | inl is_help ↦ inl (elim kinds [
         | inl memory ↦ cc
         | inr among ↦ subst (λ (k : ErrorKind). IsAmong k (fault_of mlscheck_app words)) is_help (subst (λ (a : App). IsAmong (kind_of c.in-Err.error) (fault_of a words)) app_is among)
@@ -73,9 +73,9 @@ pub returns-in-Err-clause-usage : goal.returns-in-Err-clause-usage
 returns-in-Err-clause-usage c usage alone =
     let app_is = c.in_ok-command.ensures.app in
     let words : List Text = map string_bytes c.args.words.now in
-    let other = c.refusal.ensures.usage usage in
+    let other = c.refusal-fault.ensures.usage usage in
     elim (c.in-Err.ensures.kinds (ap is_simple_and_free app_is ∙ app_is_free)) [
-      | inl memory ↦ subst IsUsage (c.refusal.ensures.memory memory) usage
+      | inl memory ↦ subst IsUsage (c.refusal-fault.ensures.memory memory) usage
       | inr among ↦
           let here = subst (λ (a : App). IsAmong (kind_of c.in-Err.error) (fault_of a words)) app_is among in
           elim alone [
@@ -89,4 +89,4 @@ returns-in-Ok-clause-usage c =
     let app_is = c.in_ok-command.ensures.app in
     let words : List Text = map string_bytes c.args.words.now in
     let passes = ap (λ (a : App). fault_of a words) (sym app_is) ∙ c.in-Ok.ensures.kinds (ap is_simple_and_free app_is ∙ app_is_free) in
-    IfErr-weaker c.read_order.result _ _ (λ e own usage alone. elim alone [ inl only ↦ cc | inr only ↦ cc ]) c.read_order.ensures.own
+    IfErr-weaker c.read_order-order.result _ _ (λ e own usage alone. elim alone [ inl only ↦ cc | inr only ↦ cc ]) c.read_order-order.ensures.own

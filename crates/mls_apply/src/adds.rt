@@ -5,6 +5,7 @@ ghost use Rattle.mls_nodes.specs.Limits.{leaf_limit};
 ghost use Rattle.mls_tree.specs.Tree.{leaf_count, member_count};
 ghost use Rattle.mls_tree.specs.Blanks.{first_blank_leaf, AreSetBelow};
 ghost use Rattle.mls_tree.specs.Changes.{added_leaf, grown_for, enter_unmerged, is_overfilled_above};
+ghost use Rattle.mls_tree.specs.Journals.{before};
 ghost use Rattle.mls_apply.specs.Outcome.{after_adds, grown, new_members};
 ghost use Rattle.mls_apply.specs.Adding.{is_add, is_overfull_add, Adds};
 
@@ -14,7 +15,7 @@ use crate::outcome::Leaves;
 use crate::replace::put_copy;
 use mls_msgs::Proposal;
 use mls_nodes::LeafNode;
-use mls_tree::{PublicTree, TreeError};
+use mls_tree::{Journal, PublicTree, TreeError};
 use std::alloc::Global;
 
 /// The most members that a group has.
@@ -55,7 +56,11 @@ pub(crate) fn has_room(tree: &PublicTree, items: &[ListItem]) -> bool
 
 /// The leaf that a new member gets: the leftmost blank one, or else the first of the half by which the tree then
 /// grows. The leaves before `start` are set.
-fn leaf_for_member(tree: &mut PublicTree, start: u32) -> Result<u32, ApplyFault>
+fn leaf_for_member(
+    tree: &mut PublicTree,
+    journal: &mut Journal,
+    start: u32,
+) -> Result<u32, ApplyFault>
     requires set { AreSetBelow tree.old.tree start }
     requires room { member_count tree.old.tree < leaf_limit }
     ensures index { IfOk result (λ j. j ≡ added_leaf tree.old.tree) }
@@ -63,12 +68,13 @@ fn leaf_for_member(tree: &mut PublicTree, start: u32) -> Result<u32, ApplyFault>
     ensures tree { OnOk result
         (tree.new.tree ≡ grown_for (first_blank_leaf 0 tree.old.tree) tree.old.tree) }
     ensures memory { IfErr result (λ e. e ≡ ApplyFault.OutOfMemory) }
+    ensures before { before journal.new tree.new.tree ≡ before journal.old tree.old.tree }
 {
     if let Some(index) = tree.next_blank_leaf(start) {
         return Ok(index);
     }
     let index = tree.leaf_count();
-    match tree.extend() {
+    match journal.extend(tree) {
         Ok(()) => Ok(index),
         Err(TreeError::OutOfMemory) => Err(ApplyFault::OutOfMemory),
         Err(_) => unreachable!(),
@@ -77,7 +83,12 @@ fn leaf_for_member(tree: &mut PublicTree, start: u32) -> Result<u32, ApplyFault>
 
 /// Enters the number of a leaf into the lists of unmerged leaves above it. `TooManyLeaves` where one of them gets too
 /// long.
-fn enter_unmerged(alloc: Global, tree: &mut PublicTree, index: u32) -> Result<(), ApplyFault>
+fn enter_unmerged(
+    alloc: Global,
+    tree: &mut PublicTree,
+    journal: &mut Journal,
+    index: u32,
+) -> Result<(), ApplyFault>
     requires { index < leaf_count tree.old.tree }
     ensures entered { OnOk result (tree.new.tree ≡ enter_unmerged tree.old.tree index) }
     ensures fits { OnOk result (is_overfilled_above 0 tree.old.tree index ≡ false) }
@@ -85,8 +96,9 @@ fn enter_unmerged(alloc: Global, tree: &mut PublicTree, index: u32) -> Result<()
         → is_overfilled_above 0 tree.old.tree index ≡ true }
     ensures else_memory { IfErr result (λ e.
         (e ≡ ApplyFault.TooManyLeaves) ⊎ (e ≡ ApplyFault.OutOfMemory)) }
+    ensures before { before journal.new tree.new.tree ≡ before journal.old tree.old.tree }
 {
-    match tree.add_unmerged(alloc, index) {
+    match journal.add_unmerged(alloc, tree, index) {
         Ok(()) => Ok(()),
         Err(TreeError::TooManyLeaves) => Err(ApplyFault::TooManyLeaves),
         Err(TreeError::OutOfMemory) => Err(ApplyFault::OutOfMemory),
@@ -98,6 +110,7 @@ fn enter_unmerged(alloc: Global, tree: &mut PublicTree, index: u32) -> Result<()
 fn add_member(
     alloc: Global,
     tree: &mut PublicTree,
+    journal: &mut Journal,
     start: u32,
     leaf: &LeafNode,
 ) -> Result<u32, ApplyFault>
@@ -108,10 +121,11 @@ fn add_member(
         → is_overfull_add tree.old.tree ≡ true }
     ensures else_memory { IfErr result (λ e.
         (e ≡ ApplyFault.TooManyLeaves) ⊎ (e ≡ ApplyFault.OutOfMemory)) }
+    ensures before { before journal.new tree.new.tree ≡ before journal.old tree.old.tree }
 {
-    let index = leaf_for_member(tree, start)?;
-    enter_unmerged(alloc, tree, index)?;
-    put_copy(alloc, tree, index, leaf)?;
+    let index = leaf_for_member(tree, journal, start)?;
+    enter_unmerged(alloc, tree, journal, index)?;
+    put_copy(alloc, tree, journal, index, leaf)?;
     Ok(index)
 }
 
@@ -120,6 +134,7 @@ fn add_member(
 pub(crate) fn apply_adds(
     alloc: Global,
     tree: &mut PublicTree,
+    journal: &mut Journal,
     items: &[ListItem],
 ) -> Result<Leaves, ApplyFault>
     requires { member_count tree.old.tree + length (new_members items.now) ≤ leaf_limit }
@@ -129,12 +144,13 @@ pub(crate) fn apply_adds(
         → after_adds (new_members items.now) tree.old.tree ≡ None }
     ensures else_memory { IfErr result (λ e.
         (e ≡ ApplyFault.TooManyLeaves) ⊎ (e ≡ ApplyFault.OutOfMemory)) }
+    ensures before { before journal.new tree.new.tree ≡ before journal.old tree.old.tree }
 {
     let mut added = Vec::new(alloc);
     let mut start = 0;
     for item in items {
         if let Proposal::Add(key_package) = &item.proposal {
-            let index = add_member(alloc, tree, start, &key_package.leaf_node)?;
+            let index = add_member(alloc, tree, journal, start, &key_package.leaf_node)?;
             added.push(index)?;
             start = index + 1;
         }

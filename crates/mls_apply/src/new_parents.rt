@@ -2,8 +2,9 @@
 //! (RFC 9420, 7.5 and 7.9). A parent hash takes the tree hash of one half: it is read where the hashes of the tree's
 //! subtrees are kept, and else each half is hashed once.
 
-ghost use Rattle.std.specs.Prelude.{◌≡◌, ◌<◌, Some, All, IfOk, IfSome, IsSome, [], length, map, reverse};
+ghost use Rattle.std.specs.Prelude.{◌≡◌, ◌<◌, Some, All, IfOk, IfSome, IsSome, OnOk, [], length, map, reverse};
 ghost use Rattle.mls_tree.specs.Changes.{clear_path, put_leaf};
+ghost use Rattle.mls_tree.specs.Journals.{before};
 ghost use Rattle.mls_tree.specs.Tree.{leaf_count, subtree_at, IsParentPlace};
 ghost use Rattle.mls_hash.specs.Hashing.{hash_of};
 ghost use Rattle.mls_hash.specs.Strip.{tree_hash_at};
@@ -15,7 +16,7 @@ ghost use Rattle.mls_apply.specs.Seen.{change_of, route_of};
 use crate::replace::blank_above;
 use mls_hash::{HashFault, SubtreeHashes, Suite, parent_hash_of, tree_hash};
 use mls_nodes::{LeafNode, ParentNode, Unmerged};
-use mls_tree::{HashValue, Part, PublicTree};
+use mls_tree::{HashValue, Journal, Part, PublicTree};
 use mls_wire::{CodecFault, Opaque};
 use std::alloc::{AllocError, Global};
 
@@ -193,4 +194,43 @@ pub(crate) fn put_path(
     let Ok(()) = tree.set_leaf(leaf, Some(node)) else {
         unreachable!();
     };
+}
+
+/// Puts new parents in place, the last one first, by a journal.
+fn put_parents_in_place(
+    tree: &mut PublicTree,
+    journal: &mut Journal,
+    mut parents: Vec<NewParent>,
+) -> Result<(), AllocError>
+    requires { All (λ p. IsParentPlace tree.old.tree p.place) parents.items }
+    ensures put { OnOk result
+        (tree.new.tree ≡ changed 0 tree.old.tree (map change_of parents.items)) }
+    ensures before { before journal.new tree.new.tree ≡ before journal.old tree.old.tree }
+{
+    while let Some(parent) = parents.pop() {
+        journal.put_parent(tree, parent.place, Some(parent.node))?;
+    }
+    Ok(())
+}
+
+/// Merges new nodes into a tree as [`put_path`] does, by a journal.
+pub(crate) fn put_path_in_place(
+    alloc: Global,
+    tree: &mut PublicTree,
+    journal: &mut Journal,
+    leaf: u32,
+    node: Box<LeafNode>,
+    parents: Vec<NewParent>,
+) -> Result<(), AllocError>
+    requires inside { leaf < leaf_count tree.old.tree }
+    requires parents { All (λ p. IsParentPlace tree.old.tree p.place) parents.items }
+    ensures put { OnOk result (tree.new.tree ≡
+        put_leaf 0 (changed 0 (clear_path tree.old.tree leaf) (map change_of parents.items))
+        leaf (Some node.value)) }
+    ensures before { before journal.new tree.new.tree ≡ before journal.old tree.old.tree }
+{
+    journal.blank_path(alloc, tree, leaf)?;
+    put_parents_in_place(tree, journal, parents)?;
+    journal.set_leaf(tree, leaf, Some(node))?;
+    Ok(())
 }

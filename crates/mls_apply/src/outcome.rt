@@ -3,6 +3,7 @@
 ghost use Rattle.std.specs.Prelude.{◌≡◌, ◌+◌, ◌<◌, ◌⊎◌, Err, Some, None, IfOk, IfErr, IsSome, false, length};
 ghost use Rattle.mls_nodes.specs.Limits.{leaf_limit};
 ghost use Rattle.mls_tree.specs.Tree.{member_count};
+ghost use Rattle.mls_tree.specs.Journals.{before};
 ghost use Rattle.mls_apply.specs.ListRules.{has_concerned_leaf};
 ghost use Rattle.mls_apply.specs.Outcome.{outcome, without_adds, new_members, grown};
 
@@ -12,7 +13,7 @@ use crate::item::ListItem;
 use crate::list::has_concerned_leaf;
 use crate::removes::apply_removes;
 use crate::updates::apply_updates;
-use mls_tree::{PublicTree, TreeError};
+use mls_tree::{Journal, PublicTree, TreeError};
 use mls_wire::Sequence;
 use std::alloc::Global;
 
@@ -28,8 +29,14 @@ pub struct Applied {
     pub added: Leaves,
 }
 
-/// Applies a list of proposals to a tree: its Updates, then its Removes, then its Adds.
-fn apply_all(alloc: Global, tree: &mut PublicTree, items: &[ListItem]) -> Result<Leaves, ApplyFault>
+/// Applies a list of proposals to a tree in place, as [`apply_list`] does to a copy, and says which leaves were added.
+/// What is changed is kept in the journal. After any fault a part of the list may have been applied.
+pub fn apply_list_in_place(
+    alloc: Global,
+    tree: &mut PublicTree,
+    journal: &mut Journal,
+    items: &[ListItem],
+) -> Result<Leaves, ApplyFault>
     ensures applied { IfOk result (λ added.
         outcome items.now tree.old.tree ≡ Some (grown tree.new.tree added)) }
     ensures no_such_leaf { result ≡ Err ApplyFault.NoSuchLeaf
@@ -39,13 +46,14 @@ fn apply_all(alloc: Global, tree: &mut PublicTree, items: &[ListItem]) -> Result
     ensures else_memory { IfErr result (λ e.
         (e ≡ ApplyFault.NoSuchLeaf) ⊎ (e ≡ ApplyFault.TooManyLeaves)
         ⊎ (e ≡ ApplyFault.OutOfMemory)) }
+    ensures before { before journal.new tree.new.tree ≡ before journal.old tree.old.tree }
 {
-    apply_updates(alloc, tree, items)?;
-    apply_removes(tree, items)?;
+    apply_updates(alloc, tree, journal, items)?;
+    apply_removes(alloc, tree, journal, items)?;
     if !has_room(tree, items) {
         return Err(ApplyFault::TooManyLeaves);
     }
-    apply_adds(alloc, tree, items)
+    apply_adds(alloc, tree, journal, items)
 }
 
 /// A second tree, equal to this one.
@@ -87,7 +95,8 @@ pub fn apply_list(
         return Err(ApplyFault::TooManyLeaves);
     }
     let mut after = copy_of(alloc, tree)?;
-    match apply_all(alloc, &mut after, items) {
+    let mut journal = Journal::new(alloc);
+    match apply_list_in_place(alloc, &mut after, &mut journal, items) {
         Ok(added) => Ok(Applied { tree: after, added }),
         Err(fault) => Err(fault),
     }

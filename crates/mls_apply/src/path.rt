@@ -6,6 +6,7 @@ ghost use Rattle.mls_hash.specs.Hashing.{hash_of};
 ghost use Rattle.mls_hash.specs.SubtreeHashes.{AreAllHashes};
 ghost use Rattle.mls_tree.specs.Tree.{leaf_at, leaf_count, IsParentPlace};
 ghost use Rattle.mls_tree.specs.Paths.{filtered_direct_path};
+ghost use Rattle.mls_tree.specs.Journals.{before};
 ghost use Rattle.mls_apply.specs.Merge.{expected_hashes, merged};
 ghost use Rattle.mls_apply.specs.Outcome.{grown};
 ghost use Rattle.mls_apply.specs.PathRules.{carries_first, keys_refusal, node_keys, path_refusal};
@@ -14,14 +15,16 @@ ghost use Rattle.mls_apply.specs.Route.{carried, path_route};
 ghost use Rattle.mls_apply.specs.Seen.{change_of, hash_refusal, route_of};
 
 use crate::fault::ApplyFault;
-use crate::new_parents::{NewParent, NewParents, new_parents, opaque_of, put_path};
-use crate::outcome::Applied;
+use crate::new_parents::{
+    NewParent, NewParents, new_parents, opaque_of, put_path, put_path_in_place,
+};
+use crate::outcome::{Applied, Leaves};
 use crate::path_rules::{has_new_keys, have_counts};
 use crate::replace::leaf_of;
 use mls_hash::{SubtreeHashes, Suite};
 use mls_msgs::{PathNode, UpdatePath};
 use mls_nodes::{LeafNode, LeafSource, ParentNode};
-use mls_tree::{HashValue, PublicTree, TreeError};
+use mls_tree::{HashValue, Journal, PublicTree, TreeError};
 use mls_wire::{CodecFault, Opaque, TryClone};
 use std::alloc::{AllocError, Global};
 
@@ -141,24 +144,24 @@ fn carries(source: &LeafSource, hash: &HashValue) -> bool
 /// The places of the nodes of a path, where it keeps the rules for paths but for the last one, on the parent hash.
 fn checked_places(
     alloc: Global,
-    applied: &Applied,
+    tree: &PublicTree,
+    added: &Leaves,
     committer: u32,
     path: &UpdatePath,
 ) -> Result<Vec<u32>, ApplyFault>
-    ensures places { IfOk result (λ places. let t = applied.now.tree.tree in
+    ensures places { IfOk result (λ places. let t = tree.now.tree in
         places.items ≡ filtered_direct_path (leaf_count t) 0 t committer) }
     ensures paired { IfOk result (λ places. length path.now.nodes ≡ length places.items) }
-    ensures inside { OnOk result (committer < leaf_count applied.now.tree.tree) }
+    ensures inside { OnOk result (committer < leaf_count tree.now.tree) }
     ensures kept { OnOk result ((H : List ℕ → List ℕ)
-        → path_refusal H (grown applied.now.tree.tree applied.now.added) committer path.now
-        ≡ hash_refusal H path.now applied.now.tree.tree committer) }
+        → path_refusal H (grown tree.now.tree added.now) committer path.now
+        ≡ hash_refusal H path.now tree.now.tree committer) }
     ensures refused { IfErr result (λ e. e ≢ ApplyFault.OutOfMemory → (H : List ℕ → List ℕ)
-        → path_refusal H (grown applied.now.tree.tree applied.now.added) committer path.now
+        → path_refusal H (grown tree.now.tree added.now) committer path.now
         ≡ Some e) }
     ensures not_set { (result ≡ Err ApplyFault.NoSuchLeaf)
-        ↔ (leaf_at 0 applied.now.tree.tree committer ≡ None) }
+        ↔ (leaf_at 0 tree.now.tree committer ≡ None) }
 {
-    let tree = &applied.tree;
     let nodes = path.nodes.as_slice();
     let places = path_places(alloc, tree, committer)?;
     if nodes.len() != places.len() {
@@ -170,7 +173,7 @@ fn checked_places(
     if !has_new_keys(alloc, path, tree)? {
         return Err(ApplyFault::PathKeyUsed);
     }
-    let added = applied.added.as_slice();
+    let added = added.as_slice();
     if !have_counts(alloc, tree, committer, added, &places, nodes)? {
         return Err(ApplyFault::CiphertextCount);
     }
@@ -188,31 +191,32 @@ struct NewNodes {
 fn new_nodes(
     alloc: Global,
     suite: Suite,
-    applied: &Applied,
+    tree: &PublicTree,
+    added: &Leaves,
     kept: Option<&SubtreeHashes>,
     committer: u32,
     path: &UpdatePath,
 ) -> Result<NewNodes, ApplyFault>
-    requires { IfSome kept (λ h. AreAllHashes (hash_of suite) applied.now.tree.tree h.now) }
+    requires { IfSome kept (λ h. AreAllHashes (hash_of suite) tree.now.tree h.now) }
     ensures leaf { IfOk result (λ new. new.leaf.value ≡ path.now.leaf_node) }
     ensures route { IfOk result (λ new.
         let keys = node_keys path.now in
-        let made = path_route (hash_of suite) applied.now.tree.tree committer keys in
+        let made = path_route (hash_of suite) tree.now.tree committer keys in
         option_map (λ r. r.changes) made ≡ Some (map change_of new.parents.items)) }
-    ensures inside { OnOk result (committer < leaf_count applied.now.tree.tree) }
+    ensures inside { OnOk result (committer < leaf_count tree.now.tree) }
     ensures parents { IfOk result (λ new.
-        All (λ p. IsParentPlace applied.now.tree.tree p.place) new.parents.items) }
-    ensures kept { let g = grown applied.now.tree.tree applied.now.added in
+        All (λ p. IsParentPlace tree.now.tree p.place) new.parents.items) }
+    ensures kept { let g = grown tree.now.tree added.now in
         OnOk result (path_refusal (hash_of suite) g committer path.now ≡ None) }
-    ensures refused { let g = grown applied.now.tree.tree applied.now.added in
+    ensures refused { let g = grown tree.now.tree added.now in
         IfErr result (λ e. e ≢ ApplyFault.OutOfMemory
         → path_refusal (hash_of suite) g committer path.now ≡ Some e) }
     ensures not_set { (result ≡ Err ApplyFault.NoSuchLeaf)
-        ↔ (leaf_at 0 applied.now.tree.tree committer ≡ None) }
+        ↔ (leaf_at 0 tree.now.tree committer ≡ None) }
 {
-    let places = checked_places(alloc, applied, committer, path)?;
+    let places = checked_places(alloc, tree, added, committer, path)?;
     let keys = node_keys(alloc, path.nodes.as_slice())?;
-    let new = new_parents(alloc, suite, &applied.tree, kept, committer, &places, keys)?;
+    let new = new_parents(alloc, suite, tree, kept, committer, &places, keys)?;
     if !carries(&path.leaf_node.source, &new.hash) {
         return Err(ApplyFault::PathParentHash);
     }
@@ -274,7 +278,15 @@ pub fn merge_path_by(
         ↔ (path_refusal (hash_of suite) g committer path.now ≡ Some ApplyFault.NoSuchLeaf) }
     ensures handed_back { IfErr result (λ e. e.1 ≡ applied) }
 {
-    match new_nodes(alloc, suite, &applied, kept, committer, path) {
+    match new_nodes(
+        alloc,
+        suite,
+        &applied.tree,
+        &applied.added,
+        kept,
+        committer,
+        path,
+    ) {
         Ok(new) => {
             let mut tree = applied.tree;
             put_path(&mut tree, committer, new.leaf, new.parents);
@@ -282,4 +294,34 @@ pub fn merge_path_by(
         }
         Err(fault) => Err((fault, applied)),
     }
+}
+
+/// Merges an update path of the committer into a tree in place, as [`merge_path_by`] does. What is changed is kept in
+/// the journal. The leaves that the commit's list added are handed in beside the tree. After want of memory a part of
+/// the path may have been merged; any other fault leaves the tree.
+pub fn merge_path_in_place(
+    alloc: Global,
+    suite: Suite,
+    tree: &mut PublicTree,
+    journal: &mut Journal,
+    added: &Leaves,
+    kept: Option<&SubtreeHashes>,
+    committer: u32,
+    path: &UpdatePath,
+) -> Result<(), ApplyFault>
+    requires { IfSome kept (λ h. AreAllHashes (hash_of suite) tree.old.tree h.now) }
+    ensures merged { let keys = node_keys path.now in
+        OnOk result (merged (hash_of suite) tree.old.tree committer path.now.leaf_node keys
+        ≡ Some tree.new.tree) }
+    ensures kept { let g = grown tree.old.tree added.now in
+        OnOk result (path_refusal (hash_of suite) g committer path.now ≡ None) }
+    ensures refused { let g = grown tree.old.tree added.now in
+        IfErr result (λ e. e ≢ ApplyFault.OutOfMemory
+        → path_refusal (hash_of suite) g committer path.now ≡ Some e) }
+    ensures stays { IfErr result (λ e. e ≢ ApplyFault.OutOfMemory → tree.new ≡ tree.old) }
+    ensures before { before journal.new tree.new.tree ≡ before journal.old tree.old.tree }
+{
+    let new = new_nodes(alloc, suite, tree, added, kept, committer, path)?;
+    put_path_in_place(alloc, tree, journal, committer, new.leaf, new.parents)?;
+    Ok(())
 }

@@ -3,10 +3,11 @@
 ghost use Rattle.std.specs.Prelude.{◌≡◌, ◌<◌, Some, None, IfOk, IfErr, OnOk};
 ghost use Rattle.mls_tree.specs.Tree.{leaf_count};
 ghost use Rattle.mls_tree.specs.Changes.{put_leaf, clear_path};
+ghost use Rattle.mls_tree.specs.Journals.{before};
 
 use crate::fault::ApplyFault;
 use mls_nodes::LeafNode;
-use mls_tree::PublicTree;
+use mls_tree::{Journal, PublicTree};
 use mls_wire::{CodecFault, TryClone};
 use std::alloc::{AllocError, Global};
 
@@ -25,17 +26,17 @@ pub(crate) fn leaf_of(alloc: Global, leaf: &LeafNode) -> Result<Box<LeafNode>, A
 pub(crate) fn put_copy(
     alloc: Global,
     tree: &mut PublicTree,
+    journal: &mut Journal,
     index: u32,
     leaf: &LeafNode,
 ) -> Result<(), ApplyFault>
     requires { index < leaf_count tree.old.tree }
     ensures put { OnOk result (tree.new.tree ≡ put_leaf 0 tree.old.tree index (Some leaf.now)) }
     ensures memory { IfErr result (λ e. e ≡ ApplyFault.OutOfMemory) }
+    ensures before { before journal.new tree.new.tree ≡ before journal.old tree.old.tree }
 {
     let copy = leaf_of(alloc, leaf)?;
-    let Ok(()) = tree.set_leaf(index, Some(copy)) else {
-        unreachable!();
-    };
+    journal.set_leaf(tree, index, Some(copy))?;
     Ok(())
 }
 

@@ -1,24 +1,31 @@
 //! The Updates of a commit's list (RFC 9420, 12.1.2).
 
 ghost use Rattle.std.specs.Prelude.{◌≡◌, ◌⊎◌, Some, None, Err, IfErr, OnOk};
+ghost use Rattle.mls_tree.specs.Journals.{before};
 ghost use Rattle.mls_apply.specs.Outcome.{after_update, after_updates};
 
 use crate::fault::ApplyFault;
 use crate::item::ListItem;
-use crate::replace::{blank_above, put_copy};
+use crate::replace::put_copy;
 use mls_msgs::Proposal;
-use mls_tree::PublicTree;
+use mls_tree::{Journal, PublicTree};
 use std::alloc::Global;
 
 /// Applies an item if it is an Update: its sender's leaf is replaced, and the parents above it become blank.
 #[tactic(auto, using(crate::proofs::Leaves::leaf_inside))]
-fn apply_update(alloc: Global, tree: &mut PublicTree, item: &ListItem) -> Result<(), ApplyFault>
+fn apply_update(
+    alloc: Global,
+    tree: &mut PublicTree,
+    journal: &mut Journal,
+    item: &ListItem,
+) -> Result<(), ApplyFault>
     ensures updated { OnOk result
         (after_update item.now.sender item.now.proposal tree.old.tree ≡ Some tree.new.tree) }
     ensures no_such_leaf { result ≡ Err ApplyFault.NoSuchLeaf
         → after_update item.now.sender item.now.proposal tree.old.tree ≡ None }
     ensures else_memory { IfErr result (λ e.
         (e ≡ ApplyFault.NoSuchLeaf) ⊎ (e ≡ ApplyFault.OutOfMemory)) }
+    ensures before { before journal.new tree.new.tree ≡ before journal.old tree.old.tree }
 {
     let Proposal::Update(leaf) = &item.proposal else {
         return Ok(());
@@ -26,8 +33,8 @@ fn apply_update(alloc: Global, tree: &mut PublicTree, item: &ListItem) -> Result
     if tree.leaf(item.sender).is_none() {
         return Err(ApplyFault::NoSuchLeaf);
     }
-    put_copy(alloc, tree, item.sender, leaf)?;
-    blank_above(tree, item.sender);
+    put_copy(alloc, tree, journal, item.sender, leaf)?;
+    journal.blank_path(alloc, tree, item.sender)?;
     Ok(())
 }
 
@@ -35,6 +42,7 @@ fn apply_update(alloc: Global, tree: &mut PublicTree, item: &ListItem) -> Result
 pub(crate) fn apply_updates(
     alloc: Global,
     tree: &mut PublicTree,
+    journal: &mut Journal,
     items: &[ListItem],
 ) -> Result<(), ApplyFault>
     ensures updated { OnOk result (after_updates items.now tree.old.tree ≡ Some tree.new.tree) }
@@ -42,9 +50,10 @@ pub(crate) fn apply_updates(
         → after_updates items.now tree.old.tree ≡ None }
     ensures else_memory { IfErr result (λ e.
         (e ≡ ApplyFault.NoSuchLeaf) ⊎ (e ≡ ApplyFault.OutOfMemory)) }
+    ensures before { before journal.new tree.new.tree ≡ before journal.old tree.old.tree }
 {
     for item in items {
-        apply_update(alloc, tree, item)?;
+        apply_update(alloc, tree, journal, item)?;
     }
     Ok(())
 }

@@ -1,5 +1,6 @@
 use Rattle.std.proofs.Common.{◌≡◌, Some, Err, ◌∙◌, ◌+◌, drop, ap, sym, subst}
 use Rattle.std.proofs.lemmas.Result.{err_from_is_err_and}
+use Rattle.mls_tree.specs.Journals.{before}
 use Rattle.mls_apply.specs.Outcome.{grown, after_adds, new_members}
 use Rattle.mls_apply.specs.declared.fault.ApplyFault.TheVariants.{TooManyLeaves}
 use Rattle.mls_apply.proofs.Updating.{next_item}
@@ -14,7 +15,7 @@ add_member-requires-clause-room c =
     let x = c.item-item.result in
     let t = c.loop-item.tree.tree in
     let whole = after_adds (new_members items) c.args.tree.now.tree in
-    let here = subst (λ xs. Adding whole xs t c.loop-item.added.items c.loop-item.start) (next_item items i x c.loop-item-test.true c.item-item.is) c.loop-item.invariant in
+    let here = subst (λ xs. Adding whole xs t c.loop-item.added.items c.loop-item.start) (next_item items i x c.loop-item-test.true c.item-item.is) c.loop-item.invariant.adding in
     adding-room whole x (drop (i + 1) items) t c.loop-item.added.items c.loop-item.start here c.in-Add.key_package c.in-Add.is
 
 pub returns-in_err-index-clause-too_many_leaves : goal.returns-in_err-index-clause-too_many_leaves
@@ -24,7 +25,7 @@ returns-in_err-index-clause-too_many_leaves c =
     let x = c.item-item.result in
     let t = c.loop-item.tree.tree in
     let whole = after_adds (new_members items) c.args.tree.now.tree in
-    let here = subst (λ xs. Adding whole xs t c.loop-item.added.items c.loop-item.start) (next_item items i x c.loop-item-test.true c.item-item.is) c.loop-item.invariant in
+    let here = subst (λ xs. Adding whole xs t c.loop-item.added.items c.loop-item.start) (next_item items i x c.loop-item-test.true c.item-item.is) c.loop-item.invariant.adding in
     let p = err_from_is_err_and c.from_residual.result c.from_residual.ensures.1 in
     λ told.
     let joined = sym p.1 ∙ told in
@@ -40,18 +41,26 @@ loop-item-preserved c =
     let t = c.loop-item.tree.tree in
     let rest = drop (i + 1) items in
     let whole = after_adds (new_members items) c.args.tree.now.tree in
-    let here = subst (λ xs. Adding whole xs t c.loop-item.added.items c.loop-item.start) (next_item items i x c.loop-item-test.true c.item-item.is) c.loop-item.invariant in
+    let here = subst (λ xs. Adding whole xs t c.loop-item.added.items c.loop-item.start) (next_item items i x c.loop-item-test.true c.item-item.is) c.loop-item.invariant.adding in
     elim c.match-item.branch [
       | in-Add+in_ok-index+in_ok-push w ↦
-          rw (w.tree-is, w.added-is, w.start-is, w.in_ok-push.ensures.items)
-          (adding-member whole x rest t c.loop-item.added.items c.loop-item.start here w.in-Add.key_package w.in-Add.is w.in_ok-index.index w.add_member.new.tree.tree w.in_ok-index.ensures.added)
+          record {
+            adding =
+                rw (w.tree-is, w.added-is, w.start-is, w.in_ok-push.ensures.items)
+                (adding-member whole x rest t c.loop-item.added.items c.loop-item.start here w.in-Add.key_package w.in-Add.is w.in_ok-index.index w.add_member.new.tree.tree w.in_ok-index.ensures.added);
+            same_before = (λ k. before (w.journal-is k) (w.tree-is k).tree) ∙ w.add_member.ensures.before ∙ c.loop-item.invariant.same_before;
+          }
       | in_default w ↦
-          rw (w.tree-is, w.added-is, w.start-is)
-          (adding-other whole x rest t c.loop-item.added.items c.loop-item.start here w.in_default.not-Add)
+          record {
+            adding =
+                rw (w.tree-is, w.added-is, w.start-is)
+                (adding-other whole x rest t c.loop-item.added.items c.loop-item.start here w.in_default.not-Add);
+            same_before = (λ k. before (w.journal-is k) (w.tree-is k).tree) ∙ c.loop-item.invariant.same_before;
+          }
     ]
 
 pub returns-clause-added : goal.returns-clause-added
 returns-clause-added c =
     adding-all (after_adds (new_members c.args.items.now) c.args.tree.now.tree) c.args.items.now c.loop-item.item-index c.loop-item.tree.tree
-    c.loop-item.added.items c.loop-item.start c.loop-item-test.false c.loop-item.invariant
+    c.loop-item.added.items c.loop-item.start c.loop-item-test.false c.loop-item.invariant.adding
     ∙ ap (λ js. Some (grown c.loop-item.tree.tree js)) (sym c.new.ensures)

@@ -12,7 +12,7 @@ returns-in_err-places-clause-refused c =
     let p = err_from_is_err_and c.from_residual.result c.from_residual.ensures.1 in
     rw (p.1, p.2) (λ not_memory H.
     elim c.in_err-places.ensures.else_memory [
-      | inl e ↦ path-no_leaf (grown c.args.applied.now.tree.tree c.args.applied.now.added) c.args.committer c.args.path.now H (c.in_err-places.ensures.not_set.0 (ap Err e)) ∙ ap Some (sym e)
+      | inl e ↦ path-no_leaf (grown c.args.tree.now.tree c.args.added.now) c.args.committer c.args.path.now H (c.in_err-places.ensures.not_set.0 (ap Err e)) ∙ ap Some (sym e)
       | inr e ↦ absurd (not_memory e)
     ])
 
@@ -21,45 +21,45 @@ returns-then-nodes-len-clause-refused c _ H =
     let nodes = ap length c.as_slice-nodes.ensures in
     let places = ap length c.in_ok-places.ensures.places in
     let kept = c.in_ok-places.places.ok in
-    let other : length c.args.path.now.nodes ≢ path_length c.args.applied.now.tree.tree c.args.committer = λ e. c.if-nodes-len.true (omega arith) in
-    path-other_length (grown c.args.applied.now.tree.tree c.args.applied.now.added) c.args.committer c.args.path.now H c.in_ok-places.ensures.set other
+    let other : length c.args.path.now.nodes ≢ path_length c.args.tree.now.tree c.args.committer = λ e. c.if-nodes-len.true (omega arith) in
+    path-other_length (grown c.args.tree.now.tree c.args.added.now) c.args.committer c.args.path.now H c.in_ok-places.ensures.set other
 
 pub returns-then-not-is_from_commit-clause-refused : goal.returns-then-not-is_from_commit-clause-refused
 returns-then-not-is_from_commit-clause-refused c _ H =
-    let long = path-long c.args.applied.now.tree.tree c.args.committer c.len.result c.as_slice-nodes.result.now c.args.path.now.nodes c.in_ok-places.places.items
+    let long = path-long c.args.tree.now.tree c.args.committer c.len.result c.as_slice-nodes.result.now c.args.path.now.nodes c.in_ok-places.places.items
     c.as_slice-nodes.ensures c.in_ok-places.ensures.places (omega (arith, c.in_ok-places.places.ok)) c.if-nodes-len.false in
-    path-no_commit (grown c.args.applied.now.tree.tree c.args.applied.now.added) c.args.committer c.args.path.now H c.in_ok-places.ensures.set long (sym c.is_from_commit.ensures ∙ c.if-not-is_from_commit.true)
+    path-no_commit (grown c.args.tree.now.tree c.args.added.now) c.args.committer c.args.path.now H c.in_ok-places.ensures.set long (sym c.is_from_commit.ensures ∙ c.if-not-is_from_commit.true)
 
 pub returns-then-not-branch-clause-refused : goal.returns-then-not-branch-clause-refused
 returns-then-not-branch-clause-refused c _ H =
-    let long = path-long c.args.applied.now.tree.tree c.args.committer c.len.result c.as_slice-nodes.result.now c.args.path.now.nodes c.in_ok-places.places.items
+    let long = path-long c.args.tree.now.tree c.args.committer c.len.result c.as_slice-nodes.result.now c.args.path.now.nodes c.in_ok-places.places.items
     c.as_slice-nodes.ensures c.in_ok-places.ensures.places (omega (arith, c.in_ok-places.places.ok)) c.if-nodes-len.false in
     let commit = sym c.is_from_commit.ensures ∙ c.if-not-is_from_commit.false in
-    path-old_key (grown c.args.applied.now.tree.tree c.args.applied.now.added) c.args.committer c.args.path.now H c.in_ok-places.ensures.set long commit (sym c.in_ok-has_new_keys.ensures ∙ c.if-not-branch.true)
+    path-old_key (grown c.args.tree.now.tree c.args.added.now) c.args.committer c.args.path.now H c.in_ok-places.ensures.set long commit (sym c.in_ok-has_new_keys.ensures ∙ c.if-not-branch.true)
 
 pub have_counts-requires-clause-parents : goal.have_counts-requires-clause-parents
 have_counts-requires-clause-parents c =
-    filtered-parents c.args.applied.now.tree.tree c.args.committer c.deref.result.now (c.deref.ensures.value ∙ c.in_ok-places.ensures.places)
+    filtered-parents c.args.tree.now.tree c.args.committer c.deref.result.now (c.deref.ensures.value ∙ c.in_ok-places.ensures.places)
 
 pub returns-then-not-branch-2-clause-refused : goal.returns-then-not-branch-2-clause-refused
 returns-then-not-branch-2-clause-refused c _ H =
-    let long = path-long c.args.applied.now.tree.tree c.args.committer c.len.result c.as_slice-nodes.result.now c.args.path.now.nodes c.in_ok-places.places.items
+    let long = path-long c.args.tree.now.tree c.args.committer c.len.result c.as_slice-nodes.result.now c.args.path.now.nodes c.in_ok-places.places.items
     c.as_slice-nodes.ensures c.in_ok-places.ensures.places (omega (arith, c.in_ok-places.places.ok)) c.if-nodes-len.false in
     let commit = sym c.is_from_commit.ensures ∙ c.if-not-is_from_commit.false in
     let new = sym c.in_ok-has_new_keys.ensures ∙ c.if-not-branch.false in
-    let counted = has_ciphertexts-counted c.args.path.now (grown c.args.applied.now.tree.tree c.args.applied.now.added) c.args.committer c.as_slice-added.result.now c.deref.result.now c.as_slice-nodes.result.now c.in_ok-have_counts.field-0
+    let counted = has_ciphertexts-counted c.args.path.now (grown c.args.tree.now.tree c.args.added.now) c.args.committer c.as_slice-added.result.now c.deref.result.now c.as_slice-nodes.result.now c.in_ok-have_counts.field-0
     c.as_slice-added.ensures (c.deref.ensures.value ∙ c.in_ok-places.ensures.places) c.as_slice-nodes.ensures c.in_ok-have_counts.ensures in
-    path-other_count (grown c.args.applied.now.tree.tree c.args.applied.now.added) c.args.committer c.args.path.now H c.in_ok-places.ensures.set long commit new (counted ∙ c.if-not-branch-2.true)
+    path-other_count (grown c.args.tree.now.tree c.args.added.now) c.args.committer c.args.path.now H c.in_ok-places.ensures.set long commit new (counted ∙ c.if-not-branch-2.true)
 
 pub returns-clause-kept : goal.returns-clause-kept
 returns-clause-kept c H =
-    let long = path-long c.args.applied.now.tree.tree c.args.committer c.len.result c.as_slice-nodes.result.now c.args.path.now.nodes c.in_ok-places.places.items
+    let long = path-long c.args.tree.now.tree c.args.committer c.len.result c.as_slice-nodes.result.now c.args.path.now.nodes c.in_ok-places.places.items
     c.as_slice-nodes.ensures c.in_ok-places.ensures.places (omega (arith, c.in_ok-places.places.ok)) c.if-nodes-len.false in
     let commit = sym c.is_from_commit.ensures ∙ c.if-not-is_from_commit.false in
     let new = sym c.in_ok-has_new_keys.ensures ∙ c.if-not-branch.false in
-    let counted = has_ciphertexts-counted c.args.path.now (grown c.args.applied.now.tree.tree c.args.applied.now.added) c.args.committer c.as_slice-added.result.now c.deref.result.now c.as_slice-nodes.result.now c.in_ok-have_counts.field-0
+    let counted = has_ciphertexts-counted c.args.path.now (grown c.args.tree.now.tree c.args.added.now) c.args.committer c.as_slice-added.result.now c.deref.result.now c.as_slice-nodes.result.now c.in_ok-have_counts.field-0
     c.as_slice-added.ensures (c.deref.ensures.value ∙ c.in_ok-places.ensures.places) c.as_slice-nodes.ensures c.in_ok-have_counts.ensures in
-    path-checked (grown c.args.applied.now.tree.tree c.args.applied.now.added) c.args.committer c.args.path.now H c.in_ok-places.ensures.set long commit new (counted ∙ c.if-not-branch-2.false)
+    path-checked (grown c.args.tree.now.tree c.args.added.now) c.args.committer c.args.path.now H c.in_ok-places.ensures.set long commit new (counted ∙ c.if-not-branch-2.false)
 
 pub returns-clause-inside : goal.returns-clause-inside
-returns-clause-inside c = set_inside c.args.applied.now.tree.tree c.args.committer c.in_ok-places.ensures.set
+returns-clause-inside c = set_inside c.args.tree.now.tree c.args.committer c.in_ok-places.ensures.set

@@ -14,7 +14,7 @@ use Rattle.mls_apply.proofs.path.new_nodes.Goals as goal
 
 pub new_parents-requires-clause-parents : goal.new_parents-requires-clause-parents
 new_parents-requires-clause-parents c =
-    filtered-parents c.args.applied.now.tree.tree c.args.committer c.deref.result.now (c.deref.ensures.value ∙ c.in_ok-places.ensures.places)
+    filtered-parents c.args.tree.now.tree c.args.committer c.deref.result.now (c.deref.ensures.value ∙ c.in_ok-places.ensures.places)
 
 pub new_parents-requires-clause-paired : goal.new_parents-requires-clause-paired
 new_parents-requires-clause-paired c =
@@ -26,7 +26,7 @@ new_parents-requires-clause-paired c =
 pub returns-then-not-carries-clause-refused : goal.returns-then-not-carries-clause-refused
 returns-then-not-carries-clause-refused c _ =
     let H = hash_of c.args.suite in
-    let t = c.args.applied.now.tree.tree in
+    let t = c.args.tree.now.tree in
     let places = c.deref.ensures.value ∙ c.in_ok-places.ensures.places in
     let keys = c.in_ok-keys.ensures ∙ ap (map (λ (n : PathNode). n.encryption_key)) c.as_slice.ensures in
     let made : path_route H t c.args.committer (node_keys c.args.path.now) ≡ Some (route_of c.in_ok-new.new) =
@@ -37,13 +37,13 @@ returns-then-not-carries-clause-refused c _ =
 
 pub returns-clause-parents : goal.returns-clause-parents
 returns-clause-parents c =
-    route-parents (IsParentPlace c.args.applied.now.tree.tree) (hash_of c.args.suite) c.args.applied.now.tree.tree c.args.committer c.deref.result.now c.in_ok-keys.keys.items c.in_ok-new.new c.in_ok-new.ensures
-    (filtered-parents c.args.applied.now.tree.tree c.args.committer c.deref.result.now (c.deref.ensures.value ∙ c.in_ok-places.ensures.places))
+    route-parents (IsParentPlace c.args.tree.now.tree) (hash_of c.args.suite) c.args.tree.now.tree c.args.committer c.deref.result.now c.in_ok-keys.keys.items c.in_ok-new.new c.in_ok-new.ensures
+    (filtered-parents c.args.tree.now.tree c.args.committer c.deref.result.now (c.deref.ensures.value ∙ c.in_ok-places.ensures.places))
 
 pub returns-clause-kept : goal.returns-clause-kept
 returns-clause-kept c =
     let H = hash_of c.args.suite in
-    let t = c.args.applied.now.tree.tree in
+    let t = c.args.tree.now.tree in
     let places = c.deref.ensures.value ∙ c.in_ok-places.ensures.places in
     let keys = c.in_ok-keys.ensures ∙ ap (map (λ (n : PathNode). n.encryption_key)) c.as_slice.ensures in
     let made : path_route H t c.args.committer (node_keys c.args.path.now) ≡ Some (route_of c.in_ok-new.new) =

@@ -8,8 +8,8 @@ pub put_copy-requires : goal.put_copy-requires
 put_copy-requires c =
     shown_inside c.args.tree.now.tree c.args.item.now.sender c.leaf.result c.is_none.result c.leaf.ensures c.is_none.ensures c.if-is_none.false
 
-pub blank_above-requires : goal.blank_above-requires
-blank_above-requires c =
+pub blank_path-requires : goal.blank_path-requires
+blank_path-requires c =
     let t = c.args.tree.now.tree in
     let sender = c.args.item.now.sender in
     let inside = shown_inside t sender c.leaf.result c.is_none.result c.leaf.ensures c.is_none.ensures c.if-is_none.false in

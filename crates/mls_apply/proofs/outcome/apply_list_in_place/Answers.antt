@@ -1,7 +1,7 @@
 use Rattle.std.proofs.Common.{◌≡◌, ◌∙◌, sym}
 use Rattle.mls_apply.specs.Outcome.{outcome, after_adds, new_members}
 use Rattle.mls_apply.proofs.Outcomes.{without_adds-set, outcome-full, outcome-adds}
-use Rattle.mls_apply.proofs.outcome.apply_all.Goals as goal
+use Rattle.mls_apply.proofs.outcome.apply_list_in_place.Goals as goal
 
 pub returns-then-not-has_room-clause-too_many_leaves : goal.returns-then-not-has_room-clause-too_many_leaves
 returns-then-not-has_room-clause-too_many_leaves c =

@@ -1,0 +1,17 @@
+use Rattle.std.proofs.Common.{◌≡◌, map, vec_len}
+use Rattle.std.specs.Prelude.{All}
+use Rattle.mls_tree.specs.Tree.{IsParentPlace}
+use Rattle.mls_tree.specs.Journals.{before}
+use Rattle.mls_apply.specs.Route.{changed}
+use Rattle.mls_apply.specs.Seen.{change_of}
+use Rattle.mls_apply.proofs.new_parents.put_parents_in_place.Given as goal
+
+abbrev pub invariant-loop-parent : goal.invariant-loop-parent
+invariant-loop-parent l = record {
+  left : changed 0 l.initial.tree.tree (map change_of l.initial.parents.items) ≡ changed 0 l.tree.tree (map change_of l.parents.items);
+  parents : All (λ p. IsParentPlace l.tree.tree p.place) l.parents.items;
+  same_before : before l.journal l.tree.tree ≡ before l.initial.journal l.initial.tree.tree;
+}
+
+abbrev pub decreases-loop-parent : goal.decreases-loop-parent
+decreases-loop-parent l = vec_len l.parents

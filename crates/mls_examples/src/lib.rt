@@ -12,6 +12,8 @@
 #![tactic(auto)]
 
 #[cfg(test)]
+mod by_hand;
+#[cfg(test)]
 mod chains;
 #[cfg(test)]
 mod commits;
@@ -30,6 +32,8 @@ mod large_inputs;
 #[cfg(test)]
 mod leaves;
 #[cfg(test)]
+mod limits;
+#[cfg(test)]
 mod logs;
 #[cfg(test)]
 mod members;
@@ -39,6 +43,8 @@ mod message_fields;
 mod message_parts;
 #[cfg(test)]
 mod messages;
+#[cfg(test)]
+mod next_trees;
 #[cfg(test)]
 mod node_fields;
 #[cfg(test)]
@@ -62,6 +68,8 @@ mod real_race;
 #[cfg(test)]
 mod real_trees;
 #[cfg(test)]
+mod rules;
+#[cfg(test)]
 mod show;
 #[cfg(test)]
 mod single_checks;
@@ -75,6 +83,8 @@ mod tree_parts;
 mod tree_reports;
 #[cfg(test)]
 mod validator;
+#[cfg(test)]
+mod validity;
 #[cfg(test)]
 mod vectors;
 #[cfg(test)]

@@ -1,6 +1,7 @@
 -- What the parts of the rules for a commit say of the whole commit.
 use Rattle.std.proofs.Common.{◌≡◌, ◌≢◌, ◌∙◌, ◌++◌, ℕ, List, true, Option, Some, None, IsSome, refl, ap}
 use Rattle.std.specs.Prelude.{option_map, option_and_then, is_some, nat_lt}
+use Rattle.std.proofs.lemmas.Option.{none-some}
 use Rattle.mls_nodes.specs.declared.required_capabilities.RequiredCapabilities.{RequiredCapabilities}
 use Rattle.mls_tree.specs.Tree.{Tree, leaf_at}
 use Rattle.mls_hash.specs.Hashing.{hash_of}
@@ -10,8 +11,10 @@ use Rattle.mls_check.specs.Signatures.{Meaning}
 use Rattle.mls_check.specs.declared.members.MemberFault.{MemberFault}
 use Rattle.mls_check.specs.declared.members.MemberFault.TheVariants as members
 use Rattle.mls_check.proofs.FirstFault.{fault-first, members-faultless}
+use Rattle.mls_msgs.specs.declared.authenticated.AuthenticatedParts.{AuthenticatedParts}
 use Rattle.mls_msgs.specs.declared.commit.Commit.{Commit}
 use Rattle.mls_msgs.specs.declared.commit.UpdatePath.{UpdatePath}
+use Rattle.mls_msgs.specs.declared.frame.Content.TheVariants as contents
 use Rattle.mls_apply.specs.declared.fault.ApplyFault.{ApplyFault}
 use Rattle.mls_apply.specs.declared.item.ListItem.{ListItem}
 use Rattle.mls_apply.specs.Items.{resolved}
@@ -21,10 +24,11 @@ use Rattle.mls_apply.specs.PathRules.{path_rules, path_refusal}
 use Rattle.mls_apply.specs.Rules.{Rule, first_failing, renamed}
 use Rattle.mls_apply.proofs.RuleLists.{first_failing-left, first_failing-right, first_failing-renamed}
 use Rattle.mls_follow.specs.State.{State, last_epoch}
-use Rattle.mls_follow.specs.Rules.{refusal_of, commit_refusal, items_rules, inline_rules, outcome_rules, path_rules_of, member_refusal, member_rules, tree_rules, resulting}
+use Rattle.mls_follow.specs.Rules.{refusal_of, commit_refusal, handshake_refusal, items_rules, inline_rules, outcome_rules, path_rules_of, member_refusal, member_rules, tree_rules, resulting}
+use Rattle.mls_follow.specs.Changing.{change_rules, changed_tree}
 use Rattle.mls_follow.specs.Judging.{Refuses}
 use Rattle.mls_follow.specs.declared.refusal.Refusal.{Refusal}
-use Rattle.mls_follow.specs.declared.refusal.Refusal.TheVariants.{TooManyLeaves, Member}
+use Rattle.mls_follow.specs.declared.refusal.Refusal.TheVariants.{Member}
 
 -- a list has no outcome where an Update or a Remove meets a leaf that isn't set
 pub no_outcome : (items : List ListItem) (t : Tree) → without_adds items t ≡ None → outcome items t ≡ None
@@ -59,34 +63,35 @@ module _ (G : Meaning) (s : State) (required : RequiredCapabilities) (i : ℕ) (
         ∙ first_failing-left of_list of_outcome (refusal_of e) (first_failing-renamed refusal_of (list_rules i items (is_some c.path)) ∙ ap (option_map refusal_of) f)
 
     module _ (kept : list_refusal i items (is_some c.path) ≡ None) where
-      past_list : commit_refusal G s required i c ≡ first_failing (outcome_rules G s required i c.path (outcome items s.tree))
+      -- what is left is what follows the list
+      pub past_list : commit_refusal G s required i c ≡ first_failing (outcome_rules G s required i c.path (outcome items s.tree))
       unfolding of_list of_outcome list_refusal
       past_list =
           past_inline
           ∙ first_failing-right of_list of_outcome (first_failing-renamed refusal_of (list_rules i items (is_some c.path)) ∙ ap (option_map refusal_of) kept)
 
-      -- the list has no outcome
-      pub outcome_failed : outcome items s.tree ≡ None → commit_refusal G s required i c ≡ Some TooManyLeaves
-      outcome_failed o = past_list ∙ ap (λ (x : Option Grown). first_failing (outcome_rules G s required i c.path x)) o
+-- what follows the list of a commit
+module _ (G : Meaning) (s : State) (required : RequiredCapabilities) (i : ℕ) (path : Option UpdatePath) where
+  -- the list has no outcome, or the path fails a rule
+  pub change_failed : (o : Option Grown) (e : Refusal) → first_failing (change_rules (hash_of s.context.cipher_suite) i path o) ≡ Some e
+      → first_failing (outcome_rules G s required i path o) ≡ Some e
+  change_failed None e f = f
+  change_failed (Some g) e f =
+      first_failing-left (path_rules_of (hash_of s.context.cipher_suite) g i path) (tree_rules G s required (resulting (hash_of s.context.cipher_suite) g i path)) e f
 
-      module _ (g : Grown) (o : outcome items s.tree ≡ Some g) where
-        past_outcome : commit_refusal G s required i c
-            ≡ first_failing (path_rules_of (hash_of s.context.cipher_suite) g i c.path ++ tree_rules G s required (resulting (hash_of s.context.cipher_suite) g i c.path))
-        past_outcome = past_list ∙ ap (λ (x : Option Grown). first_failing (outcome_rules G s required i c.path x)) o
+  -- what is left is to judge the tree
+  pub change_kept : (o : Option Grown) (t : Tree) → first_failing (change_rules (hash_of s.context.cipher_suite) i path o) ≡ None
+      → changed_tree (hash_of s.context.cipher_suite) i path o ≡ Some t → first_failing (outcome_rules G s required i path o) ≡ first_failing (tree_rules G s required (Some t))
+  change_kept None t f e = absurd (none-some t e)
+  change_kept (Some g) t f e =
+      first_failing-right (path_rules_of (hash_of s.context.cipher_suite) g i path) (tree_rules G s required (resulting (hash_of s.context.cipher_suite) g i path)) f
+      ∙ ap (λ (x : Option Tree). first_failing (tree_rules G s required x)) e
 
-        -- its path fails a rule
-        pub path_failed : (e : Refusal) → first_failing (path_rules_of (hash_of s.context.cipher_suite) g i c.path) ≡ Some e → commit_refusal G s required i c ≡ Some e
-        path_failed e f =
-            past_outcome
-            ∙ first_failing-left (path_rules_of (hash_of s.context.cipher_suite) g i c.path) (tree_rules G s required (resulting (hash_of s.context.cipher_suite) g i c.path)) e f
-
-        -- what is left is to judge the tree
-        pub past_path : (t : Tree) → first_failing (path_rules_of (hash_of s.context.cipher_suite) g i c.path) ≡ None
-            → resulting (hash_of s.context.cipher_suite) g i c.path ≡ Some t → commit_refusal G s required i c ≡ first_failing (tree_rules G s required (Some t))
-        past_path t f e =
-            past_outcome
-            ∙ first_failing-right (path_rules_of (hash_of s.context.cipher_suite) g i c.path) (tree_rules G s required (resulting (hash_of s.context.cipher_suite) g i c.path)) f
-            ∙ ap (λ (x : Option Tree). first_failing (tree_rules G s required x)) e
+-- a commit is judged by the rules for commits
+pub of_commit : (G : Meaning) (s : State) (required : RequiredCapabilities) (a : AuthenticatedParts) (i : ℕ) (c : Commit)
+    → handshake_refusal G s required a i (contents.Commit c) ≡ commit_refusal G s required i c
+unfolding handshake_refusal commit_refusal
+of_commit G s required a i c = refl
 
 -- a path of a member is judged by its rules alone
 pub path_word : (H : List ℕ → List ℕ) (g : Grown) (i : ℕ) (path : UpdatePath) → IsSome (leaf_at 0 g.tree i)

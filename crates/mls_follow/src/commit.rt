@@ -1,140 +1,186 @@
-//! The rules for a commit (RFC 9420, 12.4.2).
+//! The rules for a commit (RFC 9420, 12.4.2), and how it changes the group's tree, in place.
 
-ghost use Rattle.std.specs.Prelude.{◌≡◌, ◌<◌, Some, None, IsSome, IfOk, IfErr, IfSome, OnOk};
+ghost use Rattle.std.specs.Prelude.{◌≡◌, ◌<◌, Some, None, IsSome, IfOk, IfErr, IfSome, OnOk, is_some};
 ghost use Rattle.mls_hash.specs.Hashing.{hash_of};
 ghost use Rattle.mls_hash.specs.SubtreeHashes.{AreAllHashes};
+ghost use Rattle.mls_tree.specs.Journals.{before};
 ghost use Rattle.mls_tree.specs.Tree.{leaf_at};
+ghost use Rattle.mls_tree.specs.TreeHash.{tree_hash};
+ghost use Rattle.mls_apply.specs.Items.{resolved};
+ghost use Rattle.mls_apply.specs.ListRules.{list_refusal};
 ghost use Rattle.mls_apply.specs.Rules.{first_failing};
-ghost use Rattle.mls_apply.specs.Outcome.{grown};
+ghost use Rattle.mls_apply.specs.Outcome.{grown, outcome};
 ghost use Rattle.mls_follow.specs.State.{last_epoch};
 ghost use Rattle.mls_follow.specs.Judging.{Refuses};
 ghost use Rattle.mls_follow.specs.Seen.{group_state};
-ghost use Rattle.mls_follow.specs.Rules.{commit_refusal, path_rules_of, tree_rules, resulting};
-ghost use Rattle.mls_follow.specs.Next.{commit_tree};
+ghost use Rattle.mls_follow.specs.Rules.{commit_refusal, inline_rules, path_rules_of, tree_rules, resulting};
+ghost use Rattle.mls_follow.specs.Changing.{change_rules, changed_tree, in_context};
 
-use crate::group::{Group, NextTree};
+use crate::group::{Group, TreeHashes, tree_hashes};
 use crate::inline::check_inline;
 use crate::refusal::Refusal;
-use mls_apply::{Applied, apply_list, check_list, merge_path_by, resolve_list};
+use mls_apply::{
+    Leaves, ListItem, apply_list_in_place, check_list, merge_path_in_place, resolve_list,
+};
 use mls_check::{SignatureCheck, has_distinct_keys, validate_members};
 use mls_hash::{SubtreeHashes, Suite};
 use mls_msgs::{Commit, UpdatePath};
-use mls_tree::PublicTree;
-use std::alloc::{AllocError, Global};
+use mls_nodes::{GroupContext, RequiredCapabilities};
+use mls_tree::{Journal, PublicTree};
+use std::alloc::Global;
 
-/// A tree with the hashes of its subtrees.
-fn hashed(alloc: Global, suite: Suite, tree: PublicTree) -> Result<NextTree, Refusal>
-    ensures tree { IfOk result (λ next. next.tree ≡ tree) }
-    ensures hashed { IfOk result (λ next.
-        AreAllHashes (hash_of suite) next.tree.tree next.hashes) }
-    ensures memory { IfErr result (λ e. e ≡ Refusal.OutOfMemory) }
-{
-    match SubtreeHashes::new(alloc, suite, &tree) {
-        Ok(hashes) => Ok(NextTree { tree, hashes }),
-        Err(AllocError) => {
-            drop(tree);
-            Err(Refusal::OutOfMemory)
-        }
-    }
-}
-
-/// The tree after a commit with this path, by the tree after its proposals, whose subtrees have these hashes, where
-/// the path keeps the rules for paths. Only the committer's leaf and the parents above it are hashed.
-fn merged_tree(
-    alloc: Global,
-    suite: Suite,
-    applied: Applied,
-    hashes: &SubtreeHashes,
-    committer: u32,
-    path: &UpdatePath,
-) -> Result<NextTree, Refusal>
-    requires member { IsSome (leaf_at 0 applied.tree.tree committer) }
-    requires hashed { AreAllHashes (hash_of suite) applied.tree.tree hashes.now }
-    ensures kept { let g = grown applied.tree.tree applied.added in
-        OnOk result (first_failing (path_rules_of (hash_of suite) g committer (Some path.now))
-        ≡ None) }
-    ensures tree { let g = grown applied.tree.tree applied.added in
-        IfOk result (λ next. resulting (hash_of suite) g committer (Some path.now)
-        ≡ Some next.tree.tree) }
-    ensures hashed { IfOk result (λ next.
-        AreAllHashes (hash_of suite) next.tree.tree next.hashes) }
-    ensures refused { let g = grown applied.tree.tree applied.added in
-        IfErr result
-        (Refuses (first_failing (path_rules_of (hash_of suite) g committer (Some path.now)))) }
-{
-    match merge_path_by(alloc, suite, applied, Some(hashes), committer, path) {
-        Ok(tree) => match hashes.rehashed(alloc, suite, &tree, committer) {
-            Ok(hashes) => Ok(NextTree { tree, hashes }),
-            Err(AllocError) => {
-                drop(tree);
-                Err(Refusal::OutOfMemory)
-            }
-        },
-        Err((fault, applied)) => {
-            drop(applied);
-            Err(Refusal::from(fault))
-        }
-    }
-}
-
-/// The tree after a commit, by the tree after its proposals, where its path, if it has one, keeps the rules
-/// for paths. The hashes of the tree after the proposals may be kept.
-fn next_tree(
-    alloc: Global,
-    suite: Suite,
-    applied: Applied,
-    kept: Option<&SubtreeHashes>,
-    committer: u32,
-    path: &Option<UpdatePath>,
-) -> Result<NextTree, Refusal>
-    requires member { IsSome (leaf_at 0 applied.tree.tree committer) }
-    requires hashed { IfSome kept (λ h. AreAllHashes (hash_of suite) applied.tree.tree h.now) }
-    ensures kept { let g = grown applied.tree.tree applied.added in
-        OnOk result (first_failing (path_rules_of (hash_of suite) g committer path.now) ≡ None) }
-    ensures tree { let g = grown applied.tree.tree applied.added in
-        IfOk result (λ next. resulting (hash_of suite) g committer path.now
-        ≡ Some next.tree.tree) }
-    ensures hashed { IfOk result (λ next.
-        AreAllHashes (hash_of suite) next.tree.tree next.hashes) }
-    ensures refused { let g = grown applied.tree.tree applied.added in
-        IfErr result
-        (Refuses (first_failing (path_rules_of (hash_of suite) g committer path.now))) }
-{
-    let Some(path) = path else {
-        return hashed(alloc, suite, applied.tree);
-    };
-    if let Some(hashes) = kept {
-        return merged_tree(alloc, suite, applied, hashes, committer, path);
-    }
-    match SubtreeHashes::new(alloc, suite, &applied.tree) {
-        Ok(hashes) => merged_tree(alloc, suite, applied, &hashes, committer, path),
-        Err(AllocError) => {
-            drop(applied);
-            Err(Refusal::OutOfMemory)
-        }
-    }
-}
-
-/// Whether the tree after a commit keeps the rules: its encryption keys are distinct, and its leaves are
-/// members.
-fn check_tree(
+/// The items of a member's commit, where it keeps the rules that are judged before the tree is changed: its epoch is
+/// not the last one, its list can be resolved, and it keeps the rules for the proposals in it and for the whole list.
+#[tactic(auto, unfolding(crate::specs::Rules::commit_refusal))]
+pub(crate) fn check_items(
     alloc: Global,
     group: &Group,
     checker: &dyn SignatureCheck,
+    committer: u32,
+    commit: &Commit,
+) -> Result<Vec<ListItem>, Refusal>
+    requires member { IsSome (leaf_at 0 group.now.tree.tree committer) }
+    ensures later { OnOk result (group.now.context.epoch < last_epoch) }
+    ensures items { IfOk result (λ items.
+        resolved committer group.now.known.items commit.now.proposals ≡ Some items.items) }
+    ensures inline { OnOk result (first_failing (inline_rules (meaning checker.now)
+        (group_state group.now) committer commit.now) ≡ None) }
+    ensures list { IfOk result (λ items.
+        list_refusal committer items.items (is_some commit.now.path) ≡ None) }
+    ensures refused { IfErr result (Refuses (commit_refusal (meaning checker.now)
+        (group_state group.now)
+        group.now.required committer commit.now)) }
+{
+    if group.context.epoch == u64::MAX {
+        return Err(Refusal::LastEpoch);
+    }
+    let items = resolve_list(alloc, commit, committer, group.known.as_slice())?;
+    check_inline(alloc, group, checker, committer, commit)?;
+    check_list(alloc, committer, items.as_slice(), commit.path.is_some())?;
+    Ok(items)
+}
+
+/// Merges a commit's path into the tree after its proposals, whose subtrees have these hashes, where the path keeps the
+/// rules for paths. The hashes after it are answered: only the committer's leaf and the parents above it are hashed.
+fn merge_hashed(
+    alloc: Global,
+    suite: Suite,
+    tree: &mut PublicTree,
+    journal: &mut Journal,
+    added: &Leaves,
+    hashes: &SubtreeHashes,
+    committer: u32,
+    path: &UpdatePath,
+) -> Result<SubtreeHashes, Refusal>
+    requires member { IsSome (leaf_at 0 tree.old.tree committer) }
+    requires hashed { AreAllHashes (hash_of suite) tree.old.tree hashes.now }
+    ensures kept { let g = grown tree.old.tree added.now in
+        OnOk result (first_failing (path_rules_of (hash_of suite) g committer (Some path.now))
+        ≡ None) }
+    ensures tree { let g = grown tree.old.tree added.now in
+        OnOk result (resulting (hash_of suite) g committer (Some path.now) ≡ Some tree.new.tree) }
+    ensures hashed { IfOk result (AreAllHashes (hash_of suite) tree.new.tree) }
+    ensures refused { let g = grown tree.old.tree added.now in
+        IfErr result
+        (Refuses (first_failing (path_rules_of (hash_of suite) g committer (Some path.now)))) }
+    ensures before { before journal.new tree.new.tree ≡ before journal.old tree.old.tree }
+{
+    merge_path_in_place(
+        alloc,
+        suite,
+        tree,
+        journal,
+        added,
+        Some(hashes),
+        committer,
+        path,
+    )?;
+    Ok(hashes.rehashed(alloc, suite, tree, committer)?)
+}
+
+/// Merges the path of a commit, if it has one, into the tree after its proposals, where it keeps the rules for paths,
+/// and answers the hashes after it. The hashes of the tree after the proposals may be kept.
+fn merge(
+    alloc: Global,
+    suite: Suite,
+    tree: &mut PublicTree,
+    journal: &mut Journal,
+    added: &Leaves,
+    kept: Option<&SubtreeHashes>,
+    committer: u32,
+    path: &Option<UpdatePath>,
+) -> Result<SubtreeHashes, Refusal>
+    requires member { IsSome (leaf_at 0 tree.old.tree committer) }
+    requires hashed { IfSome kept (λ h. AreAllHashes (hash_of suite) tree.old.tree h.now) }
+    ensures kept { let g = grown tree.old.tree added.now in
+        OnOk result (first_failing (path_rules_of (hash_of suite) g committer path.now) ≡ None) }
+    ensures tree { let g = grown tree.old.tree added.now in
+        OnOk result (resulting (hash_of suite) g committer path.now ≡ Some tree.new.tree) }
+    ensures hashed { IfOk result (AreAllHashes (hash_of suite) tree.new.tree) }
+    ensures refused { let g = grown tree.old.tree added.now in
+        IfErr result
+        (Refuses (first_failing (path_rules_of (hash_of suite) g committer path.now))) }
+    ensures before { before journal.new tree.new.tree ≡ before journal.old tree.old.tree }
+{
+    let Some(path) = path else {
+        return Ok(SubtreeHashes::new(alloc, suite, tree)?);
+    };
+    if let Some(hashes) = kept {
+        return merge_hashed(alloc, suite, tree, journal, added, hashes, committer, path);
+    }
+    let hashes = SubtreeHashes::new(alloc, suite, tree)?;
+    merge_hashed(alloc, suite, tree, journal, added, &hashes, committer, path)
+}
+
+/// Changes a group's tree, whose subtrees have these hashes, as a member's commit with these items and this path does:
+/// the list is applied, and the path is merged. The hashes after both are answered.
+pub(crate) fn change_tree(
+    alloc: Global,
+    suite: Suite,
+    tree: &mut PublicTree,
+    journal: &mut Journal,
+    hashes: &SubtreeHashes,
+    committer: u32,
+    items: &[ListItem],
+    path: &Option<UpdatePath>,
+) -> Result<SubtreeHashes, Refusal>
+    requires member { IsSome (leaf_at 0 tree.old.tree committer) }
+    requires list { list_refusal committer items.now (is_some path.now) ≡ None }
+    requires hashed { AreAllHashes (hash_of suite) tree.old.tree hashes.now }
+    ensures kept { let o = outcome items.now tree.old.tree in
+        OnOk result (first_failing (change_rules (hash_of suite) committer path.now o) ≡ None) }
+    ensures tree { let o = outcome items.now tree.old.tree in
+        OnOk result (changed_tree (hash_of suite) committer path.now o ≡ Some tree.new.tree) }
+    ensures hashed { IfOk result (AreAllHashes (hash_of suite) tree.new.tree) }
+    ensures refused { let o = outcome items.now tree.old.tree in
+        IfErr result
+        (Refuses (first_failing (change_rules (hash_of suite) committer path.now o))) }
+    ensures before { before journal.new tree.new.tree ≡ before journal.old tree.old.tree }
+{
+    let added = apply_list_in_place(alloc, tree, journal, items)?;
+    let kept = if items.is_empty() { Some(hashes) } else { None };
+    merge(alloc, suite, tree, journal, &added, kept, committer, path)
+}
+
+/// Whether the tree after a commit keeps the rules of a group with this context, which requires this of its members:
+/// its encryption keys are distinct, and its leaves are members.
+fn check_tree(
+    alloc: Global,
+    context: &GroupContext,
+    required: &RequiredCapabilities,
+    checker: &dyn SignatureCheck,
     tree: &PublicTree,
 ) -> Result<(), Refusal>
-    ensures kept { OnOk result (first_failing (tree_rules (meaning checker.now)
-        (group_state group.now)
-        group.now.required (Some tree.now.tree)) ≡ None) }
-    ensures refused { IfErr result (Refuses (first_failing (tree_rules (meaning checker.now)
-        (group_state group.now)
-        group.now.required (Some tree.now.tree)))) }
+    ensures kept { let s = in_context context.now in
+        OnOk result (first_failing
+        (tree_rules (meaning checker.now) s required.now (Some tree.now.tree)) ≡ None) }
+    ensures refused { let s = in_context context.now in
+        IfErr result (Refuses (first_failing
+        (tree_rules (meaning checker.now) s required.now (Some tree.now.tree)))) }
 {
     if !has_distinct_keys(alloc, tree)? {
         return Err(Refusal::KeyRepeated);
     }
-    let context = &group.context;
-    let required = &group.required;
     Ok(validate_members(
         alloc,
         context.cipher_suite,
@@ -145,41 +191,33 @@ fn check_tree(
     )?)
 }
 
-/// The tree after a member's commit, where the commit keeps the rules for it.
-#[tactic(auto, unfolding(crate::specs::Rules::commit_refusal))]
-pub(crate) fn check_commit(
+/// The hashes of the tree after a commit, by those of its subtrees, where the tree keeps the rules.
+pub(crate) fn judge_tree(
     alloc: Global,
-    group: &Group,
+    suite: Suite,
+    context: &GroupContext,
+    required: &RequiredCapabilities,
     checker: &dyn SignatureCheck,
-    committer: u32,
-    commit: &Commit,
-) -> Result<NextTree, Refusal>
-    requires member { IsSome (leaf_at 0 group.now.tree.tree committer) }
-    ensures kept { OnOk result (commit_refusal (meaning checker.now)
-        (group_state group.now) group.now.required
-        committer commit.now ≡ None) }
-    ensures tree { IfOk result (λ next. commit_tree (group_state group.now) committer commit.now
-        ≡ Some next.tree.tree) }
-    ensures hashed { IfOk result (λ next.
-        AreAllHashes (hash_of group.now.suite) next.tree.tree next.hashes) }
-    ensures refused { IfErr result (Refuses (commit_refusal (meaning checker.now)
-        (group_state group.now)
-        group.now.required committer commit.now)) }
-    ensures later { OnOk result (group.now.context.epoch < last_epoch) }
+    tree: &PublicTree,
+    subtrees: SubtreeHashes,
+) -> Result<TreeHashes, Refusal>
+    requires { AreAllHashes (hash_of suite) tree.now.tree subtrees }
+    ensures kept { let s = in_context context.now in
+        OnOk result (first_failing
+        (tree_rules (meaning checker.now) s required.now (Some tree.now.tree)) ≡ None) }
+    ensures refused { let s = in_context context.now in
+        IfErr result (Refuses (first_failing
+        (tree_rules (meaning checker.now) s required.now (Some tree.now.tree)))) }
+    ensures subtrees { IfOk result (λ hashes.
+        AreAllHashes (hash_of suite) tree.now.tree hashes.subtrees) }
+    ensures whole { IfOk result (λ hashes. tree_hash (hash_of suite) 0 tree.now.tree
+        ≡ Some hashes.whole) }
 {
-    if group.context.epoch == u64::MAX {
-        return Err(Refusal::LastEpoch);
+    match check_tree(alloc, context, required, checker, tree) {
+        Ok(()) => Ok(tree_hashes(alloc, suite, tree, subtrees)?),
+        Err(refusal) => {
+            drop(subtrees);
+            Err(refusal)
+        }
     }
-    let items = resolve_list(alloc, commit, committer, group.known.as_slice())?;
-    check_inline(alloc, group, checker, committer, commit)?;
-    check_list(alloc, committer, items.as_slice(), commit.path.is_some())?;
-    let applied = apply_list(alloc, &group.tree, items.as_slice())?;
-    let kept = if items.is_empty() {
-        Some(&group.hashes)
-    } else {
-        None
-    };
-    let next = next_tree(alloc, group.suite, applied, kept, committer, &commit.path)?;
-    check_tree(alloc, group, checker, &next.tree)?;
-    Ok(next)
 }

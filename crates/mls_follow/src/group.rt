@@ -39,19 +39,18 @@ pub(crate) struct Group {
     ghost requires_these: { Requires context required } by { Requires-prop context required },
 }
 
-/// The tree that a commit leads to, with the tree hashes of its subtrees.
+/// The transcript hashes after a commit.
 #[derive(Drop)]
-pub(crate) struct NextTree {
-    pub(crate) tree: PublicTree,
-    pub(crate) hashes: SubtreeHashes,
-}
-
-/// The hashes of the epoch that a commit begins.
-#[derive(Drop)]
-struct Hashes {
-    tree: Opaque,
+pub(crate) struct Transcript {
     confirmed: Opaque,
     interim: HashValue,
+}
+
+/// The hashes of the tree that a commit leads to: those of its subtrees, and its tree hash.
+#[derive(Drop)]
+pub(crate) struct TreeHashes {
+    pub(crate) subtrees: SubtreeHashes,
+    pub(crate) whole: Opaque,
 }
 
 /// A second proposal, equal to this one.
@@ -67,7 +66,7 @@ fn copy_of(alloc: Global, proposal: &Proposal) -> Result<Proposal, AllocError>
 
 impl Group {
     ghost use Rattle.mls_follow.specs.Seen.{group_state};
-    ghost use Rattle.mls_follow.specs.Next.{after_proposal, after_tree, committed};
+    ghost use Rattle.mls_follow.specs.Next.{after_proposal, committed};
 
     /// Knows a proposal under its reference.
     pub(crate) fn keep(
@@ -91,81 +90,67 @@ impl Group {
         Ok(Taken::Proposal(reference))
     }
 
-    /// The hashes after a commit that leads to a tree.
-    fn hashes(
+    /// The transcript hashes after a commit.
+    pub(crate) fn transcript(
         &self,
         alloc: Global,
         auth: &Authenticated,
-        next: &NextTree,
-    ) -> Result<Hashes, AllocError>
-        requires hashed { AreAllHashes (hash_of self.now.suite) next.now.tree.tree next.now.hashes }
+    ) -> Result<Transcript, AllocError>
         requires input { IsSome (confirmed_input auth.now) }
         requires commit { IsTrue (is_commit auth.now.content.content) }
-        ensures tree { IfOk result (λ h. tree_hash (hash_of self.now.suite) 0 next.now.tree.tree
-            ≡ Some h.tree) }
-        ensures confirmed { IfOk result (λ h. confirmed_hash
-            (hash_of self.now.suite) self.now.interim auth.now ≡ Some h.confirmed) }
-        ensures interim { IfOk result (λ h. interim_hash
-            (hash_of self.now.suite) h.confirmed auth.now.confirmation_tag
-            ≡ Some h.interim) }
+        ensures confirmed { IfOk result (λ t. confirmed_hash
+            (hash_of self.now.suite) self.now.interim auth.now ≡ Some t.confirmed) }
+        ensures interim { IfOk result (λ t. interim_hash
+            (hash_of self.now.suite) t.confirmed auth.now.confirmation_tag
+            ≡ Some t.interim) }
     {
         let Some(tag) = auth.confirmation_tag() else {
             unreachable!();
         };
-        let Some(tree) = next.hashes.get(next.tree.leaf_count() - 1) else {
-            unreachable!();
-        };
         let confirmed = confirmed_hash(alloc, self.suite, self.interim.as_slice(), auth)?;
         let interim = interim_hash(alloc, self.suite, confirmed.as_slice(), tag)?;
-        let tree = opaque_of(alloc, &tree)?;
-        Ok(Hashes {
-            tree,
+        Ok(Transcript {
             confirmed: opaque_of(alloc, &confirmed)?,
             interim,
         })
     }
 
-    /// Moves to the next epoch, with its tree and hashes. It takes no memory.
-    fn enter(&mut self, next: NextTree, hashes: Hashes) -> Taken
-        requires later { self.old.context.epoch < last_epoch }
-        requires hashed { AreAllHashes (hash_of self.old.suite) next.tree.tree next.hashes }
-        ensures { committed
-            (group_state self.old) next.tree.tree hashes.tree hashes.confirmed hashes.interim
+    /// Moves to the next epoch, whose tree is in place and has this tree hash. It takes no memory.
+    pub(crate) fn enter(&mut self, tree_hash: Opaque, transcript: Transcript) -> Taken
+        requires { self.old.context.epoch < last_epoch }
+        ensures { committed (group_state self.old) self.old.tree.tree tree_hash
+            transcript.confirmed transcript.interim
             ≡ record { taken = result; state = group_state self.new } }
     {
         self.context.epoch += 1;
-        self.context.tree_hash = hashes.tree;
-        self.context.confirmed = hashes.confirmed;
-        self.tree = next.tree;
-        self.hashes = next.hashes;
-        self.interim = hashes.interim;
+        self.context.tree_hash = tree_hash;
+        self.context.confirmed = transcript.confirmed;
+        self.interim = transcript.interim;
         self.known.clear();
         Taken::Commit(self.context.epoch)
     }
+}
 
-    /// Moves to the next epoch, with the tree that a commit leads to.
-    #[tactic(auto, using(crate::proofs::Hashing::stepped))]
-    pub(crate) fn advance(
-        &mut self,
-        alloc: Global,
-        auth: &Authenticated,
-        next: NextTree,
-    ) -> Result<Taken, AllocError>
-        requires later { self.old.context.epoch < last_epoch }
-        requires hashed { AreAllHashes (hash_of self.old.suite) next.tree.tree next.hashes }
-        requires input { IsSome (confirmed_input auth.now) }
-        requires commit { IsTrue (is_commit auth.now.content.content) }
-        ensures moved { IfOk result (λ taken.
-            after_tree (group_state self.old) auth.now next.tree.tree
-            ≡ Some (record { taken = taken; state = group_state self.new })) }
-        ensures stays { OnErr result (group_state self.new ≡ group_state self.old) }
-    {
-        match self.hashes(alloc, auth, &next) {
-            Ok(hashes) => Ok(self.enter(next, hashes)),
-            Err(error) => {
-                drop(next);
-                Err(error)
-            }
+/// The hashes of a tree, by those of its subtrees.
+pub(crate) fn tree_hashes(
+    alloc: Global,
+    suite: Suite,
+    tree: &PublicTree,
+    subtrees: SubtreeHashes,
+) -> Result<TreeHashes, AllocError>
+    requires { AreAllHashes (hash_of suite) tree.now.tree subtrees }
+    ensures subtrees { IfOk result (λ hashes. hashes.subtrees ≡ subtrees) }
+    ensures whole { IfOk result (λ hashes. tree_hash (hash_of suite) 0 tree.now.tree
+        ≡ Some hashes.whole) }
+{
+    let Some(root) = subtrees.get(tree.leaf_count() - 1) else {
+        unreachable!();
+    };
+    match opaque_of(alloc, &root) {
+        Ok(whole) => Ok(TreeHashes { subtrees, whole }),
+        Err(error) => {
+            drop(subtrees);
+            Err(error)
         }
     }
 }

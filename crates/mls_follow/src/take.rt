@@ -1,25 +1,32 @@
 //! How a group takes what one of its members has sent.
 
-ghost use Rattle.std.specs.Prelude.{◌≡◌, ℕ, List, Some, None, IsSome, IsTrue, IfOk, IfErr, OnOk, OnErr};
+ghost use Rattle.std.specs.Prelude.{◌≡◌, ◌<◌, ℕ, List, Some, None, IsSome, IsTrue, IfOk, IfErr, OnOk, OnErr, is_some, option_and_then};
 ghost use Rattle.mls_tree.specs.Tree.{leaf_at};
 ghost use Rattle.mls_msgs.specs.Layout.{is_commit};
 ghost use Rattle.mls_msgs.specs.Signed.{confirmed_input};
 ghost use Rattle.mls_msgs.specs.declared.frame.Content.TheVariants as contents;
+ghost use Rattle.mls_hash.specs.Hashing.{hash_of};
+ghost use Rattle.mls_apply.specs.ListRules.{list_refusal};
+ghost use Rattle.mls_apply.specs.Outcome.{outcome};
+ghost use Rattle.mls_apply.specs.Rules.{first_failing};
+ghost use Rattle.mls_follow.specs.Changing.{changed_tree};
 ghost use Rattle.mls_follow.specs.Seen.{group_state};
-ghost use Rattle.mls_follow.specs.Rules.{frame_refusal, handshake_refusal, reference_of};
-ghost use Rattle.mls_follow.specs.Next.{after_content, after_sender};
-ghost use Rattle.mls_follow.specs.State.{IsInput, Spells};
+ghost use Rattle.mls_follow.specs.Rules.{frame_refusal, handshake_refusal, outcome_rules, reference_of};
+ghost use Rattle.mls_follow.specs.Next.{after_content, after_sender, after_tree};
+ghost use Rattle.mls_follow.specs.State.{IsInput, Spells, last_epoch};
 ghost use Rattle.mls_follow.specs.Judging.{Refuses};
 ghost use Rattle.mls_follow.specs.Runs.{Takes};
 
-use crate::commit::check_commit;
+use crate::commit::{change_tree, check_items, judge_tree};
 use crate::frame::check_frame;
 use crate::group::Group;
 use crate::offer::check_offer;
 use crate::refusal::Refusal;
 use crate::taken::Taken;
+use mls_apply::ListItem;
 use mls_check::SignatureCheck;
-use mls_msgs::{Authenticated, Commit, Content, Message, Proposal};
+use mls_msgs::{Authenticated, Commit, Content, Message, Proposal, UpdatePath};
+use mls_tree::Journal;
 use std::alloc::Global;
 
 impl Group {
@@ -50,6 +57,71 @@ impl Group {
         Ok(self.keep(alloc, reference, sender, proposal)?)
     }
 
+    /// Changes the tree in place as a member's commit with these items does, whose list keeps its rules, and moves to
+    /// the next epoch, where the path and the tree after both keep theirs. Any refusal, also for want of memory, takes
+    /// the changes back; the last step takes no memory.
+    fn apply_commit(
+        &mut self,
+        alloc: Global,
+        checker: &dyn SignatureCheck,
+        auth: &Authenticated,
+        committer: u32,
+        items: &[ListItem],
+        path: &Option<UpdatePath>,
+    ) -> Result<Taken, Refusal>
+        requires member { IsSome (leaf_at 0 self.old.tree.tree committer) }
+        requires later { self.old.context.epoch < last_epoch }
+        requires list { list_refusal committer items.now (is_some path.now) ≡ None }
+        requires hashed { IsSome (confirmed_input auth.now) }
+        requires commit { IsTrue (is_commit auth.now.content.content) }
+        ensures kept { let o = outcome items.now self.old.tree.tree in
+            OnOk result (first_failing (outcome_rules (meaning checker.now)
+            (group_state self.old) self.old.required committer path.now o) ≡ None) }
+        ensures next { let o = outcome items.now self.old.tree.tree in
+            let H = hash_of self.old.context.cipher_suite in
+            IfOk result (λ taken. option_and_then (after_tree (group_state self.old) auth.now)
+            (changed_tree H committer path.now o)
+            ≡ Some (record { taken = taken; state = group_state self.new })) }
+        ensures refused { let o = outcome items.now self.old.tree.tree in
+            IfErr result (Refuses (first_failing (outcome_rules (meaning checker.now)
+            (group_state self.old) self.old.required committer path.now o))) }
+        ensures stays { OnErr result (group_state self.new ≡ group_state self.old) }
+    {
+        let transcript = self.transcript(alloc, auth)?;
+        let mut journal = Journal::new(alloc);
+        let suite = self.suite;
+        let tree = &mut self.tree;
+        match change_tree(
+            alloc,
+            suite,
+            tree,
+            &mut journal,
+            &self.hashes,
+            committer,
+            items,
+            path,
+        ) {
+            Ok(hashes) => {
+                let required = &self.required;
+                let context = &self.context;
+                match judge_tree(alloc, suite, context, required, checker, &self.tree, hashes) {
+                    Ok(hashes) => {
+                        self.hashes = hashes.subtrees;
+                        Ok(self.enter(hashes.whole, transcript))
+                    }
+                    Err(refusal) => {
+                        journal.take_back(&mut self.tree);
+                        Err(refusal)
+                    }
+                }
+            }
+            Err(refusal) => {
+                journal.take_back(&mut self.tree);
+                Err(refusal)
+            }
+        }
+    }
+
     /// Takes a commit that a member has sent and signed.
     #[tactic(auto, unfolding(crate::specs::Rules::handshake_refusal, crate::specs::Rules::commit_refusal))]
     fn take_commit(
@@ -74,13 +146,22 @@ impl Group {
             self.old.required auth.now sender (contents.Commit commit.now))) }
         ensures stays { OnErr result (group_state self.new ≡ group_state self.old) }
     {
-        let next = check_commit(alloc, self, checker, sender, commit)?;
-        Ok(self.advance(alloc, auth, next)?)
+        let items = check_items(alloc, self, checker, sender, commit)?;
+        let answer = self.apply_commit(
+            alloc,
+            checker,
+            auth,
+            sender,
+            items.as_slice(),
+            &commit.path,
+        );
+        drop(items);
+        answer
     }
 
     /// Takes a frame: it is accepted where it keeps every rule, and else refused for the first one that it
-    /// fails, or for want of memory. Everything is judged and made beside the state; a refused frame changes
-    /// nothing.
+    /// fails, or for want of memory. A refused frame changes nothing: of what is made for it, the tree alone is
+    /// changed in place, and then taken back.
     fn take_frame(
         &mut self,
         alloc: Global,

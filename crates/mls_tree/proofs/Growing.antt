@@ -62,15 +62,6 @@ module _ (xs : List (Option Node)) (h : ℕ) (deep : h ≢ 0) (ok : IsArrayOf xs
   pub tree_in-take : tree_in (take (2 * half - 1) xs) (h - 1) 0 ≡ tree_in xs (h - 1) 0
   tree_in-take = tree_in-same (take (2 * half - 1) xs) xs (h - 1) 0 (λ p a b. slice_get-take xs (2 * half - 1) p (omega arith))
 
-  -- the left half of the tree, where the right one has no set leaf
-  pub shrink-take : (t : Tree) → tree_in xs h 0 ≡ t → has_set_leaf (tree_in xs (h - 1) half) ≡ false → shrink (tree_in (take (2 * half - 1) xs) (h - 1) 0) ≡ shrink t
-  shrink-take t view none =
-      let up : h ≡ suc (h - 1) = omega arith in
-      let f : has_set_leaf (tree_in xs (h - 1) (0 + leaves_at (h - 1))) ≡ false = ap (λ k. has_set_leaf (tree_in xs (h - 1) k)) (let z : 0 + leaves_at (h - 1) ≡ half = omega arith in z) ∙ none in
-      ap shrink tree_in-take
-      ∙ ap (λ b. if b then branch (tree_in xs (h - 1) 0) (parent_part (slice_get xs (2 * (0 + leaves_at (h - 1)) - 1))) (tree_in xs (h - 1) (0 + leaves_at (h - 1))) else shrink (tree_in xs (h - 1) 0)) (sym f)
-      ∙ ap (λ k. shrink (tree_in xs k 0)) (sym up) ∙ ap shrink view
-
 -- made larger
 pub tree_in-blank : (xs : List (Option Node)) (h first : ℕ)
     → ((p : ℕ) → 2 * first ≤ p → (slice_get xs p ≡ None) ⊎ (slice_get xs p ≡ Some None)) → tree_in xs h first ≡ blank_tree h

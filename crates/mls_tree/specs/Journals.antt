@@ -1,5 +1,4 @@
--- What the changes of a tree have replaced, and the tree before these changes. The names of the two places where a change
--- of the tree's size is told are those of the code.
+-- What the changes of a tree have replaced, and the tree before these changes. An entry of a journal is the code's own.
 use Rattle.std.specs.Prelude.{◌≡◌, nat_lt, if◌then◌else◌, List, [], ◌∷◌, option_map}
 use Rattle.mls_tree.specs.Tree.{Tree, leaf_count}
 use Rattle.mls_tree.specs.Changes.{put_leaf, put_parent, change_parent, without_unmerged, left_half, rejoined}

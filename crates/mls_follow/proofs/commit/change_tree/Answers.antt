@@ -1,0 +1,51 @@
+use Rattle.std.proofs.Common.{ap, inl, inr, sym, subst, Option, Some, Err, ◌∙◌}
+use Rattle.std.proofs.lemmas.Bool.{eqb-true}
+use Rattle.std.proofs.lemmas.List.{nil_from_length}
+use Rattle.std.proofs.lemmas.Result.{err_from_is_err_and}
+use Rattle.mls_hash.specs.Hashing.{hash_of}
+use Rattle.mls_hash.specs.SubtreeHashes.{AreAllHashes}
+use Rattle.mls_apply.specs.Outcome.{Grown, grown}
+use Rattle.mls_apply.specs.Rules.{first_failing}
+use Rattle.mls_follow.specs.Changing.{change_rules}
+use Rattle.mls_follow.specs.Rules.{refusal_of}
+use Rattle.mls_follow.proofs.Committing.{no_outcome}
+use Rattle.mls_follow.proofs.Staying.{committer_stays}
+use Rattle.mls_follow.proofs.Unchanged.{no_proposals}
+use Rattle.mls_follow.proofs.commit.change_tree.Goals as goal
+use Rattle.mls_follow.proofs.commit.change_tree.Goals.{then-is_empty, else-is_empty}
+
+-- the list has no outcome
+pub returns-in_err-added-clause-refused : goal.returns-in_err-added-clause-refused
+returns-in_err-added-clause-refused c =
+    let p = err_from_is_err_and c.from_residual.result c.from_residual.ensures.1 in
+    let failed = ap (λ (o : Option Grown). first_failing (change_rules (hash_of c.args.suite) c.args.committer c.args.path.now o)) in
+    rw (p.1, p.2) (λ not_memory. elim c.in_err-added.ensures.else_memory [
+      | inl n ↦ failed (no_outcome c.args.items.now c.args.tree.now.tree (c.in_err-added.ensures.no_such_leaf (ap Err n))) ∙ ap (λ fault. Some (refusal_of fault)) (sym n)
+      | inr (inl n) ↦ failed ((c.in_err-added.ensures.too_many_leaves (ap Err n)).1) ∙ ap (λ fault. Some (refusal_of fault)) (sym n)
+      | inr (inr n) ↦ absurd (not_memory (ap refusal_of n))
+    ])
+
+-- the committer's leaf stays
+pub merge-requires-clause-member : goal.merge-requires-clause-member
+merge-requires-clause-member c =
+    committer_stays c.args.committer c.args.items.now _ c.args.tree.now.tree _ c.requires.list c.in_ok-added.ensures.applied c.requires.member
+
+-- no proposal leaves the tree, and so its hashes
+pub merge-requires-clause-hashed : goal.merge-requires-clause-hashed
+merge-requires-clause-hashed c =
+    elim c.if-is_empty.branch [
+      | then-is_empty w ↦
+          let none = nil_from_length c.args.items.now (eqb-true _ 0 (sym c.is_empty.ensures ∙ w.if-is_empty.true)) in
+          rw w.kept-is (subst (λ t. AreAllHashes (hash_of c.args.suite) t c.args.hashes.now)
+          (no_proposals c.args.items.now c.args.tree.now.tree (grown c.apply_list_in_place.new.tree.tree c.in_ok-added.added) none c.in_ok-added.ensures.applied) c.requires.hashed)
+      | else-is_empty w ↦ rw w.kept-is tt
+    ]
+
+pub returns-clause-kept : goal.returns-clause-kept
+returns-clause-kept c = rw c.in_ok-added.ensures.applied c.merge.ensures.kept
+
+pub returns-clause-tree : goal.returns-clause-tree
+returns-clause-tree c = rw c.in_ok-added.ensures.applied c.merge.ensures.tree
+
+pub returns-clause-refused : goal.returns-clause-refused
+returns-clause-refused c = rw c.in_ok-added.ensures.applied c.merge.ensures.refused

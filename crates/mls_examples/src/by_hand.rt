@@ -59,8 +59,8 @@ pub(crate) fn info_at(alloc: Global, epoch: u64) -> Result<String, Fail> {
     Ok(format!(in alloc; "00010004{context}2d00022a{TREE}01e00000000001c4")?)
 }
 
-/// A commit: who makes it, the members that it adds, the other proposals of its list, and its path, by the parent hash of
-/// its leaf and by its nodes.
+/// A commit: who makes it, the members that it adds, the other proposals of its list, and its path, by the parent
+/// hash of its leaf and by its nodes.
 #[derive(Clone, Copy)]
 pub(crate) struct Step<'a> {
     pub(crate) committer: u32,
@@ -186,8 +186,8 @@ pub(crate) fn tree_hash_of(
     digest(alloc, input.as_str())
 }
 
-/// The parent hash of a parent with a key of one byte, by its own parent hash as a vector and the tree hash of its child
-/// on the copath.
+/// The parent hash of a parent with a key of one byte, by its own parent hash as a vector and the tree hash of its
+/// child on the copath.
 pub(crate) fn parent_hash_of(
     alloc: Global,
     key: &str,

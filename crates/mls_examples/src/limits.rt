@@ -1,5 +1,5 @@
-//! The limits of a group: the last epoch (RFC 9420, 6.1), and the most members that a tree holds, which is this
-//! library's own limit.
+//! The limits of a group: the last epoch that its 64 bits hold (RFC 9420, 8.1), and the most members that a tree
+//! holds, which is this library's own limit.
 
 use crate::by_hand::{adds_of, commit_of, info_at, vector};
 use crate::follower::{Story, follow};
@@ -32,7 +32,8 @@ fn the_last_two_epochs(rt: HostRuntime) -> Result<(), Fail> {
 /// The most members of a group.
 const MOST: u32 = 1_048_576;
 
-/// A tree with the most leaves, all of them set but for the last ones. A leaf has no keys here, which no list asks for.
+/// A tree with the most leaves, all of them set but for the last ones. A leaf has no keys here, which no list asks
+/// for.
 fn tree_without(alloc: Global, blank: u32) -> Result<PublicTree, Fail> {
     let leaf = bytes(alloc, "00000001000000000000020000")?;
     let mut tree = PublicTree::blank(alloc, MOST)?;
@@ -76,8 +77,8 @@ fn outcome_of(alloc: Global, tree: &PublicTree, list: &str) -> Result<String, Fa
     }
 }
 
-/// What a list that member 0 commits makes of the tree of the most members, without the last ones: a Remove of leaf 5 if
-/// there is to be one, and Adds of these members.
+/// What each list makes of the tree of the most members without the last ones: a Remove or none, and the Adds of some
+/// members.
 fn at_the_limit(alloc: Global, blank: u32, rows: &[(&str, &[u32])]) -> Result<String, Fail> {
     let tree = tree_without(alloc, blank)?;
     let mut all = String::new(alloc);
@@ -90,8 +91,8 @@ fn at_the_limit(alloc: Global, blank: u32, rows: &[(&str, &[u32])]) -> Result<St
     Ok(all)
 }
 
-/// In a full group an Add takes the leaf of a member that the list removes; where there is none, or no second one, the list
-/// is refused.
+/// In a full group an Add takes the leaf of a member that the list removes; where there is none, or no second one,
+/// the list is refused.
 #[test]
 fn a_full_group_adds_whom_it_has_room_for(rt: HostRuntime) -> Result<(), Fail> {
     let remove = "01000300000005";

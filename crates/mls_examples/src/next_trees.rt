@@ -1,6 +1,6 @@
-//! The tree after a commit (RFC 9420, 7.5, 7.7 and 12.4): an Update under another member's path, keys that a commit takes
-//! out of the tree or brings into it, and the order of its proposals. A tree is told by its tree hash, which is worked
-//! out from its nodes (7.8), and by its nodes' keys.
+//! The tree after a commit (RFC 9420, 7.5, 7.7 and 12.4): an Update under another member's path, keys that a commit
+//! takes out of the tree or brings into it, and the order of its proposals. A tree is told by its tree hash, which
+//! is worked out from its nodes (7.8), and by its nodes' keys.
 
 use crate::by_hand::{
     Step, adds_of, commit_of, end_of, follow_all, leaf_hash, parent_hash_of, path_of,
@@ -16,8 +16,8 @@ use std::test::Fail;
 
 // ---- an Update under another member's path
 
-/// The parent hash that the leaf of member 2 carries, and what is written of node 5, which its path sets: key `15`, the
-/// parent hash of node 3, and no unmerged leaves.
+/// The parent hash that the leaf of member 2 carries, and what is written of node 5, which its path sets: key `15`,
+/// the parent hash of node 3, and no unmerged leaves.
 const SECOND_CARRIES: &str = "cf640dd0a5c7292bba46d29ef3c0037109d1139ea532ecf539717221e8daf0a7";
 
 const NODE_5: &str = "01011520\
@@ -27,8 +27,8 @@ const NODE_5: &str = "01011520\
 /// The parent hash that the leaf of member 4 carries.
 const FOURTH_CARRIES: &str = "d2f98716e88c838c897d6d916b8d0f7168289fc62cd68642d0c69f865f3ed195";
 
-/// The parent hash that the leaf of member 6 carries, and what is written of node 13, which its path sets: key `3d`, the
-/// parent hash of node 11, and no unmerged leaves.
+/// The parent hash that the leaf of member 6 carries, and what is written of node 13, which its path sets: key
+/// `3d`, the parent hash of node 11, and no unmerged leaves.
 const SIXTH_CARRIES: &str = "43f98385371615c4f336c269633052a7565c2f863563b8ccaf8c58e7c5d7a61b";
 
 const NODE_13: &str = "01013d20\
@@ -132,8 +132,8 @@ fn hash_after_update(alloc: Global) -> Result<String, Fail> {
     )
 }
 
-/// Member 0's commit of member 5's Update by its reference, with a path of the nodes 1, 3 and 7. Node 7 is encrypted to
-/// leaves 4 and 5 and to node 13, since nodes 11 and 9 are blank by then.
+/// Member 0's commit of member 5's Update by its reference, with a path of the nodes 1, 3 and 7. Node 7 is
+/// encrypted to leaves 4 and 5 and to node 13, since nodes 11 and 9 are blank by then.
 fn update_commit(alloc: Global, reference: &str) -> Result<String, Fail> {
     let [_, _, lower] = path_hashes(alloc)?;
     let leaf = committed_leaf(alloc, 0, lower.as_str())?;
@@ -143,7 +143,7 @@ fn update_commit(alloc: Global, reference: &str) -> Result<String, Fail> {
     commit_of(alloc, 4, 0, list.as_str(), path.as_str())
 }
 
-/// What becomes of so many of the messages: the four commits, member 5's Update, and its commit.
+/// What becomes of member 5's Update and its commit, after the four commits.
 fn after_update(alloc: Global, reference: &str) -> Result<String, Fail> {
     let mut messages = step_messages(alloc, STEPS.as_slice())?;
     let update = format!(in alloc; "0002{}", updated_leaf(alloc, 5)?)?;
@@ -160,7 +160,7 @@ fn before_update(alloc: Global) -> Result<String, Fail> {
     end_of(alloc, story)
 }
 
-/// Nodes 9 and 11 on the direct path of member 5 become blank, node 7 and those below it on member 0's are the path's, and
+/// Of the direct path of member 5 nodes 9 and 11 become blank, and node 7 is the path's. So are nodes 1 and 3;
 /// nodes 5 and 13 stay.
 #[test]
 fn an_update_under_another_members_path(rt: HostRuntime) -> Result<(), Fail> {
@@ -182,8 +182,8 @@ fn leaf_of(alloc: Global, key: &str, parent_hash: &str) -> Result<String, Fail> 
     Ok(format!(in alloc; "01{key}01b00001014002000102000100000200010320{parent_hash}0001c0")?)
 }
 
-/// What becomes of member 0's commit of a list after it added members, with a path by its leaf's key and parent hash, and
-/// its nodes.
+/// What becomes of member 0's commit of a list after it added members, with a path by its leaf's key and parent
+/// hash, and its nodes.
 fn path_outcome(
     alloc: Global,
     members: &[u32],
@@ -206,8 +206,8 @@ fn after_remove(alloc: Global, path: (&str, &str, &str)) -> Result<String, Fail>
     path_outcome(alloc, &[1, 2], "01000300000001", path)
 }
 
-/// The key of member 1, who is removed, may be that of the path's leaf or node; the key of member 2, who stays, may not.
-/// The parent hash of node 3 with key `a1` is the SHA-256 of `01a10020` and the tree hash of node 5.
+/// The key of member 1, who is removed, may be that of the path's leaf or node; the key of member 2, who stays, may
+/// not. The parent hash of node 3 with key `a1` is the SHA-256 of `01a10020` and the tree hash of node 5.
 #[test]
 fn a_path_may_take_a_removed_members_key(rt: HostRuntime) -> Result<(), Fail> {
     let over = "18eca79b2809b3655d04ab9b166663358f0e2fe1956145e240aafa4f2dc1afb6";

@@ -1,6 +1,6 @@
-//! Which rule a refused message fails first, where it fails several (RFC 9420, 6.1, 12.2 and 12.4.2): the proposals that
-//! a commit has in itself, and pairs of rules of which both fail. Stories begin in the group of member 0 alone, or in
-//! that of members 0 and 1 after its first commit.
+//! Which rule a refused message fails first, where it fails several (RFC 9420, 6.1, 12.2 and 12.4.2): the proposals
+//! that a commit has in itself, and pairs of rules of which both fail. Stories begin in the group of member 0
+//! alone, or in that of members 0 and 1 after its first commit.
 
 use crate::by_hand::{commit_of, info_at, path_of};
 use crate::follower::{Story, first_answer, follow, last_answer};
@@ -11,8 +11,8 @@ use crate::support::{
 use std::alloc::Global;
 use std::test::Fail;
 
-/// The Add of member 1 in a commit's list, and the same of another cipher suite, of another version, with the leaf's key
-/// as init key, and of a leaf from an update.
+/// The Add of member 1 in a commit's list, and the same of another cipher suite, of another version, with the
+/// leaf's key as init key, and of a leaf from an update.
 const ADD: &str = "01000100010001\
     01f101a101b1000101410200010200010000020001010000000000000000ffffffffffffffff0001c10001c9";
 
@@ -67,8 +67,8 @@ fn proposals_in_a_commit_are_judged(rt: HostRuntime) -> Result<(), Fail> {
     expect_texts(&rt, rt.alloc(), inline_answer, &rows)
 }
 
-/// The receipts of the group info, and of the frames of the commits that add member 1 and that update member 0: of suite
-/// 1, key `b0`, what is signed, and signature `c4` or `c6`.
+/// The receipts of the group info, and of the frames of the commits that add member 1 and that update member 0: of
+/// suite 1, key `b0`, what is signed, and signature `c4` or `c6`.
 const SIGNED_FRAMES: &str = "584cca8421eb79fc5ddfb3f6cc7af53016bdb08bef17bdfff9609d6ae9071284\n\
     0939527601c7577dc86330ea0053695d9489265abf7217188f12db7d2f1e6adf\n\
     0f3f2213880c1262945499153b75b1909b9f5d69f5954a76e5448c30260090fc";
@@ -104,15 +104,16 @@ fn proposals_in_a_commit_are_signed(rt: HostRuntime) -> Result<(), Fail> {
 
 // ---- frames
 
-/// The answer to a message in the first epoch, under receipts of the first leaf and the group info alone.
+/// The answer to a message in the first epoch, under receipts of the first leaf and the group info, and none of its
+/// own.
 fn unsigned_answer(alloc: Global, message: &str) -> Result<String, Fail> {
     let receipts = format!(in alloc; "{RECEIPT}\n{SIGNED_FRAMES}\n")?;
     let Story { last, .. } = follow(alloc, Some(receipts.as_str()), GROUP_INFO, &[message])?;
     Ok(last)
 }
 
-/// In the first six messages, one rule after the other is kept, and all further ones fail: another wire format, group,
-/// epoch, sender, content, signature. Then pairs of these.
+/// In the first six messages, one rule after the other is kept, and all further ones fail: another wire format,
+/// group, epoch, sender, content, signature. Then pairs of these.
 #[test]
 fn rules_for_frames_are_asked_in_order(rt: HostRuntime) -> Result<(), Fail> {
     let rows = [
@@ -189,8 +190,8 @@ fn list_answer(alloc: Global, proposals: &[&str]) -> Result<String, Fail> {
     last_answer(alloc, GROUP_INFO, &[PROPOSAL, COMMIT, message.as_str()])
 }
 
-/// A reference that isn't known, before or behind an Add that isn't valid; proposals of which the last is the first to be
-/// judged; and lists that fail several rules.
+/// A reference that isn't known, before or behind an Add that isn't valid; proposals of which the last is the first
+/// to be judged; and lists that fail several rules.
 #[test]
 fn rules_for_lists_are_asked_in_order(rt: HostRuntime) -> Result<(), Fail> {
     let rows = [
@@ -241,8 +242,8 @@ fn path_answer(alloc: Global, parts: (&str, &str, &str, &str)) -> Result<String,
     last_answer(alloc, GROUP_INFO, &[PROPOSAL, COMMIT, message.as_str()])
 }
 
-/// Two nodes in place of one, a leaf from an update, the key of the present leaf, two ciphertexts in place of one, another
-/// parent hash, and lists that fail a rule before and behind these.
+/// Two nodes in place of one, a leaf from an update, the key of the present leaf, two ciphertexts in place of one,
+/// another parent hash, and lists that fail a rule before and behind these.
 #[test]
 fn rules_for_paths_are_asked_in_order(rt: HostRuntime) -> Result<(), Fail> {
     let right = "03207e534e72295b2ed4520a7628873779052cbc9788fb7a2927ad4234fd78396990";
@@ -301,8 +302,8 @@ fn message_answer(alloc: Global, parts: (&str, &str)) -> Result<String, Fail> {
     first_answer(alloc, message.as_str())
 }
 
-/// A private message, a Welcome, whose bodies aren't read, a group info and a key package, whose bodies are; and a wire
-/// format that there isn't.
+/// A private message, a Welcome, whose bodies aren't read, a group info and a key package, whose bodies are; and a
+/// wire format that there isn't.
 #[test]
 fn other_messages_are_not_public(rt: HostRuntime) -> Result<(), Fail> {
     let info = GROUP_INFO.get(8..).ok_or("a group info")?;

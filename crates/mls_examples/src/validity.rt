@@ -1,6 +1,6 @@
-//! A group that grows from one member to 16, loses two and shrinks on the way: after each commit its tree is the one
-//! that RFC 9420 makes (7.5, 7.7 and 12.1), and both validators say yes to it, as `crate::follower` asks them after each
-//! accepted message.
+//! A group that grows from one member to 16, loses two and shrinks on the way: after each commit its tree is the
+//! one that RFC 9420 makes (7.5, 7.7 and 12.1), and both validators say yes to it, as `crate::follower` asks them
+//! after each accepted message.
 
 use crate::by_hand::{Step, end_of, follow_all, step_messages};
 use crate::support::expect_texts;
@@ -8,18 +8,19 @@ use std::alloc::Global;
 use std::test::Fail;
 
 /// Member 0 adds three members. Member 1 commits nothing, with a path of the nodes 1 and 3. Member 0 adds a fifth
-/// member, for whom the tree grows to eight leaves. Member 2 removes member 3, with a path of the nodes 3 and 7, since
-/// node 5 is above no other member. Member 0 removes member 4, whereupon the tree shrinks to four leaves, with a path of
-/// the nodes 1 and 3. Then it adds 13 members, of whom the first takes the leaf that member 3 had, under node 3.
+/// member, for whom the tree grows to eight leaves. Member 2 removes member 3, with a path of the nodes 3 and 7,
+/// since node 5 is above no other member. Member 0 removes member 4, whereupon the tree shrinks to four leaves,
+/// with a path of the nodes 1 and 3. Then it adds 13 members, of whom the first takes the leaf that member 3 had,
+/// under node 3.
 ///
 /// The parent hash in a path's leaf is, by its nodes from above (7.9):
 ///
-/// 1. of node 3 the SHA-256 of `01d30020` and the tree hash of node 5, and of node 1 that of `01d120`, the former, `20`
-///    and the tree hash of leaf 0;
-/// 2. of node 7 that of `01d70020` and the tree hash of node 11, and of node 3 that of `01d520`, the former, `20` and the
-///    tree hash of node 1;
-/// 3. of node 3 that of `01da0020` and the tree hash of node 5, and of node 1 that of `01d920`, the former, `20` and the
-///    tree hash of leaf 1.
+/// 1. of node 3 the SHA-256 of `01d30020` and the tree hash of node 5, and of node 1 that of `01d120`, the former,
+///    `20` and the tree hash of leaf 0;
+/// 2. of node 7 that of `01d70020` and the tree hash of node 11, and of node 3 that of `01d520`, the former, `20`
+///    and the tree hash of node 1;
+/// 3. of node 3 that of `01da0020` and the tree hash of node 5, and of node 1 that of `01d920`, the former, `20`
+///    and the tree hash of leaf 1.
 const STEPS: [Step<'static>; 6] = [
     Step {
         committer: 0,

@@ -40,13 +40,13 @@ fn updated(alloc: Global, member: u32) -> Result<String, Fail> {
 /// Only leaf 1 is not covered; leaf 3 is none of node 3's list; without leaf 2 there is no chain.
 #[test]
 fn a_committer_on_the_right(rt: HostRuntime) -> Result<(), Fail> {
-    let members = [
+    const MEMBERS: &[(u32, &str)] = &[
         (1, "valid"),
         (0, "ParentHashInvalid(3)"),
         (2, "ParentHashInvalid(3)"),
         (3, "ParentHashInvalid(3)"),
     ];
-    expect_texts(&rt, rt.alloc(), updated, &members)
+    expect_texts(&rt, rt.alloc(), updated, MEMBERS)
 }
 
 /// What is found of it where node 3 has another list.
@@ -58,8 +58,8 @@ fn listing(alloc: Global, unmerged: &[u32]) -> Result<String, Fail> {
 
 #[test]
 fn lists_on_the_left(rt: HostRuntime) -> Result<(), Fail> {
-    let lists = [
-        ([1].as_slice(), "valid"),
+    const LISTS: &[(&[u32], &str)] = &[
+        (&[1], "valid"),
         (&[], "ParentHashInvalid(3)"),
         (&[0], "ParentHashInvalid(3)"),
         (&[0, 1], "ParentHashInvalid(3)"),
@@ -67,7 +67,7 @@ fn lists_on_the_left(rt: HostRuntime) -> Result<(), Fail> {
         (&[1, 3], "UnmergedUnsound(3)"),
         (&[1, 1], "UnmergedUnsorted(3)"),
     ];
-    expect_texts(&rt, rt.alloc(), listing, &lists)
+    expect_texts(&rt, rt.alloc(), listing, LISTS)
 }
 
 /// What is found of four leaves, of which leaf 3 carries a parent hash, under nodes 3 and 5, of which node 5 carries one.
@@ -94,12 +94,12 @@ fn unlinked(alloc: Global, of_node: &str) -> Result<String, Fail> {
 /// Both are reached; node 5 alone; neither, although node 5 carries the hash of node 3, since no leaf carries that of node 5.
 #[test]
 fn chains_through_a_parent(rt: HostRuntime) -> Result<(), Fail> {
-    let hashes = [
+    const HASHES: &[((&str, &str), &str)] = &[
         ((OVER_THIRD, OVER_TWO), "valid"),
         ((OVER_TWO, OVER_TWO), "ParentHashInvalid(3)"),
         ((OVER_THIRD, OVER_ONE), "ParentHashInvalid(3)"),
     ];
-    expect_texts(&rt, rt.alloc(), linked, &hashes)?;
+    expect_texts(&rt, rt.alloc(), linked, HASHES)?;
     expect_texts(
         &rt,
         rt.alloc(),

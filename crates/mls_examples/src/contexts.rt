@@ -25,8 +25,8 @@ fn context_of(alloc: Global, input: &[u8]) -> Result<Vec<u8>, CodecFault> {
 
 #[test]
 fn contexts_are_read_and_written(rt: HostRuntime) -> Result<(), Fail> {
-    let contexts = [(CONTEXT, CONTEXT), (EPOCH_7, EPOCH_7)];
-    expect_answers(&rt, rt.alloc(), context_of, &contexts)
+    const CONTEXTS: &[(&str, &str)] = &[(CONTEXT, CONTEXT), (EPOCH_7, EPOCH_7)];
+    expect_answers(&rt, rt.alloc(), context_of, CONTEXTS)
 }
 
 /// The context at the front, and the extensions behind it, written.
@@ -62,8 +62,8 @@ fn extension_of(alloc: Global, kind: u16) -> Result<String, Fail> {
 
 #[test]
 fn extensions_by_their_types(rt: HostRuntime) -> Result<(), Fail> {
-    let kinds = [(7, "aa"), (3, "bb"), (5, "-")];
-    expect_texts(&rt, rt.alloc(), extension_of, &kinds)
+    const KINDS: &[(u16, &str)] = &[(7, "aa"), (3, "bb"), (5, "-")];
+    expect_texts(&rt, rt.alloc(), extension_of, KINDS)
 }
 
 /// What a context requires, copied and written, or why that can't be read.
@@ -80,7 +80,7 @@ fn required_of(alloc: Global, input: &[u8]) -> Result<Vec<u8>, CodecFault> {
 /// No extension of type 3, one of another type, one with a truncated body, one, and two of which the first counts.
 #[test]
 fn requirements_are_those_of_the_first_extension(rt: HostRuntime) -> Result<(), Fail> {
-    let contexts = [
+    const CONTEXTS: &[(&str, &str)] = &[
         ("000100010147000000000000000701aa0000", "000000"),
         ("000100010147000000000000000701aa000400010100", "000000"),
         (
@@ -96,5 +96,5 @@ fn requirements_are_those_of_the_first_extension(rt: HostRuntime) -> Result<(), 
             "0000020002",
         ),
     ];
-    expect_answers(&rt, rt.alloc(), required_of, &contexts)
+    expect_answers(&rt, rt.alloc(), required_of, CONTEXTS)
 }

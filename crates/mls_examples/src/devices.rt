@@ -81,14 +81,14 @@ fn pulled(alloc: Global, error: ErrorKind) -> Result<String, Fail> {
 
 #[test]
 fn sources_fail_at_any_error(rt: HostRuntime) -> Result<(), Fail> {
-    let wanted = "1 false, 1 false, fault true, fault true, fault true, ";
-    let errors = [
-        (ErrorKind::Interrupted, wanted),
-        (ErrorKind::WouldBlock, wanted),
-        (ErrorKind::UnexpectedEof, wanted),
-        (ErrorKind::OutOfMemory, wanted),
+    const WANTED: &str = "1 false, 1 false, fault true, fault true, fault true, ";
+    const ERRORS: &[(ErrorKind, &str)] = &[
+        (ErrorKind::Interrupted, WANTED),
+        (ErrorKind::WouldBlock, WANTED),
+        (ErrorKind::UnexpectedEof, WANTED),
+        (ErrorKind::OutOfMemory, WANTED),
     ];
-    expect_texts(&rt, rt.alloc(), pulled, &errors)
+    expect_texts(&rt, rt.alloc(), pulled, ERRORS)
 }
 
 /// What five calls of a sink answer, over a writer whose third one fails so, or takes nothing.
@@ -108,14 +108,14 @@ fn pushed(alloc: Global, error: Option<ErrorKind>) -> Result<String, Fail> {
 
 #[test]
 fn sinks_fail_at_any_error(rt: HostRuntime) -> Result<(), Fail> {
-    let wanted = "1 false, 1 false, fault true, fault true, fault true, ";
-    let errors = [
-        (Some(ErrorKind::Interrupted), wanted),
-        (Some(ErrorKind::WouldBlock), wanted),
-        (Some(ErrorKind::BrokenPipe), wanted),
-        (None, wanted),
+    const WANTED: &str = "1 false, 1 false, fault true, fault true, fault true, ";
+    const ERRORS: &[(Option<ErrorKind>, &str)] = &[
+        (Some(ErrorKind::Interrupted), WANTED),
+        (Some(ErrorKind::WouldBlock), WANTED),
+        (Some(ErrorKind::BrokenPipe), WANTED),
+        (None, WANTED),
     ];
-    expect_texts(&rt, rt.alloc(), pushed, &errors)
+    expect_texts(&rt, rt.alloc(), pushed, ERRORS)
 }
 
 /// What a sink answers to no bytes, over a writer that takes none.
@@ -130,8 +130,8 @@ fn pushed_nothing(alloc: Global, bytes: &[u8]) -> Result<String, Fail> {
 
 #[test]
 fn nothing_of_nothing_is_taken(rt: HostRuntime) -> Result<(), Fail> {
-    let rows = [(&b""[..], "0 false"), (&b"m"[..], "fault true")];
-    expect_texts(&rt, rt.alloc(), pushed_nothing, &rows)
+    const ROWS: &[(&[u8], &str)] = &[(b"", "0 false"), (b"m", "fault true")];
+    expect_texts(&rt, rt.alloc(), pushed_nothing, ROWS)
 }
 
 /// How a report ends over a reader and a writer that fail after so many calls.
@@ -161,12 +161,12 @@ fn shown(alloc: Global, good_calls: (u32, u32)) -> Result<String, Fail> {
 
 #[test]
 fn reports_over_what_fails(rt: HostRuntime) -> Result<(), Fail> {
-    let calls = [
+    const CALLS: &[((u32, u32), &str)] = &[
         ((0, 1_000), "read"),
         ((20, 1_000), "read"),
         ((1_000, 0), "write"),
         ((1_000, 20), "write"),
         ((1_000, 999), "written"),
     ];
-    expect_texts(&rt, rt.alloc(), shown, &calls)
+    expect_texts(&rt, rt.alloc(), shown, CALLS)
 }

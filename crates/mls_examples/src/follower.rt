@@ -6,8 +6,8 @@
 //! After each accepted message both validators have to say yes to the follower's tree.
 
 use crate::support::{
-    COMMIT, GROUP_INFO, KEY_PACKAGE, PROPOSAL, RECEIPT, bytes, expect_text, expect_texts, text,
-    tree_of, tree_text,
+    COMMIT, GROUP_INFO, KEY_PACKAGE, PROPOSAL, RECEIPT, bytes, expect_texts, text, tree_of,
+    tree_text,
 };
 use mls_apply::KnownProposal;
 use mls_check::{Listed, SignatureCheck, Trusting, validate_members, validate_tree};
@@ -26,8 +26,10 @@ const FIRST_STATE: &str =
     71d8f110d70000 29010101a001b0000101400200010200010000020001010000000000000000ffffffffffffffff0001c0 5099699\
     9ff63a9a1a07da880af8f8c745a7fe72cec8ba33615464813b41b14b3 -";
 
-/// The receipt of the group info's signature: of suite 1, key `b0`, what is signed, and signature `c4`.
-const INFO_RECEIPT: &str = "584cca8421eb79fc5ddfb3f6cc7af53016bdb08bef17bdfff9609d6ae9071284";
+/// The receipts of the leaf's signature and of the group info's: of suite 1, key `b0`, what is signed, and signature
+/// `c4`.
+const BOTH_RECEIPTS: &str = "bd6f8df8dcd01852d1c0a3e53b39dcb3bb86dda462a62c39b9582a3907fe4c36\n\
+    584cca8421eb79fc5ddfb3f6cc7af53016bdb08bef17bdfff9609d6ae9071284\n";
 
 /// The group info of a text.
 fn info_of(alloc: Global, info: &str) -> Result<GroupInfo, Fail> {
@@ -161,40 +163,50 @@ impl Story {
     }
 }
 
-/// What a follower answers that starts from a group info and is told of good signatures by receipts; with none it
-/// takes each as good.
+/// A follower that starts from a group info and is told of good signatures by receipts; with none it takes each as good.
+fn started(alloc: Global, receipts: Option<&str>, info: &str) -> Result<Follower, Fail> {
+    let checker: Box<dyn SignatureCheck> = match receipts {
+        Some(receipts) => Box::new(alloc, listed(alloc, receipts)?)?,
+        None => Box::new(alloc, Trusting)?,
+    };
+    let info = info_of(alloc, info)?;
+    match Follower::start(alloc, info, None, checker) {
+        Ok(follower) => Ok(follower),
+        Err(refused) => {
+            drop(refused);
+            Err(Fail::from("a start"))
+        }
+    }
+}
+
+/// What it answers to messages.
+fn story_of(alloc: Global, follower: &mut Follower, messages: &[&str]) -> Result<Story, Fail> {
+    let mut story = Story {
+        answers: String::new(alloc),
+        last: String::new(alloc),
+        state: state_text(alloc, follower)?,
+    };
+    for message in messages {
+        let message = bytes(alloc, message)?;
+        let taken = follower.take(message.as_slice());
+        let answer = answer_text(alloc, follower, &Trusting, story.state.as_str(), taken)?;
+        let state = state_text(alloc, follower)?;
+        story.go_on(answer, state)?;
+    }
+    Ok(story)
+}
+
+/// What a follower answers that starts so.
 pub(crate) fn follow(
     alloc: Global,
     receipts: Option<&str>,
     info: &str,
     messages: &[&str],
 ) -> Result<Story, Fail> {
-    let info = info_of(alloc, info)?;
-    let checker: Box<dyn SignatureCheck> = match receipts {
-        Some(receipts) => Box::new(alloc, listed(alloc, receipts)?)?,
-        None => Box::new(alloc, Trusting)?,
-    };
-    let mut follower = match Follower::start(alloc, info, None, checker) {
-        Ok(follower) => follower,
-        Err(refused) => {
-            drop(refused);
-            return Err(Fail::from("a start"));
-        }
-    };
-    let mut story = Story {
-        answers: String::new(alloc),
-        last: String::new(alloc),
-        state: state_text(alloc, &follower)?,
-    };
-    for message in messages {
-        let message = bytes(alloc, message)?;
-        let taken = follower.take(message.as_slice());
-        let answer = answer_text(alloc, &follower, &Trusting, story.state.as_str(), taken)?;
-        let state = state_text(alloc, &follower)?;
-        story.go_on(answer, state)?;
-    }
+    let mut follower = started(alloc, receipts, info)?;
+    let story = story_of(alloc, &mut follower, messages);
     drop(follower);
-    Ok(story)
+    story
 }
 
 /// The answers, where the group is followed from this group info on.
@@ -250,8 +262,8 @@ fn start_text(alloc: Global, answer: Result<Follower, StartRefused>) -> Result<S
 
 /// What comes of a start from a group info, without a tree, that takes each signature as good.
 fn trusting_start(alloc: Global, info: &str) -> Result<String, Fail> {
-    let info = info_of(alloc, info)?;
     let checker = Box::new(alloc, Trusting)?;
+    let info = info_of(alloc, info)?;
     start_text(alloc, Follower::start(alloc, info, None, checker))
 }
 
@@ -275,29 +287,28 @@ fn changed_start(
 
 #[test]
 fn starts(rt: HostRuntime) -> Result<(), Fail> {
-    expect_text(&rt, trusting_start(rt.alloc(), GROUP_INFO)?, FIRST_STATE);
-    let hash = "e32ab6a0a711ec8a732c3fad9263ed5fa61caf53fdf9b9690dc57271d8f110d7";
-    let other = "e32ab6a0a711ec8a732c3fad9263ed5fa61caf53fdf9b9690dc57271d8f110d6";
-    let tree =
+    const HASH: &str = "e32ab6a0a711ec8a732c3fad9263ed5fa61caf53fdf9b9690dc57271d8f110d7";
+    const OTHER: &str = "e32ab6a0a711ec8a732c3fad9263ed5fa61caf53fdf9b9690dc57271d8f110d6";
+    const OWN: &str =
         "2d00022a29010101a001b0000101400200010200010000020001010000000000000000ffffffffffffffff0001c0";
-    let faults = [
+    const FAULTS: &[((&str, &str, &str, &str, &str, &str), &str)] = &[
         (
-            ("0002", "0004", hash, "00", "00", "00000001"),
+            ("0002", "0004", HASH, "00", "00", "00000001"),
             "1 UnsupportedVersion",
         ),
         (
-            ("0001", "0004", hash, "00", "00", "00000001"),
+            ("0001", "0004", HASH, "00", "00", "00000001"),
             "2 UnsupportedSuite",
         ),
         (
-            ("0001", "0001", other, "0400030100", "00", "00000001"),
+            ("0001", "0001", OTHER, "0400030100", "00", "00000001"),
             "3 NoTree",
         ),
         (
             (
                 "0001",
                 "0001",
-                other,
+                OTHER,
                 "0400030100",
                 "0400020100",
                 "00000001",
@@ -305,114 +316,118 @@ fn starts(rt: HostRuntime) -> Result<(), Fail> {
             "3 NoTree",
         ),
         (
-            ("0001", "0001", other, "0400030100", tree, "00000001"),
+            ("0001", "0001", OTHER, "0400030100", OWN, "00000001"),
             "4 RequirementsUnreadable",
         ),
         (
-            (
-                "0001",
-                "0001",
-                other,
-                "080003050000020002",
-                tree,
-                "00000001",
-            ),
+            ("0001", "0001", OTHER, "080003050000020002", OWN, "00000001"),
             "5 Tree(HashDiffers)",
         ),
         (
-            ("0001", "0001", hash, "080003050000020002", tree, "00000001"),
+            ("0001", "0001", HASH, "080003050000020002", OWN, "00000001"),
             "6 Member(RequirementUnmet(0))",
         ),
         (
-            ("0001", "0001", hash, "080003050000020001", tree, "00000001"),
+            ("0001", "0001", HASH, "080003050000020001", OWN, "00000001"),
             "7 SignerNotMember",
         ),
     ];
-    expect_texts(&rt, rt.alloc(), changed_start, &faults)
+    expect_texts(
+        &rt,
+        rt.alloc(),
+        trusting_start,
+        &[(GROUP_INFO, FIRST_STATE)],
+    )?;
+    expect_texts(&rt, rt.alloc(), changed_start, FAULTS)
+}
+
+/// What comes of a start with what a refused one handed back, behind its fault.
+fn again(alloc: Global, refused: StartRefused) -> Result<String, Fail> {
+    let fault = refused.fault;
+    let again = Follower::start(alloc, refused.info, refused.tree, refused.checker);
+    let again = start_text(alloc, again)?;
+    Ok(format!(in alloc; "{} {fault:?}, again {again}", fault.number())?)
 }
 
 /// What comes of a start under receipts, and of another one with what was handed back.
 fn listed_start(alloc: Global, receipts: &str) -> Result<String, Fail> {
-    let info = info_of(alloc, GROUP_INFO)?;
     let checker = Box::new(alloc, listed(alloc, receipts)?)?;
+    let info = info_of(alloc, GROUP_INFO)?;
     match Follower::start(alloc, info, None, checker) {
         Ok(follower) => start_text(alloc, Ok(follower)),
-        Err(refused) => {
-            let fault = refused.fault;
-            let again = Follower::start(alloc, refused.info, refused.tree, refused.checker);
-            let again = start_text(alloc, again)?;
-            Ok(format!(in alloc; "{} {fault:?}, again {again}", fault.number())?)
-        }
+        Err(refused) => again(alloc, refused),
     }
 }
 
 #[test]
 fn starts_under_receipts(rt: HostRuntime) -> Result<(), Fail> {
-    let rows = [
+    const ROWS: &[(&str, &str)] = &[
         (
             "",
             "6 Member(LeafSignature(0)), again 6 Member(LeafSignature(0))",
         ),
         (RECEIPT, "8 InfoSignature, again 8 InfoSignature"),
+        (BOTH_RECEIPTS, FIRST_STATE),
     ];
-    expect_texts(&rt, rt.alloc(), listed_start, &rows)?;
-    let both = format!(in rt.alloc(); "{RECEIPT}\n{INFO_RECEIPT}\n")?;
-    expect_text(&rt, listed_start(rt.alloc(), both.as_str())?, FIRST_STATE);
-    Ok(())
+    expect_texts(&rt, rt.alloc(), listed_start, ROWS)
 }
 
 /// What comes of a start with a tree of these leaves that is handed in, beside the one in the info.
 fn handed_start(alloc: Global, leaves: (u32, &[u32])) -> Result<String, Fail> {
-    let info = info_of(alloc, GROUP_INFO)?;
-    let tree = tree_of(alloc, leaves.0, leaves.1)?;
     let checker = Box::new(alloc, Trusting)?;
+    let tree = tree_of(alloc, leaves.0, leaves.1)?;
+    let info = info_of(alloc, GROUP_INFO)?;
     start_text(alloc, Follower::start(alloc, info, Some(tree), checker))
 }
 
 #[test]
 fn starts_with_a_tree(rt: HostRuntime) -> Result<(), Fail> {
-    let rows = [
-        ((1, [0].as_slice()), FIRST_STATE),
+    const ROWS: &[((u32, &[u32]), &str)] = &[
+        ((1, &[0]), FIRST_STATE),
         ((2, &[0, 1]), "5 Tree(HashDiffers)"),
     ];
-    expect_texts(&rt, rt.alloc(), handed_start, &rows)
+    expect_texts(&rt, rt.alloc(), handed_start, ROWS)
 }
 
 // ---- messages
 
+/// The answers to messages in the example group, and the state after them.
+fn told(alloc: Global, messages: &[&str]) -> Result<String, Fail> {
+    let Story { answers, state, .. } = follow(alloc, None, GROUP_INFO, messages)?;
+    Ok(format!(in alloc; "{answers}{state}")?)
+}
+
 #[test]
 fn a_proposal_and_its_commit(rt: HostRuntime) -> Result<(), Fail> {
-    let first = "proposal 419afc0a88fe171b793b00410d11c8121fb96fdfde7b5ced43d5912144a3a9f9; ";
-    let state =
-        "0001000101470000000000000001203dd545ada09b9e9be453de8b5c20702e810685eca3710882583a67d8\
-        a3eddd8b203b3fe4cf185f12883575d4bc9a402561feafe917dc05379ecd9f3f0abe6607e500 4053010101a001b000\
-        0101400200010200010000020001010000000000000000ffffffffffffffff0001c000010101a101b10001014102000\
-        10200010000020001010000000000000000ffffffffffffffff0001c1 b88836177897aa5df5354114a8055a4346e88\
-        32a90fb063a197226ffacae36cf -";
-    let wanted = format!(in rt.alloc();
-        "{first}8 AlreadyKnown; 8 AlreadyKnown; commit 1; 4 WrongEpoch; {state}"
-    )?;
-    let retagged =
-        "00010001014700000000000000000100000000000200010001000101f101a101b1000101410200010\
-        200010000020001010000000000000000ffffffffffffffff0001c10001c901c801c6";
-    let messages = [PROPOSAL, PROPOSAL, retagged, COMMIT, COMMIT];
-    let Story { answers, state, .. } = follow(rt.alloc(), None, GROUP_INFO, &messages)?;
-    let found = format!(in rt.alloc(); "{answers}{state}")?;
-    expect_text(&rt, found, wanted.as_str());
-    Ok(())
+    const RETAGGED: &str =
+        "00010001014700000000000000000100000000000200010001000101f101a101b1000101410200010200010000\
+        020001010000000000000000ffffffffffffffff0001c10001c901c801c6";
+    const WANTED: &str =
+        "proposal 419afc0a88fe171b793b00410d11c8121fb96fdfde7b5ced43d5912144a3a9f9; \
+        8 AlreadyKnown; 8 AlreadyKnown; commit 1; 4 WrongEpoch; \
+        0001000101470000000000000001203dd545ada09b9e9be453de8b5c20702e810685eca3710882583a67d8a3ed\
+        dd8b203b3fe4cf185f12883575d4bc9a402561feafe917dc05379ecd9f3f0abe6607e500 4053010101a001b000010140020\
+        0010200010000020001010000000000000000ffffffffffffffff0001c000010101a101b1000101410200010200010000020\
+        001010000000000000000ffffffffffffffff0001c1 b88836177897aa5df5354114a8055a4346e8832a90fb063a197226ff\
+        acae36cf -";
+    const ROWS: &[(&[&str], &str)] = &[(&[PROPOSAL, PROPOSAL, RETAGGED, COMMIT, COMMIT], WANTED)];
+    expect_texts(&rt, rt.alloc(), told, ROWS)
+}
+
+/// The answers to the proposal, its commit and another message.
+fn answers_with(alloc: Global, message: &str) -> Result<String, Fail> {
+    answers(alloc, GROUP_INFO, &[PROPOSAL, COMMIT, message])
 }
 
 #[test]
 fn a_reference_is_of_its_epoch(rt: HostRuntime) -> Result<(), Fail> {
-    let later =
-        "000100010147000000000000000101000000000003220220419afc0a88fe171b793b00410d11c8121fb96f\
-        dfde7b5ced43d5912144a3a9f90001c601e101c5";
-    let wanted =
+    const LATER: &str =
+        "000100010147000000000000000101000000000003220220419afc0a88fe171b793b00410d11c8121fb96fdfde\
+        7b5ced43d5912144a3a9f90001c601e101c5";
+    const WANTED: &str =
         "proposal 419afc0a88fe171b793b00410d11c8121fb96fdfde7b5ced43d5912144a3a9f9; commit 1; \
         13 UnknownReference; ";
-    let found = answers(rt.alloc(), GROUP_INFO, &[PROPOSAL, COMMIT, later])?;
-    expect_text(&rt, found, wanted);
-    Ok(())
+    expect_texts(&rt, rt.alloc(), answers_with, &[(LATER, WANTED)])
 }
 
 /// The answer to a frame by what stands before its sender, its sender, and what follows its empty data.
@@ -424,53 +439,58 @@ fn frame_answer(alloc: Global, parts: (&str, &str, &str)) -> Result<String, Fail
 
 #[test]
 fn frames(rt: HostRuntime) -> Result<(), Fail> {
-    let here = "0001000101470000000000000000";
-    let added = format!(in rt.alloc(); "020001{KEY_PACKAGE}01c8")?;
-    let added = added.as_str();
-    let tagged = format!(in rt.alloc(); "{added}01c7")?;
-    let tagged = tagged.as_str();
-    let short = format!(in rt.alloc(); "{added}01")?;
-    let unknown = format!(in rt.alloc(); "020004{KEY_PACKAGE}01c801c7")?;
-    let rows = [
+    const HERE: &str = "0001000101470000000000000000";
+    const ADDED: &str =
+        "0200010001000101f101a101b1000101410200010200010000020001010000000000000000ffffffffffffffff\
+        0001c10001c901c8";
+    const TAGGED: &str =
+        "0200010001000101f101a101b1000101410200010200010000020001010000000000000000ffffffffffffffff\
+        0001c10001c901c801c7";
+    const SHORT: &str =
+        "0200010001000101f101a101b1000101410200010200010000020001010000000000000000ffffffffffffffff\
+        0001c10001c901c801";
+    const UNKNOWN: &str =
+        "0200040001000101f101a101b1000101410200010200010000020001010000000000000000ffffffffffffffff\
+        0001c10001c901c801c7";
+    const ROWS: &[((&str, &str, &str), &str)] = &[
         (
-            ("0001000201470000000000000000", "0100000000", tagged),
+            ("0001000201470000000000000000", "0100000000", TAGGED),
             "2 NotPublic",
         ),
         (
-            ("0001000101480000000000000009", "0100000000", tagged),
+            ("0001000101480000000000000009", "0100000000", TAGGED),
             "3 WrongGroup",
         ),
         (
-            ("0001000101470000000000000009", "0100000000", tagged),
+            ("0001000101470000000000000009", "0100000000", TAGGED),
             "4 WrongEpoch",
         ),
-        ((here, "0100000007", tagged), "5 SenderNotMember"),
-        ((here, "0200000000", added), "5 SenderNotMember"),
-        ((here, "03", added), "5 SenderNotMember"),
-        ((here, "04", "03000001c601e1"), "5 SenderNotMember"),
-        ((here, "0100000000", "0101aa01c801c7"), "6 NotHandshake"),
-        ((here, "0100000000", short.as_str()), "1 Malformed"),
-        ((here, "0100000000", unknown.as_str()), "1 Malformed"),
-        ((here, "0200000000", tagged), "1 Malformed"),
+        ((HERE, "0100000007", TAGGED), "5 SenderNotMember"),
+        ((HERE, "0200000000", ADDED), "5 SenderNotMember"),
+        ((HERE, "03", ADDED), "5 SenderNotMember"),
+        ((HERE, "04", "03000001c601e1"), "5 SenderNotMember"),
+        ((HERE, "0100000000", "0101aa01c801c7"), "6 NotHandshake"),
+        ((HERE, "0100000000", SHORT), "1 Malformed"),
+        ((HERE, "0100000000", UNKNOWN), "1 Malformed"),
+        ((HERE, "0200000000", TAGGED), "1 Malformed"),
     ];
-    expect_texts(&rt, rt.alloc(), frame_answer, &rows)
+    expect_texts(&rt, rt.alloc(), frame_answer, ROWS)
 }
 
 /// The answer to a proposal under receipts of the first leaf and the group info alone.
 fn unsigned_answer(alloc: Global, message: &str) -> Result<String, Fail> {
-    let receipts = format!(in alloc; "{RECEIPT}\n{INFO_RECEIPT}\n")?;
-    let Story { last, .. } = follow(alloc, Some(receipts.as_str()), GROUP_INFO, &[message])?;
+    let Story { last, .. } = follow(alloc, Some(BOTH_RECEIPTS), GROUP_INFO, &[message])?;
     Ok(last)
 }
 
 #[test]
 fn a_frame_without_a_receipt(rt: HostRuntime) -> Result<(), Fail> {
-    expect_text(
+    expect_texts(
         &rt,
-        unsigned_answer(rt.alloc(), PROPOSAL)?,
-        "7 BadSignature",
-    );
-    Ok(())
+        rt.alloc(),
+        unsigned_answer,
+        &[(PROPOSAL, "7 BadSignature")],
+    )
 }
 
 /// The answer to member 0's proposal in the first epoch.
@@ -481,25 +501,25 @@ fn proposal_answer(alloc: Global, proposal: &str) -> Result<String, Fail> {
 
 #[test]
 fn proposals(rt: HostRuntime) -> Result<(), Fail> {
-    let other_suite =
+    const OTHER_SUITE: &str =
         "00010001000201f101a101b1000101410200010200010000020001010000000000000000fffffffffffff\
         fff0001c10001c9";
-    let one_key =
+    const ONE_KEY: &str =
         "00010001000101a101a101b1000101410200010200010000020001010000000000000000fffffffffffff\
         fff0001c10001c9";
-    let updated = "00010001000101f101a101b1000101410200010200010000020001020001c10001c9";
-    let same_key = "000201a001b0000101400200010200010000020001020001c0";
-    let joined =
+    const UPDATED: &str = "00010001000101f101a101b1000101410200010200010000020001020001c10001c9";
+    const SAME_KEY: &str = "000201a001b0000101400200010200010000020001020001c0";
+    const JOINED: &str =
         "0002019001b0000101400200010200010000020001010000000000000000ffffffffffffffff0001c0";
-    let rows = [
-        (other_suite, "9 AddInvalid"),
-        (one_key, "9 AddInvalid"),
-        (updated, "9 AddInvalid"),
-        (same_key, "10 UpdateInvalid"),
-        (joined, "10 UpdateInvalid"),
+    const ROWS: &[(&str, &str)] = &[
+        (OTHER_SUITE, "9 AddInvalid"),
+        (ONE_KEY, "9 AddInvalid"),
+        (UPDATED, "9 AddInvalid"),
+        (SAME_KEY, "10 UpdateInvalid"),
+        (JOINED, "10 UpdateInvalid"),
         ("000300000005", "11 RemoveInvalid"),
     ];
-    expect_texts(&rt, rt.alloc(), proposal_answer, &rows)
+    expect_texts(&rt, rt.alloc(), proposal_answer, ROWS)
 }
 
 /// What becomes of a group in its last epoch: a proposal, a commit, and what is known then.
@@ -516,13 +536,12 @@ fn last_epoch(alloc: Global, info: &str) -> Result<String, Fail> {
 
 #[test]
 fn the_last_epoch(rt: HostRuntime) -> Result<(), Fail> {
-    let info =
+    const INFO: &str =
         "00010004000100010147ffffffffffffffff20e32ab6a0a711ec8a732c3fad9263ed5fa61caf53fdf9b96\
         90dc57271d8f110d700002d00022a29010101a001b0000101400200010200010000020001010000000000000000fffffffffff\
         fffff0001c001e00000000001c4";
-    let wanted =
+    const WANTED: &str =
         "proposal 6cb5d82cc4230209de188932fff1299aaaa0e6eba135817485cbd1564797032b; 12 LastEpoch; \
         8 AlreadyKnown; ";
-    expect_text(&rt, last_epoch(rt.alloc(), info)?, wanted);
-    Ok(())
+    expect_texts(&rt, rt.alloc(), last_epoch, &[(INFO, WANTED)])
 }

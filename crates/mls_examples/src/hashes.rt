@@ -22,7 +22,7 @@ fn suite_of(alloc: Global, number: u16) -> Result<String, Fail> {
 
 #[test]
 fn suites(rt: HostRuntime) -> Result<(), Fail> {
-    let suites = [
+    const SUITES: &[(u16, &str)] = &[
         (1, "1"),
         (2, "2"),
         (3, "3"),
@@ -30,7 +30,7 @@ fn suites(rt: HostRuntime) -> Result<(), Fail> {
         (4, "the cipher suite is not supported"),
         (8, "the cipher suite is not supported"),
     ];
-    expect_texts(&rt, rt.alloc(), suite_of, &suites)
+    expect_texts(&rt, rt.alloc(), suite_of, SUITES)
 }
 
 /// The hash of two parts joined, by a suite.
@@ -45,14 +45,14 @@ fn joint_hash(alloc: Global, parts: (u16, &str, &str)) -> Result<String, Fail> {
 
 #[test]
 fn hashes_of_bytes(rt: HostRuntime) -> Result<(), Fail> {
-    let abc = "ba7816bf8f01cfea414140de5dae2223b00361a396177a9cb410ff61f20015ad";
-    let parts = [
-        ((1, "abc", ""), abc),
-        ((1, "a", "bc"), abc),
-        ((2, "ab", "c"), abc),
-        ((3, "", "abc"), abc),
+    const ABC: &str = "ba7816bf8f01cfea414140de5dae2223b00361a396177a9cb410ff61f20015ad";
+    const PARTS: &[((u16, &str, &str), &str)] = &[
+        ((1, "abc", ""), ABC),
+        ((1, "a", "bc"), ABC),
+        ((2, "ab", "c"), ABC),
+        ((3, "", "abc"), ABC),
     ];
-    expect_texts(&rt, rt.alloc(), joint_hash, &parts)
+    expect_texts(&rt, rt.alloc(), joint_hash, PARTS)
 }
 
 /// The reference to the proposal of an authenticated content.
@@ -81,9 +81,9 @@ fn hash_of_two(alloc: Global, subtree: (&[u32], u32)) -> Result<String, Fail> {
 /// The blank leaves' hashes are those of `010000000000` and `010000000100`.
 #[test]
 fn hashes_of_two_leaves(rt: HostRuntime) -> Result<(), Fail> {
-    let hashes = [
+    const HASHES: &[((&[u32], u32), &str)] = &[
         (
-            ([].as_slice(), 0),
+            (&[], 0),
             "36c159d76b52e03e496363607c5940227f62f4e048df344b050159bc97bba3d7",
         ),
         (
@@ -94,7 +94,7 @@ fn hashes_of_two_leaves(rt: HostRuntime) -> Result<(), Fail> {
         ((&[0, 1], 2), SECOND_HASH),
         ((&[0, 1], 1), TWO_LEAVES_HASH),
     ];
-    expect_texts(&rt, rt.alloc(), hash_of_two, &hashes)
+    expect_texts(&rt, rt.alloc(), hash_of_two, HASHES)
 }
 
 /// The hash at a place after a path.
@@ -115,20 +115,25 @@ fn hashes_after_a_path(rt: HostRuntime) -> Result<(), Fail> {
     )
 }
 
-/// The hash that is kept for a place after a path.
-fn kept_hash(alloc: Global, place: u32) -> Result<String, Fail> {
-    let kept = SubtreeHashes::new(alloc, suite()?, &path_tree(alloc)?)?;
+/// The hash that is kept for a place.
+fn kept_at(alloc: Global, kept: &SubtreeHashes, place: u32) -> Result<String, Fail> {
     match kept.get(place) {
         Some(hash) => text(alloc, hash.as_slice()),
         None => Ok(String::from_str(alloc, "-")?),
     }
 }
 
+/// The hash that is kept for a place after a path.
+fn kept_hash(alloc: Global, place: u32) -> Result<String, Fail> {
+    let kept = SubtreeHashes::new(alloc, suite()?, &path_tree(alloc)?)?;
+    kept_at(alloc, &kept, place)
+}
+
 #[test]
 fn hashes_are_kept(rt: HostRuntime) -> Result<(), Fail> {
-    let places = [(2, SECOND_HASH), (3, PATH_HASH), (5, RIGHT_HASH), (7, "-")];
-    expect_texts(&rt, rt.alloc(), kept_hash, &places)?;
-    expect_texts(&rt, rt.alloc(), rehashed, &places)
+    const PLACES: &[(u32, &str)] = &[(2, SECOND_HASH), (3, PATH_HASH), (5, RIGHT_HASH), (7, "-")];
+    expect_texts(&rt, rt.alloc(), kept_hash, PLACES)?;
+    expect_texts(&rt, rt.alloc(), rehashed, PLACES)
 }
 
 /// The same, once leaf 2 and the parents above it are hashed anew.
@@ -139,10 +144,10 @@ fn rehashed(alloc: Global, place: u32) -> Result<String, Fail> {
         return Err(Fail::from("a leaf 2"));
     }
     let kept = SubtreeHashes::new(alloc, suite, &tree)?;
-    match kept.rehashed(alloc, suite, &tree, 2)?.get(place) {
-        Some(hash) => text(alloc, hash.as_slice()),
-        None => Ok(String::from_str(alloc, "-")?),
-    }
+    let again = kept.rehashed(alloc, suite, &tree, 2);
+    drop(kept);
+    drop(tree);
+    kept_at(alloc, &again?, place)
 }
 
 /// The hash at a place once leaf 3 was added.
@@ -153,25 +158,25 @@ fn grown_hash(alloc: Global, place: u32) -> Result<String, Fail> {
 /// The same without leaf 3.
 fn original_hash(alloc: Global, place: u32) -> Result<String, Fail> {
     let tree = grown_tree(alloc)?;
-    text(
-        alloc,
-        original_tree_hash(alloc, suite()?, &tree, place, &[3])?.as_slice(),
-    )
+    let hash = original_tree_hash(alloc, suite()?, &tree, place, &[3]);
+    drop(tree);
+    text(alloc, hash?.as_slice())
 }
 
 /// The hash of the parent at a place, whose child on the copath is the right one.
 fn right_parent_hash(alloc: Global, place: u32) -> Result<String, Fail> {
     let tree = grown_tree(alloc)?;
-    text(
-        alloc,
-        parent_hash(alloc, suite()?, &tree, place, Side::Right)?.as_slice(),
-    )
+    let hash = parent_hash(alloc, suite()?, &tree, place, Side::Right);
+    drop(tree);
+    text(alloc, hash?.as_slice())
 }
 
 /// The hash of the parent at a place of the same tree, whose child on the copath is the left one, or why there is none.
 fn left_parent_hash(alloc: Global, place: u32) -> Result<String, Fail> {
     let tree = grown_tree(alloc)?;
-    match parent_hash(alloc, suite()?, &tree, place, Side::Left) {
+    let hash = parent_hash(alloc, suite()?, &tree, place, Side::Left);
+    drop(tree);
+    match hash {
         Ok(hash) => text(alloc, hash.as_slice()),
         Err(fault) => Ok(format!(in alloc; "{fault}")?),
     }
@@ -181,7 +186,7 @@ fn left_parent_hash(alloc: Global, place: u32) -> Result<String, Fail> {
 /// `01d120`, [`UPPER`], `20` and the hash of leaf 0.
 #[test]
 fn parent_hashes_over_left_children(rt: HostRuntime) -> Result<(), Fail> {
-    let hashes = [
+    const HASHES: &[(u32, &str)] = &[
         (
             3,
             "121df1eaa17821692d840c60f4185ace687a6a7dfc11567e9e26b05c5a876a0a",
@@ -192,7 +197,7 @@ fn parent_hashes_over_left_children(rt: HostRuntime) -> Result<(), Fail> {
         ),
         (5, "the tree has no such node"),
     ];
-    expect_texts(&rt, rt.alloc(), left_parent_hash, &hashes)
+    expect_texts(&rt, rt.alloc(), left_parent_hash, HASHES)
 }
 
 /// The parent hash of node 3 over node 1, or the original hash of node 1 without leaf 1, where leaf 2 has committed and leaf 1
@@ -210,7 +215,7 @@ fn hash_on_the_left(alloc: Global, is_of_parent: bool) -> Result<String, Fail> {
 
 #[test]
 fn an_unmerged_leaf_on_the_left(rt: HostRuntime) -> Result<(), Fail> {
-    let hashes = [
+    const HASHES: &[(bool, &str)] = &[
         (
             true,
             "4490cad0b2e7639e4e033d5d33db094bbe9b792197e82ee5dc380783533ad17a",
@@ -220,14 +225,14 @@ fn an_unmerged_leaf_on_the_left(rt: HostRuntime) -> Result<(), Fail> {
             "12c9f8a92bee4b19946197b65a854c823e8fd0063367b12b436197b393f4ae50",
         ),
     ];
-    expect_texts(&rt, rt.alloc(), hash_on_the_left, &hashes)
+    expect_texts(&rt, rt.alloc(), hash_on_the_left, HASHES)
 }
 
 /// A leaf that is added changes the tree's hash, but no original hash and no parent hash.
 #[test]
 fn an_added_leaf_is_left_out(rt: HostRuntime) -> Result<(), Fail> {
-    let grown = "5c8af4eac028a0c3f6cd02a3cf4fc167fd6042cb16866eecb73dd0da4aca3f09";
-    expect_texts(&rt, rt.alloc(), grown_hash, &[(3, grown)])?;
+    const GROWN: &str = "5c8af4eac028a0c3f6cd02a3cf4fc167fd6042cb16866eecb73dd0da4aca3f09";
+    expect_texts(&rt, rt.alloc(), grown_hash, &[(3, GROWN)])?;
     expect_texts(
         &rt,
         rt.alloc(),

@@ -41,8 +41,8 @@ fn message_of(alloc: Global, size: usize) -> Result<String, Fail> {
 
 #[test]
 fn messages_at_the_limit(rt: HostRuntime) -> Result<(), Fail> {
-    let sizes = [(268435456, "2 268435452"), (268435457, "TooLong at 0")];
-    expect_texts(&rt, rt.alloc(), message_of, &sizes)
+    const SIZES: &[(usize, &str)] = &[(268435456, "2 268435452"), (268435457, "TooLong at 0")];
+    expect_texts(&rt, rt.alloc(), message_of, SIZES)
 }
 
 /// Why a context of such a size can't be read.
@@ -87,11 +87,11 @@ fn shown(alloc: Global, size: usize) -> Result<String, Fail> {
 
 #[test]
 fn a_message_over_the_limit_is_told(rt: HostRuntime) -> Result<(), Fail> {
-    let sizes = [
+    const SIZES: &[(usize, &str)] = &[
         (268435456, "private 268435452\n"),
         (268435457, "unreadable TooLong 0\n"),
     ];
-    expect_texts(&rt, rt.alloc(), shown, &sizes)
+    expect_texts(&rt, rt.alloc(), shown, SIZES)
 }
 
 /// What a checker that trusts everyone answers of a content of so many zeros, what a copy of them answers, and what a
@@ -116,8 +116,8 @@ fn over_a_vector(alloc: Global, size: usize) -> Result<String, Fail> {
 
 #[test]
 fn arguments_over_a_vector(rt: HostRuntime) -> Result<(), Fail> {
-    let sizes = [(1073741824, "false, TooLong at 0, TooLong at 1")];
-    expect_texts(&rt, rt.alloc(), over_a_vector, &sizes)
+    const SIZES: &[(usize, &str)] = &[(1073741824, "false, TooLong at 0, TooLong at 1")];
+    expect_texts(&rt, rt.alloc(), over_a_vector, SIZES)
 }
 
 /// What `check` writes of no vectors with blanks behind them, so many bytes in all.
@@ -131,9 +131,9 @@ fn checked(alloc: Global, size: usize) -> Result<String, Fail> {
 
 #[test]
 fn vectors_over_the_limit_are_told(rt: HostRuntime) -> Result<(), Fail> {
-    let sizes = [
+    const SIZES: &[(usize, &str)] = &[
         (268435456, "passed 0 failed 0 skipped 0\n"),
         (268435457, "vectors unreadable\n"),
     ];
-    expect_texts(&rt, rt.alloc(), checked, &sizes)
+    expect_texts(&rt, rt.alloc(), checked, SIZES)
 }

@@ -2,7 +2,7 @@
 
 use crate::support::{LEAF, bytes, expect_answers, expect_texts};
 use mls_nodes::{decode_leaf, encode_leaf, leaf_tbs, put_leaf_tbs, read_leaf, write_leaf};
-use mls_wire::{CodecFault, Draft, Encode, Opaque, Reader, TryClone, Writer};
+use mls_wire::{CodecFault, Draft, Opaque, Reader, TryClone, Writer};
 use std::alloc::Global;
 use std::test::Fail;
 
@@ -30,7 +30,7 @@ fn leaf_of(alloc: Global, input: &[u8]) -> Result<Vec<u8>, CodecFault> {
 /// Among them a credential of another type, an odd list of versions, another source, a byte behind the signature.
 #[test]
 fn leaves_are_read_and_written(rt: HostRuntime) -> Result<(), Fail> {
-    let leaves = [
+    const LEAVES: &[(&str, &str)] = &[
         (LEAF, LEAF),
         (UPDATED, UPDATED),
         (COMMITTED, COMMITTED),
@@ -46,7 +46,7 @@ fn leaves_are_read_and_written(rt: HostRuntime) -> Result<(), Fail> {
             "Trailing at 23",
         ),
     ];
-    expect_answers(&rt, rt.alloc(), leaf_of, &leaves)
+    expect_answers(&rt, rt.alloc(), leaf_of, LEAVES)
 }
 
 /// The leaf at the front, written.
@@ -61,13 +61,13 @@ fn front_of(alloc: Global, input: &[u8]) -> Result<Vec<u8>, CodecFault> {
 
 #[test]
 fn leaves_in_the_middle_of_a_format(rt: HostRuntime) -> Result<(), Fail> {
-    let leaves = [
+    const LEAVES: &[(&str, &str)] = &[
         (LEAF, LEAF),
         ("019301b3000101430200010200010000020001020001c3ff", UPDATED),
         (COMMITTED, COMMITTED),
         (CERTIFIED, CERTIFIED),
     ];
-    expect_answers(&rt, rt.alloc(), front_of, &leaves)
+    expect_answers(&rt, rt.alloc(), front_of, LEAVES)
 }
 
 /// How many bytes a leaf takes.
@@ -81,13 +81,13 @@ fn length_of(alloc: Global, leaf: &str) -> Result<String, Fail> {
 
 #[test]
 fn lengths_of_leaves(rt: HostRuntime) -> Result<(), Fail> {
-    let leaves = [
+    const LEAVES: &[(&str, &str)] = &[
         (LEAF, "39"),
         (UPDATED, "23"),
         (COMMITTED, "26"),
         (CERTIFIED, "43"),
     ];
-    expect_texts(&rt, rt.alloc(), length_of, &leaves)
+    expect_texts(&rt, rt.alloc(), length_of, LEAVES)
 }
 
 /// What is signed of a leaf as leaf 3 of the group `47`.
@@ -102,7 +102,7 @@ fn signed_of(alloc: Global, input: &[u8]) -> Result<Vec<u8>, CodecFault> {
 /// The leaf without its signature; where it isn't a key package's, the group and the leaf's index follow.
 #[test]
 fn what_is_signed_of_a_leaf(rt: HostRuntime) -> Result<(), Fail> {
-    let leaves = [
+    const LEAVES: &[(&str, &str)] = &[
         (
             LEAF,
             "01a001b0000101400200010200010000020001010000000000000000ffffffffffffffff00",
@@ -116,7 +116,7 @@ fn what_is_signed_of_a_leaf(rt: HostRuntime) -> Result<(), Fail> {
             "018301b30001014302000102000100000200010302abcd00014700000003",
         ),
     ];
-    expect_answers(&rt, rt.alloc(), signed_of, &leaves)
+    expect_answers(&rt, rt.alloc(), signed_of, LEAVES)
 }
 
 /// The same in a draft, behind the byte `ff`.
@@ -132,7 +132,7 @@ fn signed_behind(alloc: Global, input: &[u8]) -> Result<Vec<u8>, CodecFault> {
 
 #[test]
 fn what_is_signed_of_a_leaf_in_a_draft(rt: HostRuntime) -> Result<(), Fail> {
-    let leaves = [
+    const LEAVES: &[(&str, &str)] = &[
         (
             LEAF,
             "ff01a001b0000101400200010200010000020001010000000000000000ffffffffffffffff00",
@@ -142,25 +142,5 @@ fn what_is_signed_of_a_leaf_in_a_draft(rt: HostRuntime) -> Result<(), Fail> {
             "ff019301b30001014302000102000100000200010200014700000003",
         ),
     ];
-    expect_answers(&rt, rt.alloc(), signed_behind, &leaves)
-}
-
-/// How many bytes a leaf takes.
-fn size_of_leaf(alloc: Global, input: &[u8]) -> Result<Vec<u8>, CodecFault> {
-    let leaf = decode_leaf(alloc, input)?;
-    let size = leaf.size();
-    drop(leaf);
-    Ok(Vec::from_slice(alloc, &size.unwrap_or(0).to_be_bytes())?)
-}
-
-/// Leaves of 39, 23, 26 and 43 bytes.
-#[test]
-fn sizes_of_leaves(rt: HostRuntime) -> Result<(), Fail> {
-    let leaves = [
-        (LEAF, "0000000000000027"),
-        (UPDATED, "0000000000000017"),
-        (COMMITTED, "000000000000001a"),
-        (CERTIFIED, "000000000000002b"),
-    ];
-    expect_answers(&rt, rt.alloc(), size_of_leaf, &leaves)
+    expect_answers(&rt, rt.alloc(), signed_behind, LEAVES)
 }

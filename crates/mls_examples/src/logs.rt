@@ -1,6 +1,6 @@
 //! Logs, record by record.
 
-use crate::support::{bytes, expect_text, text};
+use crate::support::{bytes, expect_text, expect_texts, text};
 use mls_wire::{LogStep, MemorySource, RecordReader, Records};
 use std::alloc::Global;
 use std::test::Fail;
@@ -17,7 +17,8 @@ fn name_of(step: LogStep) -> &'static str {
 
 /// What four calls tell of a log of at most so many records: each answer, its body, and how many bytes are left
 /// behind it.
-fn told(alloc: Global, log: &str, most: u32) -> Result<String, Fail> {
+fn told(alloc: Global, log: (&str, u32)) -> Result<String, Fail> {
+    let (log, most) = log;
     let log = bytes(alloc, log)?;
     let mut source = MemorySource::new(log.as_slice(), 3, None);
     let mut reader = Records::new(alloc, most);
@@ -33,79 +34,75 @@ fn told(alloc: Global, log: &str, most: u32) -> Result<String, Fail> {
 
 #[test]
 fn records_of_logs(rt: HostRuntime) -> Result<(), Fail> {
-    for (log, most, wanted) in [
+    const LOGS: &[((&str, u32), &str)] = &[
         (
-            "01ab00c0",
-            9,
+            ("01ab00c0", 9),
             "record ab, 2 left. record , 1 left. broken , 0 left. over , 0 left. ",
         ),
         (
-            "4001ab",
-            9,
+            ("4001ab", 9),
             "broken , 1 left. over , 1 left. over , 1 left. over , 1 left. ",
         ),
         (
-            "9000000100",
-            9,
+            ("9000000100", 9),
             "broken , 1 left. over , 1 left. over , 1 left. over , 1 left. ",
         ),
         (
-            "02ab",
-            9,
+            ("02ab", 9),
             "broken , 0 left. over , 0 left. over , 0 left. over , 0 left. ",
         ),
         (
-            "",
-            9,
+            ("", 9),
             "end , 0 left. over , 0 left. over , 0 left. over , 0 left. ",
         ),
         (
-            "00000000",
-            2,
+            ("00000000", 2),
             "record , 3 left. record , 2 left. broken , 1 left. over , 1 left. ",
         ),
         (
-            "0000",
-            2,
+            ("0000", 2),
             "record , 1 left. record , 0 left. end , 0 left. over , 0 left. ",
         ),
-    ] {
-        expect_text(&rt, told(rt.alloc(), log, most)?, wanted);
-    }
-    Ok(())
+    ];
+    expect_texts(&rt, rt.alloc(), told, LOGS)
+}
+
+/// What two calls answer over a source that fails at one of its calls.
+fn failing(alloc: Global, fails_at: usize) -> Result<String, Fail> {
+    let log = [3, 0xab, 0xcd, 0xef];
+    let mut source = MemorySource::new(&log, 1, Some(fails_at));
+    let mut reader = Records::new(alloc, 9);
+    let first = reader.next(&mut source).map(name_of).unwrap_or("fault");
+    let second = reader.next(&mut source).map(name_of).unwrap_or("fault");
+    Ok(format!(in alloc; "{first}, {second}")?)
 }
 
 /// A source that fails at each of its calls inside a record: a fault, and then nothing more.
 #[test]
 fn logs_that_fail(rt: HostRuntime) -> Result<(), Fail> {
-    let alloc = rt.alloc();
-    let log = bytes(alloc, "03abcdef")?;
-    for fails_at in 1..4 {
-        let mut source = MemorySource::new(log.as_slice(), 1, Some(fails_at));
-        let mut reader = Records::new(alloc, 9);
-        assert!(&rt; reader.next(&mut source).is_err());
-        assert!(&rt; reader.next(&mut source) == Ok(LogStep::Over));
-    }
-    Ok(())
+    const CALLS: &[(usize, &str)] = &[(1, "fault, over"), (2, "fault, over"), (3, "fault, over")];
+    expect_texts(&rt, rt.alloc(), failing, CALLS)
 }
 
-/// A reader that holds its source: two records, a byte behind the most that may come, and then nothing.
-#[test]
-fn log_of_a_held_source(rt: HostRuntime) -> Result<(), Fail> {
-    let alloc = rt.alloc();
-    let log = bytes(alloc, "02abcd01ef0000")?;
+/// What four calls of a reader that holds its source tell of a log of at most two records, and how many bytes are left.
+fn held(alloc: Global, log: &str) -> Result<String, Fail> {
+    let log = bytes(alloc, log)?;
     let mut source = MemorySource::new(log.as_slice(), 3, None);
     let mut reader = RecordReader::new(alloc, &mut source, 2);
-    for (step, body) in [
-        ("record", "abcd"),
-        ("record", "ef"),
-        ("broken", ""),
-        ("over", ""),
-    ] {
-        assert_eq!(&rt; name_of(reader.next()?), step);
-        expect_text(&rt, text(alloc, reader.body())?, body);
+    let mut said = String::new(alloc);
+    for _ in 0..4 {
+        let step = name_of(reader.next()?);
+        let body = text(alloc, reader.body())?;
+        said = format!(in alloc; "{said}{step} {body}, ")?;
     }
     drop(reader);
-    assert_eq!(&rt; source.left().len(), 1);
+    Ok(format!(in alloc; "{said}{} left", source.left().len())?)
+}
+
+/// Two records, a byte behind the most that may come, and then nothing.
+#[test]
+fn log_of_a_held_source(rt: HostRuntime) -> Result<(), Fail> {
+    let wanted = "record abcd, record ef, broken , over , 1 left";
+    expect_text(&rt, held(rt.alloc(), "02abcd01ef0000")?, wanted);
     Ok(())
 }

@@ -54,25 +54,27 @@ fn by_themselves(alloc: Global, leaves: (&str, &str)) -> Result<String, Fail> {
 
 #[test]
 fn leaves_by_themselves(rt: HostRuntime) -> Result<(), Fail> {
-    let unlisted =
+    const UNLISTED: &str =
         "01a001b0000101400200010200010000020001010000000000000000ffffffffffffffff0300090001c0";
-    let unsupporting = "01a101b100010141020001020001000000010000000000000000ffffffffffffffff0001c1";
-    let certified =
+    const UNSUPPORTING: &str =
+        "01a101b100010141020001020001000000010000000000000000ffffffffffffffff0001c1";
+    const CERTIFIED: &str =
         "01a101b100020201cc0200010200010000020002010000000000000000ffffffffffffffff0001c1";
-    let other_certified =
+    const OTHER_CERTIFIED: &str =
         "01a001b000020201cb0200010200010000020002010000000000000000ffffffffffffffff0001c0";
-    let same_key = "01a101b0000101410200010200010000020001010000000000000000ffffffffffffffff0001c1";
-    let leaves = [
+    const SAME_KEY: &str =
+        "01a101b0000101410200010200010000020001010000000000000000ffffffffffffffff0001c1";
+    const LEAVES: &[((&str, &str), &str)] = &[
         ((LEAF, SECOND_LEAF), "members"),
-        ((unlisted, SECOND_LEAF), "ExtensionUnlisted(0)"),
-        ((SECOND_LEAF, unlisted), "ExtensionUnlisted(1)"),
-        ((LEAF, unsupporting), "CredentialUnsupported(1)"),
-        ((LEAF, certified), "CredentialUnsupported(0)"),
-        ((other_certified, certified), "members"),
-        ((LEAF, same_key), "SignatureKeyRepeated(0)"),
-        ((unlisted, same_key), "ExtensionUnlisted(0)"),
+        ((UNLISTED, SECOND_LEAF), "ExtensionUnlisted(0)"),
+        ((SECOND_LEAF, UNLISTED), "ExtensionUnlisted(1)"),
+        ((LEAF, UNSUPPORTING), "CredentialUnsupported(1)"),
+        ((LEAF, CERTIFIED), "CredentialUnsupported(0)"),
+        ((OTHER_CERTIFIED, CERTIFIED), "members"),
+        ((LEAF, SAME_KEY), "SignatureKeyRepeated(0)"),
+        ((UNLISTED, SAME_KEY), "ExtensionUnlisted(0)"),
     ];
-    expect_texts(&rt, rt.alloc(), by_themselves, &leaves)
+    expect_texts(&rt, rt.alloc(), by_themselves, LEAVES)
 }
 
 /// What is found of a leaf that lists the extension types 1 and 9, and another leaf, where these capabilities are
@@ -86,7 +88,7 @@ fn under_requirements(alloc: Global, required: &str) -> Result<String, Fail> {
 /// Of credentials, extensions and proposals; the extension types 1 to 5 and the proposal types 1 to 7 need no listing.
 #[test]
 fn leaves_under_requirements(rt: HostRuntime) -> Result<(), Fail> {
-    let requirements = [
+    const REQUIREMENTS: &[(&str, &str)] = &[
         ("0000020002", "RequirementUnmet(0)"),
         ("0000020001", "members"),
         ("0200090000", "RequirementUnmet(1)"),
@@ -97,7 +99,7 @@ fn leaves_under_requirements(rt: HostRuntime) -> Result<(), Fail> {
         ("0002000000", "RequirementUnmet(0)"),
         ("02000102000100", "members"),
     ];
-    expect_texts(&rt, rt.alloc(), under_requirements, &requirements)
+    expect_texts(&rt, rt.alloc(), under_requirements, REQUIREMENTS)
 }
 
 /// What is found of the leaves of members 0 and 1 where a file of receipts judges their signatures.
@@ -108,8 +110,8 @@ fn by_receipts(alloc: Global, receipts: &str) -> Result<String, Fail> {
 
 #[test]
 fn leaves_and_their_signatures(rt: HostRuntime) -> Result<(), Fail> {
-    let files = [("", "LeafSignature(0)"), (RECEIPT, "LeafSignature(1)")];
-    expect_texts(&rt, rt.alloc(), by_receipts, &files)
+    const FILES: &[(&str, &str)] = &[("", "LeafSignature(0)"), (RECEIPT, "LeafSignature(1)")];
+    expect_texts(&rt, rt.alloc(), by_receipts, FILES)
 }
 
 /// What is found of the leaf of member 0 and another one where a file of receipts has a line for each.
@@ -124,21 +126,22 @@ fn second_by_receipt(alloc: Global, second: (&str, &str)) -> Result<String, Fail
 /// then with the index 0, and with the group `48`.
 #[test]
 fn signatures_of_updates_and_commits(rt: HostRuntime) -> Result<(), Fail> {
-    let updated = "019101b1000101410200010200010000020001020001c1";
-    let committed = "018101b10001014102000102000100000200010301d10001c1";
-    let update = "4255a0145e05e55bd7deed6ba04b71d9204d09e90301e32238facbe20dd40e24";
-    let update_at_0 = "c9037248377da4751afe212ebb384103886fdaac95e900144b43a6cae63580c0";
-    let update_elsewhere = "6b320e9af8e12abf51ea761ef439de6120097b6606acfcdbfada3a61e32ea987";
-    let commit = "c00c7a0de22f2679dac3ba95e5f3a30186dd67803b6da1ee7006f09740dfbd60";
-    let commit_at_0 = "fe9c92743e98abe31643fc6a14059c63884aeff5f7010c00d091f7d7b780537e";
-    let leaves = [
-        ((updated, update), "members"),
-        ((updated, update_at_0), "LeafSignature(1)"),
-        ((updated, update_elsewhere), "LeafSignature(1)"),
-        ((committed, commit), "members"),
-        ((committed, commit_at_0), "LeafSignature(1)"),
+    const UPDATED: &str = "019101b1000101410200010200010000020001020001c1";
+    const COMMITTED: &str = "018101b10001014102000102000100000200010301d10001c1";
+    const UPDATE: &str = "4255a0145e05e55bd7deed6ba04b71d9204d09e90301e32238facbe20dd40e24";
+    const UPDATE_AT_0: &str = "c9037248377da4751afe212ebb384103886fdaac95e900144b43a6cae63580c0";
+    const UPDATE_ELSEWHERE: &str =
+        "6b320e9af8e12abf51ea761ef439de6120097b6606acfcdbfada3a61e32ea987";
+    const COMMIT: &str = "c00c7a0de22f2679dac3ba95e5f3a30186dd67803b6da1ee7006f09740dfbd60";
+    const COMMIT_AT_0: &str = "fe9c92743e98abe31643fc6a14059c63884aeff5f7010c00d091f7d7b780537e";
+    const LEAVES: &[((&str, &str), &str)] = &[
+        ((UPDATED, UPDATE), "members"),
+        ((UPDATED, UPDATE_AT_0), "LeafSignature(1)"),
+        ((UPDATED, UPDATE_ELSEWHERE), "LeafSignature(1)"),
+        ((COMMITTED, COMMIT), "members"),
+        ((COMMITTED, COMMIT_AT_0), "LeafSignature(1)"),
     ];
-    expect_texts(&rt, rt.alloc(), second_by_receipt, &leaves)
+    expect_texts(&rt, rt.alloc(), second_by_receipt, LEAVES)
 }
 
 /// What is signed of leaf 0, with its label: the SignContent, which begins with `MLS 1.0 LeafNodeTBS`.
@@ -156,13 +159,13 @@ fn is_good(alloc: Global, arguments: (u16, u8, u8)) -> Result<String, Fail> {
 
 #[test]
 fn a_receipt_is_good_for_its_arguments_alone(rt: HostRuntime) -> Result<(), Fail> {
-    let arguments = [
+    const ARGUMENTS: &[((u16, u8, u8), &str)] = &[
         ((1, 0xb0, 0xc0), "true"),
         ((2, 0xb0, 0xc0), "false"),
         ((1, 0xb1, 0xc0), "false"),
         ((1, 0xb0, 0xc1), "false"),
     ];
-    expect_texts(&rt, rt.alloc(), is_good, &arguments)
+    expect_texts(&rt, rt.alloc(), is_good, ARGUMENTS)
 }
 
 /// Whether leaf 0's signature is good under a label by its receipt.
@@ -176,11 +179,11 @@ fn is_signed(alloc: Global, label: &str) -> Result<String, Fail> {
 
 #[test]
 fn signatures_under_a_label(rt: HostRuntime) -> Result<(), Fail> {
-    let labels = [
+    const LABELS: &[(&str, &str)] = &[
         ("MLS 1.0 LeafNodeTBS", "true"),
         ("MLS 1.0 GroupInfoTBS", "false"),
     ];
-    expect_texts(&rt, rt.alloc(), is_signed, &labels)
+    expect_texts(&rt, rt.alloc(), is_signed, LABELS)
 }
 
 /// The digest of suite 3, a key of 64 bytes 11, a content of 16,384 bytes 5a and no signature.
@@ -209,17 +212,17 @@ fn is_listed(alloc: Global, file: &str) -> Result<String, Fail> {
 /// Digits of either case, several lines, no line, a line of 63 digits, an empty line.
 #[test]
 fn files_of_receipts(rt: HostRuntime) -> Result<(), Fail> {
-    let upper = "5786a9c4bc883c2171b662fe7c3d86bc1b787beb894dfce69327264202d10b4e\n\
+    const UPPER: &str = "5786a9c4bc883c2171b662fe7c3d86bc1b787beb894dfce69327264202d10b4e\n\
         BD6F8DF8DCD01852D1C0A3E53B39DCB3BB86DDA462A62C39B9582A3907FE4C36\n";
-    let short = "bd6f8df8dcd01852d1c0a3e53b39dcb3bb86dda462a62c39b9582a3907fe4c36\n\
+    const SHORT: &str = "bd6f8df8dcd01852d1c0a3e53b39dcb3bb86dda462a62c39b9582a3907fe4c36\n\
         bd6f8df8dcd01852d1c0a3e53b39dcb3bb86dda462a62c39b9582a3907fe4c3\n";
-    let files = [
+    const FILES: &[(&str, &str)] = &[
         (RECEIPT, "true"),
-        (upper, "true"),
+        (UPPER, "true"),
         (LONG_RECEIPT, "false"),
         ("", "false"),
-        (short, "BadLine(2)"),
+        (SHORT, "BadLine(2)"),
         ("\n", "BadLine(1)"),
     ];
-    expect_texts(&rt, rt.alloc(), is_listed, &files)
+    expect_texts(&rt, rt.alloc(), is_listed, FILES)
 }

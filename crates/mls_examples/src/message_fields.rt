@@ -159,7 +159,7 @@ fn authenticated_fields(alloc: Global, auth: &str) -> Result<String, Fail> {
 /// Application data and an Update of a member, a Remove of an external sender, and the Add of a new member.
 #[test]
 fn fields_of_data_and_proposals(rt: HostRuntime) -> Result<(), Fail> {
-    let messages = [
+    const MESSAGES: &[(&str, &str)] = &[
         (
             "0001000101470000000000000005010000000301440102b4b501c601c5",
             "format 1; group 47; epoch 5; member 3; data 44; application b4b5; signature c6; \
@@ -185,13 +185,13 @@ fn fields_of_data_and_proposals(rt: HostRuntime) -> Result<(), Fail> {
              signature c9; extension 8; data 81; signature ca; signature c6; ",
         ),
     ];
-    expect_texts(&rt, rt.alloc(), message_fields, &messages)
+    expect_texts(&rt, rt.alloc(), message_fields, MESSAGES)
 }
 
 /// A member's, with a proposal and a reference, and a new member's, with a path of two nodes.
 #[test]
 fn fields_of_commits(rt: HostRuntime) -> Result<(), Fail> {
-    let messages = [
+    const MESSAGES: &[(&str, &str)] = &[
         (
             "000100010147000000000000000501000000030144030b0100030000000902024e4f0001c601e101c5",
             "format 1; group 47; epoch 5; member 3; data 44; remove 9; reference 4e4f; no path; \
@@ -207,13 +207,13 @@ fn fields_of_commits(rt: HostRuntime) -> Result<(), Fail> {
              confirmation e1; ",
         ),
     ];
-    expect_texts(&rt, rt.alloc(), message_fields, &messages)
+    expect_texts(&rt, rt.alloc(), message_fields, MESSAGES)
 }
 
 /// A PrivateMessage, a Welcome, a GroupInfo and a KeyPackage.
 #[test]
 fn fields_of_other_messages(rt: HostRuntime) -> Result<(), Fail> {
-    let messages = [
+    const MESSAGES: &[(&str, &str)] = &[
         ("00010002abcd", "unread 2; body abcd; "),
         ("00010003abcd", "unread 3; body abcd; "),
         (
@@ -229,12 +229,12 @@ fn fields_of_other_messages(rt: HostRuntime) -> Result<(), Fail> {
              not after 7; signature c9; extension 8; data 81; signature ca; ",
         ),
     ];
-    expect_texts(&rt, rt.alloc(), message_fields, &messages)
+    expect_texts(&rt, rt.alloc(), message_fields, MESSAGES)
 }
 
 #[test]
 fn fields_of_authenticated_contents(rt: HostRuntime) -> Result<(), Fail> {
-    let contents = [
+    const CONTENTS: &[(&str, &str)] = &[
         (
             "000201470000000000000005010000000301440200030000000901c6",
             "format 2; group 47; epoch 5; member 3; data 44; remove 9; signature c6; ",
@@ -245,5 +245,5 @@ fn fields_of_authenticated_contents(rt: HostRuntime) -> Result<(), Fail> {
              signature c6; confirmation e1; ",
         ),
     ];
-    expect_texts(&rt, rt.alloc(), authenticated_fields, &contents)
+    expect_texts(&rt, rt.alloc(), authenticated_fields, CONTENTS)
 }

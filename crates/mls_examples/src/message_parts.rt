@@ -116,22 +116,22 @@ fn parts_that_fit(alloc: Global, parts: (u16, &str, bool, bool)) -> Result<Strin
 /// A member's proposal, a Remove of an external sender, and the commits of a member and of a new one.
 #[test]
 fn tags_of_parts(rt: HostRuntime) -> Result<(), Fail> {
-    let external = "014700000000000000050200000102014402000300000009";
-    let committed = "0147000000000000000501000000030144030000";
-    let joined = "01470000000000000005040144030000";
-    let parts = [
+    const EXTERNAL: &str = "014700000000000000050200000102014402000300000009";
+    const COMMITTED: &str = "0147000000000000000501000000030144030000";
+    const JOINED: &str = "01470000000000000005040144030000";
+    const PARTS: &[((u16, &str, bool, bool), &str)] = &[
         ((1, PROPOSED, false, true), "public"),
         ((1, PROPOSED, false, false), "content"),
         ((1, PROPOSED, true, true), "none"),
         ((2, PROPOSED, false, true), "content"),
         ((0, PROPOSED, false, true), "none"),
         ((3, PROPOSED, false, true), "none"),
-        ((1, external, false, false), "public"),
-        ((1, external, false, true), "content"),
-        ((1, committed, true, true), "public"),
-        ((1, committed, false, true), "none"),
-        ((1, joined, true, false), "public"),
-        ((1, joined, true, true), "content"),
+        ((1, EXTERNAL, false, false), "public"),
+        ((1, EXTERNAL, false, true), "content"),
+        ((1, COMMITTED, true, true), "public"),
+        ((1, COMMITTED, false, true), "none"),
+        ((1, JOINED, true, false), "public"),
+        ((1, JOINED, true, true), "content"),
     ];
-    expect_texts(&rt, rt.alloc(), parts_that_fit, &parts)
+    expect_texts(&rt, rt.alloc(), parts_that_fit, PARTS)
 }

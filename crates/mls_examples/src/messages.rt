@@ -32,7 +32,7 @@ fn message_of(alloc: Global, input: &[u8]) -> Result<Vec<u8>, CodecFault> {
 
 #[test]
 fn messages_are_read_and_written(rt: HostRuntime) -> Result<(), Fail> {
-    let messages = [
+    const MESSAGES: &[(&str, &str)] = &[
         (GROUP_INFO, GROUP_INFO),
         (PROPOSAL, PROPOSAL),
         (COMMIT, COMMIT),
@@ -40,14 +40,14 @@ fn messages_are_read_and_written(rt: HostRuntime) -> Result<(), Fail> {
         ("00010002abcd", "00010002abcd"),
         ("00010003", "00010003"),
     ];
-    expect_answers(&rt, rt.alloc(), message_of, &messages)
+    expect_answers(&rt, rt.alloc(), message_of, MESSAGES)
 }
 
 /// Other versions, wire formats, senders, contents, entries of a commit, and proposals that aren't read; the proposal
 /// without its last byte, and with another one.
 #[test]
 fn other_messages_are_refused(rt: HostRuntime) -> Result<(), Fail> {
-    let messages = [
+    const MESSAGES: &[(&str, &str)] = &[
         ("", "Truncated at 0"),
         ("0001", "Truncated at 2"),
         ("0002", "BadTag 2 at 0"),
@@ -93,7 +93,7 @@ fn other_messages_are_refused(rt: HostRuntime) -> Result<(), Fail> {
             "Trailing at 75",
         ),
     ];
-    expect_answers(&rt, rt.alloc(), message_of, &messages)
+    expect_answers(&rt, rt.alloc(), message_of, MESSAGES)
 }
 
 /// A message of another wire format, written, or why it can't be.
@@ -107,8 +107,8 @@ fn unread(alloc: Global, wire_format: u16) -> Result<String, Fail> {
 
 #[test]
 fn another_wire_format_is_not_written(rt: HostRuntime) -> Result<(), Fail> {
-    let formats = [(3, "00010003ab"), (9, "BadTag 9 at 2")];
-    expect_texts(&rt, rt.alloc(), unread, &formats)
+    const FORMATS: &[(u16, &str)] = &[(3, "00010003ab"), (9, "BadTag 9 at 2")];
+    expect_texts(&rt, rt.alloc(), unread, FORMATS)
 }
 
 /// A proposal, copied and written.
@@ -124,13 +124,14 @@ fn proposal_of(alloc: Global, input: &[u8]) -> Result<Vec<u8>, CodecFault> {
 
 #[test]
 fn proposals_are_read_and_written(rt: HostRuntime) -> Result<(), Fail> {
-    let add = "00010001000101f101a101b1000101410200010200010000020001010000000000000000ffffffffffff\
+    const ADD: &str =
+        "00010001000101f101a101b1000101410200010200010000020001010000000000000000ffffffffffff\
         ffff0001c10001c9";
-    let update =
+    const UPDATE: &str =
         "000201a101b1000101410200010200010000020001010000000000000000ffffffffffffffff0001c1";
-    let remove = "000300000009";
-    let proposals = [(add, add), (update, update), (remove, remove)];
-    expect_answers(&rt, rt.alloc(), proposal_of, &proposals)
+    const REMOVE: &str = "000300000009";
+    const PROPOSALS: &[(&str, &str)] = &[(ADD, ADD), (UPDATE, UPDATE), (REMOVE, REMOVE)];
+    expect_answers(&rt, rt.alloc(), proposal_of, PROPOSALS)
 }
 
 /// An authenticated content, written again, or why it can't be read.
@@ -143,12 +144,12 @@ fn authenticated_of(alloc: Global, input: &[u8]) -> Result<Vec<u8>, CodecFault> 
 
 #[test]
 fn authenticated_contents_are_read_and_written(rt: HostRuntime) -> Result<(), Fail> {
-    let contents = [
+    const CONTENTS: &[(&str, &str)] = &[
         (PROPOSED_AUTH, PROPOSED_AUTH),
         (COMMITTED_AUTH, COMMITTED_AUTH),
         ("0003", "BadTag 3 at 0"),
     ];
-    expect_answers(&rt, rt.alloc(), authenticated_of, &contents)
+    expect_answers(&rt, rt.alloc(), authenticated_of, CONTENTS)
 }
 
 /// What is signed of an authenticated content.
@@ -181,23 +182,23 @@ fn signed_in_context(alloc: Global, auth: &str) -> Result<String, Fail> {
 /// Version 1, the wire format and the content; then the context.
 #[test]
 fn what_is_signed_of_a_content(rt: HostRuntime) -> Result<(), Fail> {
-    let alone =
+    const ALONE: &str =
         "00010001014700000000000000000100000000000200010001000101f101a101b1000101410200010200\
         010000020001010000000000000000ffffffffffffffff0001c10001c9";
-    let within =
+    const WITHIN: &str =
         "00010001014700000000000000000100000000000200010001000101f101a101b1000101410200010200\
         010000020001010000000000000000ffffffffffffffff0001c10001c900010001014700000000000000\
         0020e32ab6a0a711ec8a732c3fad9263ed5fa61caf53fdf9b9690dc57271d8f110d70000";
-    let committed =
+    const COMMITTED: &str =
         "000100020147000000000000000001000000000003220220419afc0a88fe171b793b00410d11c8121fb9\
         6fdfde7b5ced43d5912144a3a9f900";
-    let contents = [(PROPOSED_AUTH, alone), (COMMITTED_AUTH, committed)];
-    expect_answers(&rt, rt.alloc(), signed_alone, &contents)?;
+    const CONTENTS: &[(&str, &str)] = &[(PROPOSED_AUTH, ALONE), (COMMITTED_AUTH, COMMITTED)];
+    expect_answers(&rt, rt.alloc(), signed_alone, CONTENTS)?;
     expect_texts(
         &rt,
         rt.alloc(),
         signed_in_context,
-        &[(PROPOSED_AUTH, within)],
+        &[(PROPOSED_AUTH, WITHIN)],
     )
 }
 
@@ -228,39 +229,43 @@ fn confirmed_of(alloc: Global, input: &[u8]) -> Result<Vec<u8>, CodecFault> {
 /// A key package and a group info without their signatures, and a commit without its confirmation tag.
 #[test]
 fn what_is_signed_or_confirmed_of_others(rt: HostRuntime) -> Result<(), Fail> {
-    let package =
+    const PACKAGE: &str =
         "0001000101f101a101b1000101410200010200010000020001010000000000000000ffffffffffffffff\
         0001c100";
-    let info =
+    const INFO: &str =
         "000100010147000000000000000020e32ab6a0a711ec8a732c3fad9263ed5fa61caf53fdf9b9690dc572\
         71d8f110d700002d00022a29010101a001b0000101400200010200010000020001010000000000000000\
         ffffffffffffffff0001c001e00000000001c4";
-    let signed =
+    const SIGNED: &str =
         "000100010147000000000000000020e32ab6a0a711ec8a732c3fad9263ed5fa61caf53fdf9b9690dc572\
         71d8f110d700002d00022a29010101a001b0000101400200010200010000020001010000000000000000\
         ffffffffffffffff0001c001e000000000";
-    let confirmed =
+    const CONFIRMED: &str =
         "00020147000000000000000001000000000003220220419afc0a88fe171b793b00410d11c8121fb96fdf\
         de7b5ced43d5912144a3a9f90001c6";
-    expect_answers(&rt, rt.alloc(), signed_package, &[(KEY_PACKAGE, package)])?;
-    expect_answers(&rt, rt.alloc(), signed_info, &[(info, signed)])?;
+    expect_answers(&rt, rt.alloc(), signed_package, &[(KEY_PACKAGE, PACKAGE)])?;
+    expect_answers(&rt, rt.alloc(), signed_info, &[(INFO, SIGNED)])?;
     expect_answers(
         &rt,
         rt.alloc(),
         confirmed_of,
-        &[(COMMITTED_AUTH, confirmed)],
+        &[(COMMITTED_AUTH, CONFIRMED)],
     )
+}
+
+/// A label.
+fn label(alloc: Global, label: &str) -> Result<String, Fail> {
+    Ok(String::from_str(alloc, label)?)
 }
 
 /// The labels of what is signed (RFC 9420, 5.1.2) and of a proposal's reference (5.2).
 #[test]
-fn labels(rt: HostRuntime) {
-    for (label, wanted) in [
+fn labels(rt: HostRuntime) -> Result<(), Fail> {
+    const LABELS: &[(&str, &str)] = &[
         (CONTENT_LABEL, "MLS 1.0 FramedContentTBS"),
         (KEY_PACKAGE_LABEL, "MLS 1.0 KeyPackageTBS"),
         (GROUP_INFO_LABEL, "MLS 1.0 GroupInfoTBS"),
         (PROPOSAL_REFERENCE_LABEL, "MLS 1.0 Proposal Reference"),
-    ] {
-        assert_eq!(rt; label, wanted);
-    }
+    ];
+    expect_texts(&rt, rt.alloc(), label, LABELS)
 }

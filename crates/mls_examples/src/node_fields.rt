@@ -106,7 +106,7 @@ fn leaf_fields(alloc: Global, leaf: &str) -> Result<String, Fail> {
 /// A leaf of each source; the second has certificates in place of an identity.
 #[test]
 fn fields_of_leaves(rt: HostRuntime) -> Result<(), Fail> {
-    let leaves = [
+    const LEAVES: &[(&str, &str)] = &[
         (
             "01a101b2000101430200010200020200030200040200050100000000000000060000000000000007\
              0800080181000901\
@@ -128,7 +128,14 @@ fn fields_of_leaves(rt: HostRuntime) -> Result<(), Fail> {
              proposals [4, 7]; credentials [5]; parent hash d4e5; signature c9; ",
         ),
     ];
-    expect_texts(&rt, rt.alloc(), leaf_fields, &leaves)
+    expect_texts(&rt, rt.alloc(), leaf_fields, LEAVES)
+}
+
+/// Adds the fields of a parent node.
+fn put_parent_fields(alloc: Global, out: &mut String, parent: &ParentNode) -> Result<(), Fail> {
+    put_bytes(alloc, out, "encryption", parent.encryption_key.as_slice())?;
+    put_bytes(alloc, out, "parent hash", parent.parent_hash.as_slice())?;
+    Ok(write!(out, "unmerged {:?}", parent.unmerged.as_slice())?)
 }
 
 /// The fields of a parent node.
@@ -136,27 +143,17 @@ fn parent_fields(alloc: Global, parent: &str) -> Result<String, Fail> {
     let input = bytes(alloc, parent)?;
     let parent: ParentNode = read_all_of(alloc, input.as_slice())?;
     let mut out = String::new(alloc);
-    put_bytes(
-        alloc,
-        &mut out,
-        "encryption",
-        parent.encryption_key.as_slice(),
-    )?;
-    put_bytes(
-        alloc,
-        &mut out,
-        "parent hash",
-        parent.parent_hash.as_slice(),
-    )?;
-    write!(out, "unmerged {:?}", parent.unmerged.as_slice())?;
+    let put = put_parent_fields(alloc, &mut out, &parent);
+    drop(parent);
+    put?;
     Ok(out)
 }
 
 #[test]
 fn fields_of_parents(rt: HostRuntime) -> Result<(), Fail> {
-    let fields = "encryption d1; parent hash e2; unmerged [3, 5]";
-    let parents = [("01d101e2080000000300000005", fields)];
-    expect_texts(&rt, rt.alloc(), parent_fields, &parents)
+    const FIELDS: &str = "encryption d1; parent hash e2; unmerged [3, 5]";
+    const PARENTS: &[(&str, &str)] = &[("01d101e2080000000300000005", FIELDS)];
+    expect_texts(&rt, rt.alloc(), parent_fields, PARENTS)
 }
 
 /// Adds the fields of a group context.
@@ -187,12 +184,19 @@ fn context_fields(alloc: Global, context: &str) -> Result<String, Fail> {
 
 #[test]
 fn fields_of_contexts(rt: HostRuntime) -> Result<(), Fail> {
-    let contexts = [(
+    const CONTEXTS: &[(&str, &str)] = &[(
         "0001000201470000000000000003015401c5080006018600070187",
         "version 1; suite 2; group 47; epoch 3; tree 54; confirmed c5; \
          extension 6; data 86; extension 7; data 87; ",
     )];
-    expect_texts(&rt, rt.alloc(), context_fields, &contexts)
+    expect_texts(&rt, rt.alloc(), context_fields, CONTEXTS)
+}
+
+/// Adds the fields of required capabilities.
+fn put_required(out: &mut String, required: &RequiredCapabilities) -> Result<(), Fail> {
+    put_codes(out, "extensions", required.extensions.as_slice())?;
+    put_codes(out, "proposals", required.proposals.as_slice())?;
+    put_codes(out, "credentials", required.credentials.as_slice())
 }
 
 /// The fields of required capabilities.
@@ -200,15 +204,15 @@ fn required_fields(alloc: Global, required: &str) -> Result<String, Fail> {
     let input = bytes(alloc, required)?;
     let required: RequiredCapabilities = read_all_of(alloc, input.as_slice())?;
     let mut out = String::new(alloc);
-    put_codes(&mut out, "extensions", required.extensions.as_slice())?;
-    put_codes(&mut out, "proposals", required.proposals.as_slice())?;
-    put_codes(&mut out, "credentials", required.credentials.as_slice())?;
+    let put = put_required(&mut out, &required);
+    drop(required);
+    put?;
     Ok(out)
 }
 
 #[test]
 fn fields_of_requirements(rt: HostRuntime) -> Result<(), Fail> {
-    let fields = "extensions [9, 1]; proposals [8]; credentials [2]; ";
-    let required = [("0400090001020008020002", fields)];
-    expect_texts(&rt, rt.alloc(), required_fields, &required)
+    const FIELDS: &str = "extensions [9, 1]; proposals [8]; credentials [2]; ";
+    const REQUIRED: &[(&str, &str)] = &[("0400090001020008020002", FIELDS)];
+    expect_texts(&rt, rt.alloc(), required_fields, REQUIRED)
 }

@@ -3,8 +3,8 @@
 
 use crate::chains::OVER_TWO;
 use crate::support::{
-    LOWER, UPPER, bytes, committed_leaf, expect_texts, joined_leaf, leaf_with, path_tree,
-    put_parent, suite, text, tree_of, tree_text,
+    LOWER, UPPER, bytes, committed_leaf, expect_texts, joined_leaf, leaf_with, put_parent, suite,
+    text, tree_of, tree_text,
 };
 use mls_apply::{
     Applied, Leaves, ListItem, apply_list, expected_parent_hashes, merge_path, merge_path_by,
@@ -23,8 +23,23 @@ const COMMIT: &str = "03207e534e72295b2ed4520a7628873779052cbc9788fb7a2927ad4234
 
 const OTHER_COMMIT: &str = "03207e534e72295b2ed4520a7628873779052cbc9788fb7a2927ad4234fd78396991";
 
-/// The parent hash of node 1 over leaf 0 with a path of member 1: of `01d120`, [`UPPER`], `20` and the hash of leaf 0.
-const SECOND_LOWER: &str = "09386a0c998ae48d8c6cd134353dc7984e19363c96a088a5807548b4c8b47e25";
+/// The parent hashes of a path of member 0 with the keys `d1` and `d3`: [`LOWER`], [`UPPER`], and none of the root.
+const FIRST_HASHES: &str = " 93665b04245cc070b1bdf028955a30b2dc700e38eb40845f274e3075f5053591 \
+    6a02415c428629f3da6145086a76a2675a238d2c57ad21584dba9d231107a0f7 ";
+
+/// Those of member 1's: of node 1 over leaf 0, of `01d120`, [`UPPER`], `20` and the hash of leaf 0; then [`UPPER`].
+const SECOND_HASHES: &str = " 09386a0c998ae48d8c6cd134353dc7984e19363c96a088a5807548b4c8b47e25 \
+    6a02415c428629f3da6145086a76a2675a238d2c57ad21584dba9d231107a0f7 ";
+
+/// That of member 2's, which has node 3 alone: [`OVER_TWO`].
+const THIRD_HASHES: &str = " 340697213a335ca29d1f866290220e77fcef7d6fd9eda269b7566da38a5237e4 ";
+
+/// The tree of leaves 0, 1 and 2 after a commit of member 0 with a path of the nodes 1 and 3.
+const PATH_TREE: &str =
+    "40b80101018001b0000101400200010200010000020001032093665b04245cc070b1bdf028955a30b2dc700e38\
+    eb40845f274e3075f50535910001c0010201d1206a02415c428629f3da6145086a76a2675a238d2c57ad21584dba9d231107\
+    a0f700010101a101b1000101410200010200010000020001010000000000000000ffffffffffffffff0001c1010201d30000\
+    010101a201b2000101420200010200010000020001010000000000000000ffffffffffffffff0001c2";
 
 /// The path of a leaf and of nodes that take less than 64 bytes.
 fn path_of(alloc: Global, leaf: &str, nodes: &str) -> Result<UpdatePath, Fail> {
@@ -111,36 +126,36 @@ fn merged_by_hashes(alloc: Global, path: (&str, &str, &str)) -> Result<String, F
 /// The path of two members has one node, and its leaf carries the parent hash of that node.
 #[test]
 fn a_path_of_two_members(rt: HostRuntime) -> Result<(), Fail> {
-    let tree = "40690101018001b0000101400200010200010000020001\
+    const TREE: &str = "40690101018001b0000101400200010200010000020001\
         03207e534e72295b2ed4520a7628873779052cbc9788fb7a2927ad4234fd783969900001c0\
         010201d100000101\
         01a101b1000101410200010200010000020001010000000000000000ffffffffffffffff0001c1";
-    let paths = [(("8", COMMIT, "01d10401aa01bb"), tree)];
-    expect_texts(&rt, rt.alloc(), merged_into_two, &paths)?;
-    expect_texts(&rt, rt.alloc(), merged_by_hashes, &paths)
+    const PATHS: &[((&str, &str, &str), &str)] = &[(("8", COMMIT, "01d10401aa01bb"), TREE)];
+    expect_texts(&rt, rt.alloc(), merged_into_two, PATHS)?;
+    expect_texts(&rt, rt.alloc(), merged_by_hashes, PATHS)
 }
 
 #[test]
 fn refused_paths(rt: HostRuntime) -> Result<(), Fail> {
-    let length = "a path has another number of nodes than the filtered direct path";
-    let used = "a key of a path is used already";
-    let count = "a node of a path has another number of ciphertexts than its resolution";
-    let paths = [
-        (("8", COMMIT, "01d10401aa01bb01d300"), length),
+    const LENGTH: &str = "a path has another number of nodes than the filtered direct path";
+    const USED: &str = "a key of a path is used already";
+    const COUNT: &str = "a node of a path has another number of ciphertexts than its resolution";
+    const PATHS: &[((&str, &str, &str), &str)] = &[
+        (("8", COMMIT, "01d10401aa01bb01d300"), LENGTH),
         (
             ("9", "02", "01d10401aa01bb"),
             "the leaf of a path is not meant for a commit",
         ),
-        (("a", COMMIT, "01d10401aa01bb"), used),
-        (("8", COMMIT, "01a10401aa01bb"), used),
-        (("8", COMMIT, "01800401aa01bb"), used),
-        (("8", COMMIT, "01d10801aa01bb01aa01bb"), count),
+        (("a", COMMIT, "01d10401aa01bb"), USED),
+        (("8", COMMIT, "01a10401aa01bb"), USED),
+        (("8", COMMIT, "01800401aa01bb"), USED),
+        (("8", COMMIT, "01d10801aa01bb01aa01bb"), COUNT),
         (
             ("8", OTHER_COMMIT, "01d10401aa01bb"),
             "the parent hash of a path's leaf is not the one expected",
         ),
     ];
-    expect_texts(&rt, rt.alloc(), merged_into_two, &paths)
+    expect_texts(&rt, rt.alloc(), merged_into_two, PATHS)
 }
 
 /// What becomes of a path in the tree that has grown by member 2.
@@ -152,15 +167,14 @@ fn merged_into_grown(alloc: Global, nodes: &str) -> Result<String, Fail> {
 /// A leaf that the commit adds gets no ciphertext.
 #[test]
 fn a_path_past_an_added_leaf(rt: HostRuntime) -> Result<(), Fail> {
-    let tree = tree_text(rt.alloc(), &path_tree(rt.alloc())?)?;
-    let paths = [
-        ("01d10401aa01bb01d300", tree.as_str()),
+    const PATHS: &[(&str, &str)] = &[
+        ("01d10401aa01bb01d300", PATH_TREE),
         (
             "01d10401aa01bb01d30401aa01bb",
             "a node of a path has another number of ciphertexts than its resolution",
         ),
     ];
-    expect_texts(&rt, rt.alloc(), merged_into_grown, &paths)
+    expect_texts(&rt, rt.alloc(), merged_into_grown, PATHS)
 }
 
 /// What becomes of a path of member 2 in the tree of members 0, 1 and 2.
@@ -173,20 +187,20 @@ fn merged_on_the_right(alloc: Global, nodes: &str) -> Result<String, Fail> {
 /// Node 5 has no other leaf, so the path has node 3 alone, with a ciphertext for each of the leaves 0 and 1.
 #[test]
 fn a_path_from_the_right(rt: HostRuntime) -> Result<(), Fail> {
-    let tree =
+    const TREE: &str =
         "4093010101a001b0000101400200010200010000020001010000000000000000ffffffffffffffff0001c0\
         00010101a101b1000101410200010200010000020001010000000000000000ffffffffffffffff0001c101\
         0201d300000101018201b20001014202000102000100000200010320340697213a335ca29d1f8662902\
         20e77fcef7d6fd9eda269b7566da38a5237e40001c2";
-    let count = "a node of a path has another number of ciphertexts than its resolution";
-    let length = "a path has another number of nodes than the filtered direct path";
-    let paths = [
-        ("01d30801aa01bb01ac01bd", tree),
-        ("01d30401aa01bb", count),
-        ("01d30c01aa01bb01aa01bb01aa01bb", count),
-        ("01d50001d30801aa01bb01ac01bd", length),
+    const COUNT: &str = "a node of a path has another number of ciphertexts than its resolution";
+    const LENGTH: &str = "a path has another number of nodes than the filtered direct path";
+    const PATHS: &[(&str, &str)] = &[
+        ("01d30801aa01bb01ac01bd", TREE),
+        ("01d30401aa01bb", COUNT),
+        ("01d30c01aa01bb01aa01bb01aa01bb", COUNT),
+        ("01d50001d30801aa01bb01ac01bd", LENGTH),
     ];
-    expect_texts(&rt, rt.alloc(), merged_on_the_right, &paths)
+    expect_texts(&rt, rt.alloc(), merged_on_the_right, PATHS)
 }
 
 /// What becomes of a path of member 0 in the tree of members 0 and 2, where nodes 1 and 3 are set, and leaf 2 is unmerged.
@@ -201,17 +215,17 @@ fn merged_over_old(alloc: Global, nodes: &str) -> Result<String, Fail> {
 /// Node 1, over no other leaf, becomes blank, and node 3 loses its hash and its list. The keys of both are used.
 #[test]
 fn a_path_over_old_parents(rt: HostRuntime) -> Result<(), Fail> {
-    let tree =
+    const TREE: &str =
         "406b0101018001b000010140020001020001000002000103206a02415c428629f3da6145086a76a2675a23\
         8d2c57ad21584dba9d231107a0f70001c00000010201d30000010101a201b20001014202000102000100000\
         20001010000000000000000ffffffffffffffff0001c2";
-    let used = "a key of a path is used already";
-    let paths = [
-        ("01d30401aa01bb", tree),
-        ("01d80401aa01bb", used),
-        ("01d90401aa01bb", used),
+    const USED: &str = "a key of a path is used already";
+    const PATHS: &[(&str, &str)] = &[
+        ("01d30401aa01bb", TREE),
+        ("01d80401aa01bb", USED),
+        ("01d90401aa01bb", USED),
     ];
-    expect_texts(&rt, rt.alloc(), merged_over_old, &paths)
+    expect_texts(&rt, rt.alloc(), merged_over_old, PATHS)
 }
 
 /// What becomes of a path of member 0 in the tree of members 0, 1 and 2.
@@ -223,15 +237,14 @@ fn merged_into_three(alloc: Global, nodes: &str) -> Result<String, Fail> {
 
 #[test]
 fn two_nodes_of_one_key(rt: HostRuntime) -> Result<(), Fail> {
-    let tree = tree_text(rt.alloc(), &path_tree(rt.alloc())?)?;
-    let paths = [
-        ("01d10401aa01bb01d30401aa01bb", tree.as_str()),
+    const PATHS: &[(&str, &str)] = &[
+        ("01d10401aa01bb01d30401aa01bb", PATH_TREE),
         (
             "01d10401aa01bb01d10401aa01bb",
             "a key of a path is used already",
         ),
     ];
-    expect_texts(&rt, rt.alloc(), merged_into_three, &paths)
+    expect_texts(&rt, rt.alloc(), merged_into_three, PATHS)
 }
 
 /// What becomes of a path without nodes in the tree of member 0 alone, by the source of its leaf.
@@ -243,7 +256,7 @@ fn merged_into_one(alloc: Global, source: &str) -> Result<String, Fail> {
 /// A path of a group's only member has no node, and its leaf carries no parent hash.
 #[test]
 fn a_path_of_one_member(rt: HostRuntime) -> Result<(), Fail> {
-    let paths = [
+    const PATHS: &[(&str, &str)] = &[
         (
             "0300",
             "1a0101018001b000010140020001020001000002000103000001c0",
@@ -253,7 +266,7 @@ fn a_path_of_one_member(rt: HostRuntime) -> Result<(), Fail> {
             "the parent hash of a path's leaf is not the one expected",
         ),
     ];
-    expect_texts(&rt, rt.alloc(), merged_into_one, &paths)
+    expect_texts(&rt, rt.alloc(), merged_into_one, PATHS)
 }
 
 /// The parent hashes that a path of a committer with these keys has to carry in the tree of members 0, 1 and 2, or the
@@ -284,17 +297,14 @@ fn joined(alloc: Global, hashes: &[Opaque]) -> Result<String, Fail> {
 /// The leaf's, that of node 1 where it is in the path, and that of the root, which is empty.
 #[test]
 fn parent_hashes_of_a_path(rt: HostRuntime) -> Result<(), Fail> {
-    let hashes = format!(in rt.alloc(); " {LOWER} {UPPER} ")?;
-    let second = format!(in rt.alloc(); " {SECOND_LOWER} {UPPER} ")?;
-    let third = format!(in rt.alloc(); " {OVER_TWO} ")?;
-    let length = "a path has another number of nodes than the filtered direct path";
-    let paths = [
-        ((0, [0xd1, 0xd3].as_slice()), hashes.as_str()),
-        ((1, &[0xd1, 0xd3]), second.as_str()),
-        ((2, &[0xd3]), third.as_str()),
-        ((0, &[0xd1]), length),
-        ((0, &[0xd1, 0xd3, 0xd5]), length),
+    const LENGTH: &str = "a path has another number of nodes than the filtered direct path";
+    const PATHS: &[((u32, &[u8]), &str)] = &[
+        ((0, &[0xd1, 0xd3]), FIRST_HASHES),
+        ((1, &[0xd1, 0xd3]), SECOND_HASHES),
+        ((2, &[0xd3]), THIRD_HASHES),
+        ((0, &[0xd1]), LENGTH),
+        ((0, &[0xd1, 0xd3, 0xd5]), LENGTH),
         ((3, &[0xd1, 0xd3]), "a leaf is not set"),
     ];
-    expect_texts(&rt, rt.alloc(), expected, &paths)
+    expect_texts(&rt, rt.alloc(), expected, PATHS)
 }

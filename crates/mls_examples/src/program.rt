@@ -66,10 +66,20 @@ fn run(alloc: Global, line: &str, receipts: &str, fails_at: Option<usize>) -> Re
         tree: tree.as_slice(),
         receipts,
     };
+    run_over(alloc, line, &files, fails_at)
+}
+
+/// The same over these files.
+fn run_over(
+    alloc: Global,
+    line: &str,
+    files: &Shelf,
+    fails_at: Option<usize>,
+) -> Result<String, Fail> {
     let words = words(alloc, line)?;
     let mut out = MemorySink::new(alloc, 2000, 30, fails_at)?;
     let mut notes = MemorySink::new(alloc, 100, 30, None)?;
-    let status = run_program(alloc, words.as_slice(), &files, &mut out, &mut notes);
+    let status = run_program(alloc, words.as_slice(), files, &mut out, &mut notes);
     let out = String::from_utf8(Vec::from_slice(alloc, out.bytes())?)?;
     let notes = String::from_utf8(Vec::from_slice(alloc, notes.bytes())?)?;
     Ok(format!(in alloc; "{status} {out}| {notes}")?)
@@ -84,7 +94,7 @@ fn answer(alloc: Global, line: &str) -> Result<String, Fail> {
 /// begins a length in two bytes, of more bytes than there are.
 #[test]
 fn orders_are_carried_out(rt: HostRuntime) -> Result<(), Fail> {
-    let rows = [
+    const ROWS: &[(&str, &str)] = &[
         (
             "show tree tree",
             "0 0 leaf 0 a0 b0 key_package 0 18446744073709551615\nleaves 1 members 1\n| ",
@@ -167,7 +177,7 @@ fn orders_are_carried_out(rt: HostRuntime) -> Result<(), Fail> {
             "3 | fault: read\n",
         ),
     ];
-    expect_texts(&rt, rt.alloc(), answer, &rows)
+    expect_texts(&rt, rt.alloc(), answer, ROWS)
 }
 
 /// What `validate-tree` gives by a file of receipts, where the tree's file is missing.
@@ -182,12 +192,12 @@ fn judged(alloc: Global, row: (&str, &str)) -> Result<String, Fail> {
 /// No receipt of the leaf; bad receipts, which are told before any other file is opened.
 #[test]
 fn receipts_are_read_first(rt: HostRuntime) -> Result<(), Fail> {
-    let rows = [
+    const ROWS: &[((&str, &str), &str)] = &[
         (("tree", ""), "1 members refused 5 LeafSignature 0\n| "),
         (("tree", "receipt"), "1 receipts unreadable 1\n| "),
         (("other", "receipt"), "1 receipts unreadable 1\n| "),
     ];
-    expect_texts(&rt, rt.alloc(), judged, &rows)
+    expect_texts(&rt, rt.alloc(), judged, ROWS)
 }
 
 /// What a line gives where the output fails at its second call.
@@ -198,12 +208,12 @@ fn failing(alloc: Global, line: &str) -> Result<String, Fail> {
 /// A report and a help of which the first 30 bytes are taken.
 #[test]
 fn outputs_fail(rt: HostRuntime) -> Result<(), Fail> {
-    let rows = [
+    const ROWS: &[(&str, &str)] = &[
         (
             "show tree tree",
             "3 0 leaf 0 a0 b0 key_package 0 1| fault: write\n",
         ),
         ("--help", "3 Checks the public state of MLS| fault: write\n"),
     ];
-    expect_texts(&rt, rt.alloc(), failing, &rows)
+    expect_texts(&rt, rt.alloc(), failing, ROWS)
 }

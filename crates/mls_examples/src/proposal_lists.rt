@@ -1,8 +1,10 @@
 //! The list of proposals that a commit applies, and the tree after it (RFC 9420, 12.2 to 12.4). A proposal is hexadecimal
 //! text, with the leaf of its sender before it.
 
-use crate::support::{bytes, expect_text, joined_leaf, put_leaf, put_parent, tree_of, tree_text};
-use mls_apply::{ApplyFault, Leaves, ListItem, apply_list, check_list};
+use crate::support::{
+    bytes, expect_text, expect_texts, joined_leaf, put_leaf, put_parent, tree_of, tree_text,
+};
+use mls_apply::{Applied, Leaves, ListItem, apply_list, check_list};
 use mls_msgs::decode_proposal;
 use mls_tree::PublicTree;
 use std::alloc::Global;
@@ -38,107 +40,88 @@ fn list_of(alloc: Global, entries: &[(u32, &str)]) -> Result<Vec<ListItem>, Fail
     Ok(list)
 }
 
-/// Why a list of member 0's commit is refused.
-fn fault_of(
-    alloc: Global,
-    entries: &[(u32, &str)],
-    has_path: bool,
-) -> Result<Option<ApplyFault>, Fail> {
+/// Why a list of member 0's commit is refused, with a path or without, or `none`.
+fn fault_of(alloc: Global, list: (&[(u32, &str)], bool)) -> Result<String, Fail> {
+    let (entries, has_path) = list;
     let list = list_of(alloc, entries)?;
-    Ok(check_list(alloc, 0, list.as_slice(), has_path).err())
+    let fault = check_list(alloc, 0, list.as_slice(), has_path).err();
+    drop(list);
+    match fault {
+        None => Ok(String::from_str(alloc, "none")?),
+        Some(fault) => Ok(format!(in alloc; "{fault:?}")?),
+    }
 }
 
 #[test]
 fn lists_that_are_refused(rt: HostRuntime) -> Result<(), Fail> {
-    for (entries, has_path, fault) in [
-        ([].as_slice(), false, Some(ApplyFault::PathMissing)),
-        (&[], true, None),
-        (&[(0, ADD)], false, None),
+    const LISTS: &[((&[(u32, &str)], bool), &str)] = &[
+        ((&[], false), "PathMissing"),
+        ((&[], true), "none"),
+        ((&[(0, ADD)], false), "none"),
+        ((&[(0, ADD), (0, REMOVE_1)], false), "PathMissing"),
+        ((&[(0, ADD), (0, REMOVE_1)], true), "none"),
+        ((&[(1, UPDATE_1)], false), "PathMissing"),
+        ((&[(1, UPDATE_1), (2, REMOVE_4)], true), "none"),
+        ((&[(0, UPDATE_0)], true), "UpdateByCommitter"),
+        ((&[(0, REMOVE_0), (0, UPDATE_0)], true), "UpdateByCommitter"),
+        ((&[(0, REMOVE_0)], false), "RemovesCommitter"),
+        ((&[(1, UPDATE_1), (0, REMOVE_1)], false), "SameLeafTwice"),
         (
-            &[(0, ADD), (0, REMOVE_1)],
-            false,
-            Some(ApplyFault::PathMissing),
+            (&[(0, REMOVE_1), (2, REMOVE_4), (2, REMOVE_1)], true),
+            "SameLeafTwice",
         ),
-        (&[(0, ADD), (0, REMOVE_1)], true, None),
-        (&[(1, UPDATE_1)], false, Some(ApplyFault::PathMissing)),
-        (&[(1, UPDATE_1), (2, REMOVE_4)], true, None),
-        (&[(0, UPDATE_0)], true, Some(ApplyFault::UpdateByCommitter)),
-        (
-            &[(0, REMOVE_0), (0, UPDATE_0)],
-            true,
-            Some(ApplyFault::UpdateByCommitter),
-        ),
-        (&[(0, REMOVE_0)], false, Some(ApplyFault::RemovesCommitter)),
-        (
-            &[(1, UPDATE_1), (0, REMOVE_1)],
-            false,
-            Some(ApplyFault::SameLeafTwice),
-        ),
-        (
-            &[(0, REMOVE_1), (2, REMOVE_4), (2, REMOVE_1)],
-            true,
-            Some(ApplyFault::SameLeafTwice),
-        ),
-    ] {
-        assert!(rt; fault_of(rt.alloc(), entries, has_path)? == fault);
-    }
-    Ok(())
+    ];
+    expect_texts(&rt, rt.alloc(), fault_of, LISTS)
 }
 
 /// The leaves of a tree after a list and those that it added, or why there is no such tree.
-fn outcome(
-    alloc: Global,
-    leaves: u32,
-    set: &[u32],
-    entries: &[(u32, &str)],
-) -> Result<String, Fail> {
+fn outcome(alloc: Global, change: (u32, &[u32], &[(u32, &str)])) -> Result<String, Fail> {
+    let (leaves, set, entries) = change;
     let list = list_of(alloc, entries)?;
     let tree = tree_of(alloc, leaves, set)?;
-    match apply_list(alloc, &tree, list.as_slice()) {
-        Ok(applied) => {
-            let leaves = applied.tree.leaf_count();
-            let added = applied.added.as_slice();
-            Ok(format!(in alloc; "{leaves} {added:?}")?)
-        }
+    let answer = apply_list(alloc, &tree, list.as_slice());
+    drop(tree);
+    drop(list);
+    match answer {
+        Ok(applied) => applied_text(alloc, &applied),
         Err(fault) => Ok(format!(in alloc; "{fault}")?),
     }
+}
+
+/// How many leaves there are after a list, and which it added.
+fn applied_text(alloc: Global, applied: &Applied) -> Result<String, Fail> {
+    let leaves = applied.tree.leaf_count();
+    let added = applied.added.as_slice();
+    Ok(format!(in alloc; "{leaves} {added:?}")?)
 }
 
 /// Removes shrink the tree as often as they can, Adds come last and grow a full one, and Updates come first.
 #[test]
 fn leaves_after_a_list(rt: HostRuntime) -> Result<(), Fail> {
-    let alloc = rt.alloc();
-    for (leaves, set, entries, found) in [
+    const LISTS: &[((u32, &[u32], &[(u32, &str)]), &str)] = &[
+        ((8, &[0, 1, 2, 4], &[(0, REMOVE_4)]), "4 []"),
+        ((8, &[0, 1, 4], &[(0, REMOVE_4)]), "2 []"),
+        ((8, &[0, 4], &[(0, REMOVE_4)]), "1 []"),
+        ((8, &[0, 1], &[]), "8 []"),
+        ((4, &[0, 1, 2, 3], &[(0, ADD)]), "8 [4]"),
+        ((4, &[0, 1, 2], &[(0, ADD), (0, REMOVE_1)]), "4 [1]"),
+        ((2, &[0, 1], &[(0, ADD), (0, ADD), (0, ADD)]), "8 [2, 3, 4]"),
         (
-            8,
-            [0, 1, 2, 4].as_slice(),
-            [(0, REMOVE_4)].as_slice(),
-            "4 []",
-        ),
-        (8, &[0, 1, 4], &[(0, REMOVE_4)], "2 []"),
-        (8, &[0, 4], &[(0, REMOVE_4)], "1 []"),
-        (8, &[0, 1], &[], "8 []"),
-        (4, &[0, 1, 2, 3], &[(0, ADD)], "8 [4]"),
-        (4, &[0, 1, 2], &[(0, ADD), (0, REMOVE_1)], "4 [1]"),
-        (2, &[0, 1], &[(0, ADD), (0, ADD), (0, ADD)], "8 [2, 3, 4]"),
-        (
-            4,
-            &[0, 1, 3],
-            &[(0, REMOVE_1), (1, UPDATE_1), (0, ADD), (0, ADD)],
+            (
+                4,
+                &[0, 1, 3],
+                &[(0, REMOVE_1), (1, UPDATE_1), (0, ADD), (0, ADD)],
+            ),
             "4 [1, 2]",
         ),
         (
-            4,
-            &[0, 1, 2],
-            &[(0, REMOVE_1), (0, REMOVE_1)],
+            (4, &[0, 1, 2], &[(0, REMOVE_1), (0, REMOVE_1)]),
             "a leaf is not set",
         ),
-        (4, &[0, 2], &[(1, UPDATE_1)], "a leaf is not set"),
-        (4, &[0, 2], &[(0, REMOVE_4)], "a leaf is not set"),
-    ] {
-        expect_text(&rt, outcome(alloc, leaves, set, entries)?, found);
-    }
-    Ok(())
+        ((4, &[0, 2], &[(1, UPDATE_1)]), "a leaf is not set"),
+        ((4, &[0, 2], &[(0, REMOVE_4)]), "a leaf is not set"),
+    ];
+    expect_texts(&rt, rt.alloc(), outcome, LISTS)
 }
 
 /// The tree after a list, as it is written.

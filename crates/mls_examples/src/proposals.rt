@@ -1,15 +1,14 @@
 //! Single proposals (RFC 9420, 12.1.1 to 12.1.3), and the proposals that a commit refers to (12.4).
 
-use crate::support::{CONTEXT, bytes, expect_text, text, tree_of};
-use mls_apply::{ApplyFault, KnownProposal, check_proposal, find_known, resolve_list};
+use crate::support::{CONTEXT, bytes, expect_texts, text, tree_of};
+use mls_apply::{ApplyFault, KnownProposal, ListItem, check_proposal, find_known, resolve_list};
 use mls_check::{Listed, SignatureCheck, Trusting};
 use mls_hash::Suite;
-use mls_msgs::{Commit, decode_proposal, encode_proposal};
-use mls_nodes::decode_context;
-use mls_tree::HashValue;
+use mls_msgs::{Commit, Proposal, decode_proposal, encode_proposal};
+use mls_nodes::{GroupContext, decode_context};
+use mls_tree::{HashValue, PublicTree};
 use mls_wire::read_all_of;
 use std::alloc::Global;
-use std::process::Abort;
 use std::test::Fail;
 
 /// The Add of member 1 by its key package.
@@ -20,122 +19,152 @@ const ADD: &str =
 /// The Update of member 0.
 const UPDATE: &str = "0002019001b0000101400200010200010000020001020001c0";
 
-/// Why a proposal is refused in the group of members 0 and 2.
+/// Why a member's proposal is refused in the group of members 0 and 2, or `none`.
 fn fault_of(
-    rt: &impl Abort,
     alloc: Global,
     sender: u32,
     proposal: &str,
     checker: &dyn SignatureCheck,
-) -> Result<Option<ApplyFault>, Fail> {
+) -> Result<String, Fail> {
     let proposal = decode_proposal(alloc, bytes(alloc, proposal)?.as_slice())?;
     let tree = tree_of(alloc, 4, &[0, 2])?;
     let context = decode_context(alloc, bytes(alloc, CONTEXT)?.as_slice())?;
+    let answer = judged(alloc, &context, &tree, sender, &proposal, checker);
+    drop(context);
+    drop(tree);
+    drop(proposal);
+    match answer? {
+        None => Ok(String::from_str(alloc, "none")?),
+        Some(fault) => Ok(format!(in alloc; "{fault:?}")?),
+    }
+}
+
+/// Why it is refused in this context and tree.
+fn judged(
+    alloc: Global,
+    context: &GroupContext,
+    tree: &PublicTree,
+    sender: u32,
+    proposal: &Proposal,
+    checker: &dyn SignatureCheck,
+) -> Result<Option<ApplyFault>, Fail> {
     let suite = Suite::from_u16(context.cipher_suite)?;
-    assert!(rt; suite.number() == context.cipher_suite);
-    Ok(check_proposal(alloc, suite, &context, &tree, sender, &proposal, checker).err())
+    if suite.number() != context.cipher_suite {
+        return Err(Fail::from("the context's suite"));
+    }
+    Ok(check_proposal(alloc, suite, context, tree, sender, proposal, checker).err())
+}
+
+/// The same where each signature is good.
+fn trusted(alloc: Global, proposed: (u32, &str)) -> Result<String, Fail> {
+    let (sender, proposal) = proposed;
+    fault_of(alloc, sender, proposal, &Trusting)
+}
+
+/// The same by a file of receipts.
+fn by_receipts(alloc: Global, proposed: (&str, u32, &str)) -> Result<String, Fail> {
+    let (receipts, sender, proposal) = proposed;
+    let listed = Listed::read(alloc, receipts.as_bytes())?;
+    fault_of(alloc, sender, proposal, &listed)
 }
 
 /// Adds of another suite, another version, with the leaf's key as init key, and of a leaf from an update; Updates that keep
 /// their key, and of a leaf from a key package; Removes; and proposals of a member that isn't there.
 #[test]
 fn proposals_by_themselves(rt: HostRuntime) -> Result<(), Fail> {
-    for (sender, proposal, fault) in [
-        (0, ADD, None),
+    const PROPOSALS: &[((u32, &str), &str)] = &[
+        ((0, ADD), "none"),
         (
-            0,
-            "00010001000201f101a101b1000101410200010200010000020001010000000000000000ffffffffffffffff\
+            (
+                0,
+                "00010001000201f101a101b1000101410200010200010000020001010000000000000000ffffffffffffffff\
                 0001c10001c9",
-            Some(ApplyFault::AddInvalid),
+            ),
+            "AddInvalid",
         ),
         (
-            0,
-            "00010002000101f101a101b1000101410200010200010000020001010000000000000000ffffffffffffffff\
+            (
+                0,
+                "00010002000101f101a101b1000101410200010200010000020001010000000000000000ffffffffffffffff\
                 0001c10001c9",
-            Some(ApplyFault::AddInvalid),
+            ),
+            "AddInvalid",
         ),
         (
-            0,
-            "00010001000101a101a101b1000101410200010200010000020001010000000000000000ffffffffffffffff\
+            (
+                0,
+                "00010001000101a101a101b1000101410200010200010000020001010000000000000000ffffffffffffffff\
                 0001c10001c9",
-            Some(ApplyFault::AddInvalid),
+            ),
+            "AddInvalid",
         ),
         (
-            0,
-            "00010001000101f1019101b1000101410200010200010000020001020001c10001c9",
-            Some(ApplyFault::AddInvalid),
+            (
+                0,
+                "00010001000101f1019101b1000101410200010200010000020001020001c10001c9",
+            ),
+            "AddInvalid",
         ),
-        (0, UPDATE, None),
+        ((0, UPDATE), "none"),
         (
-            0,
-            "000201a001b0000101400200010200010000020001020001c0",
-            Some(ApplyFault::UpdateInvalid),
+            (0, "000201a001b0000101400200010200010000020001020001c0"),
+            "UpdateInvalid",
         ),
         (
-            0,
-            "0002019001b0000101400200010200010000020001010000000000000000ffffffffffffffff0001c0",
-            Some(ApplyFault::UpdateInvalid),
+            (
+                0,
+                "0002019001b0000101400200010200010000020001010000000000000000ffffffffffffffff0001c0",
+            ),
+            "UpdateInvalid",
         ),
-        (0, "000300000000", None),
-        (0, "000300000005", Some(ApplyFault::RemoveInvalid)),
-        (1, "000300000005", Some(ApplyFault::NoSuchLeaf)),
-        (1, UPDATE, Some(ApplyFault::NoSuchLeaf)),
-    ] {
-        assert!(rt; fault_of(&rt, rt.alloc(), sender, proposal, &Trusting)? == fault);
-    }
-    Ok(())
+        ((0, "000300000000"), "none"),
+        ((0, "000300000005"), "RemoveInvalid"),
+        ((1, "000300000005"), "NoSuchLeaf"),
+        ((1, UPDATE), "NoSuchLeaf"),
+    ];
+    expect_texts(&rt, rt.alloc(), trusted, PROPOSALS)
 }
 
 /// The receipts are of member 1's leaf and key package, and of member 0's present leaf; of its update as leaf 0 of the group
 /// `47`, of the group `48`, and as leaf 1.
 #[test]
 fn proposals_by_their_signatures(rt: HostRuntime) -> Result<(), Fail> {
-    let joining = "e60b8f3c0a227ffc5e084212caecf78d7e2b38f53addb2f55387762615d6872a\n\
+    const JOINING: &str = "e60b8f3c0a227ffc5e084212caecf78d7e2b38f53addb2f55387762615d6872a\n\
         47c350198b187b8db3ec7885f5f8de0799a2ebdd4d7c97610b7b94d2af36410e";
-    let leaf_alone = "e60b8f3c0a227ffc5e084212caecf78d7e2b38f53addb2f55387762615d6872a";
-    let package_alone = "47c350198b187b8db3ec7885f5f8de0799a2ebdd4d7c97610b7b94d2af36410e";
-    let present = "bd6f8df8dcd01852d1c0a3e53b39dcb3bb86dda462a62c39b9582a3907fe4c36";
-    let updating = "32c0f611e9d0536460cc37f1f3a34a2331af2f57572b1426afcc67bbbfb9892d";
-    let elsewhere = "efa9372593f02a2f6384d2c33a33287fefbad5633d516d1bbb16c6301223644e\n\
+    const LEAF_ALONE: &str = "e60b8f3c0a227ffc5e084212caecf78d7e2b38f53addb2f55387762615d6872a";
+    const PACKAGE_ALONE: &str = "47c350198b187b8db3ec7885f5f8de0799a2ebdd4d7c97610b7b94d2af36410e";
+    const PRESENT: &str = "bd6f8df8dcd01852d1c0a3e53b39dcb3bb86dda462a62c39b9582a3907fe4c36";
+    const UPDATING: &str = "32c0f611e9d0536460cc37f1f3a34a2331af2f57572b1426afcc67bbbfb9892d";
+    const ELSEWHERE: &str = "efa9372593f02a2f6384d2c33a33287fefbad5633d516d1bbb16c6301223644e\n\
         231abf32ce218d510979ac0055de134a54cc3203ad42e5b38c3add7fa3b84d08";
-    for (receipts, proposal, fault) in [
-        (joining, ADD, None),
-        (leaf_alone, ADD, Some(ApplyFault::AddInvalid)),
-        (package_alone, ADD, Some(ApplyFault::AddInvalid)),
-        (updating, UPDATE, None),
-        (present, UPDATE, Some(ApplyFault::UpdateInvalid)),
-        (elsewhere, UPDATE, Some(ApplyFault::UpdateInvalid)),
-    ] {
-        let listed = Listed::read(rt.alloc(), receipts.as_bytes())?;
-        let found = fault_of(&rt, rt.alloc(), 0, proposal, &listed);
-        drop(listed);
-        assert!(rt; found? == fault);
-    }
-    Ok(())
+    const PROPOSALS: &[((&str, u32, &str), &str)] = &[
+        ((JOINING, 0, ADD), "none"),
+        ((LEAF_ALONE, 0, ADD), "AddInvalid"),
+        ((PACKAGE_ALONE, 0, ADD), "AddInvalid"),
+        ((UPDATING, 0, UPDATE), "none"),
+        ((PRESENT, 0, UPDATE), "UpdateInvalid"),
+        ((ELSEWHERE, 0, UPDATE), "UpdateInvalid"),
+    ];
+    expect_texts(&rt, rt.alloc(), by_receipts, PROPOSALS)
 }
 
 /// The receipts are of member 2's update as leaf 2 of the group, and as leaf 0; and of one with the new signature key `b9`,
 /// by this key and by the present one.
 #[test]
 fn an_update_is_signed_at_its_index(rt: HostRuntime) -> Result<(), Fail> {
-    let update = "0002019201b2000101420200010200010000020001020001c2";
-    let rekeyed = "0002019201b9000101420200010200010000020001020001c2";
-    let second = "5c4daa54cf6a3dab0e8618cfa5d3bb6fc8895b677e306b8d811612ff8f10ced9";
-    let first = "176ce596346d7cbd4831901b86bdd78d045e8101afe501ec78e3c48a58a33889";
-    let own = "3f440f98d308a7fe7c2ee9e9da5b49797ab40d3fb09f58803a6c5451e8cc5beb";
-    let present = "3c50571276b161987f628283eec55af957ead81aeedf8fd4d6ce317d7bf04bfe";
-    for (receipts, update, fault) in [
-        (second, update, None),
-        (first, update, Some(ApplyFault::UpdateInvalid)),
-        (own, rekeyed, None),
-        (present, rekeyed, Some(ApplyFault::UpdateInvalid)),
-    ] {
-        let listed = Listed::read(rt.alloc(), receipts.as_bytes())?;
-        let found = fault_of(&rt, rt.alloc(), 2, update, &listed);
-        drop(listed);
-        assert!(rt; found? == fault);
-    }
-    Ok(())
+    const OTHER_UPDATE: &str = "0002019201b2000101420200010200010000020001020001c2";
+    const REKEYED: &str = "0002019201b9000101420200010200010000020001020001c2";
+    const SECOND: &str = "5c4daa54cf6a3dab0e8618cfa5d3bb6fc8895b677e306b8d811612ff8f10ced9";
+    const FIRST: &str = "176ce596346d7cbd4831901b86bdd78d045e8101afe501ec78e3c48a58a33889";
+    const OWN: &str = "3f440f98d308a7fe7c2ee9e9da5b49797ab40d3fb09f58803a6c5451e8cc5beb";
+    const PRESENT: &str = "3c50571276b161987f628283eec55af957ead81aeedf8fd4d6ce317d7bf04bfe";
+    const PROPOSALS: &[((&str, u32, &str), &str)] = &[
+        ((SECOND, 2, OTHER_UPDATE), "none"),
+        ((FIRST, 2, OTHER_UPDATE), "UpdateInvalid"),
+        ((OWN, 2, REKEYED), "none"),
+        ((PRESENT, 2, REKEYED), "UpdateInvalid"),
+    ];
+    expect_texts(&rt, rt.alloc(), by_receipts, PROPOSALS)
 }
 
 /// A proposal that was sent before, by its reference.
@@ -167,12 +196,19 @@ fn known_proposals(alloc: Global) -> Result<Vec<KnownProposal>, Fail> {
 fn resolved(alloc: Global, commit: &str) -> Result<String, Fail> {
     let commit: Commit = read_all_of(alloc, bytes(alloc, commit)?.as_slice())?;
     let known = known_proposals(alloc)?;
-    let items = match resolve_list(alloc, &commit, 7, known.as_slice()) {
-        Ok(items) => items,
-        Err(fault) => return Ok(format!(in alloc; "{fault}")?),
-    };
+    let items = resolve_list(alloc, &commit, 7, known.as_slice());
+    drop(known);
+    drop(commit);
+    match items {
+        Ok(items) => items_text(alloc, items.as_slice()),
+        Err(fault) => Ok(format!(in alloc; "{fault}")?),
+    }
+}
+
+/// Proposals, each behind its sender.
+fn items_text(alloc: Global, items: &[ListItem]) -> Result<String, Fail> {
     let mut out = String::new(alloc);
-    for item in items.as_slice() {
+    for item in items {
         let proposal = text(alloc, encode_proposal(alloc, &item.proposal)?.as_slice())?;
         let sender = item.sender;
         write!(out, "{sender} {proposal} ")?;
@@ -182,30 +218,31 @@ fn resolved(alloc: Global, commit: &str) -> Result<String, Fail> {
 
 #[test]
 fn a_list_of_references(rt: HostRuntime) -> Result<(), Fail> {
-    let alloc = rt.alloc();
-    for (commit, items) in [
+    const COMMITS: &[(&str, &str)] = &[
         ("0000", ""),
         (
             "0e010003000000010202aabb0201cc00",
             "7 000300000001 2 000300000004 1 000300000006 ",
         ),
         ("060201cc0201dd00", "a proposal is not known"),
-    ] {
-        expect_text(&rt, resolved(alloc, commit)?, items);
-    }
-    Ok(())
+    ];
+    expect_texts(&rt, rt.alloc(), resolved, COMMITS)
+}
+
+/// The sender of the first known proposal of a reference.
+fn sender_of(alloc: Global, reference: &[u8]) -> Result<String, Fail> {
+    let known = known_proposals(alloc)?;
+    let sender = find_known(known.as_slice(), reference).map(|found| found.sender);
+    drop(known);
+    Ok(format!(in alloc; "{sender:?}")?)
 }
 
 #[test]
 fn the_first_of_a_reference(rt: HostRuntime) -> Result<(), Fail> {
-    let known = known_proposals(rt.alloc())?;
-    for (reference, sender) in [
-        ([0xcc].as_slice(), Some(1)),
-        (&[0xaa, 0xbb], Some(2)),
-        (&[0xaa], None),
-    ] {
-        let found = find_known(known.as_slice(), reference).map(|found| found.sender);
-        assert!(rt; found == sender);
-    }
-    Ok(())
+    const REFERENCES: &[(&[u8], &str)] = &[
+        (&[0xcc], "Some(1)"),
+        (&[0xaa, 0xbb], "Some(2)"),
+        (&[0xaa], "None"),
+    ];
+    expect_texts(&rt, rt.alloc(), sender_of, REFERENCES)
 }

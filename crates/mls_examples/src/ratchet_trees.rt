@@ -38,7 +38,7 @@ fn counts_of(alloc: Global, tree: &str) -> Result<String, Fail> {
 
 #[test]
 fn trees_are_filled_up_or_refused(rt: HostRuntime) -> Result<(), Fail> {
-    let trees = [
+    const TREES: &[(&str, &str)] = &[
         (TREE, "1 1"),
         (TWO, "3 2"),
         (THREE, "7 3"),
@@ -60,7 +60,7 @@ fn trees_are_filled_up_or_refused(rt: HostRuntime) -> Result<(), Fail> {
             "Trailing at 42",
         ),
     ];
-    expect_texts(&rt, rt.alloc(), counts_of, &trees)
+    expect_texts(&rt, rt.alloc(), counts_of, TREES)
 }
 
 /// A tree, copied and written.
@@ -77,8 +77,8 @@ fn tree_again(alloc: Global, tree: &str) -> Result<String, Fail> {
 
 #[test]
 fn trees_are_copied_and_trimmed(rt: HostRuntime) -> Result<(), Fail> {
-    let trees = [(TREE, TREE), (TWO, TWO), (THREE, THREE), (WHOLE, WHOLE)];
-    expect_texts(&rt, rt.alloc(), tree_again, &trees)
+    const TREES: &[(&str, &str)] = &[(TREE, TREE), (TWO, TWO), (THREE, THREE), (WHOLE, WHOLE)];
+    expect_texts(&rt, rt.alloc(), tree_again, TREES)
 }
 
 /// Why so many blanks are no tree.
@@ -97,11 +97,11 @@ fn fault_of_blanks(alloc: Global, count: u32) -> Result<String, Fail> {
 
 #[test]
 fn trees_of_too_many_entries(rt: HostRuntime) -> Result<(), Fail> {
-    let counts = [
+    const COUNTS: &[(u32, &str)] = &[
         (2097151, "no entry is set"),
         (2097152, "a tree has at most 2,097,151 nodes"),
     ];
-    expect_texts(&rt, rt.alloc(), fault_of_blanks, &counts)
+    expect_texts(&rt, rt.alloc(), fault_of_blanks, COUNTS)
 }
 
 /// A parent as it is written, behind how many bytes it takes.

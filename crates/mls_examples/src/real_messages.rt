@@ -80,8 +80,8 @@ fn commit_signed(alloc: Global, context: &str) -> Result<String, Fail> {
 /// In the context of its epoch, and not in the next one's.
 #[test]
 fn a_real_commit_is_signed(rt: HostRuntime) -> Result<(), Fail> {
-    let contexts = [(THIRD_CONTEXT, "true"), (FOURTH_CONTEXT, "false")];
-    expect_texts(&rt, rt.alloc(), commit_signed, &contexts)
+    const CONTEXTS: &[(&str, &str)] = &[(THIRD_CONTEXT, "true"), (FOURTH_CONTEXT, "false")];
+    expect_texts(&rt, rt.alloc(), commit_signed, CONTEXTS)
 }
 
 /// The key package that a commit adds.
@@ -122,8 +122,8 @@ fn package_signed(alloc: Global, label: &str) -> Result<String, Fail> {
 
 #[test]
 fn a_real_key_package_is_signed(rt: HostRuntime) -> Result<(), Fail> {
-    let labels = [(KEY_PACKAGE_LABEL, "true"), (CONTENT_LABEL, "false")];
-    expect_texts(&rt, rt.alloc(), package_signed, &labels)
+    const LABELS: &[(&str, &str)] = &[(KEY_PACKAGE_LABEL, "true"), (CONTENT_LABEL, "false")];
+    expect_texts(&rt, rt.alloc(), package_signed, LABELS)
 }
 
 /// The confirmed transcript hash after the commit, by the one before it and the confirmation tag of epoch 3.

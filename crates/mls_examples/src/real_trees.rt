@@ -65,15 +65,17 @@ fn validated(alloc: Global, inputs: (&str, &str)) -> Result<String, Fail> {
 /// The trees in the contexts of their epochs, and each in the other's.
 #[test]
 fn trees_of_a_real_group(rt: HostRuntime) -> Result<(), Fail> {
-    let fourth = "valid 4fe78e4b3fd686b3f67a904322536dbf92a30c182dda97393dee01fb136ee1d5\n";
-    let fifth = "valid f3170d1cf1138ed0cccccde0f897e25c4e1bc4fa0dff3966b2e91cd619736df6\n";
-    let inputs = [
-        ((FOURTH_CONTEXT, FOURTH), fourth),
-        ((FIFTH_CONTEXT, FIFTH), fifth),
+    const FOURTH_VALID: &str =
+        "valid 4fe78e4b3fd686b3f67a904322536dbf92a30c182dda97393dee01fb136ee1d5\n";
+    const FIFTH_VALID: &str =
+        "valid f3170d1cf1138ed0cccccde0f897e25c4e1bc4fa0dff3966b2e91cd619736df6\n";
+    const INPUTS: &[((&str, &str), &str)] = &[
+        ((FOURTH_CONTEXT, FOURTH), FOURTH_VALID),
+        ((FIFTH_CONTEXT, FIFTH), FIFTH_VALID),
         ((FOURTH_CONTEXT, FIFTH), "no: tree refused 1 HashDiffers\n"),
         ((FIFTH_CONTEXT, FOURTH), "no: tree refused 1 HashDiffers\n"),
     ];
-    expect_texts(&rt, rt.alloc(), validated, &inputs)
+    expect_texts(&rt, rt.alloc(), validated, INPUTS)
 }
 
 /// What `validate-tree` writes of a tree in which one text stands in place of another, in a context that has its hash in
@@ -107,48 +109,48 @@ fn changed_fourth(alloc: Global, change: (&str, &str)) -> Result<String, Fail> {
 /// leaf 2 carries.
 #[test]
 fn real_trees_whose_chain_breaks(rt: HostRuntime) -> Result<(), Fail> {
-    let broken = "no: tree refused 5 ParentHashInvalid 3\n";
-    let changes = [
+    const BROKEN: &str = "no: tree refused 5 ParentHashInvalid 3\n";
+    const CHANGES: &[((&str, &str), &str)] = &[
         (("a471df5e", "a471df5e"), "valid"),
-        (("a471df5e", "a471df5f"), broken),
-        (("6b038b28", "6b038b27"), broken),
-        (("23ddc721", "23ddc720"), broken),
-        (("0400000001", "0400000000"), broken),
-        (("0400000001", "0400000002"), broken),
+        (("a471df5e", "a471df5f"), BROKEN),
+        (("6b038b28", "6b038b27"), BROKEN),
+        (("23ddc721", "23ddc720"), BROKEN),
+        (("0400000001", "0400000000"), BROKEN),
+        (("0400000001", "0400000002"), BROKEN),
         (
             ("0400000001", "0400000003"),
             "no: tree refused 3 UnmergedUnsound 3\n",
         ),
-        (("05a80439", "05a80438"), broken),
+        (("05a80439", "05a80438"), BROKEN),
     ];
-    expect_texts(&rt, rt.alloc(), changed_fourth, &changes)
+    expect_texts(&rt, rt.alloc(), changed_fourth, CHANGES)
 }
 
 /// Of leaf 1, which is unmerged, its key; of leaf 2, which has committed, its key, its identity, its signature, and the
 /// credential type that it lists.
 #[test]
 fn real_leaves_that_were_not_signed(rt: HostRuntime) -> Result<(), Fail> {
-    let second = "no: members refused 5 LeafSignature 2\n";
-    let changes = [
+    const SECOND: &str = "no: members refused 5 LeafSignature 2\n";
+    const CHANGES: &[((&str, &str), &str)] = &[
         (
             ("5f1f5a8d", "5f1f5a8c"),
             "no: members refused 5 LeafSignature 1\n",
         ),
-        (("7096a920", "7096a921"), second),
-        (("67332d32", "67332d33"), second),
-        (("5f7ba0a1", "5f7ba0a0"), second),
+        (("7096a920", "7096a921"), SECOND),
+        (("67332d32", "67332d33"), SECOND),
+        (("5f7ba0a1", "5f7ba0a0"), SECOND),
         (
             ("020001032005a8", "020002032005a8"),
             "no: members refused 3 CredentialUnsupported 2\n",
         ),
     ];
-    expect_texts(&rt, rt.alloc(), changed_fourth, &changes)
+    expect_texts(&rt, rt.alloc(), changed_fourth, CHANGES)
 }
 
 /// Leaf 2 with both keys of leaf 0, and node 3 with the key of leaf 1.
 #[test]
 fn real_keys_that_are_repeated(rt: HostRuntime) -> Result<(), Fail> {
-    let changes = [
+    const CHANGES: &[((&str, &str), &str)] = &[
         (
             (
                 "7096a92019f80b028f64e08cd2ac5ee37c619062e748e39f564fdc37c9019350",
@@ -171,7 +173,7 @@ fn real_keys_that_are_repeated(rt: HostRuntime) -> Result<(), Fail> {
             "no: members refused 4 SignatureKeyRepeated 0\n",
         ),
     ];
-    expect_texts(&rt, rt.alloc(), changed_fourth, &changes)
+    expect_texts(&rt, rt.alloc(), changed_fourth, CHANGES)
 }
 
 /// The tree of epoch 4 in a group whose id begins so.
@@ -183,12 +185,12 @@ fn in_group(alloc: Global, id: &str) -> Result<String, Fail> {
 /// What leaf 2 signed has the group's id.
 #[test]
 fn real_leaves_in_another_group(rt: HostRuntime) -> Result<(), Fail> {
-    let valid = "valid 4fe78e4b3fd686b3f67a904322536dbf92a30c182dda97393dee01fb136ee1d5\n";
-    let groups = [
-        ("2465531c", valid),
+    const VALID: &str = "valid 4fe78e4b3fd686b3f67a904322536dbf92a30c182dda97393dee01fb136ee1d5\n";
+    const GROUPS: &[(&str, &str)] = &[
+        ("2465531c", VALID),
         ("2465531d", "no: members refused 5 LeafSignature 2\n"),
     ];
-    expect_texts(&rt, rt.alloc(), in_group, &groups)
+    expect_texts(&rt, rt.alloc(), in_group, GROUPS)
 }
 
 /// The tree of epoch 5 with a change.
@@ -201,19 +203,19 @@ fn changed_fifth(alloc: Global, change: (&str, &str)) -> Result<String, Fail> {
 /// the key of leaf 0, which no parent hash covers.
 #[test]
 fn real_chains_of_two_parents(rt: HostRuntime) -> Result<(), Fail> {
-    let lower = "no: tree refused 5 ParentHashInvalid 1\n";
-    let upper = "no: tree refused 5 ParentHashInvalid 3\n";
-    let changes = [
-        (("61d730a9", "61d730a8"), lower),
-        (("d1885f10", "d1885f11"), lower),
-        (("f6cd7c14", "f6cd7c15"), lower),
-        (("5f1f5a8d", "5f1f5a8c"), lower),
-        (("73bf3b97", "73bf3b96"), upper),
-        (("83024085", "83024084"), upper),
+    const LOWER: &str = "no: tree refused 5 ParentHashInvalid 1\n";
+    const UPPER: &str = "no: tree refused 5 ParentHashInvalid 3\n";
+    const CHANGES: &[((&str, &str), &str)] = &[
+        (("61d730a9", "61d730a8"), LOWER),
+        (("d1885f10", "d1885f11"), LOWER),
+        (("f6cd7c14", "f6cd7c15"), LOWER),
+        (("5f1f5a8d", "5f1f5a8c"), LOWER),
+        (("73bf3b97", "73bf3b96"), UPPER),
+        (("83024085", "83024084"), UPPER),
         (
             ("bbb5d957", "bbb5d956"),
             "no: members refused 5 LeafSignature 0\n",
         ),
     ];
-    expect_texts(&rt, rt.alloc(), changed_fifth, &changes)
+    expect_texts(&rt, rt.alloc(), changed_fifth, CHANGES)
 }

@@ -28,41 +28,41 @@ fn shown_bytes(alloc: Global, kind: ShowKind, input: &[u8]) -> Result<String, Fa
 
 #[test]
 fn trees_are_shown(rt: HostRuntime) -> Result<(), Fail> {
-    let two = "0 leaf 0 a0 b0 key_package 0 18446744073709551615\n1 blank\n\
+    const TWO_LINES: &str = "0 leaf 0 a0 b0 key_package 0 18446744073709551615\n1 blank\n\
         2 leaf 1 a1 b1 key_package 0 18446744073709551615\nleaves 2 members 2\n";
-    let three = "0 leaf 0 a0 b0 key_package 0 18446744073709551615\n1 blank\n\
+    const THREE_LINES: &str = "0 leaf 0 a0 b0 key_package 0 18446744073709551615\n1 blank\n\
         2 leaf 1 a1 b1 key_package 0 18446744073709551615\n3 blank\n\
         4 leaf 2 a2 b2 key_package 0 18446744073709551615\n5 blank\n6 blank\n\
         leaves 4 members 3\n";
     // An updated leaf without a signature key, a parent with two unmerged leaves, and a leaf of a commit.
-    let kinds = "32010102ab0f000001000000000000020000010201d100080000000100000100\
+    const KINDS: &str = "32010102ab0f000001000000000000020000010201d100080000000100000100\
         01010001050001000000000000030212340000";
-    let trees = [
+    const TREES: &[((ShowKind, &str), &str)] = &[
         (
             (ShowKind::Tree, TREE),
             "0 leaf 0 a0 b0 key_package 0 18446744073709551615\nleaves 1 members 1\n",
         ),
-        ((ShowKind::Tree, TWO), two),
-        ((ShowKind::Tree, THREE), three),
+        ((ShowKind::Tree, TWO), TWO_LINES),
+        ((ShowKind::Tree, THREE), THREE_LINES),
         (
-            (ShowKind::Tree, kinds),
+            (ShowKind::Tree, KINDS),
             "0 leaf 0 ab0f - update\n1 parent d1 - 1,256\n\
              2 leaf 1 - 05 commit 1234\nleaves 2 members 2\n",
         ),
     ];
-    expect_texts(&rt, rt.alloc(), shown, &trees)
+    expect_texts(&rt, rt.alloc(), shown, TREES)
 }
 
 #[test]
 fn messages_are_shown(rt: HostRuntime) -> Result<(), Fail> {
-    let info = "suite 1\ngroup 47\nepoch 0\n\
+    const INFO: &str = "suite 1\ngroup 47\nepoch 0\n\
         tree e32ab6a0a711ec8a732c3fad9263ed5fa61caf53fdf9b9690dc57271d8f110d7\n\
         confirmed -\nextensions -\ninfo-extensions 2\nconfirmation e0\nsigner 0\n";
-    let package =
+    const PACKAGE: &str =
         "000100050001000101f101a101b1000101410200010200010000020001010000000000000000ffffffff\
         ffffffff0001c10001c9";
-    let messages = [
-        ((ShowKind::Info, GROUP_INFO), info),
+    const MESSAGES: &[((ShowKind, &str), &str)] = &[
+        ((ShowKind::Info, GROUP_INFO), INFO),
         ((ShowKind::Message, GROUP_INFO), "group_info epoch 0\n"),
         (
             (ShowKind::Message, PROPOSAL),
@@ -72,17 +72,17 @@ fn messages_are_shown(rt: HostRuntime) -> Result<(), Fail> {
             (ShowKind::Message, COMMIT),
             "public member 0 epoch 0 commit 1 nopath\n",
         ),
-        ((ShowKind::Message, package), "key_package a1\n"),
+        ((ShowKind::Message, PACKAGE), "key_package a1\n"),
         ((ShowKind::Message, "00010002abcd"), "private 2\n"),
         ((ShowKind::Message, "00010003"), "welcome 0\n"),
     ];
-    expect_texts(&rt, rt.alloc(), shown, &messages)
+    expect_texts(&rt, rt.alloc(), shown, MESSAGES)
 }
 
 /// Each kind of sender and of content, and the numbers that lines have.
 #[test]
 fn public_messages_are_shown(rt: HostRuntime) -> Result<(), Fail> {
-    let messages = [
+    const MESSAGES: &[((ShowKind, &str), &str)] = &[
         (
             (
                 ShowKind::Message,
@@ -129,7 +129,7 @@ fn public_messages_are_shown(rt: HostRuntime) -> Result<(), Fail> {
             "public member 3 epoch 5 commit 2 nopath\n",
         ),
     ];
-    expect_texts(&rt, rt.alloc(), shown, &messages)
+    expect_texts(&rt, rt.alloc(), shown, MESSAGES)
 }
 
 /// A suite that isn't followed, an id of two bytes, two extensions of the group and two of the info, and no confirmation tag.
@@ -144,21 +144,21 @@ fn group_infos_are_shown(rt: HostRuntime) -> Result<(), Fail> {
 
 #[test]
 fn unreadable_inputs_are_told(rt: HostRuntime) -> Result<(), Fail> {
-    let blank_at_end =
+    const BLANK_AT_END: &str =
         "2a010101a001b0000101400200010200010000020001010000000000000000ffffffffffffffff0001c000";
-    let trailing =
+    const TRAILING: &str =
         "29010101a001b0000101400200010200010000020001010000000000000000ffffffffffffffff0001c000";
-    let inputs = [
+    const INPUTS: &[((ShowKind, &str), &str)] = &[
         ((ShowKind::Tree, ""), "no: unreadable Truncated 0\n"),
         ((ShowKind::Tree, "00"), "no: unreadable EmptyTree\n"),
-        ((ShowKind::Tree, blank_at_end), "no: unreadable LastBlank\n"),
+        ((ShowKind::Tree, BLANK_AT_END), "no: unreadable LastBlank\n"),
         (
             (ShowKind::Tree, "06010201d30000"),
             "no: unreadable WrongNodeKind 0\n",
         ),
         ((ShowKind::Tree, "0102"), "no: unreadable BadOptional 1\n"),
         ((ShowKind::Tree, "020103"), "no: unreadable BadTag 3 2\n"),
-        ((ShowKind::Tree, trailing), "no: unreadable Trailing 42\n"),
+        ((ShowKind::Tree, TRAILING), "no: unreadable Trailing 42\n"),
         ((ShowKind::Tree, "403f"), "no: unreadable NotShortest 0\n"),
         ((ShowKind::Tree, "c0"), "no: unreadable BadPrefix 0\n"),
         (
@@ -172,7 +172,7 @@ fn unreadable_inputs_are_told(rt: HostRuntime) -> Result<(), Fail> {
             "no: unreadable BadTag 9 2\n",
         ),
     ];
-    expect_texts(&rt, rt.alloc(), shown, &inputs)
+    expect_texts(&rt, rt.alloc(), shown, INPUTS)
 }
 
 /// What `show tree` writes of a tree of so many blanks.
@@ -188,11 +188,11 @@ fn blanks_shown(alloc: Global, count: u32) -> Result<String, Fail> {
 
 #[test]
 fn trees_that_are_too_large_are_told(rt: HostRuntime) -> Result<(), Fail> {
-    let counts = [
+    const COUNTS: &[(u32, &str)] = &[
         (2, "no: unreadable EmptyTree\n"),
         (2097152, "no: unreadable TooManyLeaves\n"),
     ];
-    expect_texts(&rt, rt.alloc(), blanks_shown, &counts)
+    expect_texts(&rt, rt.alloc(), blanks_shown, COUNTS)
 }
 
 /// How many bytes are read from a source of 20,000 that gives pieces of a size and fails at a call, or the fault.
@@ -208,13 +208,13 @@ fn read_in_pieces(alloc: Global, source: (usize, Option<usize>)) -> Result<Strin
 
 #[test]
 fn inputs_are_read_whole(rt: HostRuntime) -> Result<(), Fail> {
-    let sources = [
+    const SOURCES: &[((usize, Option<usize>), &str)] = &[
         ((1, None), "20000"),
         ((8192, None), "20000"),
         ((30000, None), "20000"),
         ((10, Some(3)), "read"),
     ];
-    expect_texts(&rt, rt.alloc(), read_in_pieces, &sources)
+    expect_texts(&rt, rt.alloc(), read_in_pieces, SOURCES)
 }
 
 /// What `show` of the tree writes where its input fails at a call, or its output has room for so many bytes; and the
@@ -232,9 +232,9 @@ fn shown_until(alloc: Global, end: (Option<usize>, usize)) -> Result<String, Fai
 
 #[test]
 fn devices_of_show_that_fail(rt: HostRuntime) -> Result<(), Fail> {
-    let ends = [
+    const ENDS: &[((Option<usize>, usize), &str)] = &[
         ((None, 10), "0 leaf 0 a: write"),
         ((Some(9), 100), ": read"),
     ];
-    expect_texts(&rt, rt.alloc(), shown_until, &ends)
+    expect_texts(&rt, rt.alloc(), shown_until, ENDS)
 }

@@ -2,8 +2,8 @@
 //! hash of one parent node (RFC 9420, 7.2, 7.3 and 7.9).
 
 use crate::support::{
-    LEAF, LOWER, RECEIPT, RIGHT_HASH, SECOND_HASH, SECOND_LEAF, UPPER, bytes, expect_text,
-    expect_texts, leaf_node, parent_node, put_leaf, put_parent, suite, text, tree_of, updated_leaf,
+    LEAF, LOWER, RECEIPT, RIGHT_HASH, SECOND_HASH, SECOND_LEAF, UPPER, bytes, expect_texts,
+    leaf_node, parent_node, put_leaf, put_parent, suite, text, tree_of, updated_leaf,
 };
 use mls_check::{Listed, SignatureCheck, Trusting, has_distinct_keys, is_leaf_signed};
 use mls_hash::parent_hash_of;
@@ -12,42 +12,57 @@ use mls_wire::Opaque;
 use std::alloc::Global;
 use std::test::Fail;
 
-/// The parent hash of a parent with a key of one byte, over a half of this tree hash.
-fn hash_of(alloc: Global, key: u8, above: &str, half: &str) -> Result<String, Fail> {
-    let parent = parent_node(alloc, key, above, &[])?;
+/// The parent hash of a parent with a key of one byte, by the hash that it carries and the tree hash of a half.
+fn hash_of(alloc: Global, parent: (u8, &str, &str)) -> Result<String, Fail> {
+    let (key, above, half) = parent;
     let half = bytes(alloc, half)?;
     let half = HashValue::new(half.as_slice()).ok_or("at most 64 bytes")?;
-    text(
-        alloc,
-        parent_hash_of(alloc, suite()?, &parent, &half)?.as_slice(),
-    )
+    let suite = suite()?;
+    let parent = parent_node(alloc, key, above, &[])?;
+    let hash = parent_hash_of(alloc, suite, &parent, &half);
+    drop(parent);
+    text(alloc, hash?.as_slice())
 }
 
 #[test]
 fn parent_hashes_of_nodes(rt: HostRuntime) -> Result<(), Fail> {
-    for (key, above, half, hash) in [
-        (0xd3, "", RIGHT_HASH, UPPER),
-        (0xd1, UPPER, SECOND_HASH, LOWER),
-    ] {
-        expect_text(&rt, hash_of(rt.alloc(), key, above, half)?, hash);
-    }
-    Ok(())
+    const PARENTS: &[((u8, &str, &str), &str)] = &[
+        ((0xd3, "", RIGHT_HASH), UPPER),
+        ((0xd1, UPPER, SECOND_HASH), LOWER),
+    ];
+    expect_texts(&rt, rt.alloc(), hash_of, PARENTS)
 }
 
-/// Whether a leaf's signature is good as that of leaf 0.
-fn is_signed(alloc: Global, leaf: &str, checker: &dyn SignatureCheck) -> Result<bool, Fail> {
-    let leaf = leaf_node(alloc, leaf)?;
+/// Whether a leaf's signature is good as that of a leaf of the group `47`.
+fn is_signed_at(
+    alloc: Global,
+    leaf: &str,
+    index: u32,
+    checker: &dyn SignatureCheck,
+) -> Result<String, Fail> {
     let group_id = Opaque::copy(alloc, &[0x47])?;
-    Ok(is_leaf_signed(alloc, 1, &group_id, 0, &leaf, checker)?)
+    let leaf = leaf_node(alloc, leaf)?;
+    let good = is_leaf_signed(alloc, 1, &group_id, index, &leaf, checker);
+    drop(leaf);
+    Ok(format!(in alloc; "{}", good?)?)
+}
+
+/// Whether it is good as that of leaf 0, by the receipt of leaf 0's signature.
+fn is_listed(alloc: Global, leaf: &str) -> Result<String, Fail> {
+    let listed = Listed::read(alloc, RECEIPT.as_bytes())?;
+    is_signed_at(alloc, leaf, 0, &listed)
+}
+
+/// Whether it is good where each signature is.
+fn is_trusted(alloc: Global, leaf: &str) -> Result<String, Fail> {
+    is_signed_at(alloc, leaf, 0, &Trusting)
 }
 
 #[test]
 fn signatures_of_leaves(rt: HostRuntime) -> Result<(), Fail> {
-    let listed = Listed::read(rt.alloc(), RECEIPT.as_bytes())?;
-    assert!(rt; is_signed(rt.alloc(), LEAF, &listed)?);
-    assert!(rt; !is_signed(rt.alloc(), SECOND_LEAF, &listed)?);
-    assert!(rt; is_signed(rt.alloc(), SECOND_LEAF, &Trusting)?);
-    Ok(())
+    const LEAVES: &[(&str, &str)] = &[(LEAF, "true"), (SECOND_LEAF, "false")];
+    expect_texts(&rt, rt.alloc(), is_listed, LEAVES)?;
+    expect_texts(&rt, rt.alloc(), is_trusted, &[(SECOND_LEAF, "true")])
 }
 
 /// The receipt of the signature of member 1's updated leaf as leaf 2 of the group `47`: of what is signed of it, then
@@ -57,46 +72,40 @@ const UPDATE_RECEIPT: &str = "e8f4944312ec7688654837fd83df0cd37078cb7f16c4b3cb91
 /// Whether it is good by this receipt as that of a leaf.
 fn is_update_signed(alloc: Global, index: u32) -> Result<String, Fail> {
     let leaf = updated_leaf(alloc, 1)?;
-    let leaf = leaf_node(alloc, leaf.as_str())?;
-    let group_id = Opaque::copy(alloc, &[0x47])?;
     let listed = Listed::read(alloc, UPDATE_RECEIPT.as_bytes())?;
-    let good = is_leaf_signed(alloc, 1, &group_id, index, &leaf, &listed);
-    drop(leaf);
-    Ok(format!(in alloc; "{}", good?)?)
+    is_signed_at(alloc, leaf.as_str(), index, &listed)
 }
 
 #[test]
 fn signatures_of_leaves_by_their_indices(rt: HostRuntime) -> Result<(), Fail> {
-    let indices = [(2, "true"), (0, "false"), (1, "false"), (3, "false")];
-    expect_texts(&rt, rt.alloc(), is_update_signed, &indices)
+    const INDICES: &[(u32, &str)] = &[(2, "true"), (0, "false"), (1, "false"), (3, "false")];
+    expect_texts(&rt, rt.alloc(), is_update_signed, INDICES)
 }
 
-/// Two leaves with keys `a0` and `a1`; then a parent with another key, a parent with a leaf's key, and two equal leaves.
+/// Whether the keys of a tree are distinct, by its leaves, those that are set, and the places and keys of its parents.
+fn are_distinct(alloc: Global, tree: (u32, &[u32], &[(u32, u8)])) -> Result<String, Fail> {
+    let (leaves, members, parents) = tree;
+    let mut tree = tree_of(alloc, leaves, members)?;
+    for (place, key) in parents {
+        put_parent(alloc, &mut tree, *place, *key, "", &[])?;
+    }
+    let found = has_distinct_keys(alloc, &tree);
+    drop(tree);
+    Ok(format!(in alloc; "{}", found?)?)
+}
+
+/// Two leaves with keys `a0` and `a1`; then a parent with another key and with a leaf's key; and two parents.
 #[test]
 fn keys_of_a_tree(rt: HostRuntime) -> Result<(), Fail> {
-    let alloc = rt.alloc();
-    let mut tree = tree_of(alloc, 2, &[0, 1])?;
-    assert!(rt; has_distinct_keys(alloc, &tree)?);
-    for (key, are_distinct) in [(0xd1, true), (0xa0, false), (0xa1, false)] {
-        put_parent(alloc, &mut tree, 1, key, "", &[])?;
-        assert!(rt; has_distinct_keys(alloc, &tree)? == are_distinct);
-    }
-    put_parent(alloc, &mut tree, 1, 0xd1, "", &[])?;
-    put_leaf(alloc, &mut tree, 1, LEAF)?;
-    assert!(rt; !has_distinct_keys(alloc, &tree)?);
-    Ok(())
-}
-
-#[test]
-fn keys_of_two_parents(rt: HostRuntime) -> Result<(), Fail> {
-    let alloc = rt.alloc();
-    let mut tree = tree_of(alloc, 4, &[0, 2])?;
-    put_parent(alloc, &mut tree, 1, 0xd1, "", &[])?;
-    for (key, are_distinct) in [(0xd5, true), (0xd1, false)] {
-        put_parent(alloc, &mut tree, 5, key, "", &[])?;
-        assert!(rt; has_distinct_keys(alloc, &tree)? == are_distinct);
-    }
-    Ok(())
+    const TREES: &[((u32, &[u32], &[(u32, u8)]), &str)] = &[
+        ((2, &[0, 1], &[]), "true"),
+        ((2, &[0, 1], &[(1, 0xd1)]), "true"),
+        ((2, &[0, 1], &[(1, 0xa0)]), "false"),
+        ((2, &[0, 1], &[(1, 0xa1)]), "false"),
+        ((4, &[0, 2], &[(1, 0xd1), (5, 0xd5)]), "true"),
+        ((4, &[0, 2], &[(1, 0xd1), (5, 0xd1)]), "false"),
+    ];
+    expect_texts(&rt, rt.alloc(), are_distinct, TREES)
 }
 
 /// Whether two leaves with these encryption keys, each with its length, have distinct ones.
@@ -106,13 +115,15 @@ fn are_keys_distinct(alloc: Global, keys: (&str, &str)) -> Result<String, Fail> 
     let mut tree = tree_of(alloc, 2, &[])?;
     put_leaf(alloc, &mut tree, 0, first.as_str())?;
     put_leaf(alloc, &mut tree, 1, second.as_str())?;
-    Ok(format!(in alloc; "{}", has_distinct_keys(alloc, &tree)?)?)
+    let found = has_distinct_keys(alloc, &tree);
+    drop(tree);
+    Ok(format!(in alloc; "{}", found?)?)
 }
 
 /// Keys whose first eight bytes are the same, or would be if a short one went on with zeros.
 #[test]
 fn keys_that_begin_alike(rt: HostRuntime) -> Result<(), Fail> {
-    let keys = [
+    const KEYS: &[((&str, &str), &str)] = &[
         (("01a0", "02a000"), "true"),
         (("00", "0100"), "true"),
         (("080102030405060708", "09010203040506070800"), "true"),
@@ -121,5 +132,5 @@ fn keys_that_begin_alike(rt: HostRuntime) -> Result<(), Fail> {
         (("080102030405060708", "080102030405060708"), "false"),
         (("02a000", "02a000"), "false"),
     ];
-    expect_texts(&rt, rt.alloc(), are_keys_distinct, &keys)
+    expect_texts(&rt, rt.alloc(), are_keys_distinct, KEYS)
 }

@@ -6,8 +6,9 @@
 //! signature. A value is hexadecimal text here; the builders at the end make trees of values.
 //!
 //! A test is a table and a call: [`expect_texts`] and [`expect_answers`] go through the table and are proved once, so a
-//! test costs the proof of its call and little more. In a call hand a value of many fields to `drop` before the next
-//! `?`: what ends there by itself is written out in full in the proof.
+//! test costs the proof of its call and little more. A table is a `const`, and so one step of the proof, whatever its
+//! length: as a local it would be written out row by row. In a call hand a value of many fields to `drop` before the
+//! next `?`, or make it in one function and ask it in another: what ends there by itself is written out in full.
 
 use mls_hash::Suite;
 use mls_nodes::{LeafNode, ParentNode, Unmerged, decode_leaf, encode_ratchet_tree};

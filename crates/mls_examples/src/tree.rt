@@ -3,7 +3,7 @@
 use crate::support::{
     expect_text, expect_texts, list_text, path_tree, put_parent, tree_of, tree_text,
 };
-use mls_nodes::{NodeFault, encode_ratchet_tree};
+use mls_nodes::encode_ratchet_tree;
 use mls_tree::{PublicTree, TreeError, left, level, parent, right, root, sibling};
 use std::alloc::Global;
 use std::test::Fail;
@@ -53,12 +53,12 @@ fn copath(alloc: Global, leaf: (u32, u32)) -> Result<String, Fail> {
 
 #[test]
 fn paths(rt: HostRuntime) -> Result<(), Fail> {
-    let paths = [
+    const PATHS: &[((u32, u32), &str)] = &[
         ((4, 1), "[1, 3]"),
         ((1, 0), "[]"),
         ((4, 4), "the tree has no such node"),
     ];
-    expect_texts(&rt, rt.alloc(), direct_path, &paths)?;
+    expect_texts(&rt, rt.alloc(), direct_path, PATHS)?;
     expect_texts(
         &rt,
         rt.alloc(),
@@ -100,11 +100,11 @@ fn overlisted(alloc: Global, unmerged: &[u32]) -> Result<String, Fail> {
 /// Such an entry gives no place; the others keep the order of the list.
 #[test]
 fn entries_beyond_the_leaves(rt: HostRuntime) -> Result<(), Fail> {
-    let lists = [
-        ([3, 4].as_slice(), "[0, 5, 6]"),
+    const LISTS: &[(&[u32], &str)] = &[
+        (&[3, 4], "[0, 5, 6]"),
         (&[4294967295, 3, 2], "[0, 5, 6, 4]"),
     ];
-    expect_texts(&rt, rt.alloc(), overlisted, &lists)
+    expect_texts(&rt, rt.alloc(), overlisted, LISTS)
 }
 
 /// Four leaves under three set parents, once the path of a leaf is blanked.
@@ -124,13 +124,13 @@ fn without_path(alloc: Global, leaf: u32) -> Result<String, Fail> {
 /// The places that stay set: the leaves 0, 1 and 2, and the parent that isn't above the leaf.
 #[test]
 fn blank_paths(rt: HostRuntime) -> Result<(), Fail> {
-    let places = [
+    const PLACES: &[(u32, &str)] = &[
         (0, "0 2 4 5 "),
         (1, "0 2 4 5 "),
         (2, "0 1 2 4 "),
         (3, "0 1 2 4 "),
     ];
-    expect_texts(&rt, rt.alloc(), without_path, &places)
+    expect_texts(&rt, rt.alloc(), without_path, PLACES)
 }
 
 /// How many leaves a tree of eight has once leaf 4 is removed.
@@ -144,23 +144,28 @@ fn leaves_without_4(alloc: Global, set: &[u32]) -> Result<String, Fail> {
 
 #[test]
 fn a_removed_leaf_shrinks_the_tree(rt: HostRuntime) -> Result<(), Fail> {
-    let sets = [
-        ([0, 1, 2, 4].as_slice(), "4"),
-        (&[0, 1, 4], "2"),
-        (&[0, 4], "1"),
-    ];
-    expect_texts(&rt, rt.alloc(), leaves_without_4, &sets)
+    const SETS: &[(&[u32], &str)] = &[(&[0, 1, 2, 4], "4"), (&[0, 1, 4], "2"), (&[0, 4], "1")];
+    expect_texts(&rt, rt.alloc(), leaves_without_4, SETS)
+}
+
+/// The first blank leaf of a tree of four leaves, of which some are set; once it has grown, how many leaves it has, the
+/// first blank one, and the next one from leaf 5 on.
+fn grown(alloc: Global, set: &[u32]) -> Result<String, Fail> {
+    let mut tree = tree_of(alloc, 4, set)?;
+    let before = tree.first_blank_leaf();
+    let extended = tree.extend();
+    let leaves = tree.leaf_count();
+    let (first, next) = (tree.first_blank_leaf(), tree.next_blank_leaf(5));
+    drop(tree);
+    extended?;
+    Ok(format!(in alloc; "{before:?}, {leaves} {first:?} {next:?}")?)
 }
 
 /// A full tree of 4 leaves grows to 8, of which leaf 4 is the first blank one.
 #[test]
 fn a_full_tree_grows(rt: HostRuntime) -> Result<(), Fail> {
-    let mut tree = tree_of(rt.alloc(), 4, &[0, 1, 2, 3])?;
-    assert!(rt; tree.first_blank_leaf().is_none());
-    tree.extend()?;
-    assert!(rt; tree.leaf_count() == 8 && tree.first_blank_leaf() == Some(4));
-    assert!(rt; tree.next_blank_leaf(5) == Some(5));
-    Ok(())
+    const SETS: &[(&[u32], &str)] = &[(&[0, 1, 2, 3], "None, 8 Some(4) Some(5)")];
+    expect_texts(&rt, rt.alloc(), grown, SETS)
 }
 
 /// Why a tree of so many blank leaves can't be made or can't grow.
@@ -174,13 +179,13 @@ fn fault_of_size(alloc: Global, leaves: u32) -> Result<String, Fail> {
 
 #[test]
 fn other_sizes_are_refused(rt: HostRuntime) -> Result<(), Fail> {
-    let sizes = [
+    const SIZES: &[(u32, &str)] = &[
         (0, "the nodes form no tree"),
         (3, "the nodes form no tree"),
         (1048576, "a tree has at most 1,048,576 leaves"),
         (2097152, "a tree has at most 1,048,576 leaves"),
     ];
-    expect_texts(&rt, rt.alloc(), fault_of_size, &sizes)
+    expect_texts(&rt, rt.alloc(), fault_of_size, SIZES)
 }
 
 /// Eight leaves, of which the last is set, under parents that have leaves unmerged; then a leaf is added to the lists.
@@ -201,12 +206,20 @@ fn an_added_leaf_is_unmerged_above(rt: HostRuntime) -> Result<(), Fail> {
     Ok(())
 }
 
+/// How many places the copy of a tree of so many blank leaves has, and why it can't be written.
+fn copied(alloc: Global, leaves: u32) -> Result<String, Fail> {
+    let blank = PublicTree::blank(alloc, leaves)?;
+    let copy = blank.try_clone(alloc);
+    drop(blank);
+    let copy = copy?;
+    let places = copy.nodes().len();
+    let fault = encode_ratchet_tree(alloc, copy.nodes()).err();
+    drop(copy);
+    Ok(format!(in alloc; "{places} {fault:?}")?)
+}
+
 /// No node of the copy is set.
 #[test]
 fn blank_trees_are_copied(rt: HostRuntime) -> Result<(), Fail> {
-    let blank = PublicTree::blank(rt.alloc(), 4)?.try_clone(rt.alloc())?;
-    assert!(rt; blank.nodes().len() == 7);
-    let fault = encode_ratchet_tree(rt.alloc(), blank.nodes()).err();
-    assert!(rt; fault == Some(NodeFault::EmptyTree));
-    Ok(())
+    expect_texts(&rt, rt.alloc(), copied, &[(4, "7 Some(EmptyTree)")])
 }

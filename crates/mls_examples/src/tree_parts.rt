@@ -31,8 +31,7 @@ fn parent_key(alloc: Global, parent: Option<&ParentNode>) -> Result<String, Fail
 }
 
 /// What stands at a place: a leaf with its index, or a parent with its children's places and the first leaf on the right.
-fn part_at(alloc: Global, place: u32) -> Result<String, Fail> {
-    let tree = example_tree(alloc)?;
+fn part_of(alloc: Global, tree: &PublicTree, place: u32) -> Result<String, Fail> {
     match tree.part(place) {
         Some(Part::Leaf { index, node }) => {
             let key = leaf_key(alloc, node)?;
@@ -53,9 +52,14 @@ fn part_at(alloc: Global, place: u32) -> Result<String, Fail> {
     }
 }
 
+/// What stands at a place of the example.
+fn part_at(alloc: Global, place: u32) -> Result<String, Fail> {
+    part_of(alloc, &example_tree(alloc)?, place)
+}
+
 #[test]
 fn parts(rt: HostRuntime) -> Result<(), Fail> {
-    let places = [
+    const PLACES: &[(u32, &str)] = &[
         (0, "leaf 0 a0"),
         (1, "parent - over 0 2 from 1"),
         (2, "leaf 1 -"),
@@ -64,24 +68,33 @@ fn parts(rt: HostRuntime) -> Result<(), Fail> {
         (6, "leaf 3 a3"),
         (7, "nothing"),
     ];
-    expect_texts(&rt, rt.alloc(), part_at, &places)
+    expect_texts(&rt, rt.alloc(), part_at, PLACES)
+}
+
+/// The key of a node, `-` where there is none.
+fn node_key(alloc: Global, node: Option<&Node>) -> Result<String, Fail> {
+    match node {
+        Some(Node::Leaf(leaf)) => leaf_key(alloc, Some(leaf)),
+        Some(Node::Parent(parent)) => parent_key(alloc, Some(parent)),
+        None => Ok(String::from_str(alloc, "-")?),
+    }
 }
 
 /// The key of the node at a place, as any node, and as a parent.
-fn node_at(alloc: Global, place: u32) -> Result<String, Fail> {
-    let tree = example_tree(alloc)?;
-    let any = match tree.node(place) {
-        Some(Node::Leaf(leaf)) => leaf_key(alloc, Some(leaf))?,
-        Some(Node::Parent(parent)) => parent_key(alloc, Some(parent))?,
-        None => String::from_str(alloc, "-")?,
-    };
+fn keys_of(alloc: Global, tree: &PublicTree, place: u32) -> Result<String, Fail> {
+    let any = node_key(alloc, tree.node(place))?;
     let parent = parent_key(alloc, tree.parent(place))?;
     Ok(format!(in alloc; "{any} {parent}")?)
 }
 
+/// The same in the example.
+fn node_at(alloc: Global, place: u32) -> Result<String, Fail> {
+    keys_of(alloc, &example_tree(alloc)?, place)
+}
+
 #[test]
 fn nodes(rt: HostRuntime) -> Result<(), Fail> {
-    let places = [
+    const PLACES: &[(u32, &str)] = &[
         (0, "a0 -"),
         (2, "- -"),
         (3, "- -"),
@@ -89,7 +102,7 @@ fn nodes(rt: HostRuntime) -> Result<(), Fail> {
         (5, "d5 d5"),
         (7, "- -"),
     ];
-    expect_texts(&rt, rt.alloc(), node_at, &places)
+    expect_texts(&rt, rt.alloc(), node_at, PLACES)
 }
 
 /// The key of a leaf by its index.
@@ -99,8 +112,8 @@ fn leaf_at(alloc: Global, index: u32) -> Result<String, Fail> {
 
 #[test]
 fn leaves(rt: HostRuntime) -> Result<(), Fail> {
-    let indices = [(0, "a0"), (1, "-"), (2, "a2"), (3, "a3"), (4, "-")];
-    expect_texts(&rt, rt.alloc(), leaf_at, &indices)
+    const INDICES: &[(u32, &str)] = &[(0, "a0"), (1, "-"), (2, "a2"), (3, "a3"), (4, "-")];
+    expect_texts(&rt, rt.alloc(), leaf_at, INDICES)
 }
 
 /// How many leaves the tree of nodes has, the first of which are two leaves and a blank between them, or why there is none.
@@ -119,7 +132,7 @@ fn tree_of_nodes(alloc: Global, count: usize) -> Result<String, Fail> {
 
 #[test]
 fn nodes_that_form_a_tree(rt: HostRuntime) -> Result<(), Fail> {
-    let counts = [
+    const COUNTS: &[(usize, &str)] = &[
         (1, "1 1"),
         (3, "2 2"),
         (7, "4 2"),
@@ -129,7 +142,7 @@ fn nodes_that_form_a_tree(rt: HostRuntime) -> Result<(), Fail> {
         (5, "the nodes form no tree"),
         (4194303, "a tree has at most 1,048,576 leaves"),
     ];
-    expect_texts(&rt, rt.alloc(), tree_of_nodes, &counts)
+    expect_texts(&rt, rt.alloc(), tree_of_nodes, COUNTS)
 }
 
 /// Indices that rise, those below 3 before the others.

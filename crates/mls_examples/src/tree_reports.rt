@@ -53,18 +53,20 @@ fn validated(alloc: Global, inputs: (&str, &str)) -> Result<String, Fail> {
 /// The example group's; one bit of the tree's hash changed; other trees, and contexts that are judged before.
 #[test]
 fn trees_are_validated(rt: HostRuntime) -> Result<(), Fail> {
-    let other_hash = "000100010147000000000000000020e22ab6a0a711ec8a732c3fad9263ed5fa61caf53\
+    const OTHER_HASH: &str =
+        "000100010147000000000000000020e22ab6a0a711ec8a732c3fad9263ed5fa61caf53\
         fdf9b9690dc57271d8f110d70000";
-    let without_extensions = "000100010147000000000000000020e32ab6a0a711ec8a732c3fad9263ed5fa6\
+    const WITHOUT_EXTENSIONS: &str =
+        "000100010147000000000000000020e32ab6a0a711ec8a732c3fad9263ed5fa6\
         1caf53fdf9b9690dc57271d8f110d700";
-    let inputs = [
+    const INPUTS: &[((&str, &str), &str)] = &[
         ((CONTEXT, TREE), VALID),
-        ((other_hash, TREE), "no: tree refused 1 HashDiffers\n"),
+        ((OTHER_HASH, TREE), "no: tree refused 1 HashDiffers\n"),
         ((CONTEXT, "00"), "no: tree unreadable EmptyTree\n"),
         ((CONTEXT, "0102"), "no: tree unreadable BadOptional 1\n"),
         (("", "00"), "no: context unreadable Truncated 0\n"),
         (
-            (without_extensions, "00"),
+            (WITHOUT_EXTENSIONS, "00"),
             "no: context unreadable Truncated 48\n",
         ),
         (
@@ -76,7 +78,7 @@ fn trees_are_validated(rt: HostRuntime) -> Result<(), Fail> {
             "no: context refused UnsupportedSuite\n",
         ),
     ];
-    expect_texts(&rt, rt.alloc(), validated, &inputs)
+    expect_texts(&rt, rt.alloc(), validated, INPUTS)
 }
 
 /// What it writes of the example group's context with other extensions.
@@ -89,7 +91,7 @@ fn with_extensions(alloc: Global, extensions: &str) -> Result<String, Fail> {
 /// Of requirements, which have the type 3: a truncated body; none; the extension type 10; the credential type 1.
 #[test]
 fn requirements_are_judged(rt: HostRuntime) -> Result<(), Fail> {
-    let extensions = [
+    const EXTENSIONS: &[(&str, &str)] = &[
         ("0400030100", "no: context refused RequirementsUnreadable\n"),
         ("06000303000000", VALID),
         (
@@ -98,7 +100,7 @@ fn requirements_are_judged(rt: HostRuntime) -> Result<(), Fail> {
         ),
         ("080003050000020001", VALID),
     ];
-    expect_texts(&rt, rt.alloc(), with_extensions, &extensions)
+    expect_texts(&rt, rt.alloc(), with_extensions, EXTENSIONS)
 }
 
 /// The hash of a tree.
@@ -121,19 +123,19 @@ fn with_own_hash(alloc: Global, tree: &str) -> Result<String, Fail> {
 /// Two leaves under a root that lists leaf 1 twice, and two of which the second has an extension that it doesn't list.
 #[test]
 fn trees_are_refused(rt: HostRuntime) -> Result<(), Fail> {
-    let unsorted =
+    const UNSORTED: &str =
         "4060010101a001b0000101400200010200010000020001010000000000000000ffffffffffffffff0001c0\
         010201d100080000000100000001010101a101b10001014102000102000100000200010100000000000000\
         00ffffffffffffffff0001c1";
-    let unlisted =
+    const UNLISTED: &str =
         "4056010101a001b0000101400200010200010000020001010000000000000000ffffffffffffffff0001c0\
         00010101a101b1000101410200010200010000020001010000000000000000ffffffffffffffff03000900\
         01c1";
-    let trees = [
-        (unsorted, "no: tree refused 2 UnmergedUnsorted 1\n"),
-        (unlisted, "no: members refused 1 ExtensionUnlisted 1\n"),
+    const TREES: &[(&str, &str)] = &[
+        (UNSORTED, "no: tree refused 2 UnmergedUnsorted 1\n"),
+        (UNLISTED, "no: members refused 1 ExtensionUnlisted 1\n"),
     ];
-    expect_texts(&rt, rt.alloc(), with_own_hash, &trees)
+    expect_texts(&rt, rt.alloc(), with_own_hash, TREES)
 }
 
 /// What it writes where a file of receipts judges signatures.
@@ -144,11 +146,11 @@ fn by_receipts(alloc: Global, receipts: &str) -> Result<String, Fail> {
 
 #[test]
 fn signatures_need_receipts(rt: HostRuntime) -> Result<(), Fail> {
-    let files = [
+    const FILES: &[(&str, &str)] = &[
         (RECEIPT, VALID),
         ("", "no: members refused 5 LeafSignature 0\n"),
     ];
-    expect_texts(&rt, rt.alloc(), by_receipts, &files)
+    expect_texts(&rt, rt.alloc(), by_receipts, FILES)
 }
 
 /// What it writes where devices fail.
@@ -158,12 +160,12 @@ fn until(alloc: Global, fails_at: [Option<usize>; 3]) -> Result<String, Fail> {
 
 #[test]
 fn devices_of_validate_tree_that_fail(rt: HostRuntime) -> Result<(), Fail> {
-    let ends = [
+    const ENDS: &[([Option<usize>; 3], &str)] = &[
         ([Some(2), None, None], ": read"),
         ([None, Some(1), None], ": read"),
         ([None, None, Some(3)], "valid e32ab6: write"),
     ];
-    expect_texts(&rt, rt.alloc(), until, &ends)
+    expect_texts(&rt, rt.alloc(), until, ENDS)
 }
 
 /// What is told of receipts that can't be read, where there is room for so many bytes.
@@ -176,7 +178,7 @@ fn told(alloc: Global, receipts: (ReceiptsFault, usize)) -> Result<String, Fail>
 
 #[test]
 fn unreadable_receipts_are_told(rt: HostRuntime) -> Result<(), Fail> {
-    let faults = [
+    const FAULTS: &[((ReceiptsFault, usize), &str)] = &[
         (
             (ReceiptsFault::BadLine(12), 100),
             "no: receipts unreadable 12\n",
@@ -188,5 +190,5 @@ fn unreadable_receipts_are_told(rt: HostRuntime) -> Result<(), Fail> {
         ((ReceiptsFault::TooLong, 8), "receipts: write"),
         ((ReceiptsFault::OutOfMemory, 100), ": memory"),
     ];
-    expect_texts(&rt, rt.alloc(), told, &faults)
+    expect_texts(&rt, rt.alloc(), told, FAULTS)
 }

@@ -1,66 +1,73 @@
 //! Whether a tree is valid (RFC 9420, 7.9.2 and 12.4.3.1), and the first fault of one that isn't.
 
 use crate::support::{
-    LEAF, SECOND_LEAF, UPPER, committed_leaf, expect_text, expect_texts, grown_tree, put_leaf,
-    put_parent, suite, tree_of,
+    FIRST_HASH, LEAF, SECOND_LEAF, UPPER, bytes, committed_leaf, expect_text, expect_texts,
+    grown_tree, put_leaf, put_parent, suite, text, tree_of,
 };
-use mls_check::{validate_tree, validate_tree_by};
+use mls_check::{TreeFault, validate_tree, validate_tree_by};
 use mls_hash::{SubtreeHashes, tree_hash};
-use mls_nodes::{Extensions, GroupContext};
+use mls_nodes::{GroupContext, decode_context};
 use mls_tree::{PublicTree, root};
-use mls_wire::Opaque;
 use std::alloc::Global;
 use std::test::Fail;
 
 /// What is found of a tree in a context with a hash, also by the hashes of its subtrees: `valid`, or the first fault.
-fn judged_with(alloc: Global, tree: &PublicTree, hash: &[u8]) -> Result<String, Fail> {
-    let suite = suite()?;
-    let hashes = SubtreeHashes::new(alloc, suite, tree)?;
-    let context = GroupContext {
-        version: 1,
-        cipher_suite: suite.number(),
-        group_id: Opaque::copy(alloc, &[0x47])?,
-        epoch: 0,
-        tree_hash: Opaque::copy(alloc, hash)?,
-        confirmed: Opaque::copy(alloc, &[])?,
-        extensions: Extensions::new(Vec::new(alloc))?,
-    };
-    let answer = validate_tree(alloc, suite, &context, tree);
-    let same = validate_tree_by(alloc, suite, &context, tree, &hashes) == answer;
+fn judged_with(alloc: Global, tree: &PublicTree, hash: &str) -> Result<String, Fail> {
+    let context = format!(in alloc; "000100010147000000000000000020{hash}0000")?;
+    let context = bytes(alloc, context.as_str())?;
+    let context = decode_context(alloc, context.as_slice())?;
+    let answer = judged_twice(alloc, tree, &context);
     drop(context);
-    if !same {
-        return Err(Fail::from("one answer, also by the hashes"));
-    }
-    match answer {
+    match answer? {
         Ok(()) => Ok(String::from_str(alloc, "valid")?),
         Err(fault) => Ok(format!(in alloc; "{fault:?}")?),
     }
+}
+
+/// What both validators find of it in this context.
+fn judged_twice(
+    alloc: Global,
+    tree: &PublicTree,
+    context: &GroupContext,
+) -> Result<Result<(), TreeFault>, Fail> {
+    let suite = suite()?;
+    if suite.number() != context.cipher_suite {
+        return Err(Fail::from("the context's suite"));
+    }
+    let hashes = SubtreeHashes::new(alloc, suite, tree)?;
+    let by_hashes = validate_tree_by(alloc, suite, context, tree, &hashes);
+    drop(hashes);
+    let answer = validate_tree(alloc, suite, context, tree);
+    if answer != by_hashes {
+        return Err(Fail::from("one answer, also by the hashes"));
+    }
+    Ok(answer)
 }
 
 /// What is found of it in a context with its own hash.
 pub(crate) fn judged(alloc: Global, tree: &PublicTree) -> Result<String, Fail> {
     let top = root(tree.leaf_count()).ok_or("a root")?;
     let hash = tree_hash(alloc, suite()?, tree, top)?;
-    judged_with(alloc, tree, hash.as_slice())
+    let hash = text(alloc, hash.as_slice())?;
+    judged_with(alloc, tree, hash.as_str())
 }
 
 /// What is found of the tree of one leaf in a context with a hash.
-fn one_leaf(alloc: Global, hash: &[u8]) -> Result<String, Fail> {
+fn one_leaf(alloc: Global, hash: &str) -> Result<String, Fail> {
     judged_with(alloc, &tree_of(alloc, 1, &[0])?, hash)
 }
 
 /// The hash of the tree, and the same with one bit changed.
 #[test]
 fn the_hash_is_the_contexts(rt: HostRuntime) -> Result<(), Fail> {
-    let mut hash = [
-        0xe3, 0x2a, 0xb6, 0xa0, 0xa7, 0x11, 0xec, 0x8a, 0x73, 0x2c, 0x3f, 0xad, 0x92, 0x63, 0xed,
-        0x5f, 0xa6, 0x1c, 0xaf, 0x53, 0xfd, 0xf9, 0xb9, 0x69, 0x0d, 0xc5, 0x72, 0x71, 0xd8, 0xf1,
-        0x10, 0xd7,
+    const HASHES: &[(&str, &str)] = &[
+        (FIRST_HASH, "valid"),
+        (
+            "e32ab6a0a711ec8a732c3fad9263ed5fa61caf53fdf9b9690dc57271d8f110d6",
+            "HashDiffers",
+        ),
     ];
-    expect_text(&rt, one_leaf(rt.alloc(), &hash)?, "valid");
-    hash[31] = 0xd6;
-    expect_text(&rt, one_leaf(rt.alloc(), &hash)?, "HashDiffers");
-    Ok(())
+    expect_texts(&rt, rt.alloc(), one_leaf, HASHES)
 }
 
 /// What is found of a tree that grew by a leaf after a path.
@@ -79,8 +86,8 @@ fn changed(alloc: Global, parent: (u32, u8, &str, &[u32])) -> Result<String, Fai
 #[test]
 fn a_tree_that_grew_after_a_path(rt: HostRuntime) -> Result<(), Fail> {
     expect_text(&rt, grown(rt.alloc())?, "valid");
-    let parents = [
-        ((3, 0xd3, "", [].as_slice()), "ParentHashInvalid(3)"),
+    const PARENTS: &[((u32, u8, &str, &[u32]), &str)] = &[
+        ((3, 0xd3, "", &[]), "ParentHashInvalid(3)"),
         ((3, 0xd3, "", &[3, 2]), "UnmergedUnsorted(3)"),
         ((3, 0xd3, "", &[3, 3]), "UnmergedUnsorted(3)"),
         ((1, 0xd1, UPPER, &[1, 1]), "UnmergedUnsorted(1)"),
@@ -92,7 +99,7 @@ fn a_tree_that_grew_after_a_path(rt: HostRuntime) -> Result<(), Fail> {
         ((3, 0x80, "", &[3]), "KeyRepeated(0)"),
         ((3, 0xd1, "", &[3]), "KeyRepeated(1)"),
     ];
-    expect_texts(&rt, rt.alloc(), changed, &parents)
+    expect_texts(&rt, rt.alloc(), changed, PARENTS)
 }
 
 /// What is found of eight leaves, of which the last is blank, under four parents with unmerged leaves, of which the one
@@ -115,8 +122,8 @@ fn listing(alloc: Global, list: (u32, &[u32])) -> Result<String, Fail> {
 /// Where all lists are sound, no chain leads to the first parent.
 #[test]
 fn entries_in_the_lists_between(rt: HostRuntime) -> Result<(), Fail> {
-    let lists = [
-        ((3, [1, 2].as_slice()), "ParentHashInvalid(3)"),
+    const LISTS: &[((u32, &[u32]), &str)] = &[
+        ((3, &[1, 2]), "ParentHashInvalid(3)"),
         ((3, &[1]), "UnmergedUnsound(7)"),
         ((3, &[2]), "UnmergedUnsound(7)"),
         ((3, &[1, 2, 4]), "UnmergedUnsound(3)"),
@@ -126,7 +133,7 @@ fn entries_in_the_lists_between(rt: HostRuntime) -> Result<(), Fail> {
         ((11, &[]), "UnmergedUnsound(7)"),
         ((11, &[6, 7]), "UnmergedUnsound(11)"),
     ];
-    expect_texts(&rt, rt.alloc(), listing, &lists)
+    expect_texts(&rt, rt.alloc(), listing, LISTS)
 }
 
 #[test]

@@ -1,11 +1,12 @@
 //! The reports of `check` on files of test vectors, and files that hold none. Their hashes are joined from what they
 //! are hashes of (RFC 9420, 7.8, 7.9 and 8.2), by SHA-256 itself and nothing of these libraries.
 
-use crate::support::{bytes, expect_texts, text};
+use crate::support::{bytes, expect_text, expect_texts, text};
 use mls_cli::{CheckKind, RunFault, Verdict, run_check};
 use mls_wire::{MemorySink, MemorySource};
 use sha2::{Digest, Sha256};
 use std::alloc::Global;
+use std::process::Abort;
 use std::test::Fail;
 
 /// The places of one leaf.
@@ -192,10 +193,23 @@ fn judged(alloc: Global, kind: CheckKind, members: (&str, &str)) -> Result<Strin
     report(alloc, kind, file.as_bytes(), [None; 2])
 }
 
+/// Asserts what is written of each vector of a table.
+fn expect_reports(
+    rt: &impl Abort,
+    alloc: Global,
+    kind: CheckKind,
+    rows: &[((&str, &str), &str)],
+) -> Result<(), Fail> {
+    for (members, wanted) in rows {
+        expect_text(rt, judged(alloc, kind, *members)?, wanted);
+    }
+    Ok(())
+}
+
 /// Sizes of trees, and each array with one entry changed. Of a name given twice the last member counts.
 #[test]
 fn tree_math_vectors_are_checked(rt: HostRuntime) -> Result<(), Fail> {
-    let rows = [
+    const ROWS: &[((&str, &str), &str)] = &[
         ((ONE_LEAF, ""), PASS),
         ((TWO_LEAVES, ""), PASS),
         ((FOUR_LEAVES, ""), PASS),
@@ -271,18 +285,13 @@ fn tree_math_vectors_are_checked(rt: HostRuntime) -> Result<(), Fail> {
             "no: 1 fail parent\npassed 0 failed 1 skipped 0\n",
         ),
     ];
-    expect_texts(
-        &rt,
-        rt.alloc(),
-        |alloc: Global, members| judged(alloc, CheckKind::TreeMath, members),
-        &rows,
-    )
+    expect_reports(&rt, rt.alloc(), CheckKind::TreeMath, ROWS)
 }
 
 /// Each of the trees, in each suite; suites that are not followed; and each member changed.
 #[test]
 fn tree_validation_vectors_are_checked(rt: HostRuntime) -> Result<(), Fail> {
-    let rows = [
+    const ROWS: &[((&str, &str), &str)] = &[
         ((LEAF_TREE, ""), PASS),
         ((TWO_TREE, "\"cipher_suite\":3"), PASS),
         ((PATH_TREE, "\"cipher_suite\":2"), PASS),
@@ -359,18 +368,13 @@ fn tree_validation_vectors_are_checked(rt: HostRuntime) -> Result<(), Fail> {
             "no: 1 fail valid\npassed 0 failed 1 skipped 0\n",
         ),
     ];
-    expect_texts(
-        &rt,
-        rt.alloc(),
-        |alloc: Global, members| judged(alloc, CheckKind::TreeValidation, members),
-        &rows,
-    )
+    expect_reports(&rt, rt.alloc(), CheckKind::TreeValidation, ROWS)
 }
 
 /// Each kind of proposal; what can not be applied; an outcome whose nodes are all blank; and each member changed.
 #[test]
 fn tree_operations_vectors_are_checked(rt: HostRuntime) -> Result<(), Fail> {
-    let rows = [
+    const ROWS: &[((&str, &str), &str)] = &[
         ((ADDED, ""), PASS),
         ((REMOVED, ""), PASS),
         ((UPDATED, "\"cipher_suite\":3"), PASS),
@@ -437,18 +441,13 @@ fn tree_operations_vectors_are_checked(rt: HostRuntime) -> Result<(), Fail> {
             "no: 1 fail tree_hash_before\npassed 0 failed 1 skipped 0\n",
         ),
     ];
-    expect_texts(
-        &rt,
-        rt.alloc(),
-        |alloc: Global, members| judged(alloc, CheckKind::TreeOperations, members),
-        &rows,
-    )
+    expect_reports(&rt, rt.alloc(), CheckKind::TreeOperations, ROWS)
 }
 
 /// A commit in a public message and in a private one, behind hashes of any length; and each member changed.
 #[test]
 fn transcript_vectors_are_checked(rt: HostRuntime) -> Result<(), Fail> {
-    let rows = [
+    const ROWS: &[((&str, &str), &str)] = &[
         ((COMMITTED_BY, ""), PASS),
         ((COMMITTED_APART, "\"cipher_suite\":2"), PASS),
         ((COMMITTED_FIRST, ""), PASS),
@@ -510,12 +509,7 @@ fn transcript_vectors_are_checked(rt: HostRuntime) -> Result<(), Fail> {
             "no: 1 fail interim_transcript_hash_after\npassed 0 failed 1 skipped 0\n",
         ),
     ];
-    expect_texts(
-        &rt,
-        rt.alloc(),
-        |alloc: Global, members| judged(alloc, CheckKind::Transcript, members),
-        &rows,
-    )
+    expect_reports(&rt, rt.alloc(), CheckKind::Transcript, ROWS)
 }
 
 /// The SHA-256 of bytes, both as hexadecimal text.
@@ -528,7 +522,7 @@ fn hashed(alloc: Global, input: &str) -> Result<String, Fail> {
 /// Suites 1, 2 and 3 hash with SHA-256.
 #[test]
 fn hashes_of_vectors_are_joined(rt: HostRuntime) -> Result<(), Fail> {
-    let rows = [
+    const ROWS: &[(&str, &str)] = &[
         // The leaves of members 0 and 1, and both under a blank root.
         (
             "01000000000101a001b0000101400200010200010000020001010000000000000000ffffffffffffffff\
@@ -678,7 +672,7 @@ fn hashes_of_vectors_are_joined(rt: HostRuntime) -> Result<(), Fail> {
             "7e1d8ed7339104a6195d10fc6e2cd8f145ed3295f81ecdaf1a5cb5227b31d5d1",
         ),
     ];
-    expect_texts(&rt, rt.alloc(), hashed, &rows)
+    expect_texts(&rt, rt.alloc(), hashed, ROWS)
 }
 
 /// What it writes of a text.
@@ -686,70 +680,75 @@ fn told(alloc: Global, file: &str) -> Result<String, Fail> {
     report(alloc, CheckKind::TreeMath, file.as_bytes(), [None; 2])
 }
 
+/// What it writes of a text that only opens arrays, so many.
+fn opened(alloc: Global, count: u32) -> Result<String, Fail> {
+    let mut file = String::new(alloc);
+    for _ in 0..count {
+        file.push_str("[")?;
+    }
+    told(alloc, file.as_str())
+}
+
+/// What it writes of a vector with so many arrays in one another.
+fn nested(alloc: Global, depth: usize) -> Result<String, Fail> {
+    let (open, close) = ("[".repeat(alloc, depth)?, "]".repeat(alloc, depth)?);
+    let file = format!(in alloc; "[{{\"n_leaves\":0,\"other\":{open}{close}}}]")?;
+    told(alloc, file.as_str())
+}
+
+/// What it writes of three vectors, of which the second has no members.
+fn three(alloc: Global, members: (&str, &str)) -> Result<String, Fail> {
+    let (first, third) = members;
+    let file = format!(in alloc; "[{{{first}}},{{}},{{{third}}}]")?;
+    told(alloc, file.as_str())
+}
+
 /// Files without vectors, and those of none, of one and of three. Arrays nest 127 deep and no deeper; a number may be
 /// large, but not past all floats.
 #[test]
 fn files_are_read(rt: HostRuntime) -> Result<(), Fail> {
-    let unreadable = "no: vectors unreadable\n";
-    let alloc = rt.alloc();
-    let mut nested = String::new(alloc);
-    nested.push_str("[{\"n_leaves\":0,\"other\":")?;
-    for _ in 0..125 {
-        nested.push_str("[")?;
-    }
-    for _ in 0..125 {
-        nested.push_str("]")?;
-    }
-    nested.push_str("}]")?;
-    let mut deeper = String::new(alloc);
-    for _ in 0..100_000 {
-        deeper.push_str("[")?;
-    }
-    let three = format!(in alloc; "[{{{ONE_LEAF}}},{{}},{{{TWO_LEAVES}}}]")?;
-    let failed = "no: 1 fail n_leaves\npassed 0 failed 1 skipped 0\n";
-    let rows = [
-        ("{}", unreadable),
-        ("", unreadable),
-        ("[", unreadable),
-        ("[1]", unreadable),
-        ("[{},null]", unreadable),
-        ("[{}] []", unreadable),
-        ("[{\"a\":1e400}]", unreadable),
-        ("[{\"a\":1.}]", unreadable),
-        ("[{\"a\":\"\\ud800\"}]", unreadable),
-        (deeper.as_str(), unreadable),
-        (nested.as_str(), failed),
-        ("[{\"a\":123456789012345678901234567890}]", failed),
+    const UNREADABLE: &str = "no: vectors unreadable\n";
+    const FAILED: &str = "no: 1 fail n_leaves\npassed 0 failed 1 skipped 0\n";
+    const FILES: &[(&str, &str)] = &[
+        ("{}", UNREADABLE),
+        ("", UNREADABLE),
+        ("[", UNREADABLE),
+        ("[1]", UNREADABLE),
+        ("[{},null]", UNREADABLE),
+        ("[{}] []", UNREADABLE),
+        ("[{\"a\":1e400}]", UNREADABLE),
+        ("[{\"a\":1.}]", UNREADABLE),
+        ("[{\"a\":\"\\ud800\"}]", UNREADABLE),
+        ("[{\"a\":123456789012345678901234567890}]", FAILED),
         ("[]", "passed 0 failed 0 skipped 0\n"),
-        (
-            three.as_str(),
-            "no: 1 pass\n2 fail n_leaves\n3 pass\npassed 2 failed 1 skipped 0\n",
-        ),
     ];
-    expect_texts(&rt, alloc, told, &rows)
+    const THREE: &[((&str, &str), &str)] = &[(
+        (ONE_LEAF, TWO_LEAVES),
+        "no: 1 pass\n2 fail n_leaves\n3 pass\npassed 2 failed 1 skipped 0\n",
+    )];
+    expect_texts(&rt, rt.alloc(), told, FILES)?;
+    expect_texts(&rt, rt.alloc(), opened, &[(100_000, UNREADABLE)])?;
+    expect_texts(&rt, rt.alloc(), nested, &[(125, FAILED)])?;
+    expect_texts(&rt, rt.alloc(), three, THREE)
+}
+
+/// What it writes of bytes, where the input and the output fail at these calls.
+fn ended(alloc: Global, input: (&[u8], [Option<usize>; 2])) -> Result<String, Fail> {
+    let (file, fails_at) = input;
+    report(alloc, CheckKind::TreeMath, file, fails_at)
 }
 
 /// Bytes that are no text; and an input and an output that fail.
 #[test]
 fn other_ends_are_told(rt: HostRuntime) -> Result<(), Fail> {
-    let bytes: [(&[u8], [Option<usize>; 2]); 4] = [
-        (&[0x5b, 0x22, 0xff, 0x22, 0x5d], [None, None]),
-        (&[0x5b, 0x5d], [Some(1), None]),
-        (&[0x5b, 0x5d], [None, Some(2)]),
-        (&[0x5b, 0x5d], [None, None]),
+    const ROWS: &[((&[u8], [Option<usize>; 2]), &str)] = &[
+        (
+            (&[0x5b, 0x22, 0xff, 0x22, 0x5d], [None, None]),
+            "no: vectors unreadable\n",
+        ),
+        ((b"[]", [Some(1), None]), ": read"),
+        ((b"[]", [None, Some(2)]), "passed 0 failed 0 sk: write"),
+        ((b"[]", [None, None]), "passed 0 failed 0 skipped 0\n"),
     ];
-    let rows = [
-        (bytes[0], "no: vectors unreadable\n"),
-        (bytes[1], ": read"),
-        (bytes[2], "passed 0 failed 0 sk: write"),
-        (bytes[3], "passed 0 failed 0 skipped 0\n"),
-    ];
-    expect_texts(
-        &rt,
-        rt.alloc(),
-        |alloc: Global, input: (&[u8], [Option<usize>; 2])| {
-            report(alloc, CheckKind::TreeMath, input.0, input.1)
-        },
-        &rows,
-    )
+    expect_texts(&rt, rt.alloc(), ended, ROWS)
 }

@@ -2,8 +2,8 @@
 
 use crate::support::{bytes, expect_answers, expect_texts, text};
 use mls_wire::{
-    CodecFault, Encode, Items, Opaque, Reader, Sequence, TryClone, Writer, add_sizes, bytes_of,
-    laws, read_all_of, read_input, read_value, size_of_list,
+    CodecFault, Encode, Items, Opaque, Reader, Sequence, TryClone, Writer, bytes_of, laws,
+    read_all_of, read_input, read_value,
 };
 use std::alloc::Global;
 use std::test::Fail;
@@ -19,7 +19,7 @@ fn written_length(alloc: Global, length: usize) -> Result<String, Fail> {
 
 #[test]
 fn lengths_are_written(rt: HostRuntime) -> Result<(), Fail> {
-    let forms = [
+    const FORMS: &[(usize, &str)] = &[
         (0, "00"),
         (63, "3f"),
         (64, "4040"),
@@ -28,7 +28,7 @@ fn lengths_are_written(rt: HostRuntime) -> Result<(), Fail> {
         (1073741823, "bfffffff"),
         (1073741824, "TooLong at 0"),
     ];
-    expect_texts(&rt, rt.alloc(), written_length, &forms)
+    expect_texts(&rt, rt.alloc(), written_length, FORMS)
 }
 
 /// The length that is read, or why none is, and the offset then.
@@ -43,7 +43,7 @@ fn read_length(alloc: Global, form: &str) -> Result<String, Fail> {
 
 #[test]
 fn lengths_are_read(rt: HostRuntime) -> Result<(), Fail> {
-    let lengths = [
+    const LENGTHS: &[(&str, &str)] = &[
         ("00", "0"),
         ("3f", "63"),
         ("4040", "64"),
@@ -56,7 +56,7 @@ fn lengths_are_read(rt: HostRuntime) -> Result<(), Fail> {
         ("40", "Truncated at 0, still 0"),
         ("", "Truncated at 0, still 0"),
     ];
-    expect_texts(&rt, rt.alloc(), read_length, &lengths)
+    expect_texts(&rt, rt.alloc(), read_length, LENGTHS)
 }
 
 /// A list of codes, written, or why there is none.
@@ -67,7 +67,7 @@ fn codes_of(alloc: Global, input: &[u8]) -> Result<Vec<u8>, CodecFault> {
 
 #[test]
 fn vectors_are_judged_in_order(rt: HostRuntime) -> Result<(), Fail> {
-    let lists = [
+    const LISTS: &[(&str, &str)] = &[
         ("0400010002", "0400010002"),
         ("", "Truncated at 0"),
         ("c0", "BadPrefix at 0"),
@@ -76,7 +76,7 @@ fn vectors_are_judged_in_order(rt: HostRuntime) -> Result<(), Fail> {
         ("0301", "Truncated at 0"),
         ("03010203", "OddLength at 0"),
     ];
-    expect_answers(&rt, rt.alloc(), codes_of, &lists)
+    expect_answers(&rt, rt.alloc(), codes_of, LISTS)
 }
 
 /// A list of bodies, copied and written, or why there is none.
@@ -89,12 +89,12 @@ fn bodies_of(alloc: Global, input: &[u8]) -> Result<Vec<u8>, CodecFault> {
 #[test]
 fn bodies_are_read_for_themselves(rt: HostRuntime) -> Result<(), Fail> {
     laws::one_value::<Items<Opaque>>();
-    let lists = [
+    const LISTS: &[(&str, &str)] = &[
         ("00", "00"),
         ("0501aa02bbcc", "0501aa02bbcc"),
         ("0401aa404000000000", "Truncated at 3"),
     ];
-    expect_answers(&rt, rt.alloc(), bodies_of, &lists)
+    expect_answers(&rt, rt.alloc(), bodies_of, LISTS)
 }
 
 /// An optional list of numbers and a number behind it, read and written, or why they can't be read.
@@ -111,7 +111,7 @@ fn values_of(alloc: Global, input: &[u8]) -> Result<Vec<u8>, CodecFault> {
 
 #[test]
 fn optional_values_and_ends(rt: HostRuntime) -> Result<(), Fail> {
-    let values = [
+    const VALUES: &[(&str, &str)] = &[
         ("000000000000000007", "000000000000000007"),
         (
             "0104000000020000000000000007",
@@ -122,7 +122,7 @@ fn optional_values_and_ends(rt: HostRuntime) -> Result<(), Fail> {
         ("010500000002ff", "OddLength at 1"),
         ("00000000000000000700", "Trailing at 9"),
     ];
-    expect_answers(&rt, rt.alloc(), values_of, &values)
+    expect_answers(&rt, rt.alloc(), values_of, VALUES)
 }
 
 /// The fields of a `uint8`, a `uint16`, a `uint32`, a `uint64`, a vector, the byte before an optional value, and a vector
@@ -145,7 +145,7 @@ fn fields_of(alloc: Global, input: &str) -> Result<String, Fail> {
 
 #[test]
 fn fields_are_read(rt: HostRuntime) -> Result<(), Fail> {
-    let fields = [
+    const FIELDS: &[(&str, &str)] = &[
         (
             "0102030405060708090a0b0c0d0e0f02616201020809",
             "1 515 67438087 579005069656919567 6162 true, 8 21 false, 22 true",
@@ -155,7 +155,7 @@ fn fields_are_read(rt: HostRuntime) -> Result<(), Fail> {
             "255 255 255 255  false, 8 19 true, 19 false",
         ),
     ];
-    expect_texts(&rt, rt.alloc(), fields_of, &fields)
+    expect_texts(&rt, rt.alloc(), fields_of, FIELDS)
 }
 
 /// A `uint8`, a `uint16`, a `uint32`, a vector with this body and the byte before an optional value.
@@ -172,8 +172,8 @@ fn fields_with(alloc: Global, body: &[u8]) -> Result<Vec<u8>, CodecFault> {
 
 #[test]
 fn fields_are_written(rt: HostRuntime) -> Result<(), Fail> {
-    let fields = [("6162", "0102030405060702616201")];
-    expect_answers(&rt, rt.alloc(), fields_with, &fields)
+    const FIELDS: &[(&str, &str)] = &[("6162", "0102030405060702616201")];
+    expect_answers(&rt, rt.alloc(), fields_with, FIELDS)
 }
 
 /// How many bytes an optional list of numbers takes.
@@ -186,31 +186,11 @@ fn size_of_numbers(alloc: Global, input: &[u8]) -> Result<Vec<u8>, CodecFault> {
 
 #[test]
 fn sizes_of_optional_lists(rt: HostRuntime) -> Result<(), Fail> {
-    let lists = [
+    const LISTS: &[(&str, &str)] = &[
         ("00", "0000000000000001"),
         ("0100", "0000000000000002"),
         ("010400000002", "0000000000000006"),
         ("01080000000200000003", "000000000000000a"),
     ];
-    expect_answers(&rt, rt.alloc(), size_of_numbers, &lists)
-}
-
-/// A list with a body of 63 bytes has a length of one, and one of 64 a length of two.
-#[test]
-fn sizes_of_lists_of_bytes(rt: HostRuntime) -> Result<(), Fail> {
-    let bytes = [0u8; 64];
-    assert!(rt; size_of_list(&bytes[..0]) == Some(1));
-    assert!(rt; size_of_list(&bytes[..63]) == Some(64));
-    assert!(rt; size_of_list(&bytes) == Some(66));
-    Ok(())
-}
-
-/// A size stops at the greatest number, and what has none has none with another.
-#[test]
-fn sizes_of_two_parts(rt: HostRuntime) -> Result<(), Fail> {
-    assert!(rt; add_sizes(Some(2), Some(3)) == Some(5));
-    assert!(rt; add_sizes(Some(usize::MAX), Some(1)) == Some(usize::MAX));
-    assert!(rt; add_sizes(None, Some(1)).is_none());
-    assert!(rt; add_sizes(Some(1), None).is_none());
-    Ok(())
+    expect_answers(&rt, rt.alloc(), size_of_numbers, LISTS)
 }

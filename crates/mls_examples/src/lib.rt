@@ -28,6 +28,8 @@ mod group_reports;
 #[cfg(test)]
 mod hashes;
 #[cfg(test)]
+mod journals;
+#[cfg(test)]
 mod large_inputs;
 #[cfg(test)]
 mod leaves;

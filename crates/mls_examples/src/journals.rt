@@ -1,0 +1,188 @@
+//! Changes of a tree that a journal takes back (RFC 9420, 7.7 and 12.1): the tree is then the one before them, node by
+//! node.
+
+use crate::support::{bytes, expect_texts, grown_tree, key_package, tree_of, tree_text};
+use mls_apply::{ListItem, apply_list_in_place};
+use mls_msgs::decode_proposal;
+use mls_tree::{Journal, PublicTree};
+use std::alloc::Global;
+use std::test::Fail;
+
+/// A change of a tree.
+#[derive(Clone, Copy)]
+enum Change {
+    /// A leaf becomes blank.
+    Leaf(u32),
+    /// The parents above a leaf become blank.
+    Path(u32),
+    /// A leaf's index enters the lists above it.
+    Entry(u32),
+    /// The tree is doubled.
+    Growth,
+    /// The tree is halved as often as it can be.
+    Halving,
+}
+
+/// Changes a tree. A leaf that it doesn't have is no change.
+fn change(
+    alloc: Global,
+    tree: &mut PublicTree,
+    journal: &mut Journal,
+    change: Change,
+) -> Result<(), Fail> {
+    let leaves = tree.leaf_count();
+    match change {
+        Change::Leaf(index) if index < leaves => Ok(journal.set_leaf(tree, index, None)?),
+        Change::Path(index) if index < leaves => Ok(journal.blank_path(alloc, tree, index)?),
+        Change::Entry(index) if index < leaves => Ok(journal.add_unmerged(alloc, tree, index)?),
+        Change::Growth => Ok(journal.extend(tree)?),
+        Change::Halving => Ok(journal.truncate(alloc, tree)?),
+        _ => Err(Fail::from("a leaf of the tree")),
+    }
+}
+
+/// How many leaves a tree has, and its nodes.
+fn nodes_text(alloc: Global, tree: &PublicTree) -> Result<String, Fail> {
+    let leaves = tree.leaf_count();
+    let nodes = tree_text(alloc, tree)?;
+    Ok(format!(in alloc; "{leaves} {nodes}")?)
+}
+
+/// Whether the nodes of two texts are the same.
+fn comparison(alloc: Global, leaves: u32, before: &str, after: &str) -> Result<String, Fail> {
+    let same = before == after;
+    Ok(format!(in alloc; "{leaves} {same}")?)
+}
+
+/// How many leaves a tree has after changes, and whether it is the one before them once they are taken back.
+fn changed_and_back(
+    alloc: Global,
+    tree: &mut PublicTree,
+    changes: &[Change],
+) -> Result<String, Fail> {
+    let before = nodes_text(alloc, tree)?;
+    let mut journal = Journal::new(alloc);
+    for step in changes {
+        change(alloc, tree, &mut journal, *step)?;
+    }
+    let leaves = tree.leaf_count();
+    let changed = nodes_text(alloc, tree)?;
+    if before == changed {
+        return Err(Fail::from("a change"));
+    }
+    journal.take_back(tree);
+    let after = nodes_text(alloc, tree)?;
+    comparison(alloc, leaves, before.as_str(), after.as_str())
+}
+
+/// The same of the tree of four leaves, one of which is unmerged.
+fn back(alloc: Global, changes: &[Change]) -> Result<String, Fail> {
+    let mut tree = grown_tree(alloc)?;
+    changed_and_back(alloc, &mut tree, changes)
+}
+
+#[test]
+fn changes_are_taken_back(rt: HostRuntime) -> Result<(), Fail> {
+    const CHANGES: &[(&[Change], &str)] = &[
+        (&[Change::Leaf(1)], "4 true"),
+        (&[Change::Path(0)], "4 true"),
+        (&[Change::Entry(2)], "4 true"),
+        (&[Change::Growth], "8 true"),
+        (&[Change::Growth, Change::Growth], "16 true"),
+        (&[Change::Growth, Change::Entry(5)], "8 true"),
+        (
+            &[
+                Change::Leaf(3),
+                Change::Path(3),
+                Change::Leaf(2),
+                Change::Path(2),
+                Change::Halving,
+            ],
+            "2 true",
+        ),
+        (
+            &[
+                Change::Leaf(3),
+                Change::Leaf(2),
+                Change::Leaf(1),
+                Change::Halving,
+                Change::Growth,
+            ],
+            "2 true",
+        ),
+        (
+            &[
+                Change::Entry(1),
+                Change::Entry(2),
+                Change::Path(2),
+                Change::Entry(0),
+            ],
+            "4 true",
+        ),
+    ];
+    expect_texts(&rt, rt.alloc(), back, CHANGES)
+}
+
+/// A change that is kept stays when those after it are taken back.
+fn kept(alloc: Global, changes: (Change, Change)) -> Result<String, Fail> {
+    let mut tree = grown_tree(alloc)?;
+    let mut journal = Journal::new(alloc);
+    change(alloc, &mut tree, &mut journal, changes.0)?;
+    journal.keep();
+    let before = nodes_text(alloc, &tree)?;
+    change(alloc, &mut tree, &mut journal, changes.1)?;
+    journal.take_back(&mut tree);
+    let after = nodes_text(alloc, &tree)?;
+    comparison(alloc, tree.leaf_count(), before.as_str(), after.as_str())
+}
+
+#[test]
+fn kept_changes_stay(rt: HostRuntime) -> Result<(), Fail> {
+    const CHANGES: &[((Change, Change), &str)] = &[
+        ((Change::Growth, Change::Leaf(0)), "8 true"),
+        ((Change::Leaf(1), Change::Growth), "4 true"),
+    ];
+    expect_texts(&rt, rt.alloc(), kept, CHANGES)
+}
+
+/// A list of so many Adds by member 0.
+fn adds(alloc: Global, count: u32) -> Result<Vec<ListItem>, Fail> {
+    let mut list = Vec::new(alloc);
+    for member in 0..count {
+        let package = key_package(alloc, 1 + member % 15)?;
+        let entry = format!(in alloc; "0001{package}")?;
+        let proposal = decode_proposal(alloc, bytes(alloc, entry.as_str())?.as_slice())?;
+        list.push(ListItem {
+            sender: 0,
+            proposal,
+        })?;
+    }
+    Ok(list)
+}
+
+/// How many leaves a tree of four has after so many Adds, and whether it is the one before them once they are taken
+/// back.
+fn added_and_back(alloc: Global, count: u32) -> Result<String, Fail> {
+    let list = adds(alloc, count)?;
+    let mut tree = tree_of(alloc, 4, &[0, 2])?;
+    let before = nodes_text(alloc, &tree)?;
+    let mut journal = Journal::new(alloc);
+    let added = apply_list_in_place(alloc, &mut tree, &mut journal, list.as_slice());
+    drop(list);
+    drop(added?);
+    let leaves = tree.leaf_count();
+    journal.take_back(&mut tree);
+    let after = nodes_text(alloc, &tree)?;
+    comparison(alloc, leaves, before.as_str(), after.as_str())
+}
+
+#[test]
+fn many_adds_are_taken_back(rt: HostRuntime) -> Result<(), Fail> {
+    const COUNTS: &[(u32, &str)] = &[
+        (1, "4 true"),
+        (2, "4 true"),
+        (3, "8 true"),
+        (1000, "1024 true"),
+    ];
+    expect_texts(&rt, rt.alloc(), added_and_back, COUNTS)
+}

@@ -24,7 +24,7 @@ enum Change {
 }
 
 /// Changes a tree. A leaf that it doesn't have is no change.
-fn change(
+fn make_change(
     alloc: Global,
     tree: &mut PublicTree,
     journal: &mut Journal,
@@ -63,7 +63,7 @@ fn changed_and_back(
     let before = nodes_text(alloc, tree)?;
     let mut journal = Journal::new(alloc);
     for step in changes {
-        change(alloc, tree, &mut journal, *step)?;
+        make_change(alloc, tree, &mut journal, *step)?;
     }
     let leaves = tree.leaf_count();
     let changed = nodes_text(alloc, tree)?;
@@ -127,10 +127,10 @@ fn changes_are_taken_back(rt: HostRuntime) -> Result<(), Fail> {
 fn kept(alloc: Global, changes: (Change, Change)) -> Result<String, Fail> {
     let mut tree = grown_tree(alloc)?;
     let mut journal = Journal::new(alloc);
-    change(alloc, &mut tree, &mut journal, changes.0)?;
+    make_change(alloc, &mut tree, &mut journal, changes.0)?;
     journal.keep();
     let before = nodes_text(alloc, &tree)?;
-    change(alloc, &mut tree, &mut journal, changes.1)?;
+    make_change(alloc, &mut tree, &mut journal, changes.1)?;
     journal.take_back(&mut tree);
     let after = nodes_text(alloc, &tree)?;
     comparison(alloc, tree.leaf_count(), before.as_str(), after.as_str())

@@ -27,4 +27,8 @@ pub mod AlongPaths
 pub mod Entering
 pub mod TakenBack
 pub mod ParentEntries
+pub mod Emptying
+pub mod LeafCounts
 pub mod Rejoining
+pub mod KeptCells
+pub mod EmptiedAgain

@@ -10,7 +10,7 @@ use Rattle.mls_tree.specs.Parts.{parent_of}
 use Rattle.mls_tree.specs.Journals.{taken_back, all_taken_back}
 use Rattle.mls_tree.specs.declared.journal.Former.{Former}
 use Rattle.mls_tree.specs.declared.journal.Former.TheVariants.{Leaf, Parent, Entered, Grown, Halved}
-use Rattle.mls_tree.specs.RatchetTree.{RatchetTree}
+use Rattle.mls_tree.specs.KeptTree.{KeptTree}
 use Rattle.mls_tree.proofs.Elsewhere.{put_parent-elsewhere}
 use Rattle.mls_tree.proofs.Choices.{below, from, here, before, after, same}
 use Rattle.mls_tree.proofs.AlongPaths.{parent_of-entry}
@@ -130,10 +130,10 @@ module _ (t u : Tree) (old room new : List Former) (reserved : room ≡ old) whe
       ∙ ap (λ v. all_taken_back old (left_half v)) put
 
 -- a parent that is put, or refused since there is no place for one
-pub parent-put_back : {A E : Type 0} (r : Result A E) (t u : RatchetTree) (p : ℕ) (x : Option ParentNode) → OnOk r (u.tree ≡ put_parent 0 t.tree p x) → OnErr r (u ≡ t)
+pub parent-put_back : {A E : Type 0} (r : Result A E) (t u : KeptTree) (p : ℕ) (x : Option ParentNode) → OnOk r (u.tree ≡ put_parent 0 t.tree p x) → OnErr r (u ≡ t)
     → (IsErr r → ¬ IsParentPlace t.tree p) → u.tree ≡ put_parent 0 t.tree p x
 parent-put_back (Ok a) t u p x put stays none = put
-parent-put_back (Err e) t u p x put stays none = ap (λ (r : RatchetTree). r.tree) stays ∙ sym (put_parent-elsewhere t.tree p x (none refl))
+parent-put_back (Err e) t u p x put stays none = ap (λ (r : KeptTree). r.tree) stays ∙ sym (put_parent-elsewhere t.tree p x (none refl))
 
 -- the last change is taken back
 pub taken_back-step : (t u : Tree) (all rest : List Former) (x : Former) → all ≡ rest ++ x ∷ [] → u ≡ taken_back x t → all_taken_back rest u ≡ all_taken_back all t
@@ -144,7 +144,7 @@ pub taken_back-end : (t : Tree) (left : List Former) → left ≡ [] → all_tak
 taken_back-end t left e = ap (λ xs. all_taken_back xs t) e
 
 -- the tree was halved
-pub halved-kept_back : (t u : Tree) (whole : RatchetTree) (old room new : List Former) → room ≡ old → rejoined u whole.tree ≡ t → new ≡ room ++ Halved whole ∷ []
+pub halved-kept_back : (t u : Tree) (whole : KeptTree) (old room new : List Former) → room ≡ old → rejoined u whole.tree ≡ t → new ≡ room ++ Halved whole ∷ []
     → all_taken_back new u ≡ all_taken_back old t
 halved-kept_back t u whole old room new reserved back pushed =
     ap (λ xs. all_taken_back xs u) (pushed ∙ ap (λ xs. xs ++ Halved whole ∷ []) reserved)

@@ -5,6 +5,9 @@ pub mod Parts
 pub mod Paths
 pub mod Blanks
 pub mod Changes
+pub mod Cells
+pub mod CellsSeen
+pub mod KeptTree
 pub mod Journals
 pub mod Sizes
 pub mod Array

@@ -1,4 +1,4 @@
--- What contracts see of a `PublicTree`: a perfect tree of at most 2 ^ 20 leaves (RFC 9420, 4.1.1; the limit is this library's own).
+-- Ratchet trees: perfect trees of at most 2 ^ 20 leaves (RFC 9420, 4.1.1; the limit is this library's own).
 use Rattle.std.specs.Prelude.{◌≡◌, ◌≤◌, Option}
 use Rattle.std.specs.Coded.{Coded, coded_option, Unit-prop, le_prop}
 use Rattle.std.proofs.Common.{ap}

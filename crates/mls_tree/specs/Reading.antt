@@ -7,6 +7,7 @@ use Rattle.mls_nodes.specs.declared.fault.NodeFault.{NodeFault}
 use Rattle.mls_nodes.specs.declared.fault.NodeFault.TheVariants as faults
 use Rattle.mls_tree.specs.Tree.{listing}
 use Rattle.mls_tree.specs.RatchetTree.{RatchetTree}
+use Rattle.mls_tree.specs.KeptTree.{KeptTree, plain}
 
 -- the nodes are those of the ratchet tree that the bytes of an input spell
 pub record IsTree (bytes : List ℕ) (nodes : List (Option NodeValue)) : Type 0 where
@@ -24,7 +25,7 @@ abbrev pub IsNoTree : List ℕ → Type 0
 IsNoTree bytes = (nodes : List (Option NodeValue)) → IsTree bytes nodes → ⊥
 
 -- What a call that reads a tree answered: the tree; a fault other than want of memory only where there is none.
-abbrev pub ReadsTree : List ℕ → Result RatchetTree NodeFault → Type 0
-ReadsTree bytes (Ok t) = IsTreeOf bytes t
+abbrev pub ReadsTree : List ℕ → Result KeptTree NodeFault → Type 0
+ReadsTree bytes (Ok t) = IsTreeOf bytes (plain t)
 ReadsTree bytes (Err faults.OutOfMemory) = Unit {0}
 ReadsTree bytes (Err e) = IsNoTree bytes

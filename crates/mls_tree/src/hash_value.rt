@@ -11,7 +11,7 @@ const MAX_BYTES: usize = 64;
 #[derive(Clone, Copy, Debug, PartialEq, Eq)]
 pub struct HashValue {
     bytes: [u8; 64],
-    len: usize,
+    len: u8,
 }
 
 impl Model for HashValue {
@@ -41,7 +41,10 @@ impl HashValue {
         }
         let mut padded = [0; 64];
         padded[..len].copy_from_slice(bytes);
-        Some(HashValue { bytes: padded, len })
+        Some(HashValue {
+            bytes: padded,
+            len: len as u8,
+        })
     }
 
     /// The bytes, at most 64.
@@ -49,6 +52,6 @@ impl HashValue {
         ensures bytes { result.now ≡ self.now }
         ensures limit { length self.now ≤ 64 }
     {
-        &self.bytes[..self.len]
+        &self.bytes[..self.len as usize]
     }
 }

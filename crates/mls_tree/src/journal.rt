@@ -3,11 +3,13 @@
 //! A large tree is changed where it stands, and not on a copy of it, and judged then: each call here changes the tree
 //! and keeps what it replaced. The changes are either kept, or taken back, the last one first, which takes no memory
 //! and can't be refused.
-ghost use Rattle.std.specs.Prelude.{◌≡◌, ◌<◌, ◌↔◌, ◌⊎◌, false, Err, IfErr, OnOk, OnErr, option_map};
+ghost use Rattle.std.specs.Prelude.{◌≡◌, ◌<◌, ◌-◌, ◌*◌, ◌∷◌, ◌↔◌, ◌⊎◌, take, false, Err, IfErr, OnOk, OnErr, option_map};
 ghost use Rattle.mls_nodes.specs.Limits.{leaf_limit};
 ghost use Rattle.mls_tree.specs.Tree.{leaf_count, node_at, IsParentPlace};
 ghost use Rattle.mls_tree.specs.Changes.{put_leaf, put_parent, change_parent, clear_path, with_unmerged, enter_unmerged, is_overfilled, IsOverfull, grow, shrink};
+ghost use Rattle.mls_tree.specs.Paths.{direct_path};
 ghost use Rattle.mls_tree.specs.Parts.{parent_of};
+ghost use Rattle.mls_tree.specs.Cells.{emptied, extended, parents_from};
 ghost use Rattle.mls_tree.specs.Journals.{taken_back, before, TellsNothing};
 
 use crate::error::TreeError;
@@ -44,7 +46,8 @@ pub(crate) enum Former {
 /// the tree is changed by the calls here alone, with this journal, until the changes are kept or taken back.
 /// Contracts see a journal by the tree before these changes, `before`, which no call but `take_back` and `keep`
 /// changes, whether it is refused or not. A call that is refused for want of memory may have changed a part of what
-/// it is to change, where this is said of it; the journal has kept that part.
+/// it is to change, where this is said of it; the journal has kept that part. Each call empties the cells that the
+/// tree's own call of that name empties, and taking back those of what it puts back.
 #[derive(Drop)]
 pub struct Journal {
     formers: Vec<Former>,
@@ -85,6 +88,9 @@ impl Journal {
             (tree.new.tree ≡ put_leaf 0 tree.old.tree index (option_map (λ b. b.value) leaf)) }
         ensures stays { OnErr result (tree.new ≡ tree.old) }
         ensures before { before self.new tree.new.tree ≡ before self.old tree.old.tree }
+        ensures kind { tree.new.kind ≡ tree.old.kind }
+        ensures cells { OnOk result (tree.new.cells
+            ≡ emptied tree.old.cells (2 * index ∷ direct_path 0 tree.old.tree index)) }
     {
         self.formers.try_reserve(1)?;
         let node = tree.replace_leaf(index, leaf);
@@ -104,6 +110,9 @@ impl Journal {
             (tree.new.tree ≡ put_parent 0 tree.old.tree place (option_map (λ b. b.value) parent)) }
         ensures stays { OnErr result (tree.new ≡ tree.old) }
         ensures before { before self.new tree.new.tree ≡ before self.old tree.old.tree }
+        ensures kind { tree.new.kind ≡ tree.old.kind }
+        ensures cells { OnOk result (tree.new.cells
+            ≡ emptied tree.old.cells (parents_from 0 tree.old.tree place)) }
     {
         self.formers.try_reserve(1)?;
         let node = tree.replace_parent(place, parent);
@@ -122,12 +131,16 @@ impl Journal {
         requires { index < leaf_count tree.old.tree }
         ensures cleared { OnOk result (tree.new.tree ≡ clear_path tree.old.tree index) }
         ensures before { before self.new tree.new.tree ≡ before self.old tree.old.tree }
+        ensures kind { tree.new.kind ≡ tree.old.kind }
+        ensures cells { OnOk result (tree.new.cells
+            ≡ emptied tree.old.cells (direct_path 0 tree.old.tree index)) }
     {
         let mut places = match tree.direct_path(alloc, index) {
             Ok(places) => places,
             Err(TreeError::OutOfMemory) => return Err(AllocError),
             Err(_) => unreachable!(),
         };
+        tree.empty_path(index);
         while let Some(place) = places.pop() {
             self.put_parent(tree, place, None)?;
         }
@@ -141,6 +154,9 @@ impl Journal {
         ensures entered { OnOk result
             (tree.new.tree ≡ change_parent (with_unmerged index) 0 tree.old.tree place) }
         ensures before { before self.new tree.new.tree ≡ before self.old tree.old.tree }
+        ensures kind { tree.new.kind ≡ tree.old.kind }
+        ensures cells { OnOk result (tree.new.cells
+            ≡ emptied tree.old.cells (parents_from 0 tree.old.tree place)) }
     {
         self.formers.try_reserve(1)?;
         if tree.enter_at(place, index)? {
@@ -162,6 +178,9 @@ impl Journal {
         requires { index < leaf_count tree.old.tree }
         ensures entered { OnOk result (tree.new.tree ≡ enter_unmerged tree.old.tree index) }
         ensures before { before self.new tree.new.tree ≡ before self.old tree.old.tree }
+        ensures kind { tree.new.kind ≡ tree.old.kind }
+        ensures cells { OnOk result (tree.new.cells
+            ≡ emptied tree.old.cells (direct_path 0 tree.old.tree index)) }
         ensures too_many_leaves { (result ≡ Err TreeError.TooManyLeaves)
             ↔ IsOverfull tree.old.tree index }
         ensures else_memory { IfErr result
@@ -171,6 +190,7 @@ impl Journal {
             return Err(TreeError::TooManyLeaves);
         }
         let mut places = tree.direct_path(alloc, index)?;
+        tree.empty_path(index);
         while let Some(place) = places.pop() {
             self.enter(tree, place, index)?;
         }
@@ -184,6 +204,8 @@ impl Journal {
         ensures ok { OnOk result (tree.new.tree ≡ grow tree.old.tree) }
         ensures stays { OnErr result (tree.new ≡ tree.old) }
         ensures before { before self.new tree.new.tree ≡ before self.old tree.old.tree }
+        ensures kind { tree.new.kind ≡ tree.old.kind }
+        ensures cells { OnOk result (tree.new.cells ≡ extended tree.old.kind tree.old.cells) }
         ensures too_many_leaves { (result ≡ Err TreeError.TooManyLeaves)
             ↔ (leaf_count tree.old.tree ≡ leaf_limit) }
         ensures else_memory { IfErr result
@@ -204,6 +226,9 @@ impl Journal {
     pub fn truncate(&mut self, alloc: Global, tree: &mut PublicTree) -> Result<(), AllocError>
         ensures shrunk { OnOk result (tree.new.tree ≡ shrink tree.old.tree) }
         ensures before { before self.new tree.new.tree ≡ before self.old tree.old.tree }
+        ensures kind { tree.new.kind ≡ tree.old.kind }
+        ensures cells { OnOk result (tree.new.cells
+            ≡ take (2 * leaf_count tree.new.tree - 1) tree.old.cells) }
     {
         while tree.can_be_halved() {
             self.formers.try_reserve(1)?;

@@ -1,5 +1,5 @@
-//! The public tree of a group, kept as one array of nodes.
-ghost use Rattle.std.specs.Prelude.{◌≡◌, ℕ, ◌≤◌, ◌<◌, length, IfOk, IfErr, Err, MatchOption, OnOk, OnErr, IsOk, IsErr, ◌↔◌, ◌⊎◌, None, Some, false, map, option_map, option_copied};
+//! The public tree of a group: its nodes, and the hashes of subtrees that it keeps.
+ghost use Rattle.std.specs.Prelude.{◌≡◌, ◌≢◌, ◌≤◌, ◌<◌, ◌-◌, ◌*◌, ◌∷◌, [], length, take, replicate, IfOk, IfErr, IfSome, Err, MatchOption, OnOk, OnErr, IsOk, IsErr, ◌↔◌, ◌⊎◌, None, Some, false, map, option_map, option_copied, slice_get, slice_set, IsSome};
 ghost use Rattle.std.specs.Bool.{OnTrue, OnFalse};
 ghost use Rattle.mls_nodes.specs.Limits.{leaf_limit};
 ghost use Rattle.mls_nodes.specs.Value.{entry_value, node_value};
@@ -9,18 +9,17 @@ ghost use Rattle.mls_tree.specs.Blanks.{first_blank_leaf, next_blank_leaf, IsFir
 ghost use Rattle.mls_tree.specs.Changes.{put_leaf, put_parent, clear_path, change_parent, with_unmerged, without_unmerged, enter_unmerged, is_overfilled, is_overfilled_above, IsOverfull, shrink, blank_tree, grow, left_half, rejoined};
 ghost use Rattle.mls_tree.specs.Parts.{parent_of};
 ghost use Rattle.mls_tree.specs.Sizes.{IsPowerOfTwo, IsTooLong, IsListing};
+ghost use Rattle.mls_tree.specs.Cells.{emptied, empty_count, extended, parents_from, hash_in, IsRightHash, AreAllFilled};
 
-use crate::blanks::{blank_above, has_set_leaf, push_blanks};
-use crate::entries::{
-    all_fit, as_leaf, clone_entries, count_leaves, into_leaf, into_parent, leaf_entry, parent_entry,
+use crate::cell_changes::{
+    clone_cells, double, double_in_place, empty_leaf, empty_parents, empty_path, reserve_double,
+    truncate,
 };
+use crate::cells::Cells;
 use crate::error::TreeError;
-use crate::exchange::swap_front;
-use crate::paths::{push_copath, push_direct_path, push_filtered_direct_path};
-use crate::places::level_inside;
-use crate::resolution::push_resolution;
-use crate::sizes::{height_of, height_of_length, leaves_of};
-use crate::unmerged::{enter, is_overfilled_above, leave, push_new_lists, put_lists};
+use crate::hash_kind::HashKind;
+use crate::hash_value::HashValue;
+use crate::node_array::NodeArray;
 use mls_nodes::{LeafNode, Node, ParentNode};
 use std::alloc::{AllocError, Global};
 use std::marker::Model;
@@ -28,24 +27,27 @@ use std::mem;
 
 /// The public tree of a group (RFC 9420, 4.1.1): a perfect binary tree of 1 to 1,048,576 leaves, a power of two, whose leaves and parents
 /// are each blank or set. A call that is refused leaves the tree as it was.
+///
+/// It may keep, beside its nodes, a cell for the tree hash of the subtree at each place (RFC 9420, 7.8). A cell is empty, or the hash in it
+/// is right: each call that changes the tree empties the cells of the subtrees that it changes, and no other.
 #[derive(Debug, Drop)]
 pub struct PublicTree {
-    nodes: Vec<Option<Node>>,
-    height: u32,
-    ghost low: { height ≤ 20 },
+    tree: NodeArray,
+    cells: Option<Cells>,
 }
 
 impl Model for PublicTree {
-    ghost use Rattle.mls_tree.specs.RatchetTree.{RatchetTree, ratchet_tree_coded};
-    ghost use Rattle.mls_tree.specs.Array.{ratchet_tree_in, IsArrayOf};
+    ghost use Rattle.mls_tree.specs.KeptTree.{KeptTree, kept_tree_coded};
+    ghost use Rattle.mls_tree.specs.Cells.{AreCellsOf};
+    ghost use Rattle.mls_tree.specs.CellsSeen.{kind_in, cells_in};
 
-    ghost Value = { RatchetTree };
+    ghost Value = { KeptTree };
 
-    ghost coded = { ratchet_tree_coded };
+    ghost coded = { kept_tree_coded };
 
-    ghost view = { λ s. ratchet_tree_in s.nodes.items s.height s.low };
+    ghost view = { λ s. record { tree = s.tree.tree; shape = s.tree.shape; kind = kind_in s.cells; cells = cells_in s.cells } };
 
-    ghost invariant = { λ s. IsArrayOf s.nodes.items s.height };
+    ghost invariant = { λ s. AreCellsOf (kind_in s.cells) s.tree.tree (cells_in s.cells) };
 }
 
 impl PublicTree {
@@ -63,19 +65,15 @@ impl PublicTree {
         ensures bad_shape { (result ≡ Err (TreeError.BadShape, nodes))
             ↔ ((¬ IsListing (map entry_value nodes.items)) × ¬ IsTooLong (length nodes.items)) }
         ensures handed_back { IfErr result (λ e. e.1 ≡ nodes) }
+        ensures kind { IfOk result (λ t. t.kind ≡ None) }
+        ensures cells { IfOk result (λ t. t.cells ≡ []) }
     {
-        let height = match height_of_length(nodes.len()) {
-            Ok(height) => height,
-            Err(error) => return Err((error, nodes)),
-        };
-        if !all_fit(nodes.as_slice()) {
-            return Err((TreeError::BadShape, nodes));
-        }
-        Ok(PublicTree { nodes, height })
+        let tree = NodeArray::from_nodes(nodes)?;
+        Ok(PublicTree { tree, cells: None })
     }
 
     /// The tree of so many leaves with no set node. `BadShape` where `leaves` is no power of two, else `TooManyLeaves` where it is above
-    /// 1,048,576.
+    /// 1,048,576. The tree has no cells.
     pub fn blank(alloc: Global, leaves: u32) -> Result<PublicTree, TreeError>
         ensures leaves { IfOk result (λ t. leaf_count t.tree ≡ leaves) }
         ensures blank { IfOk result (λ t. t.tree ≡ blank_tree (height t.tree)) }
@@ -86,52 +84,46 @@ impl PublicTree {
         ensures else_memory { IfErr result
             (λ e. (e ≡ TreeError.BadShape) ⊎ (e ≡ TreeError.TooManyLeaves)
             ⊎ (e ≡ TreeError.OutOfMemory)) }
+        ensures kind { IfOk result (λ t. t.kind ≡ None) }
+        ensures cells { IfOk result (λ t. t.cells ≡ []) }
     {
-        let height = height_of(leaves as usize)?;
-        let mut nodes = Vec::new(alloc);
-        push_blanks(&mut nodes, 2 * leaves - 1)?;
-        Ok(PublicTree { nodes, height })
+        let tree = NodeArray::blank(alloc, leaves)?;
+        Ok(PublicTree { tree, cells: None })
     }
 
     /// How many leaves the tree has, blank ones among them.
     pub fn leaf_count(&self) -> u32
         ensures { result ≡ leaf_count self.now.tree }
     {
-        leaves_of(self.height)
+        self.tree.leaf_count()
     }
 
     /// How many leaves are set: the members of the group.
     pub fn member_count(&self) -> u32
         ensures { result ≡ member_count self.now.tree }
     {
-        count_leaves(self.nodes.as_slice()) as u32
+        self.tree.member_count()
     }
 
     /// All nodes, in the order of their places.
     pub fn nodes(&self) -> &[Option<Node>]
         ensures { map entry_value result.now ≡ listing self.now.tree }
     {
-        self.nodes.as_slice()
+        self.tree.nodes()
     }
 
     /// The node at a place. None where it is blank or the tree has no such place.
     pub fn node(&self, place: u32) -> Option<&Node>
         ensures { option_map (λ n. node_value n.now) result ≡ node_at self.now.tree place }
     {
-        match self.nodes.get(place as usize) {
-            Some(entry) => entry.as_ref(),
-            None => None,
-        }
+        self.tree.node(place)
     }
 
     /// The leaf of an index. None where it is blank or the tree has no such leaf.
     pub fn leaf(&self, index: u32) -> Option<&LeafNode>
         ensures { option_copied result ≡ leaf_at 0 self.now.tree index }
     {
-        match self.nodes.get(2 * index as usize) {
-            Some(entry) => as_leaf(entry),
-            None => None,
-        }
+        self.tree.leaf(index)
     }
 
     /// The index of the leftmost blank leaf. None where all leaves are set.
@@ -140,7 +132,7 @@ impl PublicTree {
         ensures leftmost { MatchOption result (AllLeavesSet self.now.tree)
             (λ j. IsFirstBlank self.now.tree j) }
     {
-        self.next_blank_leaf(0)
+        self.tree.first_blank_leaf()
     }
 
     /// The index of the leftmost blank leaf among those from `start` on. None where all of them are set, or the tree has
@@ -148,12 +140,7 @@ impl PublicTree {
     pub fn next_blank_leaf(&self, start: u32) -> Option<u32>
         ensures { result ≡ next_blank_leaf start 0 self.now.tree }
     {
-        for index in start..self.leaf_count() {
-            if self.leaf(index).is_none() {
-                return Some(index);
-            }
-        }
-        None
+        self.tree.next_blank_leaf(start)
     }
 
     /// The places of the parents above a leaf, the lowest first (RFC 9420, 4.1.2). `NoSuchNode` where the tree has no such leaf.
@@ -164,12 +151,7 @@ impl PublicTree {
         ensures else_memory { IfErr result
             (λ e. (e ≡ TreeError.NoSuchNode) ⊎ (e ≡ TreeError.OutOfMemory)) }
     {
-        if leaf >= self.leaf_count() {
-            return Err(TreeError::NoSuchNode);
-        }
-        let mut out = Vec::new(alloc);
-        push_direct_path(&mut out, self.height, 0, leaf)?;
-        Ok(out)
+        self.tree.direct_path(alloc, leaf)
     }
 
     /// The places of the siblings of a leaf and of each node above it but the root, the lowest first (RFC 9420, 4.1.2). `NoSuchNode`
@@ -181,12 +163,7 @@ impl PublicTree {
         ensures else_memory { IfErr result
             (λ e. (e ≡ TreeError.NoSuchNode) ⊎ (e ≡ TreeError.OutOfMemory)) }
     {
-        if leaf >= self.leaf_count() {
-            return Err(TreeError::NoSuchNode);
-        }
-        let mut out = Vec::new(alloc);
-        push_copath(&mut out, self.height, 0, leaf)?;
-        Ok(out)
+        self.tree.copath(alloc, leaf)
     }
 
     /// The places of those parents above a leaf whose child on the copath has a resolution that is not empty, the lowest first (RFC 9420,
@@ -199,12 +176,7 @@ impl PublicTree {
         ensures else_memory { IfErr result
             (λ e. (e ≡ TreeError.NoSuchNode) ⊎ (e ≡ TreeError.OutOfMemory)) }
     {
-        if leaf >= self.leaf_count() {
-            return Err(TreeError::NoSuchNode);
-        }
-        let mut out = Vec::new(alloc);
-        push_filtered_direct_path(&mut out, self.nodes.as_slice(), self.height, 0, leaf)?;
-        Ok(out)
+        self.tree.filtered_direct_path(alloc, leaf)
     }
 
     /// The places of the resolution of the node at a place (RFC 9420, 4.1.1): a set node and its unmerged leaves, or of a blank one what
@@ -216,14 +188,79 @@ impl PublicTree {
         ensures else_memory { IfErr result
             (λ e. (e ≡ TreeError.NoSuchNode) ⊎ (e ≡ TreeError.OutOfMemory)) }
     {
-        let leaves = self.leaf_count();
-        let Some(level) = level_inside(place, leaves) else {
-            return Err(TreeError::NoSuchNode);
+        self.tree.resolution(alloc, place)
+    }
+
+    /// The hash function by which the tree keeps hashes of its subtrees. None where it keeps none.
+    pub fn hash_kind(&self) -> Option<HashKind>
+        ensures { result ≡ self.now.kind }
+    {
+        match &self.cells {
+            Some(cells) => Some(cells.kind),
+            None => None,
+        }
+    }
+
+    /// How many cells are empty: 0 where there are none.
+    pub fn empty_cells(&self) -> u32
+        ensures count { result ≡ empty_count self.now.cells }
+        ensures most { result < 2 * leaf_count self.now.tree }
+        ensures none { AreAllFilled self.now.tree self.now.cells → result ≡ 0 }
+        ensures full { result ≡ 0 → IsSome self.now.kind
+            → AreAllFilled self.now.tree self.now.cells }
+    {
+        match &self.cells {
+            Some(cells) => cells.empty as u32,
+            None => 0,
+        }
+    }
+
+    /// The hash that is kept of the subtree at a place. None where its cell is empty, or there is none.
+    pub fn kept_hash(&self, place: u32) -> Option<&HashValue>
+        ensures kept { option_copied result ≡ hash_in (slice_get self.now.cells place) }
+        ensures right { IfSome (option_copied result)
+            (IsRightHash self.now.kind self.now.tree place) }
+    {
+        let Some(cells) = &self.cells else {
+            return None;
         };
-        let first = (place + 1 - leaves_of(level)) / 2;
-        let mut out = Vec::new(alloc);
-        push_resolution(&mut out, self.nodes.as_slice(), leaves, level, first)?;
-        Ok(out)
+        match cells.hashes.get(place as usize) {
+            Some(cell) => cell.as_ref(),
+            None => None,
+        }
+    }
+
+    /// Gives each place an empty cell for hashes of this kind, where the tree has no cells or cells of another kind. Else it
+    /// changes nothing.
+    pub fn reserve_hashes(&mut self, alloc: Global, kind: HashKind) -> Result<(), AllocError>
+        ensures tree { self.new.tree ≡ self.old.tree }
+        ensures kind { OnOk result (self.new.kind ≡ Some kind) }
+        ensures stays { self.old.kind ≡ Some kind → self.new ≡ self.old }
+        ensures fresh { OnOk result (self.old.kind ≢ Some kind
+            → self.new.cells ≡ replicate (2 * leaf_count self.old.tree - 1) None) }
+        ensures err { OnErr result (self.new ≡ self.old) }
+    {
+        if self.hash_kind() == Some(kind) {
+            return Ok(());
+        }
+        let count = self.tree.nodes().len();
+        let cells = Cells::blank(alloc, kind, count)?;
+        self.cells = Some(cells);
+        Ok(())
+    }
+
+    /// Fills the cell of a place with the hash of the subtree there. Takes no memory.
+    pub fn keep_hash(&mut self, place: u32, hash: HashValue)
+        requires { IsRightHash self.old.kind self.old.tree place hash }
+        ensures tree { self.new.tree ≡ self.old.tree }
+        ensures kind { self.new.kind ≡ self.old.kind }
+        ensures cells { self.new.cells ≡ slice_set self.old.cells place (Some hash) }
+        ensures filled { hash_in (slice_get self.new.cells place) ≡ Some hash }
+    {
+        let Some(cells) = &mut self.cells else {
+            unreachable!();
+        };
+        cells.put(place, hash);
     }
 
     /// A tree with the same nodes.
@@ -231,16 +268,13 @@ impl PublicTree {
         ensures same { IfOk result (λ t. t ≡ self.now) }
         ensures memory { IfErr result (λ e. e ≡ TreeError.OutOfMemory) }
     {
-        let Ok(nodes) = clone_entries(alloc, self.nodes.as_slice()) else {
-            return Err(TreeError::OutOfMemory);
-        };
-        Ok(PublicTree {
-            nodes,
-            height: self.height,
-        })
+        let tree = self.tree.try_clone(alloc)?;
+        let cells = clone_cells(alloc, &self.cells)?;
+        Ok(PublicTree { tree, cells })
     }
 
     /// Replaces a leaf, by a blank one for None. `NoSuchNode` where the tree has no such leaf; the leaf handed in then comes back.
+    /// The cells of the leaf and of the parents above it are emptied.
     pub fn set_leaf(
         &mut self,
         index: u32,
@@ -251,16 +285,18 @@ impl PublicTree {
         ensures err { OnErr result (self.new ≡ self.old) }
         ensures no_such_node { IsErr result ↔ (leaf_count self.old.tree ≤ index) }
         ensures handed_back { IfErr result (λ e. e ≡ (TreeError.NoSuchNode, leaf)) }
+        ensures kind { self.new.kind ≡ self.old.kind }
+        ensures cells { OnOk result (self.new.cells
+            ≡ emptied self.old.cells (2 * index ∷ direct_path 0 self.old.tree index)) }
     {
-        if index >= leaves_of(self.height) {
-            return Err((TreeError::NoSuchNode, leaf));
-        }
-        self.nodes[2 * index as usize] = leaf_entry(leaf);
+        let level = self.tree.height();
+        self.tree.set_leaf(index, leaf)?;
+        empty_leaf(&mut self.cells, level, index);
         Ok(())
     }
 
     /// Replaces the parent at a place, by a blank one for None. `NoSuchNode` where the tree has no such place or it is that of a leaf; the
-    /// parent handed in then comes back.
+    /// parent handed in then comes back. Its cell and those of the parents above it are emptied.
     pub fn put_parent(
         &mut self,
         place: u32,
@@ -271,11 +307,13 @@ impl PublicTree {
         ensures err { OnErr result (self.new ≡ self.old) }
         ensures no_such_node { IsErr result ↔ (¬ IsParentPlace self.old.tree place) }
         ensures handed_back { IfErr result (λ e. e ≡ (TreeError.NoSuchNode, parent)) }
+        ensures kind { self.new.kind ≡ self.old.kind }
+        ensures cells { OnOk result (self.new.cells
+            ≡ emptied self.old.cells (parents_from 0 self.old.tree place)) }
     {
-        if place % 2 == 0 || place as usize >= self.nodes.len() {
-            return Err((TreeError::NoSuchNode, parent));
-        }
-        self.nodes[place as usize] = parent_entry(parent);
+        let level = self.tree.height();
+        self.tree.put_parent(place, parent)?;
+        empty_parents(&mut self.cells, level, place);
         Ok(())
     }
 
@@ -289,9 +327,14 @@ impl PublicTree {
         ensures put { self.new.tree
             ≡ put_leaf 0 self.old.tree index (option_map (λ b. b.value) leaf) }
         ensures former { option_map (λ b. b.value) result ≡ leaf_at 0 self.old.tree index }
+        ensures kind { self.new.kind ≡ self.old.kind }
+        ensures cells { self.new.cells
+            ≡ emptied self.old.cells (2 * index ∷ direct_path 0 self.old.tree index) }
     {
-        let former = mem::replace(&mut self.nodes[2 * index as usize], leaf_entry(leaf));
-        into_leaf(former)
+        let level = self.tree.height();
+        let former = self.tree.replace_leaf(index, leaf);
+        empty_leaf(&mut self.cells, level, index);
+        former
     }
 
     /// Replaces a parent, by a blank one for None, and hands out the one that stood there. Takes no memory.
@@ -304,30 +347,38 @@ impl PublicTree {
         ensures put { self.new.tree
             ≡ put_parent 0 self.old.tree place (option_map (λ b. b.value) parent) }
         ensures former { option_map (λ b. b.value) result ≡ parent_of (node_at self.old.tree place) }
+        ensures kind { self.new.kind ≡ self.old.kind }
+        ensures cells { self.new.cells
+            ≡ emptied self.old.cells (parents_from 0 self.old.tree place) }
     {
-        let former = mem::replace(&mut self.nodes[place as usize], parent_entry(parent));
-        into_parent(former)
+        let level = self.tree.height();
+        let former = self.tree.replace_parent(place, parent);
+        empty_parents(&mut self.cells, level, place);
+        former
     }
 
     /// Makes the parents above a leaf blank (RFC 9420, 12.1.2 and 12.1.3). The leaf stays. `NoSuchNode` where the tree has no such leaf.
+    /// The cells of these parents are emptied.
     pub fn blank_path(&mut self, index: u32) -> Result<(), TreeError>
         ensures ok { OnOk result (self.new.tree ≡ clear_path self.old.tree index) }
         ensures err { OnErr result (self.new ≡ self.old) }
         ensures no_such_node { (result ≡ Err TreeError.NoSuchNode)
             ↔ (leaf_count self.old.tree ≤ index) }
         ensures no_other { IfErr result (λ e. e ≡ TreeError.NoSuchNode) }
+        ensures kind { self.new.kind ≡ self.old.kind }
+        ensures cells { OnOk result (self.new.cells
+            ≡ emptied self.old.cells (direct_path 0 self.old.tree index)) }
     {
-        if index >= leaves_of(self.height) {
-            return Err(TreeError::NoSuchNode);
-        }
-        let height = self.height;
-        blank_above(self.nodes.as_mut_slice(), height, 0, index);
+        let level = self.tree.height();
+        self.tree.blank_path(index)?;
+        empty_path(&mut self.cells, level, index);
         Ok(())
     }
 
     /// Puts a leaf's index into the list of unmerged leaves of each set parent above it, before the first entry that is not less (RFC 9420,
     /// 12.1.1). A list that has the index stays. `NoSuchNode` where the tree has no such leaf, else `TooManyLeaves` where a list without
     /// the index has 1,048,576 entries: both are judged before any memory is taken. All new lists are made before one is put in place.
+    /// The cells of all parents above the leaf are emptied.
     pub fn add_unmerged(&mut self, alloc: Global, index: u32) -> Result<(), TreeError>
         ensures ok { OnOk result (self.new.tree ≡ enter_unmerged self.old.tree index) }
         ensures err { OnErr result (self.new ≡ self.old) }
@@ -339,29 +390,36 @@ impl PublicTree {
         ensures else_memory { IfErr result
             (λ e. (e ≡ TreeError.NoSuchNode) ⊎ (e ≡ TreeError.TooManyLeaves)
             ⊎ (e ≡ TreeError.OutOfMemory)) }
+        ensures kind { self.new.kind ≡ self.old.kind }
+        ensures cells { OnOk result (self.new.cells
+            ≡ emptied self.old.cells (direct_path 0 self.old.tree index)) }
     {
-        if index >= leaves_of(self.height) {
-            return Err(TreeError::NoSuchNode);
-        }
-        let height = self.height;
-        if is_overfilled_above(self.nodes.as_slice(), height, 0, index) {
-            return Err(TreeError::TooManyLeaves);
-        }
-        let mut lists = Vec::new(alloc);
-        push_new_lists(&mut lists, alloc, self.nodes.as_slice(), height, 0, index)?;
-        put_lists(self.nodes.as_mut_slice(), &mut lists, height, 0, index);
+        let level = self.tree.height();
+        self.tree.add_unmerged(alloc, index)?;
+        empty_path(&mut self.cells, level, index);
         Ok(())
+    }
+
+    /// Empties the cells of the parents above a leaf.
+    pub(crate) fn empty_path(&mut self, index: u32)
+        ensures tree { self.new.tree ≡ self.old.tree }
+        ensures kind { self.new.kind ≡ self.old.kind }
+        ensures cells { self.new.cells
+            ≡ emptied self.old.cells (direct_path 0 self.old.tree index) }
+    {
+        let level = self.tree.height();
+        empty_path(&mut self.cells, level, index);
     }
 
     /// Whether the list of a set parent above a leaf is full and doesn't have the leaf's index.
     pub(crate) fn is_overfull(&self, index: u32) -> bool
         ensures { result ≡ is_overfilled_above 0 self.now.tree index }
     {
-        is_overfilled_above(self.nodes.as_slice(), self.height, 0, index)
+        self.tree.is_overfull(index)
     }
 
     /// Puts a leaf's index into the list of the parent at a place, in place, unless that is blank or its list has the
-    /// index. Tells whether the list has changed.
+    /// index. Tells whether the list has changed. The cell of the place and those of the parents above it are emptied.
     pub(crate) fn enter_at(&mut self, place: u32, index: u32) -> Result<bool, AllocError>
         requires there { IsParentPlace self.old.tree place }
         requires room { is_overfilled index (parent_of (node_at self.old.tree place)) ≡ false }
@@ -371,12 +429,13 @@ impl PublicTree {
             (change_parent (without_unmerged index) 0 self.new.tree place ≡ self.old.tree)) }
         ensures same { IfOk result (λ changed. OnFalse changed (self.new.tree ≡ self.old.tree)) }
         ensures err { OnErr result (self.new.tree ≡ self.old.tree) }
+        ensures kind { self.new.kind ≡ self.old.kind }
+        ensures cells { self.new.cells
+            ≡ emptied self.old.cells (parents_from 0 self.old.tree place) }
     {
-        let Some(mut parent) = self.replace_parent(place, None) else {
-            return Ok(false);
-        };
-        let changed = enter(&mut parent.unmerged, index);
-        self.replace_parent(place, Some(parent));
+        let level = self.tree.height();
+        let changed = self.tree.enter_at(place, index);
+        empty_parents(&mut self.cells, level, place);
         changed
     }
 
@@ -384,26 +443,18 @@ impl PublicTree {
     pub(crate) fn leave_at(&mut self, place: u32, index: u32)
         ensures { self.new.tree ≡ change_parent (without_unmerged index) 0 self.old.tree place }
     {
-        if place as usize >= self.nodes.len() || place % 2 == 0 {
-            return;
-        }
-        let Some(mut parent) = self.replace_parent(place, None) else {
-            return;
-        };
-        leave(&mut parent.unmerged, index);
-        self.replace_parent(place, Some(parent));
+        let level = self.tree.height();
+        self.tree.leave_at(place, index);
+        empty_parents(&mut self.cells, level, place);
     }
 
     /// Takes the left half of the tree, where there is one. Takes no memory.
     pub(crate) fn cut(&mut self)
         ensures { self.new.tree ≡ left_half self.old.tree }
     {
-        if self.height == 0 {
-            return;
-        }
-        let below = self.height - 1;
-        self.nodes.truncate(2 * leaves_of(below) as usize - 1);
-        self.height = below;
+        self.tree.cut();
+        let count = self.tree.nodes().len();
+        truncate(&mut self.cells, count);
     }
 
     /// Whether the tree has halves, and the right one has no set leaf.
@@ -412,55 +463,55 @@ impl PublicTree {
         ensures smaller { OnTrue result
             (shrink self.now.tree ≡ shrink (left_half self.now.tree)) }
         ensures done { OnFalse result (shrink self.now.tree ≡ self.now.tree) }
+        ensures cells { length self.now.cells < 2 * leaf_count self.now.tree }
     {
-        if self.height == 0 {
-            return false;
-        }
-        let below = self.height - 1;
-        !has_set_leaf(self.nodes.as_slice(), below, leaves_of(below))
+        self.tree.can_be_halved()
     }
 
     /// Takes the left half of the tree for as long as there is one and the right half has no set leaf (RFC 9420, 7.7). Takes no memory.
+    /// The cells of the places that remain stay as they are.
     pub fn truncate(&mut self)
-        ensures { self.new.tree ≡ shrink self.old.tree }
+        ensures tree { self.new.tree ≡ shrink self.old.tree }
+        ensures kind { self.new.kind ≡ self.old.kind }
+        ensures cells { self.new.cells ≡ take (2 * leaf_count self.new.tree - 1) self.old.cells }
     {
-        while self.can_be_halved() {
-            self.cut();
-        }
+        self.tree.truncate();
+        let count = self.tree.nodes().len();
+        truncate(&mut self.cells, count);
     }
 
-    /// Takes the left half out of the tree, which has blank nodes there then.
+    /// Takes the left half out of the tree, which has blank nodes there then, and no cells. The left half has those of its places.
     pub(crate) fn take_left(&mut self, alloc: Global) -> Result<PublicTree, AllocError>
         requires { IsBranch self.old.tree }
         ensures left { IfOk result (λ l. l.tree ≡ left_half self.old.tree) }
         ensures rest { IfOk result (λ l. rejoined l.tree self.new.tree ≡ self.old.tree) }
+        ensures kind { IfOk result (λ l. l.kind ≡ self.old.kind) }
+        ensures cells { IfOk result
+            (λ l. l.cells ≡ take (2 * leaf_count l.tree - 1) self.old.cells) }
         ensures err { OnErr result (self.new ≡ self.old) }
     {
-        let below = self.height - 1;
-        let mut nodes = Vec::new(alloc);
-        push_blanks(&mut nodes, 2 * leaves_of(below) - 1)?;
-        swap_front(&mut self.nodes, &mut nodes);
-        let left = PublicTree {
-            nodes,
-            height: below,
-        };
-        Ok(left)
+        let left = self.tree.take_left(alloc)?;
+        let mut cells = mem::replace(&mut self.cells, None);
+        truncate(&mut cells, left.nodes().len());
+        Ok(PublicTree { tree: left, cells })
     }
 
     /// Puts the tree in the place of the left half of another one, and that one in its place. A tree of another
-    /// height stays. Takes no memory.
-    pub(crate) fn rejoin(&mut self, mut whole: PublicTree)
+    /// height stays. The tree's cells stay, where there is room for those of the other half, which are empty. Takes no
+    /// memory.
+    pub(crate) fn rejoin(&mut self, whole: PublicTree)
         ensures { self.new.tree ≡ rejoined self.old.tree whole.tree }
     {
-        if self.height + 1 != whole.height {
+        if self.tree.height() + 1 != whole.tree.height() {
             return;
         }
-        swap_front(&mut whole.nodes, &mut self.nodes);
-        *self = whole;
+        let cells = mem::replace(&mut self.cells, None);
+        self.tree.rejoin(whole.tree);
+        self.cells = double_in_place(cells);
     }
 
     /// Doubles the tree, which becomes the left half of one whose other nodes are blank (RFC 9420, 7.7). `TooManyLeaves` where the tree has
-    /// 1,048,576 leaves.
+    /// 1,048,576 leaves. The cells stay, and the new places get empty ones, where there are cells.
     pub fn extend(&mut self) -> Result<(), TreeError>
         ensures ok { OnOk result (self.new.tree ≡ grow self.old.tree) }
         ensures err { OnErr result (self.new ≡ self.old) }
@@ -468,13 +519,15 @@ impl PublicTree {
             ↔ (leaf_count self.old.tree ≡ leaf_limit) }
         ensures else_memory { IfErr result
             (λ e. (e ≡ TreeError.TooManyLeaves) ⊎ (e ≡ TreeError.OutOfMemory)) }
+        ensures kind { self.new.kind ≡ self.old.kind }
+        ensures cells { OnOk result (self.new.cells ≡ extended self.old.kind self.old.cells) }
     {
-        if self.height == 20 {
+        if self.tree.leaf_count() == 1_048_576 {
             return Err(TreeError::TooManyLeaves);
         }
-        let more = 2 * leaves_of(self.height);
-        push_blanks(&mut self.nodes, more)?;
-        self.height += 1;
+        reserve_double(&mut self.cells)?;
+        self.tree.extend()?;
+        double(&mut self.cells);
         Ok(())
     }
 }

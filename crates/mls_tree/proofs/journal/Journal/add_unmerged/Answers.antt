@@ -1,20 +1,30 @@
-use Rattle.std.proofs.Common.{refl, sym, ◌∙◌, rules, Some}
+use Rattle.std.proofs.Common.{ap, sym, ◌∙◌, rules, Some}
 use Rattle.std.proofs.lemmas.List.Elements.{All-pop}
 use Rattle.mls_tree.specs.Tree.{IsParentPlace}
-use Rattle.mls_tree.specs.Changes.{with_unmerged}
-use Rattle.mls_tree.proofs.AlongPaths.{changed-step, parents-step, changed-end, parents-start, parent_at}
+use Rattle.mls_tree.specs.Changes.{with_unmerged, is_overfilled_above}
+use Rattle.mls_tree.specs.Paths.{direct_path}
+use Rattle.mls_tree.specs.Journals.{before}
+use Rattle.mls_tree.proofs.AlongPaths.{changed, changed-step, parents-step, changed-end, parents-start, parent_at}
+use Rattle.mls_tree.proofs.EmptiedAgain.{empty-start, empty-step, empty-end}
 use Rattle.mls_tree.proofs.Entering.{HasRoom, room-start, room-step}
 use Rattle.mls_tree.proofs.journal.Journal.add_unmerged.Goals as goal
 
 pub loop-place-init : goal.loop-place-init
 loop-place-init c =
     let t = c.args.tree.now.tree in
+    let u = c.empty_path.new.self.tree in
+    let same = c.empty_path.ensures.tree in
+    let i = c.args.index in
+    let places = c.in_ok-places.places.items in
     let at = c.in_ok-places.ensures.places in
+    let still = at ∙ ap (λ v. direct_path 0 v i) (sym same) in
     record {
-      left = refl;
-      parents = parents-start t c.args.index c.in_ok-places.places.items at;
-      room = room-start t c.args.index c.in_ok-places.places.items at (sym c.is_overfull.ensures ∙ c.if-is_overfull.false);
-      same_before = refl;
+      left = ap (λ v. changed (with_unmerged i) 0 v places) (sym same);
+      parents = parents-start u i places still;
+      room = room-start u i places still (ap (λ v. is_overfilled_above 0 v i) same ∙ sym c.is_overfull.ensures ∙ c.if-is_overfull.false);
+      kind = c.empty_path.ensures.kind;
+      cells = empty-start c.args.tree.now.cells i t u places c.empty_path.new.self.cells same at c.empty_path.ensures.cells;
+      same_before = ap (before c.args.self.now) same;
     }
 
 pub enter-requires : goal.enter-requires
@@ -43,6 +53,10 @@ loop-place-preserved c =
       left = c.loop-place.invariant.left ∙ changed-step (with_unmerged i) t u all left place split put;
       parents = parents-step t u all left place (with_unmerged i (parent_at 0 t place)) split put c.loop-place.invariant.parents;
       room = room-step i t u place there.1 room.1 put left room.0;
+      kind = c.in_ok-enter.ensures.kind ∙ c.loop-place.invariant.kind;
+      cells =
+          empty-step c.args.tree.now.cells i t u c.in_ok-places.places.items all left place (with_unmerged i (parent_at 0 t place)) c.loop-place.tree.cells c.enter.new.tree.cells split put
+          c.in_ok-enter.ensures.cells c.loop-place.invariant.cells;
       same_before = c.in_ok-enter.ensures.before ∙ c.loop-place.invariant.same_before;
     }
 
@@ -50,3 +64,8 @@ pub returns-clause-entered : goal.returns-clause-entered
 returns-clause-entered c =
     changed-end (with_unmerged c.args.index) c.args.tree.now.tree c.loop-place.tree.tree c.args.index c.in_ok-places.places.items c.loop-place.places.items c.in_ok-places.ensures.places
     (search rules) c.loop-place.invariant.left
+
+pub returns-clause-cells : goal.returns-clause-cells
+returns-clause-cells c =
+    empty-end c.args.tree.now.cells c.args.index c.args.tree.now.tree c.in_ok-places.places.items c.loop-place.places.items c.loop-place.tree.tree c.loop-place.tree.cells c.in_ok-places.ensures.places
+    c.loop-place.invariant.cells

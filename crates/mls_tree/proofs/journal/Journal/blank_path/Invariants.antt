@@ -3,13 +3,16 @@ use Rattle.std.specs.Prelude.{All}
 use Rattle.mls_tree.specs.Tree.{IsParentPlace}
 use Rattle.mls_tree.specs.Journals.{before}
 use Rattle.mls_tree.proofs.AlongPaths.{changed}
+use Rattle.mls_tree.proofs.EmptiedAgain.{AreEmptyAbove}
 use Rattle.mls_tree.proofs.journal.Journal.blank_path.Given as goal
 
 abbrev pub invariant-loop-place : goal.invariant-loop-place
 invariant-loop-place l = record {
-  left : changed (λ _. None) 0 l.initial.tree.tree l.initial.places.items ≡ changed (λ _. None) 0 l.tree.tree l.places.items;
+  left : changed (λ _. None) 0 l.fn.tree.tree l.initial.places.items ≡ changed (λ _. None) 0 l.tree.tree l.places.items;
   parents : All (IsParentPlace l.tree.tree) l.places.items;
-  same_before : before l.self l.tree.tree ≡ before l.initial.self l.initial.tree.tree;
+  kind : l.tree.kind ≡ l.fn.tree.kind;
+  cells : AreEmptyAbove l.fn.tree.cells l.tree.tree l.index l.initial.places.items l.places.items l.tree.cells;
+  same_before : before l.self l.tree.tree ≡ before l.fn.self l.fn.tree.tree;
 }
 
 abbrev pub decreases-loop-place : goal.decreases-loop-place

@@ -1,15 +1,17 @@
-use Rattle.std.proofs.Common.{ap, arith, refl, ◌≤◌}
-use Rattle.mls_tree.specs.Tree.{leaf_count}
-use Rattle.mls_tree.proofs.Lookups.{leaf_count-seen}
-use Rattle.mls_tree.proofs.Refusals.{no_refusal-ok}
+use Rattle.std.proofs.Common.{sym, None}
+use Rattle.mls_tree.specs.CellsSeen.{kind_in, cells_in}
+use Rattle.mls_tree.proofs.KeptCells.{of_height, of_kind, cells-change_above}
 use Rattle.mls_tree.proofs.public_tree.PublicTree.blank_path.Goals as goal
 
-pub returns-then-index-leaves_of-clause-no_such_node : goal.returns-then-index-leaves_of-clause-no_such_node
-returns-then-index-leaves_of-clause-no_such_node c =
-    let count = leaf_count-seen _ _ c.self.invariant c.args.self.now.tree (ap (λ r. r.tree) c.self.view_is) in
-    (λ refused. omega (arith, c.leaves_of.ensures.value), λ past. refl)
+pub empty_path-requires-clause-long : goal.empty_path-requires-clause-long
+empty_path-requires-clause-long c = of_height c.self.inside.cells c.self.inside.tree.tree c.height-level.result c.self.inside.tree.shape.perfect c.height-level.ensures.value c.self.invariant
 
-pub returns-clause-no_such_node : goal.returns-clause-no_such_node
-returns-clause-no_such_node c =
-    let count = leaf_count-seen _ _ c.self.invariant c.args.self.now.tree (ap (λ r. r.tree) c.self.view_is) in
-    no_refusal-ok _ _ (leaf_count c.args.self.now.tree ≤ c.args.index) (λ past. omega (arith, c.leaves_of.ensures.value))
+pub invariant_of-self-2 : goal.invariant_of-self-2
+invariant_of-self-2 c =
+    let old = c.self.inside.cells in
+    let new = c.empty_path.new.cells in
+    let t = c.self.inside.tree in
+    let u = c.blank_path.new.self.tree in
+    of_kind old new u c.empty_path.ensures.kind
+    (cells-change_above (kind_in old) t.tree u (cells_in old) (cells_in new) (λ _. None) c.args.index c.in_ok-blank_path.ensures.ok
+    (c.empty_path.ensures.cells t.tree t.shape.perfect (sym c.height-level.ensures.value)) c.self.invariant)

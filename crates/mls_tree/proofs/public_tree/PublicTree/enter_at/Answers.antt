@@ -1,51 +1,17 @@
-use Rattle.std.proofs.Common.{ap, ◌∙◌, sym, Some}
-use Rattle.std.specs.Prelude.{option_map}
-use Rattle.mls_tree.specs.Changes.{with_unmerged, without_unmerged}
-use Rattle.mls_tree.proofs.Entering.{blank-stays, still-parent, changed-as, unchanged-as, changed_back-as, on_ok, on_err, if_ok, on_true, on_false}
+use Rattle.std.proofs.Common.{sym}
+use Rattle.mls_tree.specs.CellsSeen.{kind_in, cells_in}
+use Rattle.mls_tree.proofs.KeptCells.{of_height, of_kind, cells-if_put_parent}
 use Rattle.mls_tree.proofs.public_tree.PublicTree.enter_at.Goals as goal
 
-pub returns-in_default-clause-same : goal.returns-in_default-clause-same
-returns-in_default-clause-same c =
-    blank-stays c.args.self.now.tree c.replace_parent.new.self.tree c.args.place c.requires.there
-    (sym (ap (λ o. option_map (λ b. b.value) o) c.in_default.is) ∙ c.replace_parent.ensures.former) c.replace_parent.ensures.put
+pub empty_parents-requires-clause-long : goal.empty_parents-requires-clause-long
+empty_parents-requires-clause-long c = of_height c.self.inside.cells c.self.inside.tree.tree c.height-level.result c.self.inside.tree.shape.perfect c.height-level.ensures.value c.self.invariant
 
-pub replace_parent-requires-2 : goal.replace_parent-requires-2
-replace_parent-requires-2 c = still-parent c.args.self.now.tree c.replace_parent.new.self.tree c.args.place c.requires.there c.replace_parent.ensures.put
-
-pub returns-clause-entered : goal.returns-clause-entered
-returns-clause-entered c =
-    let parent = c.deref_mut.result.now in
-    let at = ap (λ v. Some v) c.deref_mut.ensures.value ∙ sym (ap (λ o. option_map (λ b. b.value) o) c.in-Some.is) ∙ c.replace_parent.ensures.former in
-    on_ok c.enter-changed.result
-    (λ entered. changed-as c.args.self.now.tree c.replace_parent.new.self.tree c.replace_parent-2.new.self.tree c.args.place (Some parent) _ c.requires.there at
-    c.replace_parent.ensures.put c.replace_parent-2.ensures.put (with_unmerged c.args.index) (ap (λ xs. Some (record parent { unmerged = xs })) entered))
-    c.enter-changed.ensures.entered
-
-pub returns-clause-back : goal.returns-clause-back
-returns-clause-back c =
-    let parent = c.deref_mut.result.now in
-    let at = ap (λ v. Some v) c.deref_mut.ensures.value ∙ sym (ap (λ o. option_map (λ b. b.value) o) c.in-Some.is) ∙ c.replace_parent.ensures.former in
-    if_ok c.enter-changed.result
-    (λ changed. on_true changed
-    (λ back. changed_back-as c.args.self.now.tree c.replace_parent.new.self.tree c.replace_parent-2.new.self.tree c.args.place (Some parent) _ c.requires.there at
-    c.replace_parent.ensures.put c.replace_parent-2.ensures.put (without_unmerged c.args.index) (ap (λ xs. Some (record parent { unmerged = xs })) back)))
-    c.enter-changed.ensures.back
-
-pub returns-clause-same : goal.returns-clause-same
-returns-clause-same c =
-    let parent = c.deref_mut.result.now in
-    let at = ap (λ v. Some v) c.deref_mut.ensures.value ∙ sym (ap (λ o. option_map (λ b. b.value) o) c.in-Some.is) ∙ c.replace_parent.ensures.former in
-    if_ok c.enter-changed.result
-    (λ changed. on_false changed
-    (λ same. unchanged-as c.args.self.now.tree c.replace_parent.new.self.tree c.replace_parent-2.new.self.tree c.args.place (Some parent) _ c.requires.there at
-    c.replace_parent.ensures.put c.replace_parent-2.ensures.put (ap (λ xs. Some (record parent { unmerged = xs })) same)))
-    c.enter-changed.ensures.same
-
-pub returns-clause-err : goal.returns-clause-err
-returns-clause-err c =
-    let parent = c.deref_mut.result.now in
-    let at = ap (λ v. Some v) c.deref_mut.ensures.value ∙ sym (ap (λ o. option_map (λ b. b.value) o) c.in-Some.is) ∙ c.replace_parent.ensures.former in
-    on_err c.enter-changed.result
-    (λ same. unchanged-as c.args.self.now.tree c.replace_parent.new.self.tree c.replace_parent-2.new.self.tree c.args.place (Some parent) _ c.requires.there at
-    c.replace_parent.ensures.put c.replace_parent-2.ensures.put (ap (λ xs. Some (record parent { unmerged = xs })) same))
-    c.enter-changed.ensures.err
+pub invariant_of-self : goal.invariant_of-self
+invariant_of-self c =
+    let old = c.self.inside.cells in
+    let new = c.empty_parents.new.cells in
+    let t = c.self.inside.tree in
+    let u = c.enter_at-changed.new.self.tree in
+    of_kind old new u c.empty_parents.ensures.kind
+    (cells-if_put_parent (kind_in old) t.tree u (cells_in old) (cells_in new) c.enter_at-changed.result c.args.place _ c.enter_at-changed.ensures.entered c.enter_at-changed.ensures.err
+    (c.empty_parents.ensures.cells t.tree t.shape.perfect (sym c.height-level.ensures.value)) c.self.invariant)

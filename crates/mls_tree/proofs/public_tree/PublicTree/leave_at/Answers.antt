@@ -1,32 +1,17 @@
-use Rattle.std.proofs.Common.{ap, ◌∙◌, sym, Some, arith, inl, inr}
-use Rattle.std.specs.Prelude.{option_map}
-use Rattle.mls_tree.specs.Changes.{without_unmerged}
-use Rattle.mls_tree.proofs.AlongPaths.{parent_at}
-use Rattle.mls_tree.proofs.Elsewhere.{put_parent-elsewhere}
-use Rattle.mls_tree.proofs.Lookups.{IsParentPlace-seen, IsParentPlace-not}
-use Rattle.mls_tree.proofs.Entering.{still-parent, changed-as}
+use Rattle.std.proofs.Common.{sym}
+use Rattle.mls_tree.specs.CellsSeen.{kind_in, cells_in}
+use Rattle.mls_tree.proofs.KeptCells.{of_height, of_kind, cells-put_parent}
 use Rattle.mls_tree.proofs.public_tree.PublicTree.leave_at.Goals as goal
-use Rattle.mls_tree.proofs.public_tree.PublicTree.leave_at.Goals.{then-place-len-via-then-place-len, then-place-len-via-else-place-len+then-place-eq0}
 
-pub returns-then-place-len : goal.returns-then-place-len
-returns-then-place-len c =
-    sym (put_parent-elsewhere c.args.self.now.tree c.args.place (without_unmerged c.args.index (parent_at 0 c.args.self.now.tree c.args.place))
-    (IsParentPlace-not _ _ c.self.invariant c.args.self.now.tree (ap (λ r. r.tree) c.self.view_is) c.args.place
-    (elim c.then-place-len.branch [ then-place-len-via-then-place-len w ↦ inr (omega arith) | then-place-len-via-else-place-len+then-place-eq0 w ↦ inl (omega arith) ])))
+pub empty_parents-requires-clause-long : goal.empty_parents-requires-clause-long
+empty_parents-requires-clause-long c = of_height c.self.inside.cells c.self.inside.tree.tree c.height-level.result c.self.inside.tree.shape.perfect c.height-level.ensures.value c.self.invariant
 
-pub replace_parent-requires : goal.replace_parent-requires
-replace_parent-requires c =
-    IsParentPlace-seen _ _ c.self.invariant _ (ap (λ r. r.tree) c.self.view_is) c.args.place (λ even. omega (arith, c.if-place-eq0.false)) (omega (arith, c.if-place-len.false, c.len.ensures))
-
-pub replace_parent-requires-2 : goal.replace_parent-requires-2
-replace_parent-requires-2 c =
-    let there = IsParentPlace-seen _ _ c.self.invariant c.args.self.now.tree (ap (λ r. r.tree) c.self.view_is) c.args.place (λ even. omega (arith, c.if-place-eq0.false)) (omega (arith, c.if-place-len.false, c.len.ensures)) in
-    still-parent c.args.self.now.tree c.replace_parent.new.self.tree c.args.place there c.replace_parent.ensures.put
-
-pub returns : goal.returns
-returns c =
-    let parent = c.deref_mut.result.now in
-    let there = IsParentPlace-seen _ _ c.self.invariant c.args.self.now.tree (ap (λ r. r.tree) c.self.view_is) c.args.place (λ even. omega (arith, c.if-place-eq0.false)) (omega (arith, c.if-place-len.false, c.len.ensures)) in
-    let at = ap (λ v. Some v) c.deref_mut.ensures.value ∙ sym (ap (λ o. option_map (λ b. b.value) o) c.in-Some.is) ∙ c.replace_parent.ensures.former in
-    changed-as c.args.self.now.tree c.replace_parent.new.self.tree c.replace_parent-2.new.self.tree c.args.place (Some parent) _ there at
-    c.replace_parent.ensures.put c.replace_parent-2.ensures.put (without_unmerged c.args.index) (ap (λ xs. Some (record parent { unmerged = xs })) c.leave.ensures)
+pub invariant_of-self : goal.invariant_of-self
+invariant_of-self c =
+    let old = c.self.inside.cells in
+    let new = c.empty_parents.new.cells in
+    let t = c.self.inside.tree in
+    let u = c.leave_at.new.self.tree in
+    of_kind old new u c.empty_parents.ensures.kind
+    (cells-put_parent (kind_in old) t.tree u (cells_in old) (cells_in new) c.args.place _ c.leave_at.ensures
+    (c.empty_parents.ensures.cells t.tree t.shape.perfect (sym c.height-level.ensures.value)) c.self.invariant)

@@ -1,23 +1,17 @@
-use Rattle.std.proofs.Common.{ap, arith, inl, inr, refl}
-use Rattle.mls_tree.proofs.Lookups.{IsArrayOf-put_parent, put_parent-seen, IsParentPlace-seen, IsParentPlace-not}
-use Rattle.mls_tree.proofs.Choices.{false_no_true}
+use Rattle.std.proofs.Common.{sym}
+use Rattle.mls_tree.specs.CellsSeen.{kind_in, cells_in}
+use Rattle.mls_tree.proofs.KeptCells.{of_height, of_kind, cells-put_parent}
 use Rattle.mls_tree.proofs.public_tree.PublicTree.put_parent.Goals as goal
-use Rattle.mls_tree.proofs.public_tree.PublicTree.put_parent.Goals.{then-place-eq0-via-then-place-eq0, then-place-eq0-via-else-place-eq0+then-place-len}
 
-pub invariant_of-self : goal.invariant_of-self
-invariant_of-self c = IsArrayOf-put_parent _ _ c.self.invariant _ (ap (λ r. r.tree) c.self.view_is) c.args.place c.parent_entry.result c.parent_entry.ensures.no_leaf (λ even. omega arith) (omega arith)
+pub empty_parents-requires-clause-long : goal.empty_parents-requires-clause-long
+empty_parents-requires-clause-long c = of_height c.self.inside.cells c.self.inside.tree.tree c.height-level.result c.self.inside.tree.shape.perfect c.height-level.ensures.value c.self.invariant
 
-pub returns-clause-ok : goal.returns-clause-ok
-returns-clause-ok c =
-    put_parent-seen _ _ c.self.invariant _ (ap (λ r. r.tree) c.self.view_is) c.args.place c.parent_entry.result _ (λ even. omega arith) (omega arith) c.parent_entry.ensures.part
-
-pub returns-then-place-eq0-clause-no_such_node : goal.returns-then-place-eq0-clause-no_such_node
-returns-then-place-eq0-clause-no_such_node c = (
-  λ refused. IsParentPlace-not _ _ c.self.invariant c.args.self.now.tree (ap (λ r. r.tree) c.self.view_is) c.args.place
-      (elim c.then-place-eq0.branch [ then-place-eq0-via-then-place-eq0 w ↦ inl (omega arith) | then-place-eq0-via-else-place-eq0+then-place-len w ↦ inr (omega arith) ]),
-  λ none. refl,
-)
-
-pub returns-clause-no_such_node : goal.returns-clause-no_such_node
-returns-clause-no_such_node c =
-    (λ taken. absurd (false_no_true taken), λ none. absurd (none (IsParentPlace-seen _ _ c.self.invariant _ (ap (λ r. r.tree) c.self.view_is) c.args.place (λ even. omega arith) (omega arith))))
+pub invariant_of-self-2 : goal.invariant_of-self-2
+invariant_of-self-2 c =
+    let old = c.self.inside.cells in
+    let new = c.empty_parents.new.cells in
+    let t = c.self.inside.tree in
+    let u = c.put_parent.new.self.tree in
+    of_kind old new u c.empty_parents.ensures.kind
+    (cells-put_parent (kind_in old) t.tree u (cells_in old) (cells_in new) c.args.place _ c.in_ok-put_parent.ensures.ok
+    (c.empty_parents.ensures.cells t.tree t.shape.perfect (sym c.height-level.ensures.value)) c.self.invariant)

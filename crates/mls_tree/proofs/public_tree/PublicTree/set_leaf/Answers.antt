@@ -1,20 +1,26 @@
-use Rattle.std.proofs.Common.{ap, arith}
-use Rattle.mls_tree.proofs.Lookups.{IsArrayOf-set_leaf, leaf_count-seen, set_leaf-seen}
+use Rattle.std.proofs.Common.{sym, arith}
+use Rattle.mls_tree.specs.CellsSeen.{kind_in, cells_in}
+use Rattle.mls_tree.specs.Tree.{leaf_count}
+use Rattle.mls_tree.proofs.LeafCounts.{leaves-at, taken-inside}
+use Rattle.mls_tree.proofs.KeptCells.{of_height, of_kind, cells-put_leaf}
 use Rattle.mls_tree.proofs.public_tree.PublicTree.set_leaf.Goals as goal
 
-pub returns-then-index-leaves_of-clause-no_such_node : goal.returns-then-index-leaves_of-clause-no_such_node
-returns-then-index-leaves_of-clause-no_such_node c =
-    let count = leaf_count-seen _ _ c.self.invariant c.args.self.now.tree (ap (λ r. r.tree) c.self.view_is) in
-    (λ refused. omega arith, λ past. cc)
+pub empty_leaf-requires-clause-inside : goal.empty_leaf-requires-clause-inside
+empty_leaf-requires-clause-inside c =
+    let t = c.self.inside.tree in
+    let low = taken-inside c.set_leaf.result c.in_ok-set_leaf.field-0 (leaf_count t.tree) c.args.index c.in_ok-set_leaf.was c.set_leaf.ensures.no_such_node.1 in
+    omega (arith, leaves-at t c.height-level.result c.height-level.ensures.value)
 
-pub invariant_of-self : goal.invariant_of-self
-invariant_of-self c = IsArrayOf-set_leaf _ _ c.args.index c.leaf_entry.result c.self.invariant c.leaf_entry.ensures.no_parent (omega (arith, c.self.invariant.long))
+pub empty_leaf-requires-clause-long : goal.empty_leaf-requires-clause-long
+empty_leaf-requires-clause-long c = of_height c.self.inside.cells c.self.inside.tree.tree c.height-level.result c.self.inside.tree.shape.perfect c.height-level.ensures.value c.self.invariant
 
-pub returns-clause-ok : goal.returns-clause-ok
-returns-clause-ok c =
-    set_leaf-seen _ _ c.self.invariant _ (ap (λ r. r.tree) c.self.view_is) c.args.index c.leaf_entry.result _ (omega arith) c.leaf_entry.ensures.part
-
-pub returns-clause-no_such_node : goal.returns-clause-no_such_node
-returns-clause-no_such_node c =
-    let count = leaf_count-seen _ _ c.self.invariant c.args.self.now.tree (ap (λ r. r.tree) c.self.view_is) in
-    (λ refused. absurd (cc), λ past. absurd (omega arith))
+pub invariant_of-self-2 : goal.invariant_of-self-2
+invariant_of-self-2 c =
+    let old = c.self.inside.cells in
+    let new = c.empty_leaf.new.cells in
+    let t = c.self.inside.tree in
+    let u = c.set_leaf.new.self.tree in
+    let low = taken-inside c.set_leaf.result c.in_ok-set_leaf.field-0 (leaf_count t.tree) c.args.index c.in_ok-set_leaf.was c.set_leaf.ensures.no_such_node.1 in
+    of_kind old new u c.empty_leaf.ensures.kind
+    (cells-put_leaf (kind_in old) t.tree u (cells_in old) (cells_in new) c.args.index _ c.in_ok-set_leaf.ensures.ok low
+    (c.empty_leaf.ensures.cells t.tree t.shape.perfect (sym c.height-level.ensures.value)) c.self.invariant)

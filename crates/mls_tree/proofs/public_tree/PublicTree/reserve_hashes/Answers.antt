@@ -1,0 +1,22 @@
+use Rattle.std.proofs.Common.{ap, ◌∙◌, ◌*◌, ◌-◌, length, sym, subst, arith, replicate, None}
+use Rattle.mls_tree.specs.Tree.{leaf_count}
+use Rattle.mls_tree.specs.KeptTree.{KeptTree}
+use Rattle.mls_tree.specs.Cells.{AreCells, hash_by}
+use Rattle.mls_tree.proofs.Trees.{leaf_count-positive}
+use Rattle.mls_tree.proofs.Emptying.{AreCells-fresh}
+use Rattle.mls_tree.proofs.KeptCells.{listed}
+use Rattle.mls_tree.proofs.public_tree.PublicTree.reserve_hashes.Goals as goal
+
+pub invariant_of-self : goal.invariant_of-self
+invariant_of-self c =
+    let t = c.self.inside.tree.tree in
+    let nodes = c.nodes-count.result.now in
+    let kind = c.in_ok-cells.ensures.kind in
+    subst (λ k. AreCells (hash_by k) t c.in_ok-cells.cells.hashes.items) (sym kind)
+    (AreCells-fresh (hash_by c.args.kind) t c.in_ok-cells.cells.hashes.items (length nodes) c.in_ok-cells.ensures.cells (omega (arith, listed nodes t c.nodes-count.ensures, leaf_count-positive t)))
+
+pub returns-clause-fresh : goal.returns-clause-fresh
+returns-clause-fresh c =
+    let t = c.self.inside.tree.tree in
+    let nodes = c.nodes-count.result.now in
+    λ other. c.in_ok-cells.ensures.cells ∙ ap (λ n. replicate n None) (listed nodes t c.nodes-count.ensures ∙ ap (λ (v : KeptTree). 2 * leaf_count v.tree - 1) c.self.view_is)

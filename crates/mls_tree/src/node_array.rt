@@ -1,0 +1,492 @@
+//! The nodes of a tree, kept as one array.
+ghost use Rattle.std.specs.Prelude.{◌≡◌, ℕ, ◌≤◌, ◌<◌, length, IfOk, IfErr, Err, MatchOption, OnOk, OnErr, IsOk, IsErr, ◌↔◌, ◌⊎◌, None, Some, false, map, option_map, option_copied};
+ghost use Rattle.std.specs.Bool.{OnTrue, OnFalse};
+ghost use Rattle.mls_nodes.specs.Limits.{leaf_limit};
+ghost use Rattle.mls_nodes.specs.Value.{entry_value, node_value};
+ghost use Rattle.mls_tree.specs.Tree.{leaf_count, member_count, height, listing, node_at, leaf_at, IsBranch, IsParentPlace};
+ghost use Rattle.mls_tree.specs.Paths.{direct_path, copath, filtered_direct_path, resolution_at};
+ghost use Rattle.mls_tree.specs.Blanks.{first_blank_leaf, next_blank_leaf, IsFirstBlank, AllLeavesSet};
+ghost use Rattle.mls_tree.specs.Changes.{put_leaf, put_parent, clear_path, change_parent, with_unmerged, without_unmerged, enter_unmerged, is_overfilled, is_overfilled_above, IsOverfull, shrink, blank_tree, grow, left_half, rejoined};
+ghost use Rattle.mls_tree.specs.Parts.{parent_of};
+ghost use Rattle.mls_tree.specs.Sizes.{IsPowerOfTwo, IsTooLong, IsListing};
+
+use crate::blanks::{blank_above, has_set_leaf, push_blanks};
+use crate::entries::{
+    all_fit, as_leaf, clone_entries, count_leaves, into_leaf, into_parent, leaf_entry, parent_entry,
+};
+use crate::error::TreeError;
+use crate::exchange::swap_front;
+use crate::paths::{push_copath, push_direct_path, push_filtered_direct_path};
+use crate::places::level_inside;
+use crate::resolution::push_resolution;
+use crate::sizes::{height_of, height_of_length, leaves_of};
+use crate::unmerged::{enter, is_overfilled_above, leave, push_new_lists, put_lists};
+use mls_nodes::{LeafNode, Node, ParentNode};
+use std::alloc::{AllocError, Global};
+use std::marker::Model;
+use std::mem;
+
+/// The nodes of a tree of 1 to 1,048,576 leaves, a power of two, in the order of their places (RFC 9420, Appendix C). Contracts see a
+/// ratchet tree. A call that is refused leaves it as it was.
+#[derive(Debug, Drop)]
+pub(crate) struct NodeArray {
+    nodes: Vec<Option<Node>>,
+    height: u32,
+    ghost low: { height ≤ 20 },
+}
+
+impl Model for NodeArray {
+    ghost use Rattle.mls_tree.specs.RatchetTree.{RatchetTree, ratchet_tree_coded};
+    ghost use Rattle.mls_tree.specs.Array.{ratchet_tree_in, IsArrayOf};
+
+    ghost Value = { RatchetTree };
+
+    ghost coded = { ratchet_tree_coded };
+
+    ghost view = { λ s. ratchet_tree_in s.nodes.items s.height s.low };
+
+    ghost invariant = { λ s. IsArrayOf s.nodes.items s.height };
+}
+
+impl NodeArray {
+    /// The tree of these nodes, in the order of their places (RFC 9420, Appendix C). A vector that holds no tree comes back: with
+    /// `BadShape` where its length is not `2 * n - 1` for a power of two `n`, then with `TooManyLeaves` where `n` is above 1,048,576, then
+    /// with `BadShape` where a parent stands at an even place or a leaf at an odd one. Takes no memory.
+    pub(crate) fn from_nodes(
+        nodes: Vec<Option<Node>>,
+    ) -> Result<NodeArray, (TreeError, Vec<Option<Node>>)>
+        ensures tree { IfOk result (λ t. listing t.tree ≡ map entry_value nodes.items) }
+        ensures ok { IsOk result ↔ IsListing (map entry_value nodes.items) }
+
+        ensures too_many_leaves { (result ≡ Err (TreeError.TooManyLeaves, nodes))
+            ↔ IsTooLong (length nodes.items) }
+        ensures bad_shape { (result ≡ Err (TreeError.BadShape, nodes))
+            ↔ ((¬ IsListing (map entry_value nodes.items)) × ¬ IsTooLong (length nodes.items)) }
+        ensures handed_back { IfErr result (λ e. e.1 ≡ nodes) }
+    {
+        let height = match height_of_length(nodes.len()) {
+            Ok(height) => height,
+            Err(error) => return Err((error, nodes)),
+        };
+        if !all_fit(nodes.as_slice()) {
+            return Err((TreeError::BadShape, nodes));
+        }
+        Ok(NodeArray { nodes, height })
+    }
+
+    /// The tree of so many leaves with no set node. `BadShape` where `leaves` is no power of two, else `TooManyLeaves` where it is above
+    /// 1,048,576.
+    pub(crate) fn blank(alloc: Global, leaves: u32) -> Result<NodeArray, TreeError>
+        ensures leaves { IfOk result (λ t. leaf_count t.tree ≡ leaves) }
+        ensures blank { IfOk result (λ t. t.tree ≡ blank_tree (height t.tree)) }
+
+        ensures bad_shape { (result ≡ Err TreeError.BadShape) ↔ (¬ IsPowerOfTwo leaves) }
+        ensures too_many_leaves { (result ≡ Err TreeError.TooManyLeaves)
+            ↔ (IsPowerOfTwo leaves × (leaf_limit < leaves)) }
+        ensures else_memory { IfErr result
+            (λ e. (e ≡ TreeError.BadShape) ⊎ (e ≡ TreeError.TooManyLeaves)
+            ⊎ (e ≡ TreeError.OutOfMemory)) }
+    {
+        let height = height_of(leaves as usize)?;
+        let mut nodes = Vec::new(alloc);
+        push_blanks(&mut nodes, 2 * leaves - 1)?;
+        Ok(NodeArray { nodes, height })
+    }
+
+    /// How many halvings lead to a leaf.
+    pub(crate) fn height(&self) -> u32
+        ensures value { result ≡ height self.now.tree }
+        ensures low { result ≤ 20 }
+    {
+        self.height
+    }
+
+    /// How many leaves the tree has, blank ones among them.
+    pub(crate) fn leaf_count(&self) -> u32
+        ensures { result ≡ leaf_count self.now.tree }
+    {
+        leaves_of(self.height)
+    }
+
+    /// How many leaves are set: the members of the group.
+    pub(crate) fn member_count(&self) -> u32
+        ensures { result ≡ member_count self.now.tree }
+    {
+        count_leaves(self.nodes.as_slice()) as u32
+    }
+
+    /// All nodes, in the order of their places.
+    pub(crate) fn nodes(&self) -> &[Option<Node>]
+        ensures { map entry_value result.now ≡ listing self.now.tree }
+    {
+        self.nodes.as_slice()
+    }
+
+    /// The node at a place. None where it is blank or the tree has no such place.
+    pub(crate) fn node(&self, place: u32) -> Option<&Node>
+        ensures { option_map (λ n. node_value n.now) result ≡ node_at self.now.tree place }
+    {
+        match self.nodes.get(place as usize) {
+            Some(entry) => entry.as_ref(),
+            None => None,
+        }
+    }
+
+    /// The leaf of an index. None where it is blank or the tree has no such leaf.
+    pub(crate) fn leaf(&self, index: u32) -> Option<&LeafNode>
+        ensures { option_copied result ≡ leaf_at 0 self.now.tree index }
+    {
+        match self.nodes.get(2 * index as usize) {
+            Some(entry) => as_leaf(entry),
+            None => None,
+        }
+    }
+
+    /// The index of the leftmost blank leaf. None where all leaves are set.
+    pub(crate) fn first_blank_leaf(&self) -> Option<u32>
+        ensures first { result ≡ first_blank_leaf 0 self.now.tree }
+        ensures leftmost { MatchOption result (AllLeavesSet self.now.tree)
+            (λ j. IsFirstBlank self.now.tree j) }
+    {
+        self.next_blank_leaf(0)
+    }
+
+    /// The index of the leftmost blank leaf among those from `start` on. None where all of them are set, or the tree has
+    /// no leaf `start`.
+    pub(crate) fn next_blank_leaf(&self, start: u32) -> Option<u32>
+        ensures { result ≡ next_blank_leaf start 0 self.now.tree }
+    {
+        for index in start..self.leaf_count() {
+            if self.leaf(index).is_none() {
+                return Some(index);
+            }
+        }
+        None
+    }
+
+    /// The places of the parents above a leaf, the lowest first (RFC 9420, 4.1.2). `NoSuchNode` where the tree has no such leaf.
+    pub(crate) fn direct_path(&self, alloc: Global, leaf: u32) -> Result<Vec<u32>, TreeError>
+        ensures places { IfOk result (λ v. v.items ≡ direct_path 0 self.now.tree leaf) }
+        ensures no_such_node { (result ≡ Err TreeError.NoSuchNode)
+            ↔ (leaf_count self.now.tree ≤ leaf) }
+        ensures else_memory { IfErr result
+            (λ e. (e ≡ TreeError.NoSuchNode) ⊎ (e ≡ TreeError.OutOfMemory)) }
+    {
+        if leaf >= self.leaf_count() {
+            return Err(TreeError::NoSuchNode);
+        }
+        let mut out = Vec::new(alloc);
+        push_direct_path(&mut out, self.height, 0, leaf)?;
+        Ok(out)
+    }
+
+    /// The places of the siblings of a leaf and of each node above it but the root, the lowest first (RFC 9420, 4.1.2). `NoSuchNode`
+    /// where the tree has no such leaf.
+    pub(crate) fn copath(&self, alloc: Global, leaf: u32) -> Result<Vec<u32>, TreeError>
+        ensures places { IfOk result (λ v. v.items ≡ copath 0 self.now.tree leaf) }
+        ensures no_such_node { (result ≡ Err TreeError.NoSuchNode)
+            ↔ (leaf_count self.now.tree ≤ leaf) }
+        ensures else_memory { IfErr result
+            (λ e. (e ≡ TreeError.NoSuchNode) ⊎ (e ≡ TreeError.OutOfMemory)) }
+    {
+        if leaf >= self.leaf_count() {
+            return Err(TreeError::NoSuchNode);
+        }
+        let mut out = Vec::new(alloc);
+        push_copath(&mut out, self.height, 0, leaf)?;
+        Ok(out)
+    }
+
+    /// The places of those parents above a leaf whose child on the copath has a resolution that is not empty, the lowest first (RFC 9420,
+    /// 4.1.2). `NoSuchNode` where the tree has no such leaf.
+    pub(crate) fn filtered_direct_path(
+        &self,
+        alloc: Global,
+        leaf: u32,
+    ) -> Result<Vec<u32>, TreeError>
+        ensures places { IfOk result
+            (λ v. v.items ≡ filtered_direct_path (leaf_count self.now.tree) 0 self.now.tree leaf) }
+        ensures no_such_node { (result ≡ Err TreeError.NoSuchNode)
+            ↔ (leaf_count self.now.tree ≤ leaf) }
+        ensures else_memory { IfErr result
+            (λ e. (e ≡ TreeError.NoSuchNode) ⊎ (e ≡ TreeError.OutOfMemory)) }
+    {
+        if leaf >= self.leaf_count() {
+            return Err(TreeError::NoSuchNode);
+        }
+        let mut out = Vec::new(alloc);
+        push_filtered_direct_path(&mut out, self.nodes.as_slice(), self.height, 0, leaf)?;
+        Ok(out)
+    }
+
+    /// The places of the resolution of the node at a place (RFC 9420, 4.1.1): a set node and its unmerged leaves, or of a blank one what
+    /// its children resolve to. An unmerged leaf that the tree does not have is left out. `NoSuchNode` where the tree has no such place.
+    pub(crate) fn resolution(&self, alloc: Global, place: u32) -> Result<Vec<u32>, TreeError>
+        ensures places { IfOk result (λ v. resolution_at self.now.tree place ≡ Some v.items) }
+        ensures no_such_node { (result ≡ Err TreeError.NoSuchNode)
+            ↔ (resolution_at self.now.tree place ≡ None) }
+        ensures else_memory { IfErr result
+            (λ e. (e ≡ TreeError.NoSuchNode) ⊎ (e ≡ TreeError.OutOfMemory)) }
+    {
+        let leaves = self.leaf_count();
+        let Some(level) = level_inside(place, leaves) else {
+            return Err(TreeError::NoSuchNode);
+        };
+        let first = (place + 1 - leaves_of(level)) / 2;
+        let mut out = Vec::new(alloc);
+        push_resolution(&mut out, self.nodes.as_slice(), leaves, level, first)?;
+        Ok(out)
+    }
+
+    /// A tree with the same nodes.
+    pub(crate) fn try_clone(&self, alloc: Global) -> Result<NodeArray, TreeError>
+        ensures same { IfOk result (λ t. t ≡ self.now) }
+        ensures memory { IfErr result (λ e. e ≡ TreeError.OutOfMemory) }
+    {
+        let Ok(nodes) = clone_entries(alloc, self.nodes.as_slice()) else {
+            return Err(TreeError::OutOfMemory);
+        };
+        Ok(NodeArray {
+            nodes,
+            height: self.height,
+        })
+    }
+
+    /// Replaces a leaf, by a blank one for None. `NoSuchNode` where the tree has no such leaf; the leaf handed in then comes back.
+    pub(crate) fn set_leaf(
+        &mut self,
+        index: u32,
+        leaf: Option<Box<LeafNode>>,
+    ) -> Result<(), (TreeError, Option<Box<LeafNode>>)>
+        ensures ok { OnOk result
+            (self.new.tree ≡ put_leaf 0 self.old.tree index (option_map (λ b. b.value) leaf)) }
+        ensures err { OnErr result (self.new ≡ self.old) }
+        ensures no_such_node { IsErr result ↔ (leaf_count self.old.tree ≤ index) }
+        ensures handed_back { IfErr result (λ e. e ≡ (TreeError.NoSuchNode, leaf)) }
+    {
+        if index >= leaves_of(self.height) {
+            return Err((TreeError::NoSuchNode, leaf));
+        }
+        self.nodes[2 * index as usize] = leaf_entry(leaf);
+        Ok(())
+    }
+
+    /// Replaces the parent at a place, by a blank one for None. `NoSuchNode` where the tree has no such place or it is that of a leaf; the
+    /// parent handed in then comes back.
+    pub(crate) fn put_parent(
+        &mut self,
+        place: u32,
+        parent: Option<Box<ParentNode>>,
+    ) -> Result<(), (TreeError, Option<Box<ParentNode>>)>
+        ensures ok { OnOk result
+            (self.new.tree ≡ put_parent 0 self.old.tree place (option_map (λ b. b.value) parent)) }
+        ensures err { OnErr result (self.new ≡ self.old) }
+        ensures no_such_node { IsErr result ↔ (¬ IsParentPlace self.old.tree place) }
+        ensures handed_back { IfErr result (λ e. e ≡ (TreeError.NoSuchNode, parent)) }
+    {
+        if place % 2 == 0 || place as usize >= self.nodes.len() {
+            return Err((TreeError::NoSuchNode, parent));
+        }
+        self.nodes[place as usize] = parent_entry(parent);
+        Ok(())
+    }
+
+    /// Replaces a leaf, by a blank one for None, and hands out the one that stood there. Takes no memory.
+    pub(crate) fn replace_leaf(
+        &mut self,
+        index: u32,
+        leaf: Option<Box<LeafNode>>,
+    ) -> Option<Box<LeafNode>>
+        requires { index < leaf_count self.old.tree }
+        ensures put { self.new.tree
+            ≡ put_leaf 0 self.old.tree index (option_map (λ b. b.value) leaf) }
+        ensures former { option_map (λ b. b.value) result ≡ leaf_at 0 self.old.tree index }
+    {
+        let former = mem::replace(&mut self.nodes[2 * index as usize], leaf_entry(leaf));
+        into_leaf(former)
+    }
+
+    /// Replaces a parent, by a blank one for None, and hands out the one that stood there. Takes no memory.
+    pub(crate) fn replace_parent(
+        &mut self,
+        place: u32,
+        parent: Option<Box<ParentNode>>,
+    ) -> Option<Box<ParentNode>>
+        requires { IsParentPlace self.old.tree place }
+        ensures put { self.new.tree
+            ≡ put_parent 0 self.old.tree place (option_map (λ b. b.value) parent) }
+        ensures former { option_map (λ b. b.value) result ≡ parent_of (node_at self.old.tree place) }
+    {
+        let former = mem::replace(&mut self.nodes[place as usize], parent_entry(parent));
+        into_parent(former)
+    }
+
+    /// Makes the parents above a leaf blank (RFC 9420, 12.1.2 and 12.1.3). The leaf stays. `NoSuchNode` where the tree has no such leaf.
+    pub(crate) fn blank_path(&mut self, index: u32) -> Result<(), TreeError>
+        ensures ok { OnOk result (self.new.tree ≡ clear_path self.old.tree index) }
+        ensures err { OnErr result (self.new ≡ self.old) }
+        ensures no_such_node { (result ≡ Err TreeError.NoSuchNode)
+            ↔ (leaf_count self.old.tree ≤ index) }
+        ensures no_other { IfErr result (λ e. e ≡ TreeError.NoSuchNode) }
+    {
+        if index >= leaves_of(self.height) {
+            return Err(TreeError::NoSuchNode);
+        }
+        let height = self.height;
+        blank_above(self.nodes.as_mut_slice(), height, 0, index);
+        Ok(())
+    }
+
+    /// Puts a leaf's index into the list of unmerged leaves of each set parent above it, before the first entry that is not less (RFC 9420,
+    /// 12.1.1). A list that has the index stays. `NoSuchNode` where the tree has no such leaf, else `TooManyLeaves` where a list without
+    /// the index has 1,048,576 entries: both are judged before any memory is taken. All new lists are made before one is put in place.
+    pub(crate) fn add_unmerged(&mut self, alloc: Global, index: u32) -> Result<(), TreeError>
+        ensures ok { OnOk result (self.new.tree ≡ enter_unmerged self.old.tree index) }
+        ensures err { OnErr result (self.new ≡ self.old) }
+
+        ensures no_such_node { (result ≡ Err TreeError.NoSuchNode)
+            ↔ (leaf_count self.old.tree ≤ index) }
+        ensures too_many_leaves { (result ≡ Err TreeError.TooManyLeaves)
+            ↔ ((index < leaf_count self.old.tree) × IsOverfull self.old.tree index) }
+        ensures else_memory { IfErr result
+            (λ e. (e ≡ TreeError.NoSuchNode) ⊎ (e ≡ TreeError.TooManyLeaves)
+            ⊎ (e ≡ TreeError.OutOfMemory)) }
+    {
+        if index >= leaves_of(self.height) {
+            return Err(TreeError::NoSuchNode);
+        }
+        let height = self.height;
+        if is_overfilled_above(self.nodes.as_slice(), height, 0, index) {
+            return Err(TreeError::TooManyLeaves);
+        }
+        let mut lists = Vec::new(alloc);
+        push_new_lists(&mut lists, alloc, self.nodes.as_slice(), height, 0, index)?;
+        put_lists(self.nodes.as_mut_slice(), &mut lists, height, 0, index);
+        Ok(())
+    }
+
+    /// Whether the list of a set parent above a leaf is full and doesn't have the leaf's index.
+    pub(crate) fn is_overfull(&self, index: u32) -> bool
+        ensures { result ≡ is_overfilled_above 0 self.now.tree index }
+    {
+        is_overfilled_above(self.nodes.as_slice(), self.height, 0, index)
+    }
+
+    /// Puts a leaf's index into the list of the parent at a place, in place, unless that is blank or its list has the
+    /// index. Tells whether the list has changed.
+    pub(crate) fn enter_at(&mut self, place: u32, index: u32) -> Result<bool, AllocError>
+        requires there { IsParentPlace self.old.tree place }
+        requires room { is_overfilled index (parent_of (node_at self.old.tree place)) ≡ false }
+        ensures entered { OnOk result
+            (self.new.tree ≡ change_parent (with_unmerged index) 0 self.old.tree place) }
+        ensures back { IfOk result (λ changed. OnTrue changed
+            (change_parent (without_unmerged index) 0 self.new.tree place ≡ self.old.tree)) }
+        ensures same { IfOk result (λ changed. OnFalse changed (self.new.tree ≡ self.old.tree)) }
+        ensures err { OnErr result (self.new.tree ≡ self.old.tree) }
+    {
+        let Some(mut parent) = self.replace_parent(place, None) else {
+            return Ok(false);
+        };
+        let changed = enter(&mut parent.unmerged, index);
+        self.replace_parent(place, Some(parent));
+        changed
+    }
+
+    /// Takes a leaf's index out of the list of the parent at a place, where there is one that has it. Takes no memory.
+    pub(crate) fn leave_at(&mut self, place: u32, index: u32)
+        ensures { self.new.tree ≡ change_parent (without_unmerged index) 0 self.old.tree place }
+    {
+        if place as usize >= self.nodes.len() || place % 2 == 0 {
+            return;
+        }
+        let Some(mut parent) = self.replace_parent(place, None) else {
+            return;
+        };
+        leave(&mut parent.unmerged, index);
+        self.replace_parent(place, Some(parent));
+    }
+
+    /// Takes the left half of the tree, where there is one. Takes no memory.
+    pub(crate) fn cut(&mut self)
+        ensures { self.new.tree ≡ left_half self.old.tree }
+    {
+        if self.height == 0 {
+            return;
+        }
+        let below = self.height - 1;
+        self.nodes.truncate(2 * leaves_of(below) as usize - 1);
+        self.height = below;
+    }
+
+    /// Whether the tree has halves, and the right one has no set leaf.
+    pub(crate) fn can_be_halved(&self) -> bool
+        ensures halves { OnTrue result (IsBranch self.now.tree) }
+        ensures smaller { OnTrue result
+            (shrink self.now.tree ≡ shrink (left_half self.now.tree)) }
+        ensures done { OnFalse result (shrink self.now.tree ≡ self.now.tree) }
+    {
+        if self.height == 0 {
+            return false;
+        }
+        let below = self.height - 1;
+        !has_set_leaf(self.nodes.as_slice(), below, leaves_of(below))
+    }
+
+    /// Takes the left half of the tree for as long as there is one and the right half has no set leaf (RFC 9420, 7.7). Takes no memory.
+    pub(crate) fn truncate(&mut self)
+        ensures { self.new.tree ≡ shrink self.old.tree }
+    {
+        while self.can_be_halved() {
+            self.cut();
+        }
+    }
+
+    /// Takes the left half out of the tree, which has blank nodes there then.
+    pub(crate) fn take_left(&mut self, alloc: Global) -> Result<NodeArray, AllocError>
+        requires { IsBranch self.old.tree }
+        ensures left { IfOk result (λ l. l.tree ≡ left_half self.old.tree) }
+        ensures rest { IfOk result (λ l. rejoined l.tree self.new.tree ≡ self.old.tree) }
+        ensures err { OnErr result (self.new ≡ self.old) }
+    {
+        let below = self.height - 1;
+        let mut nodes = Vec::new(alloc);
+        push_blanks(&mut nodes, 2 * leaves_of(below) - 1)?;
+        swap_front(&mut self.nodes, &mut nodes);
+        let left = NodeArray {
+            nodes,
+            height: below,
+        };
+        Ok(left)
+    }
+
+    /// Puts the tree in the place of the left half of another one, and that one in its place. A tree of another
+    /// height stays. Takes no memory.
+    pub(crate) fn rejoin(&mut self, mut whole: NodeArray)
+        ensures { self.new.tree ≡ rejoined self.old.tree whole.tree }
+    {
+        if self.height + 1 != whole.height {
+            return;
+        }
+        swap_front(&mut whole.nodes, &mut self.nodes);
+        *self = whole;
+    }
+
+    /// Doubles the tree, which becomes the left half of one whose other nodes are blank (RFC 9420, 7.7). `TooManyLeaves` where the tree has
+    /// 1,048,576 leaves.
+    pub(crate) fn extend(&mut self) -> Result<(), TreeError>
+        ensures ok { OnOk result (self.new.tree ≡ grow self.old.tree) }
+        ensures err { OnErr result (self.new ≡ self.old) }
+        ensures too_many_leaves { (result ≡ Err TreeError.TooManyLeaves)
+            ↔ (leaf_count self.old.tree ≡ leaf_limit) }
+        ensures else_memory { IfErr result
+            (λ e. (e ≡ TreeError.TooManyLeaves) ⊎ (e ≡ TreeError.OutOfMemory)) }
+    {
+        if self.height == 20 {
+            return Err(TreeError::TooManyLeaves);
+        }
+        let more = 2 * leaves_of(self.height);
+        push_blanks(&mut self.nodes, more)?;
+        self.height += 1;
+        Ok(())
+    }
+}

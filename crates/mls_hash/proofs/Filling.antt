@@ -1,9 +1,8 @@
 -- The hashes of all subtrees, put into a list halves first.
-use Rattle.std.proofs.Common.{◌≡◌, ◌≢◌, ℕ, ◌+◌, ◌*◌, ◌-◌, ◌<◌, List, [], ◌++◌, take, length, map, get_or, Option, Some, None, IsSome, Result, refl, sym, ap, subst, ◌∙◌, arith, inl, inr}
+use Rattle.std.proofs.Common.{◌≡◌, ◌≢◌, ℕ, ◌+◌, ◌*◌, ◌-◌, ◌<◌, List, [], length, map, get_or, Option, Some, None, IsSome, Result, refl, sym, ap, subst, ◌∙◌, arith, inl, inr}
 use Rattle.std.specs.Prelude.{option_map, option_and_then, slice_get, slice_set}
-use Rattle.std.proofs.Math.Seq.{take-append_seam}
 use Rattle.std.proofs.lemmas.Bool.{cases_order, cases_lt}
-use Rattle.std.proofs.lemmas.List.{length-map}
+use Rattle.std.proofs.lemmas.List.{length-map, length-set}
 use Rattle.std.proofs.lemmas.Option.{none-some, same_Some, slice_get_past, slice_get-get_or}
 use Rattle.mls_nodes.specs.declared.leaf.LeafNode.{LeafNode}
 use Rattle.mls_nodes.specs.declared.parent.ParentNode.{ParentNode}
@@ -19,8 +18,9 @@ use Rattle.mls_tree.proofs.Trees.{length-listing, subtree_at-stands, subtree_at-
 use Rattle.mls_hash.specs.declared.fault.HashFault.{HashFault}
 use Rattle.mls_hash.specs.Inputs.{HashesText, HashesSubtree}
 use Rattle.mls_tree.specs.Parts.{HasChildren}
+use Rattle.mls_hash.specs.HashLists.{EqualHashes}
 use Rattle.mls_hash.specs.Strip.{stripped_parent, tree_hash_at}
-use Rattle.mls_hash.specs.SubtreeHashes.{AreAllHashes, IsSubtreeHashAt, AreSubtreeHashes, AreHashesKept, AreHashesUnder}
+use Rattle.mls_hash.specs.SubtreeHashes.{AreAllHashes, IsSubtreeHashAt, AreSubtreeHashes, AreHashesKept, AreHashesUnder, HasRoom}
 use Rattle.mls_hash.proofs.Answers.{leaf_answer, parent_answer, whole_tree}
 
 module _ (H : List ℕ → List ℕ) (t : Tree) where
@@ -42,7 +42,7 @@ module _ (H : List ℕ → List ℕ) (t : Tree) where
   -- ---- one hash is put
 
   module _ (old new : List (List ℕ)) (p : ℕ) (hash : List ℕ) (under : p < length old) (is : new ≡ slice_set old p hash) (right : tree_hash_at H t p ≡ Some hash) where
-    put_here : IsSubtreeHashAt H t new p
+    pub put_here : IsSubtreeHashAt H t new p
     put_here = ap (λ (hs : List (List ℕ)). slice_get hs p) is ∙ slice_get-set_same old p hash under ∙ sym right
 
     other : (q : ℕ) → q ≢ p → IsSubtreeHashAt H t old q → IsSubtreeHashAt H t new q
@@ -81,26 +81,34 @@ module _ (H : List ℕ → List ℕ) (t : Tree) where
 
   -- ---- all hashes are put
 
-  pub all_put : (hashes : List (List ℕ)) (root : ℕ) → length hashes + 1 ≡ 2 * leaf_count t → root ≡ root_place 0 t → AreHashesUnder H t hashes root → AreSubtreeHashes H t hashes
-  all_put hashes root room at h p =
+  pub all_listed : (hashes : List (List ℕ)) → length hashes + 1 ≡ 2 * leaf_count t → ((p : ℕ) → p + 1 < 2 * leaf_count t → IsSubtreeHashAt H t hashes p) → AreSubtreeHashes H t hashes
+  all_listed hashes room each p =
       elim (cases_lt (p + 1) (2 * leaf_count t)) [
-        | inl lt ↦
-            (let s = subtree_at-some 0 t p (omega arith) (omega arith) in
-            h (record { first = 0; tree = t }) (ap (subtree_at 0 t) at ∙ subtree_at-root 0 t) p s.0 s.1)
+        | inl lt ↦ each p lt
         | inr past ↦
             slice_get_past hashes p (omega arith)
             ∙ sym (ap (option_and_then (λ (s : Subtree). tree_hash H s.first s.tree)) (subtree_at-none 0 t p (omega arith)))
       ]
+
+  pub all_put : (hashes : List (List ℕ)) (root : ℕ) → length hashes + 1 ≡ 2 * leaf_count t → root ≡ root_place 0 t → AreHashesUnder H t hashes root → AreSubtreeHashes H t hashes
+  all_put hashes root room at h =
+      all_listed hashes room
+      (λ p lt.
+      let s = subtree_at-some 0 t p (omega arith) (omega arith) in
+      h (record { first = 0; tree = t }) (ap (subtree_at 0 t) at ∙ subtree_at-root 0 t) p s.0 s.1)
+
+-- a hash is put into a list that has room for all of them
+pub put_room : (suite : ℕ) (t : Tree) (old new : EqualHashes) (p : ℕ) (hash : List ℕ) → HasRoom suite t old → new ≡ record old { hashes = slice_set old.hashes p hash } → HasRoom suite t new
+put_room suite t old new p hash room is = record {
+  count = omega (arith, ap (λ l. length l.hashes) is, length-set old.hashes p hash, room.count);
+  width = ap (λ l. l.width) is ∙ room.width;
+}
 
 pub node_count : (t : Tree) (nodes : List (Option Node)) → map entry_value nodes ≡ listing t → length nodes + 1 ≡ 2 * leaf_count t
 node_count t nodes e = omega (arith, ap length e, length-map nodes entry_value, length-listing t)
 
 pub root_there : (t : RatchetTree) (n : ℕ) → n ≡ leaf_count t.tree → IsSome (subtree_at 0 t.tree (n - 1))
 root_there t n e = subst (λ (p : ℕ). IsSome (subtree_at 0 t.tree p)) (sym (root-seen t n (sym e))) (subst (λ (o : Option Subtree). IsSome o) (sym (subtree_at-root 0 t.tree)) refl)
-
--- a vector after its whole slice was written
-pub written_back : {X : Type 0} (new rest : List X) (n : ℕ) → n ≡ length new → take n (new ++ rest) ≡ new
-written_back new rest n e = ap (λ (k : ℕ). take k (new ++ rest)) e ∙ take-append_seam new rest
 
 -- ---- a list of all hashes is read
 

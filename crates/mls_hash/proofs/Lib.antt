@@ -1,5 +1,6 @@
 pub mod Feeding
 pub mod Lengths
+pub mod HashRows
 pub mod Sets
 pub mod Inputs
 pub mod Strips
@@ -7,4 +8,4 @@ pub mod Answers
 pub mod Alike
 pub mod Known
 pub mod Filling
-pub mod Beside
+pub mod KeptHashing

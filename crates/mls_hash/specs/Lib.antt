@@ -4,6 +4,8 @@ pub mod Feeding
 pub mod Parts
 pub mod Inputs
 pub mod Strip
+pub mod HashLists
 pub mod ParentHash
 pub mod SubtreeHashes
 pub mod OriginalHashes
+pub mod KeptHashes

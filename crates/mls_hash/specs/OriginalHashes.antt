@@ -1,6 +1,6 @@
 -- Original tree hashes that parent hashes are made of (RFC 9420, 7.9), and those that are known
 -- already.
-use Rattle.std.specs.Prelude.{◌≡◌, ℕ, ◌+◌, ◌*◌, List, Option, Some, None, option_and_then, slice_get}
+use Rattle.std.specs.Prelude.{◌≡◌, ◌⊎◌, ℕ, ◌+◌, ◌*◌, ◌/◌, List, Option, Some, None, option_and_then, slice_get, slice_set}
 use Rattle.std.specs.List.Sorted.{IsNonDecreasing}
 use Rattle.mls_nodes.specs.declared.parent.ParentNode.{ParentNode}
 use Rattle.mls_tree.specs.Tree.{Tree, leaf, branch, leaf_count, subtree_at}
@@ -60,3 +60,7 @@ HoldsSortedLists t = (place : ℕ) (p : ParentNode) → parent_at t place ≡ So
 abbrev pub ListsJust : List ℕ → Option ParentNode → Type 0
 ListsJust leaves None = ⊥
 ListsJust leaves (Some p) = leaves ≡ p.unmerged
+
+-- the own hash of the parent at a place was put into what is known, or was left away
+abbrev pub KeepsOwn : ℕ → List ℕ → KnownHashes → KnownHashes → Type 0
+KeepsOwn place hash old new = (new ≡ old) ⊎ (new ≡ record old { own = slice_set old.own (place / 2) (Some hash) })

@@ -4,6 +4,8 @@ use Rattle.std.specs.Coded.{Coded-set, coded_ℕ, coded_list, coded_option}
 use native.Mathlib.Nat.{ℕ_set}
 use Rattle.mls_nodes.specs.declared.parent.ParentNode.{ParentNode}
 use Rattle.mls_tree.specs.Tree.{Tree, leaf_count, Subtree, subtree_at}
+use Rattle.mls_hash.specs.Hashing.{hash_length}
+use Rattle.mls_hash.specs.HashLists.{EqualHashes}
 use Rattle.mls_hash.specs.ParentHash.{root_parent}
 use Rattle.mls_hash.specs.Strip.{tree_hash_at}
 
@@ -37,10 +39,6 @@ pub record HasLeafUnder (t : Tree) (p i : ℕ) : Type 0 where
   pub there : subtree_at 0 t p ≡ Some subtree
   pub inside : IsLeafOf subtree i
 
--- the list has the tree hash of the subtree at each place whose subtree doesn't have leaf i, and nothing where there is no subtree
-abbrev pub AreHashesBeside : (List ℕ → List ℕ) → Tree → ℕ → List (List ℕ) → Type 0
-AreHashesBeside H t i hashes = (p : ℕ) → ¬ (HasLeafUnder t p i) → IsSubtreeHashAt H t hashes p
-
 -- the first tree has at each place whose subtree doesn't have leaf i, in the second, the subtree that the second has there: they differ at
 -- most at leaf i and at the parents above it
 abbrev pub IsSameBeside : Tree → Tree → ℕ → Type 0
@@ -55,6 +53,11 @@ abbrev pub HoldsOwnLeaves : Tree → Type 0
 HoldsOwnLeaves t = (p : ℕ) → HoldsOwnLeavesAt t p
 
 -- ---- for the code alone
+
+-- a list has a place for each subtree, and each of its hashes has as many bytes as the suite's have
+pub record HasRoom (suite : ℕ) (t : Tree) (list : EqualHashes) : Type 0 where
+  pub count : length list.hashes + 1 ≡ 2 * leaf_count t
+  pub width : list.width ≡ hash_length suite
 
 -- each index in the list is that of a leaf under place p, if the tree has such a place
 abbrev pub AreLeavesUnder : Tree → ℕ → List ℕ → Type 0

@@ -1,6 +1,6 @@
 -- Which cipher suites are followed.
 use Rattle.std.specs.Prelude.{ℕ, ◌≤◌}
 
--- the suites that hash with SHA-256 (RFC 9420, 17.1)
+-- the suites 1 to 7, which hash with SHA-256, SHA-384 or SHA-512 (RFC 9420, 17.1)
 abbrev pub IsSupported : ℕ → Type 0
-IsSupported suite = (1 ≤ suite) × (suite ≤ 3)
+IsSupported suite = (1 ≤ suite) × (suite ≤ 7)

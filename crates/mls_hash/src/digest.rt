@@ -1,37 +1,27 @@
 //! Hashes of bytes.
 
-ghost use Rattle.std.specs.Prelude.{◌≡◌, ℕ, List, ◌++◌, Some, None, option_map, MatchResult};
-ghost use Rattle.sha2.specs.Hashers.{Holds256};
+ghost use Rattle.std.specs.Prelude.{◌≡◌, ◌++◌, Some, None, option_map, MatchResult};
 ghost use Rattle.mls_wire.specs.Spelling.{length_form, vector};
 ghost use Rattle.mls_hash.specs.Hashing.{hash_of, ref_hash_input};
 ghost use Rattle.mls_hash.specs.Feeding.{FeedsText};
 
 use crate::fault::HashFault;
+use crate::hasher::Hasher;
 use crate::suite::Suite;
 use mls_tree::HashValue;
-use sha2::{Digest, Sha256};
 
-/// The value that a hasher ends with.
-#[tactic(auto, unfolding(crate::specs::Hashing::hash_of))]
-fn finish(hasher: Sha256, suite: Suite) -> HashValue
-    ensures { (m : List ℕ) → Holds256 hasher m → result ≡ hash_of suite m }
-{
-    let digest = hasher.finalize();
-    HashValue::new(&digest).unwrap()
-}
-
-/// The hash of `first` and `second`, taken as one message (RFC 9420, 5.2). It takes no memory.
+/// The hash of `first` and `second`, taken as one message (RFC 9420, 5.2), by the suite's hash function. It takes no memory.
 pub fn hash(suite: Suite, first: &[u8], second: &[u8]) -> HashValue
     ensures { result ≡ hash_of suite (first.now ++ second.now) }
 {
-    let mut hasher = Sha256::new();
+    let mut hasher = Hasher::new(suite);
     hasher.update(first);
     hasher.update(second);
-    finish(hasher, suite)
+    hasher.finish()
 }
 
 /// Feeds the length of a vector, in the shortest of its forms (RFC 9420, 2.1.2).
-fn feed_length(hasher: &mut Sha256, length: usize) -> Result<(), HashFault>
+fn feed_length(hasher: &mut Hasher, length: usize) -> Result<(), HashFault>
     ensures { FeedsText (length_form length) hasher.old hasher.new result }
 {
     if length < 64 {
@@ -47,7 +37,7 @@ fn feed_length(hasher: &mut Sha256, length: usize) -> Result<(), HashFault>
 }
 
 /// Feeds a vector: its length, and its body.
-fn feed_vector(hasher: &mut Sha256, body: &[u8]) -> Result<(), HashFault>
+fn feed_vector(hasher: &mut Hasher, body: &[u8]) -> Result<(), HashFault>
     ensures { FeedsText (vector body.now) hasher.old hasher.new result }
 {
     feed_length(hasher, body.len())?;
@@ -62,8 +52,8 @@ pub fn ref_hash(suite: Suite, label: &str, value: &[u8]) -> Result<HashValue, Ha
         (λ h. option_map (hash_of suite) (ref_hash_input label.now value.now) ≡ Some h)
         (λ e. (e ≡ HashFault.TooLong) × (ref_hash_input label.now value.now ≡ None)) }
 {
-    let mut hasher = Sha256::new();
+    let mut hasher = Hasher::new(suite);
     feed_vector(&mut hasher, label.as_bytes())?;
     feed_vector(&mut hasher, value)?;
-    Ok(finish(hasher, suite))
+    Ok(hasher.finish())
 }

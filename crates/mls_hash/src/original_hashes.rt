@@ -1,11 +1,11 @@
 //! The original tree hashes that parent hashes are made of (RFC 9420, 7.9), in a walk over the
 //! parents of a tree, halves first.
 
-ghost use Rattle.std.specs.Prelude.{◌≡◌, ◌↔◌, ◌⊎◌, ◌/◌, ℕ, List, [], None, Some, Err, IfOk, IfErr, IfSome, length, option_copied, slice_get, slice_set};
+ghost use Rattle.std.specs.Prelude.{◌≡◌, ◌↔◌, ◌⊎◌, ◌/◌, ℕ, List, [], None, Some, Err, IfOk, IfErr, IfSome, option_copied, slice_get};
 ghost use Rattle.mls_tree.specs.Tree.{subtree_at};
 ghost use Rattle.mls_hash.specs.Hashing.{hash_of};
 ghost use Rattle.mls_hash.specs.Inputs.{HashesSubtree};
-ghost use Rattle.mls_hash.specs.OriginalHashes.{AreChildHashes, AreKnownHashes, HoldsSortedLists, ListsJust};
+ghost use Rattle.mls_hash.specs.OriginalHashes.{AreChildHashes, AreKnownHashes, HoldsSortedLists, KeepsOwn, ListsJust};
 ghost use Rattle.mls_hash.specs.ParentHash.{parent_at, parent_hash_at};
 ghost use Rattle.mls_hash.specs.Strip.{original_tree_hash_at};
 ghost use Rattle.mls_hash.specs.SubtreeHashes.{AreLeavesUnder, AreSubtreeHashes, HoldsOwnLeaves};
@@ -13,9 +13,9 @@ ghost use Rattle.mls_hash.specs.SubtreeHashes.{AreLeavesUnder, AreSubtreeHashes,
 use crate::fault::HashFault;
 use crate::input::{hash_leaf, hash_parent};
 use crate::leaf_set::LeafSet;
+use crate::own_hashes::OwnHashes;
 use crate::parent_hashes::hash_parent_fields;
 use crate::side::Side;
-use crate::stored::{bytes_of, value_of};
 use crate::subtree::kept_leaf;
 use crate::subtree_hashes::SubtreeHashes;
 use crate::suite::Suite;
@@ -45,7 +45,7 @@ pub struct ChildHashes {
 #[derive(Drop)]
 pub struct OriginalHashes<'a> {
     subtrees: &'a SubtreeHashes,
-    own: Vec<Option<[u8; 32]>>,
+    own: OwnHashes,
     writer: Writer,
 }
 
@@ -54,7 +54,7 @@ impl<'a> Model for OriginalHashes<'a> {
 
     ghost Value = { KnownHashes };
 
-    ghost view = { λ o. record { subtrees = o.subtrees.now; own = o.own.items } };
+    ghost view = { λ o. record { subtrees = o.subtrees.now; own = o.own } };
 }
 
 impl<'a> OriginalHashes<'a> {
@@ -69,7 +69,7 @@ impl<'a> OriginalHashes<'a> {
     {
         Ok(OriginalHashes {
             subtrees,
-            own: vec![in alloc; None; tree.nodes().len() / 2]?,
+            own: OwnHashes::blank(alloc, tree.nodes().len() / 2, subtrees.width())?,
             writer: Writer::new(alloc),
         })
     }
@@ -100,10 +100,7 @@ impl<'a> OriginalHashes<'a> {
         if !left_out.holds_just(node?.unmerged.as_slice()) {
             return None;
         }
-        match self.own.get(place as usize / 2) {
-            Some(Some(hash)) => Some(value_of(hash)),
-            Some(None) | None => None,
-        }
+        self.own.get(place / 2)
     }
 
     /// The original tree hash of the subtree at a place: that of the subtree without the leaves of
@@ -151,15 +148,12 @@ impl<'a> OriginalHashes<'a> {
         }
     }
 
-    /// Keeps the own hash of the parent at a place.
+    /// Keeps the own hash of the parent at a place, unless it is longer or shorter than those of the
+    /// subtrees.
     fn keep(&mut self, place: u32, hash: &HashValue)
-        requires { length hash.now ≡ 32 }
-        ensures { self.new
-            ≡ record self.old { own = slice_set self.old.own (place / 2) (Some hash.now) } }
+        ensures { KeepsOwn place hash.now self.old self.new }
     {
-        if let Some(own) = self.own.get_mut(place as usize / 2) {
-            *own = Some(bytes_of(hash));
-        }
+        self.own.keep(place / 2, hash);
     }
 
     /// The original tree hashes of the children of the parent that is set at a place. `NoSuchNode`

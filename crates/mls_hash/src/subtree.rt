@@ -1,6 +1,6 @@
 //! Tree hashes of subtrees, as they stand and without some of their leaves (RFC 9420, 7.8 and 7.9).
 
-ghost use Rattle.std.specs.Prelude.{◌≡◌, ◌↔◌, ◌⊎◌, None, Some, Err, IfOk, IfErr, option_copied};
+ghost use Rattle.std.specs.Prelude.{◌≡◌, ◌↔◌, ◌⊎◌, None, Some, Err, IfOk, IfErr, IfSome, option_copied};
 ghost use Rattle.mls_tree.specs.Tree.{subtree_at};
 ghost use Rattle.mls_hash.specs.Hashing.{hash_of};
 ghost use Rattle.mls_hash.specs.Inputs.{HashesSubtree};
@@ -8,6 +8,7 @@ ghost use Rattle.mls_hash.specs.Strip.{original_tree_hash_at, stripped_leaf, tre
 
 use crate::fault::HashFault;
 use crate::input::{hash_leaf, hash_parent};
+use crate::kept_hashes::kept_hash;
 use crate::leaf_set::{LeafSet, sorted};
 use crate::suite::Suite;
 use mls_nodes::LeafNode;
@@ -26,8 +27,26 @@ pub(crate) fn kept_leaf<'a>(
     if left_out.contains(index) { None } else { node }
 }
 
+/// The hash that the tree keeps of the subtree at a place by the suite's hash function, where no leaf is left out.
+#[tactic(auto, using(crate::proofs::KeptHashing::nothing_left_out))]
+fn kept_whole(
+    suite: Suite,
+    tree: &PublicTree,
+    left_out: &LeafSet<'_>,
+    place: u32,
+) -> Option<HashValue>
+    ensures { IfSome result (λ h.
+        original_tree_hash_at (hash_of suite) left_out.now tree.now.tree place ≡ Some h) }
+{
+    if left_out.is_empty() {
+        kept_hash(suite, tree, place)
+    } else {
+        None
+    }
+}
+
 /// The tree hash of the subtree at a place without the leaves of the set: one hash for each of its nodes, each written into the same
-/// buffer.
+/// buffer, but for those of subtrees whose hash the tree keeps.
 pub(crate) fn hash_subtree(
     alloc: Global,
     suite: Suite,
@@ -39,6 +58,9 @@ pub(crate) fn hash_subtree(
     ensures { HashesSubtree (subtree_at 0 tree.now.tree place)
         (original_tree_hash_at (hash_of suite) left_out.now tree.now.tree place) result }
 {
+    if let Some(hash) = kept_whole(suite, tree, left_out, place) {
+        return Ok(hash);
+    }
     match tree.part(place) {
         None => Err(HashFault::NoSuchNode),
         Some(Part::Leaf { index, node }) => {
@@ -60,7 +82,8 @@ pub(crate) fn hash_subtree(
     }
 }
 
-/// The tree hash of the subtree whose root stands at a place (RFC 9420, 7.8). `NoSuchNode` where the tree has no such place.
+/// The tree hash of the subtree whose root stands at a place (RFC 9420, 7.8). `NoSuchNode` where the tree has no such place. What the tree
+/// keeps of its hashes by the suite's hash function is read and not hashed again.
 pub fn tree_hash(
     alloc: Global,
     suite: Suite,

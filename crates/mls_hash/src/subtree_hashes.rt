@@ -1,16 +1,18 @@
 //! The tree hashes of all subtrees of a tree, each computed once (RFC 9420, 7.8).
 
-ghost use Rattle.std.specs.Prelude.{◌≡◌, ◌+◌, ◌*◌, ◌<◌, IfOk, OnOk, length, slice_get, slice_set};
-ghost use Rattle.mls_tree.specs.Tree.{leaf_count, subtree_at};
+ghost use Rattle.std.specs.Prelude.{◌≡◌, ◌≤◌, IfOk, OnOk, slice_get};
+ghost use Rattle.std.specs.Bool.{OnTrue};
+ghost use Rattle.mls_tree.specs.Tree.{subtree_at};
 ghost use Rattle.mls_hash.specs.Hashing.{hash_of};
 ghost use Rattle.mls_hash.specs.Inputs.{HashesSubtree};
 ghost use Rattle.mls_hash.specs.Strip.{tree_hash_at};
-ghost use Rattle.mls_hash.specs.SubtreeHashes.{AreAllHashes, AreHashesBeside, AreHashesKept, AreHashesUnder, HasLeafUnder};
+ghost use Rattle.mls_hash.specs.SubtreeHashes.{AreAllHashes, AreHashesKept, AreHashesUnder, AreSubtreeHashes, HasRoom};
 
 use crate::fault::HashFault;
+use crate::hash_list::HashList;
 use crate::input::{hash_leaf, hash_parent};
+use crate::kept_hashes::kept_hash;
 use crate::leaf_set::LeafSet;
-use crate::stored::{bytes_of, value_of};
 use crate::suite::Suite;
 use mls_tree::{HashValue, Part, PublicTree};
 use mls_wire::Writer;
@@ -19,10 +21,11 @@ use std::marker::Model;
 
 /// The tree hash of the subtree at each place of a tree (RFC 9420, 7.8), each computed once.
 ///
-/// Contracts see it as the list of the hashes, in the order of the places.
+/// Each takes as many bytes as a hash of the suite has. Contracts see it as the list of the hashes, in the order of the
+/// places.
 #[derive(Drop)]
 pub struct SubtreeHashes {
-    hashes: Vec<[u8; 32]>,
+    hashes: HashList,
 }
 
 impl Model for SubtreeHashes {
@@ -30,16 +33,7 @@ impl Model for SubtreeHashes {
 
     ghost Value = { List (List ℕ) };
 
-    ghost view = { λ s. s.hashes.items };
-}
-
-/// Puts a hash at a place.
-fn put(hashes: &mut [[u8; 32]], place: u32, hash: &HashValue)
-    requires place { place < length hashes.old }
-    requires hash { length hash.now ≡ 32 }
-    ensures { hashes.new ≡ slice_set hashes.old place hash.now }
-{
-    hashes[place as usize] = bytes_of(hash);
+    ghost view = { λ s. s.hashes.hashes };
 }
 
 /// Hashes the subtree at a place, halves first, and puts the hash of each of its subtrees at the place of that. Each is written into the
@@ -49,20 +43,23 @@ fn put_hashes(
     suite: Suite,
     tree: &PublicTree,
     place: u32,
-    hashes: &mut [[u8; 32]],
+    hashes: &mut HashList,
     writer: &mut Writer,
 ) -> Result<HashValue, HashFault>
-    requires room { length hashes.old + 1 ≡ 2 * leaf_count tree.now.tree }
+    requires { HasRoom suite tree.now.tree hashes.old }
+    ensures room { HasRoom suite tree.now.tree hashes.new }
     ensures hash { HashesSubtree (subtree_at 0 tree.now.tree place)
         (tree_hash_at (hash_of suite) tree.now.tree place) result }
-    ensures kept { OnOk result (AreHashesKept (hash_of suite) tree.now.tree hashes.old hashes.new) }
-    ensures put { OnOk result (AreHashesUnder (hash_of suite) tree.now.tree hashes.new place) }
+    ensures kept { let H = hash_of suite in
+        OnOk result (AreHashesKept H tree.now.tree hashes.old.hashes hashes.new.hashes) }
+    ensures put { let H = hash_of suite in
+        OnOk result (AreHashesUnder H tree.now.tree hashes.new.hashes place) }
 {
     match tree.part(place) {
         None => Err(HashFault::NoSuchNode),
         Some(Part::Leaf { index, node }) => {
             let hash = hash_leaf(alloc, suite, index, node, writer)?;
-            put(hashes, place, &hash);
+            hashes.put(place, &hash);
             Ok(hash)
         }
         Some(
@@ -76,101 +73,42 @@ fn put_hashes(
             let left = put_hashes(alloc, suite, tree, left, hashes, writer)?;
             let right = put_hashes(alloc, suite, tree, right, hashes, writer)?;
             let hash = hash_parent(suite, node, &LeafSet::empty(), &left, &right, writer)?;
-            put(hashes, place, &hash);
+            hashes.put(place, &hash);
             Ok(hash)
         }
     }
 }
 
-/// Hashes a leaf anew and then each parent above it, up to the subtree at a place, and puts each of these hashes at its place. The hash of
-/// the half of a parent that doesn't have the leaf is the one in the list. Each is written into the same buffer.
-fn put_path_hashes(
-    alloc: Global,
-    suite: Suite,
-    tree: &PublicTree,
-    leaf: u32,
-    place: u32,
-    hashes: &mut [[u8; 32]],
-    writer: &mut Writer,
-) -> Result<HashValue, HashFault>
-    requires room { length hashes.old + 1 ≡ 2 * leaf_count tree.now.tree }
-    requires beside { AreHashesBeside (hash_of suite) tree.now.tree leaf hashes.old }
-    requires under { HasLeafUnder tree.now.tree place leaf }
-    ensures hash { HashesSubtree (subtree_at 0 tree.now.tree place)
-        (tree_hash_at (hash_of suite) tree.now.tree place) result }
-    ensures kept { OnOk result (AreHashesKept (hash_of suite) tree.now.tree hashes.old hashes.new) }
-    ensures put { OnOk result (AreHashesUnder (hash_of suite) tree.now.tree hashes.new place) }
+/// Puts the hashes that a tree keeps by the suite's hash function at their places, and tells whether it keeps all of them. It ends at the
+/// first that is missing.
+fn put_kept(suite: Suite, tree: &PublicTree, hashes: &mut HashList) -> bool
+    requires { HasRoom suite tree.now.tree hashes.old }
+    ensures room { HasRoom suite tree.now.tree hashes.new }
+    ensures kept { OnTrue result
+        (AreSubtreeHashes (hash_of suite) tree.now.tree hashes.new.hashes) }
 {
-    match tree.part(place) {
-        None => Err(HashFault::NoSuchNode),
-        Some(Part::Leaf { index, node }) => {
-            let hash = hash_leaf(alloc, suite, index, node, writer)?;
-            put(hashes, place, &hash);
-            Ok(hash)
-        }
-        Some(
-            Part::Parent {
-                node,
-                left,
-                right,
-                middle,
-            },
-        ) => {
-            let (left, right) = if leaf < middle {
-                let left = put_path_hashes(alloc, suite, tree, leaf, left, hashes, writer)?;
-                (left, value_of(&hashes[right as usize]))
-            } else {
-                let right = put_path_hashes(alloc, suite, tree, leaf, right, hashes, writer)?;
-                (value_of(&hashes[left as usize]), right)
-            };
-            let whole = hash_parent(suite, node, &LeafSet::empty(), &left, &right, writer)?;
-            put(hashes, place, &whole);
-            Ok(whole)
-        }
+    for place in 0..2 * tree.leaf_count() - 1 {
+        let Some(hash) = kept_hash(suite, tree, place) else {
+            return false;
+        };
+        hashes.put(place, &hash);
     }
+    true
 }
 
 impl SubtreeHashes {
-    /// Hashes each subtree of a tree, halves first: one hash for each node.
+    /// Hashes each subtree of a tree, halves first: one hash for each node. Where the tree keeps all of these hashes by the suite's hash
+    /// function, they are copied.
     pub fn new(alloc: Global, suite: Suite, tree: &PublicTree) -> Result<SubtreeHashes, AllocError>
         ensures { IfOk result (AreAllHashes (hash_of suite) tree.now.tree) }
     {
-        let mut hashes = vec![in alloc; [0; 32]; tree.nodes().len()]?;
-        let root = tree.leaf_count() - 1;
-        let mut writer = Writer::new(alloc);
-        match put_hashes(alloc, suite, tree, root, hashes.as_mut_slice(), &mut writer) {
-            Ok(_) => Ok(SubtreeHashes { hashes }),
-            Err(HashFault::OutOfMemory) => Err(AllocError),
-            Err(_) => unreachable!(),
+        let mut hashes = HashList::blank(alloc, tree.nodes().len(), suite.hash_len())?;
+        if put_kept(suite, tree, &mut hashes) {
+            return Ok(SubtreeHashes { hashes });
         }
-    }
-
-    /// The hashes of the subtrees of a tree, where these are right but for the subtrees that have a leaf: that leaf and the parents above
-    /// it are hashed anew, and nothing else is.
-    pub fn rehashed(
-        &self,
-        alloc: Global,
-        suite: Suite,
-        tree: &PublicTree,
-        leaf: u32,
-    ) -> Result<SubtreeHashes, AllocError>
-        requires inside { leaf < leaf_count tree.now.tree }
-        requires beside { AreHashesBeside (hash_of suite) tree.now.tree leaf self.now }
-        requires count { length self.now + 1 ≡ 2 * leaf_count tree.now.tree }
-        ensures { IfOk result (AreAllHashes (hash_of suite) tree.now.tree) }
-    {
-        let mut hashes = self.hashes.as_slice().to_vec(alloc)?;
         let root = tree.leaf_count() - 1;
         let mut writer = Writer::new(alloc);
-        match put_path_hashes(
-            alloc,
-            suite,
-            tree,
-            leaf,
-            root,
-            hashes.as_mut_slice(),
-            &mut writer,
-        ) {
+        match put_hashes(alloc, suite, tree, root, &mut hashes, &mut writer) {
             Ok(_) => Ok(SubtreeHashes { hashes }),
             Err(HashFault::OutOfMemory) => Err(AllocError),
             Err(_) => unreachable!(),
@@ -181,6 +119,13 @@ impl SubtreeHashes {
     pub fn get(&self, place: u32) -> Option<HashValue>
         ensures { result ≡ slice_get self.now place }
     {
-        self.hashes.get(place as usize).map(value_of)
+        self.hashes.get(place)
+    }
+
+    /// How many bytes each hash has.
+    pub(crate) fn width(&self) -> usize
+        ensures { result ≤ 64 }
+    {
+        self.hashes.width()
     }
 }

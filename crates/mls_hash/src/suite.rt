@@ -1,13 +1,16 @@
 //! Cipher suites.
 
-ghost use Rattle.std.specs.Prelude.{◌≡◌, ℕ, Ok, Err};
+ghost use Rattle.std.specs.Prelude.{◌≡◌, ◌≤◌, ℕ, Ok, Err};
+ghost use Rattle.mls_tree.specs.Cells.{hash_by};
+ghost use Rattle.mls_hash.specs.Hashing.{hash_length, hash_of, kind_of};
 ghost use Rattle.mls_hash.specs.Suites.{IsSupported};
 
 use crate::fault::HashFault;
+use mls_tree::HashKind;
 use std::marker::Model;
 
 /// A cipher suite whose hash function is known, by its number in the registry (RFC 9420, 17.1): 1, 2 or 3, which
-/// hash with SHA-256.
+/// hash with SHA-256; 4, 5 or 6, which hash with SHA-512; or 7, which hashes with SHA-384.
 ///
 /// Contracts see it as its number.
 #[derive(Clone, Copy, Debug, PartialEq, Eq)]
@@ -29,13 +32,13 @@ impl Model for Suite {
 }
 
 impl Suite {
-    /// The suite with this number: 1, 2 or 3. Any other number is [`HashFault::UnsupportedSuite`].
+    /// The suite with this number, from 1 to 7. Any other number is [`HashFault::UnsupportedSuite`].
     pub fn from_u16(number: u16) -> Result<Suite, HashFault>
         ensures supported { IsSupported number → result ≡ Ok number }
         ensures unsupported { ¬ IsSupported number → result ≡ Err HashFault.UnsupportedSuite }
     {
         match number {
-            1..=3 => Ok(Suite { number }),
+            1..=7 => Ok(Suite { number }),
             _ => Err(HashFault::UnsupportedSuite),
         }
     }
@@ -46,5 +49,31 @@ impl Suite {
         ensures supported { IsSupported self }
     {
         self.number
+    }
+
+    /// The suite's hash function, by the name that a tree has for it where it keeps hashes.
+    #[tactic(auto, unfolding(mls_tree::specs::Cells::hash_by, crate::specs::Hashing::hash_of, crate::specs::Hashing::kind_of))]
+    pub fn kind(self) -> HashKind
+        ensures kind { result ≡ kind_of self }
+        ensures function { hash_by result ≡ hash_of self }
+    {
+        match self.number() {
+            1..=3 => HashKind::Sha256,
+            4..=6 => HashKind::Sha512,
+            _ => HashKind::Sha384,
+        }
+    }
+
+    /// How many bytes a hash of the suite has.
+    #[tactic(auto, unfolding(crate::specs::Hashing::hash_length))]
+    pub(crate) fn hash_len(self) -> usize
+        ensures length { result ≡ hash_length self }
+        ensures limit { result ≤ 64 }
+    {
+        match self.number() {
+            1..=3 => 32,
+            4..=6 => 64,
+            _ => 48,
+        }
     }
 }

@@ -19,6 +19,6 @@ returns-in_err-feed_vector-2 c =
 
 pub returns : goal.returns
 returns c =
-    both_held c.args.label.now c.args.value.now (hash_of c.args.suite) c.new-hasher.result c.feed_vector.new.hasher c.feed_vector-2.new.hasher c.finish.result c.new-hasher.ensures
+    both_held (hash_of c.args.suite) c.args.label.now c.args.value.now c.new-hasher.result c.feed_vector.new.hasher c.feed_vector-2.new.hasher c.finish.result c.new-hasher.ensures
     (subst (λ (x : List ℕ). HoldsMore (vector x) c.new-hasher.result c.feed_vector.new.hasher) c.as_bytes.ensures.value (c.in_ok-feed_vector.ensures))
-    (c.in_ok-feed_vector-2.ensures) c.finish.ensures
+    (c.in_ok-feed_vector-2.ensures) (c.finish.ensures (hash_of c.args.suite))

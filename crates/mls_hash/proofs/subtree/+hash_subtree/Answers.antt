@@ -1,5 +1,6 @@
 use Rattle.std.proofs.Common.{arith}
 use Rattle.mls_hash.specs.Hashing.{hash_of}
+use Rattle.mls_tree.specs.KeptTree.{plain}
 use Rattle.mls_tree.specs.RatchetTree.{RatchetTree}
 use Rattle.mls_tree.proofs.Descent.{right_lower}
 use Rattle.mls_hash.proofs.Answers.{parent_answer}
@@ -7,7 +8,7 @@ use Rattle.mls_hash.proofs.subtree.+hash_subtree.Goals as goal
 
 pub hash_subtree-requires-in-Some-Parent : goal.hash_subtree-requires-in-Some-Parent
 hash_subtree-requires-in-Some-Parent t c =
-    let tree : RatchetTree = c.args.tree.now in
+    let tree : RatchetTree = plain c.args.tree.now in
     let part = rw c.in-Some-Parent.field-0-is at c.in-Some-Parent.ensures in
     omega (arith, c.decreases, right_lower tree _ _ _ _ _ part)
 

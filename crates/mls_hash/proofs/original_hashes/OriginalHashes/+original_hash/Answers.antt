@@ -1,4 +1,5 @@
 use Rattle.std.proofs.Common.{ap, ◌∙◌, arith}
+use Rattle.mls_tree.specs.KeptTree.{plain}
 use Rattle.mls_tree.specs.RatchetTree.{RatchetTree}
 use Rattle.mls_tree.proofs.Descent.{depth, right_lower}
 use Rattle.mls_hash.specs.Hashing.{hash_of}
@@ -19,7 +20,7 @@ returns-in-Some-own_hash-clause-hash t c =
 
 pub original_hash-requires : goal.original_hash-requires
 original_hash-requires t c =
-    let tree : RatchetTree = c.args.tree.now in
+    let tree : RatchetTree = plain c.args.tree.now in
     let part = rw c.in-Some-Parent.field-0-is at c.in-Some-Parent.ensures in
     let cut = c.split-before.ensures in (
       omega (arith, c.decreases, ap depth part.left_child, ap depth part.whole),
@@ -28,7 +29,7 @@ original_hash-requires t c =
 
 pub original_hash-requires-in-Some-Parent : goal.original_hash-requires-in-Some-Parent
 original_hash-requires-in-Some-Parent t c =
-    let tree : RatchetTree = c.args.tree.now in
+    let tree : RatchetTree = plain c.args.tree.now in
     let part = rw c.in-Some-Parent.field-0-is at c.in-Some-Parent.ensures in
     let cut = c.split-before.ensures in (
       omega (arith, c.decreases, right_lower tree _ _ _ _ _ part),
@@ -38,7 +39,7 @@ original_hash-requires-in-Some-Parent t c =
 pub returns-in_ok-right-in-Some-Parent-clause-hash :
     goal.returns-in_ok-right-in-Some-Parent-clause-hash
 returns-in_ok-right-in-Some-Parent-clause-hash t c =
-    let tree : RatchetTree = c.args.tree.now in
+    let tree : RatchetTree = plain c.args.tree.now in
     let part = rw c.in-Some-Parent.field-0-is at c.in-Some-Parent.ensures in
     let cut = c.split-before.ensures in
     parent_answer tree.tree c.args.place _ _ _ _ part (hash_of c.args.suite) c.args.left_out.now c.in_ok-left-in-Some-Parent.left c.in_ok-right-in-Some-Parent.right c.hash_parent.result

@@ -1,4 +1,4 @@
-use Rattle.std.proofs.Common.{◌≡◌, ◌∙◌, sym, subst}
+use Rattle.std.proofs.Common.{◌≡◌, ◌∙◌, sym, subst, inl, inr}
 use Rattle.std.specs.Prelude.{option_copied}
 use Rattle.std.specs.List.Sorted.{IsNonDecreasing}
 use Rattle.mls_tree.specs.Parts.{HasChildren}
@@ -6,7 +6,6 @@ use Rattle.mls_hash.specs.Hashing.{hash_of}
 use Rattle.mls_hash.specs.OriginalHashes.{AreKnownHashes}
 use Rattle.mls_hash.proofs.Alike.{left_under, right_under}
 use Rattle.mls_hash.proofs.Known.{child_hashes, here, list_under, known_more}
-use Rattle.mls_hash.proofs.Lengths.{length-hashed}
 use Rattle.mls_hash.proofs.original_hashes.OriginalHashes.child_hashes.Goals.{then-not-is_empty+in_ok-own, else-not-is_empty}
 use Rattle.mls_hash.proofs.original_hashes.OriginalHashes.child_hashes.Goals as goal
 
@@ -35,9 +34,6 @@ original_hash-requires-2-clause-under c =
     right_under t _ _ _ _ _ part c.new-left_out.result _ _ cut.whole cut.front cut.rest
     (list_under t _ _ _ _ w.parent.now part c.new-left_out.result (c.new-left_out.ensures ∙ c.as_slice.ensures.items) c.requires.own_leaves)
 
-pub keep-requires : goal.keep-requires
-keep-requires c = length-hashed c.args.suite _ _ c.in_ok-own.ensures
-
 pub returns-clause-hashes : goal.returns-clause-hashes
 returns-clause-hashes c =
     let w = c.in-Some-Parent-Some-default-default-default in
@@ -58,9 +54,14 @@ returns-clause-known c =
     let known : AreKnownHashes H t c.original_hash-2.new.self = subst (λ k. AreKnownHashes H t k) (sym same) c.requires.known in
     elim c.if-not-is_empty.branch [
       | then-not-is_empty+in_ok-own w' ↦
-          subst (λ k. AreKnownHashes H t k) (sym (w'.self-is ∙ w'.keep.ensures))
-          (known_more t _ _ _ _ w.parent.now part c.new-left_out.result (c.new-left_out.ensures ∙ c.as_slice.ensures.items) H c.requires.own_leaves
-          _ _ cut.whole cut.front cut.rest c.in_ok-left.left c.in_ok-right.right c.in_ok-left.ensures.hash c.in_ok-right.ensures.hash
-          _ w'.in_ok-own.own (subst (λ k. AreKnownHashes H t k) (sym w'.self.view_is) known) w'.in_ok-own.ensures)
+          (let before = subst (λ k. AreKnownHashes H t k) (sym w'.self.view_is) known in
+          elim (w'.keep.ensures) [
+            | inl same ↦ subst (λ k. AreKnownHashes H t k) (sym (w'.self-is ∙ same)) before
+            | inr kept ↦
+                subst (λ k. AreKnownHashes H t k) (sym (w'.self-is ∙ kept))
+                (known_more t _ _ _ _ w.parent.now part c.new-left_out.result (c.new-left_out.ensures ∙ c.as_slice.ensures.items) H c.requires.own_leaves
+                _ _ cut.whole cut.front cut.rest c.in_ok-left.left c.in_ok-right.right c.in_ok-left.ensures.hash c.in_ok-right.ensures.hash
+                _ w'.in_ok-own.own before w'.in_ok-own.ensures)
+          ])
       | else-not-is_empty w' ↦ subst (λ k. AreKnownHashes H t k) (sym w'.self-is) known
     ]

@@ -7,7 +7,7 @@ use Rattle.mls_nodes.specs.Extension.{extension}
 use Rattle.mls_nodes.specs.Layout.{leaf, group_context}
 use Rattle.mls_msgs.specs.declared.key_package.KeyPackage.{KeyPackage}
 use Rattle.mls_msgs.specs.declared.proposal.Proposal.{Proposal}
-use Rattle.mls_msgs.specs.declared.proposal.Proposal.TheVariants.{Add, Update, Remove}
+use Rattle.mls_msgs.specs.declared.proposal.Proposal.TheVariants.{Add, Update, Remove, ContextExtensions}
 use Rattle.mls_msgs.specs.declared.proposal.ProposalOrRef.{ProposalOrRef}
 use Rattle.mls_msgs.specs.declared.proposal.ProposalOrRef.TheVariants as entries
 use Rattle.mls_msgs.specs.declared.commit.Ciphertext.{Ciphertext}
@@ -32,6 +32,7 @@ unfoldable pub proposal : Proposal → Option (List ℕ)
 proposal (Add k) = number w16 1 ⊕ key_package k
 proposal (Update l) = number w16 2 ⊕ leaf l
 proposal (Remove removed) = number w16 3 ⊕ number w32 removed
+proposal (ContextExtensions extensions) = number w16 7 ⊕ list extension extensions
 
 -- a ProposalOrRef: its type, and a proposal or a reference (12.4)
 unfoldable pub proposal_or_ref : ProposalOrRef → Option (List ℕ)

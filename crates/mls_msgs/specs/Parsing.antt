@@ -6,7 +6,7 @@ use Rattle.mls_wire.specs.Parsing.{◌>>=◌, number_at, vector_at, list_at, opt
 use Rattle.mls_nodes.specs.Parsing.{extension_at, leaf_at, group_context_at}
 use Rattle.mls_msgs.specs.declared.key_package.KeyPackage.{KeyPackage}
 use Rattle.mls_msgs.specs.declared.proposal.Proposal.{Proposal}
-use Rattle.mls_msgs.specs.declared.proposal.Proposal.TheVariants.{Add, Update, Remove}
+use Rattle.mls_msgs.specs.declared.proposal.Proposal.TheVariants.{Add, Update, Remove, ContextExtensions}
 use Rattle.mls_msgs.specs.declared.proposal.ProposalOrRef.{ProposalOrRef}
 use Rattle.mls_msgs.specs.declared.proposal.ProposalOrRef.TheVariants as entries
 use Rattle.mls_msgs.specs.declared.commit.Ciphertext.{Ciphertext}
@@ -48,6 +48,7 @@ proposal_at i = do
   if nat_eq kind.0 1 then (key_package_at kind.1 >>= λ x. Some (Add x.0, x.1))
       else if nat_eq kind.0 2 then (leaf_at kind.1 >>= λ x. Some (Update x.0, x.1))
       else if nat_eq kind.0 3 then (number_at w32 kind.1 >>= λ x. Some (Remove x.0, x.1))
+      else if nat_eq kind.0 7 then (list_at extension_at kind.1 >>= λ x. Some (ContextExtensions x.0, x.1))
       else None
 
 -- an entry of a commit's list

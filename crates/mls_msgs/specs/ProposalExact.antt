@@ -15,9 +15,10 @@ use Rattle.mls_msgs.specs.Layout.{key_package, proposal, proposal_or_ref}
 use Rattle.mls_msgs.specs.Parsing.{key_package_at, proposal_at, proposal_or_ref_at}
 use Rattle.mls_msgs.specs.declared.key_package.KeyPackage.{KeyPackage}
 use Rattle.mls_msgs.specs.declared.proposal.Proposal.{Proposal}
-use Rattle.mls_msgs.specs.declared.proposal.Proposal.TheVariants.{Add, Update, Remove}
+use Rattle.mls_msgs.specs.declared.proposal.Proposal.TheVariants.{Add, Update, Remove, ContextExtensions}
 use Rattle.mls_msgs.specs.declared.proposal.ProposalOrRef.{ProposalOrRef}
 use Rattle.mls_msgs.specs.declared.proposal.ProposalOrRef.TheVariants as entries
+use Rattle.mls_nodes.specs.declared.extension.Extension.{Extension}
 use Rattle.mls_nodes.specs.declared.leaf.LeafNode.{LeafNode}
 
 pub key_package_exact : IsExact key_package key_package_at
@@ -43,38 +44,51 @@ abbrev proposal_kind : Proposal → ℕ
 proposal_kind (Add k) = 1
 proposal_kind (Update l) = 2
 proposal_kind (Remove removed) = 3
+proposal_kind (ContextExtensions extensions) = 7
 
 -- what follows the type
 abbrev proposal_body : Proposal → Option (List ℕ)
 proposal_body (Add k) = key_package k
 proposal_body (Update l) = leaf l
 proposal_body (Remove removed) = number w32 removed
+proposal_body (ContextExtensions extensions) = list extension extensions
 
 proposal_parts : (p : Proposal) → number w16 (proposal_kind p) ⊕ proposal_body p ≡ proposal p
 unfolding proposal
 proposal_parts (Add k) = refl
 proposal_parts (Update l) = refl
 proposal_parts (Remove removed) = refl
+proposal_parts (ContextExtensions extensions) = refl
 
 is_add : (p : Proposal) → Unit {0} × (proposal_kind p ≡ 1) → (x : KeyPackage) × (Add x ≡ p)
 is_add (Add x) p = (x, refl)
 is_add (Update x) p = absurd (omega arith)
 is_add (Remove x) p = absurd (omega arith)
+is_add (ContextExtensions x) p = absurd (omega arith)
 
 is_update : (p : Proposal) → Unit {0} × (proposal_kind p ≡ 2) → (x : LeafNode) × (Update x ≡ p)
 is_update (Add x) p = absurd (omega arith)
 is_update (Update x) p = (x, refl)
 is_update (Remove x) p = absurd (omega arith)
+is_update (ContextExtensions x) p = absurd (omega arith)
 
 is_remove : (p : Proposal) → Unit {0} × (proposal_kind p ≡ 3) → (x : ℕ) × (Remove x ≡ p)
 is_remove (Add x) p = absurd (omega arith)
 is_remove (Update x) p = absurd (omega arith)
 is_remove (Remove x) p = (x, refl)
+is_remove (ContextExtensions x) p = absurd (omega arith)
 
-no_proposal : (n : ℕ) → n ≢ 1 → n ≢ 2 → n ≢ 3 → (p : Proposal) → Unit {0} × (proposal_kind p ≡ n) → ⊥
-no_proposal n x y z (Add _) p = x (sym p.1)
-no_proposal n x y z (Update _) p = y (sym p.1)
-no_proposal n x y z (Remove _) p = z (sym p.1)
+is_extensions : (p : Proposal) → Unit {0} × (proposal_kind p ≡ 7) → (x : List Extension) × (ContextExtensions x ≡ p)
+is_extensions (Add x) p = absurd (omega arith)
+is_extensions (Update x) p = absurd (omega arith)
+is_extensions (Remove x) p = absurd (omega arith)
+is_extensions (ContextExtensions x) p = (x, refl)
+
+no_proposal : (n : ℕ) → n ≢ 1 → n ≢ 2 → n ≢ 3 → n ≢ 7 → (p : Proposal) → Unit {0} × (proposal_kind p ≡ n) → ⊥
+no_proposal n x y z w (Add _) p = x (sym p.1)
+no_proposal n x y z w (Update _) p = y (sym p.1)
+no_proposal n x y z w (Remove _) p = z (sym p.1)
+no_proposal n x y z w (ContextExtensions _) p = w (sym p.1)
 
 pub proposal_exact : IsExact proposal proposal_at
 unfolding proposal_at
@@ -83,13 +97,15 @@ proposal_exact = spelled_as Any proposal _ proposal_at proposal_parts
     (λ n. tag_is proposal_kind _ _ _ n 1 (made_of _ Add key_package _ key_package_at key_package_exact (λ x. (tt, refl)) (λ x. refl) is_add)
     (λ x. tag_is proposal_kind _ _ _ n 2 (made_of _ Update leaf _ leaf_at leaf_exact (λ x. (tt, refl)) (λ x. refl) is_update)
     (λ y. tag_is proposal_kind _ _ _ n 3 (made_of _ Remove (number w32) _ (number_at w32) (number_exact w32 wide32) (λ x. (tt, refl)) (λ x. refl) is_remove)
-    (λ z. never _ _ (no_proposal n x y z))))))
+    (λ z. tag_is proposal_kind _ _ _ n 7 (made_of _ ContextExtensions (list extension) _ (list_at extension_at) extensions_exact (λ x. (tt, refl)) (λ x. refl) is_extensions)
+    (λ w. never _ _ (no_proposal n x y z w)))))))
 
 pub proposal_long : IsLong proposal
 unfolding proposal
 proposal_long (Add k) front h = long_left (number w16 1) _ front (number_long w16 wide16 1) h
 proposal_long (Update l) front h = long_left (number w16 2) _ front (number_long w16 wide16 2) h
 proposal_long (Remove n) front h = long_left (number w16 3) _ front (number_long w16 wide16 3) h
+proposal_long (ContextExtensions es) front h = long_left (number w16 7) _ front (number_long w16 wide16 7) h
 
 -- ---- the kinds of an entry
 

@@ -7,7 +7,7 @@ ghost use Rattle.mls_msgs.specs.Layout.{proposal};
 
 use crate::fault::bad_tag;
 use crate::key_package::KeyPackage;
-use mls_nodes::LeafNode;
+use mls_nodes::{Extensions, LeafNode};
 use mls_wire::{
     CodecFault, Decode, Draft, Encode, Opaque, Reader, TryClone, add_sizes, bytes_of, read_all_of,
 };
@@ -22,6 +22,8 @@ pub enum Proposal {
     Update(LeafNode),
     /// The member at this leaf is to be removed (RFC 9420, 12.1.3).
     Remove(u32),
+    /// These are to take the place of the group context's extensions (RFC 9420, 12.1.7).
+    ContextExtensions(Extensions),
 }
 
 /// An entry of a commit's list of proposals (RFC 9420, 12.4).
@@ -49,6 +51,7 @@ impl Decode for Proposal {
             1 => Proposal::Add(KeyPackage::read(alloc, &mut ahead)?),
             2 => Proposal::Update(LeafNode::read(alloc, &mut ahead)?),
             3 => Proposal::Remove(u32::read(alloc, &mut ahead)?),
+            7 => Proposal::ContextExtensions(Extensions::read(alloc, &mut ahead)?),
             kind => return Err(bad_tag(kind, reader.offset())),
         };
         *reader = ahead;
@@ -67,6 +70,7 @@ impl Encode for Proposal {
             Proposal::Add(key_package) => add_sizes(Some(2), key_package.size()),
             Proposal::Update(leaf_node) => add_sizes(Some(2), leaf_node.size()),
             Proposal::Remove(leaf_index) => add_sizes(Some(2), leaf_index.size()),
+            Proposal::ContextExtensions(extensions) => add_sizes(Some(2), extensions.size()),
         }
     }
 
@@ -84,6 +88,10 @@ impl Encode for Proposal {
             Proposal::Remove(leaf_index) => {
                 draft.put_u16(3)?;
                 draft.put_u32(*leaf_index)
+            }
+            Proposal::ContextExtensions(extensions) => {
+                draft.put_u16(7)?;
+                extensions.put(alloc, draft)
             }
         }
     }
@@ -145,11 +153,15 @@ impl TryClone for Proposal {
             Proposal::Add(key_package) => Ok(Proposal::Add(key_package.try_clone(alloc)?)),
             Proposal::Update(leaf_node) => Ok(Proposal::Update(leaf_node.try_clone(alloc)?)),
             Proposal::Remove(leaf_index) => Ok(Proposal::Remove(*leaf_index)),
+            Proposal::ContextExtensions(extensions) => {
+                Ok(Proposal::ContextExtensions(extensions.try_clone(alloc)?))
+            }
         }
     }
 }
 
-/// The proposal that all of the bytes spell. `BadTag` for a type other than add 1, update 2 and remove 3.
+/// The proposal that all of the bytes spell. `BadTag` for a type other than add 1, update 2, remove 3 and
+/// group_context_extensions 7.
 pub fn decode_proposal(alloc: Global, bytes: &[u8]) -> Result<Proposal, CodecFault>
     ensures decoded { DecodesAll proposal bytes.now result }
 {

@@ -1,10 +1,13 @@
 //! Laws of the spellings: bytes tell values apart, and a tree that is filled up is the same tree.
 
-ghost use Rattle.std.specs.Prelude.{◌≡◌, ◌≤◌, ◌+◌, ◌-◌, ◌^◌, ℕ, List, Option, Some, None, length, take, drop, All};
+ghost use Rattle.std.specs.Prelude.{◌≡◌, ◌↔◌, ◌≤◌, ◌+◌, ◌-◌, ◌^◌, ℕ, List, Option, Some, None, length, take, drop, All};
 ghost use Rattle.mls_wire.specs.Spelling.{list, vector};
 ghost use Rattle.mls_nodes.specs.Extension.{extension};
 ghost use Rattle.mls_nodes.specs.Layout.{credential, codes, capabilities, lifetime, source, leaf, unmerged, parent, node, required_capabilities, group_context};
 ghost use Rattle.mls_nodes.specs.RatchetTree.{ratchet_tree, trimmed, filled};
+ghost use Rattle.mls_nodes.specs.Requirements.{RequiresBy, required_by};
+ghost use Rattle.mls_nodes.specs.declared.extension.Extension.{Extension};
+ghost use Rattle.mls_nodes.specs.declared.required_capabilities.RequiredCapabilities.{RequiredCapabilities};
 ghost use Rattle.mls_nodes.specs.Value.{NodeValue};
 ghost use Rattle.mls_wire.specs.Spelling.{IsUnambiguous};
 
@@ -42,4 +45,11 @@ pub fn filling()
     ensures again { (nodes : List (Option NodeValue)) (bytes : List ℕ)
         → ratchet_tree nodes ≡ Some bytes
         → trimmed (filled nodes) ≡ nodes }
+{}
+
+/// What a group with these extensions requires can be computed: the word that rules use tells it, and tells nothing
+/// where the extension's data spells no requirements.
+pub fn requirements_are_told()
+    ensures { (extensions : List Extension) (required : RequiredCapabilities)
+        → (required_by extensions ≡ Some required) ↔ RequiresBy extensions required }
 {}

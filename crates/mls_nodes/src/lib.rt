@@ -33,6 +33,8 @@ pub use lists::{CertChain, Codes, Extensions};
 pub use node::Node;
 pub use parent::{ParentNode, write_parent};
 pub use ratchet_tree::{decode_ratchet_tree, encode_ratchet_tree};
-pub use required_capabilities::{RequiredCapabilities, find_extension, requirements};
+pub use required_capabilities::{
+    RequiredCapabilities, find_extension, requirements, requirements_of,
+};
 pub use signed::{leaf_tbs, put_leaf_tbs};
 pub use unmerged::{MAX_UNMERGED, Unmerged};

@@ -5,7 +5,7 @@ ghost use Rattle.mls_nodes.specs.Requirements.{extension_of, FindsRequirements};
 
 use crate::context::GroupContext;
 use crate::extension::Extension;
-use crate::lists::Codes;
+use crate::lists::{Codes, Extensions};
 use mls_wire::{
     CodecFault, Decode, Draft, Encode, Opaque, Reader, TryClone, add_sizes, read_all_of,
 };
@@ -115,16 +115,16 @@ fn no_codes(alloc: Global) -> Codes
     }
 }
 
-/// What the group requires: the data of its first extension of type 3, and empty lists where it has
-/// none, which takes no memory. Refused for another cause than memory exactly where that data spells no
-/// requirements.
-pub fn requirements(
+/// What a group with these extensions requires: the data of the first one of type 3, and empty lists where
+/// there is none, which takes no memory. Refused for another cause than memory exactly where that data spells
+/// no requirements.
+pub fn requirements_of(
     alloc: Global,
-    context: &GroupContext,
+    extensions: &Extensions,
 ) -> Result<RequiredCapabilities, CodecFault>
-    ensures { FindsRequirements (extension_of 3 context.now.extensions) result }
+    ensures { FindsRequirements (extension_of 3 extensions.now) result }
 {
-    match find_extension(context.extensions.as_slice(), REQUIRED_CAPABILITIES) {
+    match find_extension(extensions.as_slice(), REQUIRED_CAPABILITIES) {
         Some(body) => read_all_of(alloc, body.as_slice()),
         None => Ok(RequiredCapabilities {
             extensions: no_codes(alloc),
@@ -132,4 +132,14 @@ pub fn requirements(
             credentials: no_codes(alloc),
         }),
     }
+}
+
+/// What the group requires, by its context's extensions, as [`requirements_of`] says.
+pub fn requirements(
+    alloc: Global,
+    context: &GroupContext,
+) -> Result<RequiredCapabilities, CodecFault>
+    ensures { FindsRequirements (extension_of 3 context.now.extensions) result }
+{
+    requirements_of(alloc, &context.extensions)
 }

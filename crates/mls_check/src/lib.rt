@@ -21,7 +21,7 @@ mod support;
 mod valid;
 
 pub use distinct::has_distinct_keys;
-pub use members::{MemberFault, is_leaf_signed, validate_members};
-pub use receipts::{Listed, ReceiptsFault};
-pub use signatures::{OutOfMemory, SignatureCheck, Trusting, signed};
-pub use valid::{TreeFault, validate_tree, validate_tree_by};
+pub use members::{LEAF_NODE_TBS, MemberFault, is_leaf_signed, validate_members};
+pub use receipts::{Listed, ReceiptsFault, receipt};
+pub use signatures::{OutOfMemory, SignatureCheck, Trusting, sign_content, signed};
+pub use valid::{TreeFault, validate_tree};

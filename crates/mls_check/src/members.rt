@@ -22,7 +22,7 @@ use std::mem::replace;
 use thiserror::Error;
 
 /// The label under which members sign their leaf nodes (RFC 9420, 7.2).
-const LEAF_NODE_TBS: &str = "MLS 1.0 LeafNodeTBS";
+pub const LEAF_NODE_TBS: &str = "MLS 1.0 LeafNodeTBS";
 
 /// Why the leaves of a tree are no members: the first rule that fails at some leaf, and the smallest leaf at which it
 /// fails.

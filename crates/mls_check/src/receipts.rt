@@ -158,8 +158,8 @@ fn update_vector(hasher: &mut Sha256, body: &[u8]) -> Option<()>
     Some(())
 }
 
-/// The digest of a receipt; None where an argument is too long for a vector.
-fn receipt(suite: u16, key: &[u8], content: &[u8], signature: &[u8]) -> Option<[u8; 32]>
+/// The digest that stands in a file of receipts for a good signature; `None` where an argument is too long for a vector.
+pub fn receipt(suite: u16, key: &[u8], content: &[u8], signature: &[u8]) -> Option<[u8; 32]>
     ensures { result ≡ option_map sha256 (receipt_input suite key.now content.now signature.now) }
 {
     let mut hasher = Sha256::new();

@@ -62,9 +62,10 @@ impl From<AllocError> for OutOfMemory {
     }
 }
 
-/// The SignContent of a label and a content (RFC 9420, 5.1.2).
+/// The SignContent of a label and a content (RFC 9420, 5.1.2). The fault is one of the vectors that are too long, or want
+/// of memory.
 #[tactic(auto, using(mls_wire::specs::Written::written), unfolding(crate::specs::Signatures::sign_content))]
-fn sign_content(alloc: Global, label: &str, content: &[u8]) -> Result<Vec<u8>, CodecFault>
+pub fn sign_content(alloc: Global, label: &str, content: &[u8]) -> Result<Vec<u8>, CodecFault>
     ensures { Makes (sign_content label.now content.now) (seen (λ v. v.items) result) }
 {
     let mut draft = Draft::new(alloc);

@@ -86,7 +86,7 @@ pub fn validate_tree(
 }
 
 /// [`validate_tree`], by the hashes of the tree's subtrees.
-pub fn validate_tree_by(
+fn validate_tree_by(
     alloc: Global,
     suite: Suite,
     context: &GroupContext,

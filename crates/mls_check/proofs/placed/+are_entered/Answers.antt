@@ -3,6 +3,7 @@ use Rattle.std.specs.Prelude.{◌&&◌}
 use Rattle.std.specs.List.{list_all}
 use Rattle.std.proofs.lemmas.Bool.{false≢true}
 use Rattle.mls_tree.specs.Tree.{subtree_at}
+use Rattle.mls_tree.specs.KeptTree.{plain}
 use Rattle.mls_tree.specs.RatchetTree.{RatchetTree}
 use Rattle.mls_tree.proofs.Descent.{right_lower}
 use Rattle.mls_check.specs.Entered.{is_entered_at}
@@ -36,7 +37,7 @@ are_entered-requires t c =
 
 pub are_entered-requires-then-are_entered : goal.are_entered-requires-then-are_entered
 are_entered-requires-then-are_entered t c =
-    let tree : RatchetTree = c.args.tree.now in
+    let tree : RatchetTree = plain c.args.tree.now in
     let h = rw c.in-Some-Parent.field-0-is at c.in-Some-Parent.ensures in (
       omega (arith, c.decreases, right_lower tree _ _ _ _ _ h),
       (c.requires.sorted, right-rises c.args.leaves.now c.split_leaves.result.0.now c.split_leaves.result.1.now c.split_leaves.ensures.whole c.requires.rising),

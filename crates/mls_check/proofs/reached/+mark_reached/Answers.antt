@@ -1,4 +1,5 @@
 use Rattle.std.proofs.Common.{arith}
+use Rattle.mls_tree.specs.KeptTree.{plain}
 use Rattle.mls_tree.specs.RatchetTree.{RatchetTree}
 use Rattle.mls_hash.specs.Hashing.{hash_of}
 use Rattle.mls_tree.proofs.Descent.{right_lower, inside_bound}
@@ -7,7 +8,7 @@ use Rattle.mls_check.proofs.reached.+mark_reached.Goals as goal
 
 pub mark_reached-requires-2 : goal.mark_reached-requires-2
 mark_reached-requires-2 t c =
-    let tree : RatchetTree = c.args.tree.now in
+    let tree : RatchetTree = plain c.args.tree.now in
     let h = rw c.in-Some-Parent.field-0-is at c.in-Some-Parent.ensures in
     (omega (arith, c.decreases, right_lower tree _ _ _ _ _ h), (c.mark_reached.ensures.known, (c.requires.sorted, (c.requires.placed, (omega (arith, c.requires.room, c.mark_reached.auto.reached), c.in_ok-mark_reached.ensures.sound)))))
 

@@ -1,17 +1,18 @@
 use Rattle.std.proofs.Common.{◌≡◌, ◌∙◌, ◌-◌, sym, subst, length, vec_len}
+use Rattle.std.proofs.lemmas.List.{take_at}
 use Rattle.mls_hash.specs.Hashing.{hash_of}
+use Rattle.mls_tree.specs.KeptTree.{plain}
 use Rattle.mls_tree.specs.RatchetTree.{RatchetTree}
 use Rattle.mls_tree.proofs.Coordinates.{root-seen}
 use Rattle.mls_check.specs.Marks.{AreSound, AreAllMarkedAt}
-use Rattle.mls_hash.proofs.Filling.{written_back}
 use Rattle.mls_check.proofs.Marking.{reached-marked}
 use Rattle.mls_check.proofs.reached.first_unreached.Goals as goal
 
 pub returns : goal.returns
 returns c =
-    let tree : RatchetTree = c.args.tree.now in
-    let long : vec_len c.in_ok-reached.reached ≡ length c.mark_reached.new.reached = sym (c.mark_reached.auto.reached ∙ c.as_mut_slice.ensures.len) in
-    let same : c.mark_reached.new.reached ≡ c.as_slice.result.now = sym (c.as_slice.ensures.value ∙ written_back c.mark_reached.new.reached _ _ long) in
+    let tree : RatchetTree = plain c.args.tree.now in
+    let long : length c.mark_reached.new.reached ≡ vec_len c.in_ok-reached.reached = c.mark_reached.auto.reached ∙ c.as_mut_slice.ensures.len in
+    let same : c.mark_reached.new.reached ≡ c.as_slice.result.now = sym (c.as_slice.ensures.value ∙ take_at c.mark_reached.new.reached _ _ long) in
     let sound = subst (λ ms. AreSound (hash_of c.args.suite) tree.tree ms) same c.in_ok-mark_reached.ensures.sound in
     let marked = subst (λ ms. AreAllMarkedAt (hash_of c.args.suite) tree.tree ms (c.leaf_count-root.result - 1)) same c.in_ok-mark_reached.ensures.marked in
     reached-marked (hash_of c.args.suite) tree.tree c.as_slice.result.now sound

@@ -6,7 +6,7 @@ use Rattle.std.proofs.lemmas.List.{append_assoc, append-nil, drop_all}
 use Rattle.mls_nodes.specs.declared.leaf.LeafNode.{LeafNode}
 use Rattle.mls_msgs.specs.declared.key_package.KeyPackage.{KeyPackage}
 use Rattle.mls_msgs.specs.declared.proposal.Proposal.{Proposal}
-use Rattle.mls_msgs.specs.declared.proposal.Proposal.TheVariants.{Add, Update, Remove}
+use Rattle.mls_msgs.specs.declared.proposal.Proposal.TheVariants.{Add, Update, Remove, ContextExtensions}
 use Rattle.mls_nodes.specs.Limits.{leaf_limit}
 use Rattle.mls_tree.specs.Tree.{Tree, height, leaf_count, member_count, leaf_at}
 use Rattle.mls_tree.specs.Blanks.{first_blank_leaf, IsFirstBlank, AllLeavesSet, AreSetBelow}
@@ -29,6 +29,7 @@ same_members : (p : Proposal) (xs : List LeafNode) → is_add p ≡ false → ad
 same_members (Add k) xs e = absurd (false≢true (sym e))
 same_members (Update x) xs e = refl
 same_members (Remove i) xs e = refl
+same_members (ContextExtensions es) xs e = refl
 
 pub new_members-add : (x : ListItem) (xs : List ListItem) → is_add x.proposal ≡ true → length (new_members (x ∷ xs)) ≡ length (new_members xs) + 1
 unfolding new_members
@@ -38,6 +39,7 @@ new_members-add x xs e = go x.proposal e
     go (Add k) e = omega arith
     go (Update y) e = absurd (false≢true e)
     go (Remove i) e = absurd (false≢true e)
+    go (ContextExtensions es) e = absurd (false≢true e)
 
 pub new_members-other : (x : ListItem) (xs : List ListItem) → is_add x.proposal ≡ false → length (new_members (x ∷ xs)) ≡ length (new_members xs)
 unfolding new_members
@@ -132,6 +134,7 @@ no_add : (p : Proposal) → ((k : KeyPackage) → p ≡ Add k → ⊥) → is_ad
 no_add (Add k) none = absurd (none k refl)
 no_add (Update x) none = refl
 no_add (Remove i) none = refl
+no_add (ContextExtensions es) none = refl
 
 one_more : (added : List ℕ) (j : ℕ) (o : Option Grown)
     → option_map (behind added) (option_map (after_leaf j) o) ≡ option_map (behind (added ++ j ∷ [])) o

@@ -1,5 +1,5 @@
 -- A merged tree differs from the tree before at most at the committer's leaf and at the parents above it.
-use Rattle.std.proofs.Common.{◌≡◌, ℕ, ◌+◌, ◌*◌, ◌<◌, ◌≤◌, List, [], Option, Some, None, refl, sym, ap, ◌∙◌, subst, arith, inl, inr}
+use Rattle.std.proofs.Common.{◌≡◌, ℕ, ◌+◌, ◌*◌, ◌<◌, ◌≤◌, List, [], ◌∷◌, Option, Some, None, refl, sym, ap, ◌∙◌, subst, arith, inl, inr}
 use Rattle.std.specs.Prelude.{option_map, option_and_then, reverse}
 use Rattle.std.proofs.lemmas.Bool.{cases_lt, cases_order}
 use Rattle.mls_nodes.specs.declared.leaf.LeafNode.{LeafNode}
@@ -72,7 +72,8 @@ module _ (H : List ℕ → List ℕ) (leaves i : ℕ) (x : LeafNode) where
       other p (2 * first) (Some (record { first = first; tree = leaf y })) None away ∙ sym (other p (2 * first) (Some (record { first = first; tree = leaf z })) None away)
 
   like-merged : (first : ℕ) (s : Tree) (hash : List ℕ) (keys : List (List ℕ)) → first ≤ i → i < first + leaf_count s → OfTree (IsLike first i s) (merged_from H leaves first s i x hash keys)
-  like-merged first (leaf y) hash keys from to = record {
+  like-merged first (leaf y) hash (_ ∷ _) from to = tt
+  like-merged first (leaf y) hash [] from to = record {
     size = refl;
     beside = λ p none. elim (cases_order p (2 * first)) [
       | inl at ↦ absurd (none (record { first = first; tree = leaf (Some x) }, same p (2 * first) (Some (record { first = first; tree = leaf (Some x) })) None at, (from, to)))

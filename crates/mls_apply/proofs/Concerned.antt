@@ -1,6 +1,6 @@
 -- Leaves that Updates and Removes concern, for a walk along a list of them.
 use Rattle.std.proofs.Common.{◌≡◌, ◌≤◌, drop, ◌∙◌, ℕ, Bool, true, false, List, [], ◌∷◌, Option, Some, None, length, refl, sym, ap, arith, cond, BTreeSet}
-use Rattle.std.specs.Prelude.{◌==◌, ◌&&◌, ◌||◌, not, is_some}
+use Rattle.std.specs.Prelude.{◌==◌, ◌&&◌, ◌||◌, not}
 use Rattle.std.specs.List.{list_any}
 use Rattle.std.specs.Ordering.{nat_cmp, is_eq}
 use Rattle.std.specs.BTreeSet.{contains, IsEmpty}
@@ -8,7 +8,7 @@ use Rattle.std.proofs.lemmas.Bool.{false≢true}
 use Rattle.std.proofs.lemmas.List.{drop_all}
 use Rattle.std.proofs.lemmas.Bool.Decides.{nat_tests}
 use Rattle.mls_apply.specs.declared.item.ListItem.{ListItem}
-use Rattle.mls_apply.specs.ListRules.{concerned_leaf, is_leaf_number, concerns, concern_once, needs_path}
+use Rattle.mls_apply.specs.ListRules.{concerned_leaf, is_leaf_number, concerns, concern_once}
 
 -- whether a leaf is one of those that f tells
 abbrev pub is_told : (ℕ → Bool) → Option ℕ → Bool
@@ -28,9 +28,6 @@ are_apart-none f h (x ∷ xs) = go (concerned_leaf x.sender x.proposal) (are_apa
     go : (c : Option ℕ) → are_apart f xs ≡ true → (not (is_told f c) && are_apart f xs) ≡ true
     go None e = e
     go (Some i) e = ap (λ b. not b && are_apart f xs) (h i) ∙ e
-
-length_cons : (x : ListItem) (xs : List ListItem) → (length (x ∷ xs) == 0) ≡ false
-length_cons x xs = grind (arith, nat_tests)
 
 -- a leaf is told besides
 regrouped : (p q a c : Bool) → (not (p || q) && (a && not c)) ≡ ((not q && a) && not (p || c))
@@ -54,19 +51,6 @@ are_apart-more f g i h (x ∷ xs) = go (concerned_leaf x.sender x.proposal) (are
     go (Some j) e =
         ap (λ b. not b && are_apart g xs) (h j) ∙ ap (λ b. not ((j == i) || f j) && b) e
         ∙ regrouped (j == i) (f j) (are_apart f xs) (concerns xs (Some i))
-
--- an empty list needs a path
-pub needs_path-empty : (xs : List ListItem) (empty : Bool) → empty ≡ (length xs == 0) → empty ≡ true → empty ≡ needs_path xs
-unfolding needs_path
-needs_path-empty [] empty e t = t
-needs_path-empty (x ∷ xs) empty e t = absurd (false≢true (sym (e ∙ length_cons x xs) ∙ t))
-
--- another one where it concerns a leaf
-pub needs_path-filled : (xs : List ListItem) (empty some : Bool) → empty ≡ (length xs == 0) → empty ≡ false
-    → some ≡ list_any (λ x. is_some (concerned_leaf x.sender x.proposal)) xs → some ≡ needs_path xs
-unfolding needs_path
-needs_path-filled [] empty some e f h = absurd (false≢true (sym f ∙ e))
-needs_path-filled (x ∷ xs) empty some e f h = h
 
 -- ---- a walk along the list, with the set of the leaves that were concerned
 

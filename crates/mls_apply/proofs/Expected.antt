@@ -91,7 +91,8 @@ module _ (H : List ℕ → List ℕ) (short : (m : List ℕ) → IsSome (vector 
 
     pub hashes_there : (first : ℕ) (t : Tree) (hash : List ℕ) (keys : List (List ℕ)) → IsSome (tree_hash H first t) → IsSome (vector hash) → AreKeys keys
         → length keys ≡ length (filtered_direct_path leaves first t i) → IsSome (hashes_from H leaves first t i hash keys)
-    hashes_there first (leaf y) hash keys there l ks long = refl
+    hashes_there first (leaf y) hash [] there l ks long = refl
+    hashes_there first (leaf y) hash (_ ∷ _) there l ks long = absurd (omega (arith, long))
     hashes_there first (branch a p b) hash keys there l ks long =
         let halves = parts_some H p (tree_hash H first a) (tree_hash H (first + leaf_count a) b) there in
         go halves.0 halves.2 (nat_lt i (first + leaf_count a)) (λ m g. hashes_there first a m g halves.0) (λ m g. hashes_there (first + leaf_count a) b m g halves.2) long
@@ -136,7 +137,8 @@ module _ (H : List ℕ → List ℕ) (leaves i : ℕ) (x : LeafNode) where
   -- where there are hashes expected
   pub merged_there : (first : ℕ) (t : Tree) (hash : List ℕ) (keys : List (List ℕ)) → IsSome (hashes_from H leaves first t i hash keys)
       → IsSome (merged_from H leaves first t i x hash keys)
-  merged_there first (leaf y) hash keys h = refl
+  merged_there first (leaf y) hash [] h = refl
+  merged_there first (leaf y) hash (_ ∷ _) h = absurd cc
   merged_there first (branch a p b) hash keys h =
       go (nat_lt i (first + leaf_count a)) (λ m g. merged_there first a m g) (λ m g. merged_there (first + leaf_count a) b m g) h
     where

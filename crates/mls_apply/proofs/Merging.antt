@@ -266,7 +266,8 @@ module _ (H : List ℕ → List ℕ) (leaves : ℕ) where
     merge_made : (first : ℕ) (t : Tree) (hash : List ℕ) (keys : List (List ℕ)) (new : Tree) (hs : List (List ℕ))
         → merged_from H leaves first t i x hash keys ≡ Some new → hashes_from H leaves first t i hash keys ≡ Some hs
         → IsMade first t new hash hs (filtered_direct_path leaves first t i)
-    merge_made first (leaf y) hash keys new hs e f =
+    merge_made first (leaf y) hash (_ ∷ _) new hs e f = absurd (none-some new e)
+    merge_made first (leaf y) hash [] new hs e f =
         let a = same_Some (leaf (Some x)) new e in
         let b = same_Some (hash ∷ []) hs f in
         let m : IsMade first (leaf y) (leaf (Some x)) hash (hash ∷ []) [] = record {

@@ -4,7 +4,7 @@ use Rattle.std.specs.Prelude.{nat_le, if◌then◌else◌, is_some, option_and_t
 use Rattle.std.proofs.lemmas.Bool.{false≢true, or_parts}
 use Rattle.mls_nodes.specs.Limits.{leaf_limit}
 use Rattle.mls_msgs.specs.declared.proposal.Proposal.{Proposal}
-use Rattle.mls_msgs.specs.declared.proposal.Proposal.TheVariants.{Add, Update, Remove}
+use Rattle.mls_msgs.specs.declared.proposal.Proposal.TheVariants.{Add, Update, Remove, ContextExtensions}
 use Rattle.mls_tree.specs.Tree.{Tree, member_count}
 use Rattle.mls_apply.specs.ListRules.{concerned_leaf, has_concerned_leaf}
 use Rattle.mls_apply.specs.Outcome.{after_update, after_updates, after_remove, after_removes, after_adds, new_members, without_adds, with_members, outcome}
@@ -46,6 +46,7 @@ adds_alone : (sender : ℕ) (p : Proposal) (t : Tree) → is_some (concerned_lea
 adds_alone sender (Add k) t e = (refl, refl)
 adds_alone sender (Update x) t e = absurd (false≢true (sym e))
 adds_alone sender (Remove i) t e = absurd (false≢true (sym e))
+adds_alone sender (ContextExtensions es) t e = (refl, refl)
 
 pub updates-no_leaf : (items : List ListItem) (t : Tree) → has_concerned_leaf items ≡ false → after_updates items t ≡ Some t
 unfolding after_updates

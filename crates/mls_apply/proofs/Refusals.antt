@@ -1,8 +1,9 @@
 -- The first rule that fails, of those for the keys of a path and of those for a path.
-use Rattle.std.proofs.Common.{◌≡◌, ◌≢◌, ◌↔◌, ℕ, List, [], ◌∷◌, length, Option, Some, None, Result, Err, Bool, true, false, refl, sym, ap, ◌∙◌, arith}
+use Rattle.std.proofs.Common.{◌≡◌, ◌≢◌, ◌↔◌, ℕ, List, [], ◌∷◌, length, Option, Some, None, Result, Ok, Err, Bool, true, false, refl, sym, ap, ◌∙◌, arith}
 use Rattle.std.specs.Prelude.{is_some, ◌==◌, map, option_map, reverse}
 use Rattle.std.proofs.lemmas.Bool.{false≢true}
 use Rattle.std.proofs.lemmas.Bool.Decides.{nat_tests}
+use Rattle.std.proofs.lemmas.Option.{none-some}
 use Rattle.mls_nodes.specs.declared.leaf.LeafNode.{LeafNode}
 use Rattle.mls_msgs.specs.declared.commit.PathNode.{PathNode}
 use Rattle.mls_msgs.specs.declared.commit.UpdatePath.{UpdatePath}
@@ -70,6 +71,10 @@ module _ (t : Tree) (i : ℕ) (keys : List (List ℕ)) where
   keys-by_leaf {A} {B} e f same of_leaf =
       (λ h. keys-no_leaf (of_leaf.0 (same_error {A = B} {B = A} f e NoSuchLeaf same h)), λ h. same_error {A = A} {B = B} e f NoSuchLeaf (sym same) (of_leaf.1 (keys-told h)))
 
+-- of two faults with what they hand back
+pub same_fault : {A C : Type 0} (e f : ApplyFault) (b c : C) → ◌≡◌ {A = Result A (ApplyFault × C)} (Err (e, b)) (Err (f, c)) → e ≡ f
+same_fault {C = C} e f b c h = let both : ◌≡◌ {A = ApplyFault × C} (e, b) (f, c) = cc in ap (λ (x : ApplyFault × C). x.0) both
+
 module _ (g : Grown) (i : ℕ) (path : UpdatePath) (H : List ℕ → List ℕ) where
   -- of these refusals only the first rule's is named so
   pub path-told : path_refusal H g i path ≡ Some NoSuchLeaf → leaf_at 0 g.tree i ≡ None
@@ -88,6 +93,26 @@ module _ (g : Grown) (i : ℕ) (path : UpdatePath) (H : List ℕ → List ℕ) w
       → ◌≡◌ {A = Result B (ApplyFault × C)} (Err (e, back)) (Err (NoSuchLeaf, back)) ↔ (path_refusal H g i path ≡ Some NoSuchLeaf)
   path-by_leaf {C = C} e back of_leaf =
       (λ h. let both : ◌≡◌ {A = ApplyFault × C} (e, back) (NoSuchLeaf, back) = cc in path-no_leaf (of_leaf.0 (λ i. Err (both i).0)), λ h. let told = of_leaf.1 (path-told h) in let same : e ≡ NoSuchLeaf = cc in ap (λ f. Err (f, back)) same)
+
+  -- the same, where nothing is handed back
+  pub path-by_fault : {A B : Type 0} (e f : ApplyFault) → f ≡ e → ◌≡◌ {A = Result A ApplyFault} (Err e) (Err NoSuchLeaf) ↔ (leaf_at 0 g.tree i ≡ None)
+      → ◌≡◌ {A = Result B ApplyFault} (Err f) (Err NoSuchLeaf) ↔ (path_refusal H g i path ≡ Some NoSuchLeaf)
+  path-by_fault {A} {B} e f same of_leaf =
+      (λ h. path-no_leaf (of_leaf.0 (same_error {A = B} {B = A} f e NoSuchLeaf same h)), λ h. same_error {A = A} {B = B} e f NoSuchLeaf (sym same) (of_leaf.1 (path-told h)))
+
+  -- where the leaf is set neither is said
+  pub path-set : {P : Type 0} → (P → leaf_at 0 g.tree i ≡ None) → is_some (leaf_at 0 g.tree i) ≡ true → P ↔ (path_refusal H g i path ≡ Some NoSuchLeaf)
+  path-set none set =
+      let there : leaf_at 0 g.tree i ≡ None → ⊥ = λ e. false≢true (sym (ap (λ (o : Option LeafNode). is_some o) e) ∙ set) in
+      (λ h. absurd (there (none h)), λ h. absurd (there (path-told h)))
+
+  -- a path that keeps the rules isn't refused so
+  pub path-kept : {A : Type 0} (r : Result A ApplyFault) → (r ≡ Err NoSuchLeaf → ⊥) → path_refusal H g i path ≡ None
+      → (r ≡ Err NoSuchLeaf) ↔ (path_refusal H g i path ≡ Some NoSuchLeaf)
+  path-kept r other kept = (λ h. absurd (other h), λ h. absurd (none-some NoSuchLeaf (sym kept ∙ h)))
+
+  pub path-done : {A : Type 0} (x : A) → path_refusal H g i path ≡ None → ◌≡◌ {A = Result A ApplyFault} (Ok x) (Err NoSuchLeaf) ↔ (path_refusal H g i path ≡ Some NoSuchLeaf)
+  path-done {A} x kept = path-kept {A = A} (Ok x) (λ e. cc) kept
 
   module _ (set : is_some (leaf_at 0 g.tree i) ≡ true) where
     pub path-other_length : length path.nodes ≢ path_length g.tree i → path_refusal H g i path ≡ Some PathLength

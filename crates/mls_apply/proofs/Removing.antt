@@ -4,7 +4,7 @@ use Rattle.std.specs.Prelude.{if◌then◌else◌, is_some, option_and_then}
 use Rattle.std.proofs.lemmas.List.{drop_all}
 use Rattle.mls_nodes.specs.declared.parent.ParentNode.{ParentNode}
 use Rattle.mls_msgs.specs.declared.proposal.Proposal.{Proposal}
-use Rattle.mls_msgs.specs.declared.proposal.Proposal.TheVariants.{Add, Update, Remove}
+use Rattle.mls_msgs.specs.declared.proposal.Proposal.TheVariants.{Add, Update, Remove, ContextExtensions}
 use Rattle.mls_tree.specs.Tree.{Tree, leaf, branch, leaf_count, leaf_at}
 use Rattle.mls_tree.specs.Changes.{put_leaf, change_above, has_set_leaf, shrink, remove}
 use Rattle.mls_tree.proofs.Choices.{below}
@@ -53,6 +53,7 @@ stays : (p : Proposal) (t : Tree) → ((i : ℕ) → p ≡ Remove i → ⊥) →
 stays (Add k) t none = refl
 stays (Update x) t none = refl
 stays (Remove i) t none = absurd (none i refl)
+stays (ContextExtensions es) t none = refl
 
 pub removes-other : (x : ListItem) (xs : List ListItem) (t : Tree) → ((i : ℕ) → x.proposal ≡ Remove i → ⊥) → after_removes (x ∷ xs) t ≡ after_removes xs t
 unfolding after_removes

@@ -124,7 +124,8 @@ OfRoute P (Some r) = P r
 module _ (H : List ℕ → List ℕ) (t : Tree) (i : ℕ) where
   -- the new parents stand at the places of the path
   pub route-places : (ps : List ℕ) (keys : List (List ℕ)) (hash : List ℕ) → OfRoute (λ r. places_of r.changes ≡ ps) (route H t i ps keys hash)
-  route-places [] keys hash = refl
+  route-places [] [] hash = refl
+  route-places [] (_ ∷ _) hash = tt
   route-places (p ∷ ps) [] hash = tt
   route-places (p ∷ ps) (key ∷ keys) hash = go (path_hash_at H t i p (path_parent key hash)) (route-places ps keys)
     where
@@ -252,7 +253,8 @@ module _ (H : List ℕ → List ℕ) (t : Tree) (i : ℕ) where
     -- a merged subtree is what its route makes of it
     pub merged-route : (first : ℕ) (s : Tree) → subtree_at 0 t (root_place first s) ≡ Some (record { first = first; tree = s }) → (hash : List ℕ) (keys : List (List ℕ))
         → merged_from H leaves first s i x hash keys ≡ option_map (made x first s) (route H t i (falling leaves first s i) keys hash)
-    merged-route first (leaf y) e hash keys = refl
+    merged-route first (leaf y) e hash [] = refl
+    merged-route first (leaf y) e hash (_ ∷ _) = refl
     merged-route first (branch l n r) e hash keys =
         elim (cases_lt i (first + leaf_count l)) [
           | inl lt ↦
@@ -288,7 +290,8 @@ module _ (H : List ℕ → List ℕ) (t : Tree) (i : ℕ) where
 
     pub hashes-route : (first : ℕ) (s : Tree) → subtree_at 0 t (root_place first s) ≡ Some (record { first = first; tree = s }) → (hash : List ℕ) (keys : List (List ℕ))
         → hashes_from H leaves first s i hash keys ≡ option_map carried (route H t i (falling leaves first s i) keys hash)
-    hashes-route first (leaf y) e hash keys = refl
+    hashes-route first (leaf y) e hash [] = refl
+    hashes-route first (leaf y) e hash (_ ∷ _) = refl
     hashes-route first (branch l n r) e hash keys =
         elim (cases_lt i (first + leaf_count l)) [
           | inl lt ↦

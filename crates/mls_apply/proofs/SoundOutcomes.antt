@@ -5,7 +5,7 @@ use Rattle.std.proofs.lemmas.Option.{none-some, same_Some, option_and_then_some,
 use Rattle.mls_nodes.specs.Limits.{leaf_limit}
 use Rattle.mls_nodes.specs.declared.leaf.LeafNode.{LeafNode}
 use Rattle.mls_msgs.specs.declared.proposal.Proposal.{Proposal}
-use Rattle.mls_msgs.specs.declared.proposal.Proposal.TheVariants.{Add, Update, Remove}
+use Rattle.mls_msgs.specs.declared.proposal.Proposal.TheVariants.{Add, Update, Remove, ContextExtensions}
 use Rattle.mls_tree.specs.Tree.{Tree, member_count, leaf_at}
 use Rattle.mls_tree.specs.Blanks.{first_blank_leaf}
 use Rattle.mls_tree.specs.Changes.{update, remove, add, added_leaf, grown_for, is_overfilled_above}
@@ -31,12 +31,14 @@ module _ (H : List ℕ → List ℕ) where
   update-sound : (sender : ℕ) (p : Proposal) (t u : Tree) → after_update sender p t ≡ Some u → IsSoundTree H t → IsSoundTree H u
   update-sound sender (Add k) t u e h = subst (IsSoundTree H) (same_Some t u e) h
   update-sound sender (Remove i) t u e h = subst (IsSoundTree H) (same_Some t u e) h
+  update-sound sender (ContextExtensions es) t u e h = subst (IsSoundTree H) (same_Some t u e) h
   update-sound sender (Update x) t u e h =
       subst (IsSoundTree H) (cond_some (is_some (leaf_at 0 t sender)) (update t sender x) u e).1 (parts_sound H (update t sender x) t (update_parents t sender x) h)
 
   remove-sound : (p : Proposal) (t u : Tree) → after_remove p t ≡ Some u → IsSoundTree H t → IsSoundTree H u
   remove-sound (Add k) t u e h = subst (IsSoundTree H) (same_Some t u e) h
   remove-sound (Update x) t u e h = subst (IsSoundTree H) (same_Some t u e) h
+  remove-sound (ContextExtensions es) t u e h = subst (IsSoundTree H) (same_Some t u e) h
   remove-sound (Remove i) t u e h =
       subst (IsSoundTree H) (cond_some (is_some (leaf_at 0 t i)) (remove t i) u e).1 (parts_sound H (remove t i) t (remove_parents t i) h)
 

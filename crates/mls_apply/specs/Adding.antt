@@ -2,7 +2,7 @@
 use Rattle.std.specs.Prelude.{◌≡◌, ℕ, ◌<◌, Bool, true, false}
 use Rattle.mls_nodes.specs.declared.leaf.LeafNode.{LeafNode}
 use Rattle.mls_msgs.specs.declared.proposal.Proposal.{Proposal}
-use Rattle.mls_msgs.specs.declared.proposal.Proposal.TheVariants.{Add, Update, Remove}
+use Rattle.mls_msgs.specs.declared.proposal.Proposal.TheVariants.{Add, Update, Remove, ContextExtensions}
 use Rattle.mls_nodes.specs.Limits.{leaf_limit}
 use Rattle.mls_tree.specs.Tree.{Tree}
 use Rattle.mls_tree.specs.Blanks.{first_blank_leaf}
@@ -13,6 +13,7 @@ abbrev pub is_add : Proposal → Bool
 is_add (Add _) = true
 is_add (Update _) = false
 is_add (Remove _) = false
+is_add (ContextExtensions _) = false
 
 -- whether a list of unmerged leaves gets too long where a member is added
 abbrev pub is_overfull_add : Tree → Bool

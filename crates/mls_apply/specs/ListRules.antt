@@ -1,30 +1,34 @@
 -- The rules for the list of proposals that a commit applies (RFC 9420, 12.2 and 12.4).
-use Rattle.std.specs.Prelude.{ℕ, ◌==◌, ◌&&◌, ◌||◌, not, is_some, List, [], ◌∷◌, Bool, true, false, Option, Some, None}
+use Rattle.std.specs.Prelude.{ℕ, ◌==◌, ◌&&◌, ◌||◌, not, is_some, List, [], ◌∷◌, length, Bool, true, false, Option, Some, None}
 use Rattle.std.specs.List.{list_any}
 use Rattle.mls_msgs.specs.declared.proposal.Proposal.{Proposal}
-use Rattle.mls_msgs.specs.declared.proposal.Proposal.TheVariants.{Add, Update, Remove}
+use Rattle.mls_msgs.specs.declared.proposal.Proposal.TheVariants.{Add, Update, Remove, ContextExtensions}
 use Rattle.mls_apply.specs.Rules.{Rule, rule, first_failing}
 use Rattle.mls_apply.specs.declared.fault.ApplyFault.{ApplyFault}
-use Rattle.mls_apply.specs.declared.fault.ApplyFault.TheVariants.{UpdateByCommitter, RemovesCommitter, SameLeafTwice, PathMissing}
+use Rattle.mls_apply.specs.declared.fault.ApplyFault.TheVariants.{UpdateByCommitter, RemovesCommitter, SameLeafTwice, TwoContextExtensions, PathMissing}
 use Rattle.mls_apply.specs.declared.item.ListItem.{ListItem}
+use Rattle.mls_apply.specs.Extensions.{brings_extensions, bring_once}
 
 -- the leaf that a proposal replaces: an Update its sender's (12.1.2)
 abbrev pub replaced_leaf : ℕ → Proposal → Option ℕ
 replaced_leaf sender (Add _) = None
 replaced_leaf sender (Update _) = Some sender
 replaced_leaf sender (Remove _) = None
+replaced_leaf sender (ContextExtensions _) = None
 
 -- the leaf that a proposal removes (12.1.3)
 abbrev pub removed_leaf : Proposal → Option ℕ
 removed_leaf (Add _) = None
 removed_leaf (Update _) = None
 removed_leaf (Remove i) = Some i
+removed_leaf (ContextExtensions _) = None
 
 -- the leaf that an Update or a Remove concerns
 abbrev pub concerned_leaf : ℕ → Proposal → Option ℕ
 concerned_leaf sender (Add _) = None
 concerned_leaf sender (Update _) = Some sender
 concerned_leaf sender (Remove i) = Some i
+concerned_leaf sender (ContextExtensions _) = None
 
 -- whether there is a leaf, and it has this number
 abbrev pub is_leaf_number : Option ℕ → ℕ → Bool
@@ -54,10 +58,9 @@ concern_once (x ∷ xs) = not (concerns xs (concerned_leaf x.sender x.proposal))
 abbrev pub has_concerned_leaf : List ListItem → Bool
 has_concerned_leaf items = list_any (λ x. is_some (concerned_leaf x.sender x.proposal)) items
 
--- a commit needs a path where its list is empty, or has an Update or a Remove (12.4)
+-- a commit needs a path where its list is empty, has an Update or a Remove, or brings extensions (12.4)
 unfoldable pub needs_path : List ListItem → Bool
-needs_path [] = true
-needs_path (x ∷ xs) = has_concerned_leaf (x ∷ xs)
+needs_path items = length items == 0 || has_concerned_leaf items || list_any brings_extensions items
 
 -- the rules for the list, with or without a path
 abbrev pub list_rules : ℕ → List ListItem → Bool → List (Rule ApplyFault)
@@ -65,6 +68,7 @@ list_rules committer items has_path =
     rule UpdateByCommitter (has_no_update_by committer items) ∷
     rule RemovesCommitter (has_no_remove_of committer items) ∷
     rule SameLeafTwice (concern_once items) ∷
+    rule TwoContextExtensions (bring_once items) ∷
     rule PathMissing (has_path || not (needs_path items)) ∷ []
 
 -- the first of them that fails

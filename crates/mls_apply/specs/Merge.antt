@@ -38,9 +38,11 @@ handed_by H (_ ∷ _) first away hash (key ∷ keys) =
 abbrev pub handed : (List ℕ → List ℕ) → ℕ → ℕ → Tree → List ℕ → List (List ℕ) → Option Handed
 handed H leaves first away hash keys = handed_by H (resolution leaves first away) first away hash keys
 
--- a subtree of a tree of so many leaves, whose leaf i becomes x and whose parents above it are made anew
+-- A subtree of a tree of so many leaves, whose leaf i becomes x and whose parents above it are made anew. There is
+-- nothing where keys are left at the leaf.
 abbrev pub merged_from : (List ℕ → List ℕ) → ℕ → ℕ → Tree → ℕ → LeafNode → List ℕ → List (List ℕ) → Option Tree
-merged_from H leaves first (leaf _) i x hash keys = Some (leaf (Some x))
+merged_from H leaves first (leaf _) i x hash [] = Some (leaf (Some x))
+merged_from H leaves first (leaf _) i x hash (_ ∷ _) = None
 merged_from H leaves first (branch l _ r) i x hash keys =
     if nat_lt i (first + leaf_count l)
     then option_and_then
@@ -50,8 +52,9 @@ merged_from H leaves first (branch l _ r) i x hash keys =
     (λ n. option_map (λ t. branch l n.parent t) (merged_from H leaves (first + leaf_count l) r i x n.hash n.keys))
     (handed H leaves first l hash keys)
 
--- the tree with a path of leaf i merged into it: the leaf becomes x, and the parents of the filtered direct path get
--- the keys, the lowest first
+-- The tree with a path of leaf i merged into it: the leaf becomes x, and the parents of the filtered direct path get
+-- the keys, the lowest first. There is a tree only where the keys are exactly as many as these parents. It is read for
+-- a leaf of the tree alone: the refusals of a path come before it, and a leaf that isn't set is the first of them.
 abbrev pub merged : (List ℕ → List ℕ) → Tree → ℕ → LeafNode → List (List ℕ) → Option Tree
 merged H t i x keys = merged_from H (leaf_count t) 0 t i x [] (reverse keys)
 
@@ -60,9 +63,11 @@ abbrev pub behind : Option ParentNode → List ℕ → List (List ℕ) → List 
 behind None hash hashes = hashes
 behind (Some _) hash hashes = hashes ++ hash ∷ []
 
--- the parent hashes that come down to leaf i and to each new parent above it, the leaf's first
+-- the parent hashes that come down to leaf i and to each new parent above it, the leaf's first; none where keys are
+-- left at the leaf
 abbrev pub hashes_from : (List ℕ → List ℕ) → ℕ → ℕ → Tree → ℕ → List ℕ → List (List ℕ) → Option (List (List ℕ))
-hashes_from H leaves first (leaf _) i hash keys = Some (hash ∷ [])
+hashes_from H leaves first (leaf _) i hash [] = Some (hash ∷ [])
+hashes_from H leaves first (leaf _) i hash (_ ∷ _) = None
 hashes_from H leaves first (branch l _ r) i hash keys =
     if nat_lt i (first + leaf_count l)
     then option_and_then
@@ -72,7 +77,8 @@ hashes_from H leaves first (branch l _ r) i hash keys =
     (λ n. option_map (behind n.parent hash) (hashes_from H leaves (first + leaf_count l) r i n.hash n.keys))
     (handed H leaves first l hash keys)
 
--- the parent hashes that a path of leaf i with these keys has to carry (7.9): the leaf's, then those of the filtered
--- direct path, the lowest first; the last one is empty
+-- The parent hashes that a path of leaf i with these keys has to carry (7.9): the leaf's, then those of the filtered
+-- direct path, the lowest first; the last one is empty. There are some only where the keys are exactly as many as the
+-- parents of the filtered direct path.
 abbrev pub expected_hashes : (List ℕ → List ℕ) → Tree → ℕ → List (List ℕ) → Option (List (List ℕ))
 expected_hashes H t i keys = hashes_from H (leaf_count t) 0 t i [] (reverse keys)

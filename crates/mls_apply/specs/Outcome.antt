@@ -1,9 +1,10 @@
 -- A tree after the proposals of a commit (RFC 9420, 12.3): the Updates of the list, then its Removes, then its Adds.
+-- What a list brings to the context's extensions, which comes before these, changes no tree.
 use Rattle.std.specs.Prelude.{ℕ, ◌+◌, nat_le, if◌then◌else◌, is_some, List, [], ◌∷◌, length, Option, Some, None, option_map, option_and_then}
 use Rattle.mls_nodes.specs.Limits.{leaf_limit}
 use Rattle.mls_nodes.specs.declared.leaf.LeafNode.{LeafNode}
 use Rattle.mls_msgs.specs.declared.proposal.Proposal.{Proposal}
-use Rattle.mls_msgs.specs.declared.proposal.Proposal.TheVariants.{Add, Update, Remove}
+use Rattle.mls_msgs.specs.declared.proposal.Proposal.TheVariants.{Add, Update, Remove, ContextExtensions}
 use Rattle.mls_tree.specs.Tree.{Tree, member_count, leaf_at}
 use Rattle.mls_tree.specs.Blanks.{first_blank_leaf}
 use Rattle.mls_tree.specs.Changes.{update, remove, add, added_leaf, grown_for, is_overfilled_above}
@@ -14,6 +15,7 @@ abbrev pub after_update : ℕ → Proposal → Tree → Option Tree
 after_update sender (Add _) t = Some t
 after_update sender (Update x) t = if is_some (leaf_at 0 t sender) then Some (update t sender x) else None
 after_update sender (Remove _) t = Some t
+after_update sender (ContextExtensions _) t = Some t
 
 -- the tree after the Updates of a list
 unfoldable pub after_updates : List ListItem → Tree → Option Tree
@@ -25,6 +27,7 @@ abbrev pub after_remove : Proposal → Tree → Option Tree
 after_remove (Add _) t = Some t
 after_remove (Update _) t = Some t
 after_remove (Remove i) t = if is_some (leaf_at 0 t i) then Some (remove t i) else None
+after_remove (ContextExtensions _) t = Some t
 
 -- the tree after the Removes of a list
 unfoldable pub after_removes : List ListItem → Tree → Option Tree
@@ -36,6 +39,7 @@ abbrev pub added_to : Proposal → List LeafNode → List LeafNode
 added_to (Add k) xs = k.leaf_node ∷ xs
 added_to (Update _) xs = xs
 added_to (Remove _) xs = xs
+added_to (ContextExtensions _) xs = xs
 
 -- the leaf nodes that the Adds of a list add, in its order
 unfoldable pub new_members : List ListItem → List LeafNode

@@ -46,9 +46,10 @@ pub record Route : Type 0 where
 abbrev pub below : ℕ → ParentNode → Route → Route
 below place p route = record { changes = record { place = place; parent = p } ∷ route.changes; hash = route.hash }
 
--- a path of leaf i through these places with these keys, the root's first, that is handed a hash
+-- a path of leaf i through these places with as many keys, the root's first, that is handed a hash
 abbrev pub route : (List ℕ → List ℕ) → Tree → ℕ → List ℕ → List (List ℕ) → List ℕ → Option Route
-route H t i [] keys hash = Some (record { changes = []; hash = hash })
+route H t i [] [] hash = Some (record { changes = []; hash = hash })
+route H t i [] (_ ∷ _) hash = None
 route H t i (place ∷ places) [] hash = None
 route H t i (place ∷ places) (key ∷ keys) hash =
     option_and_then (λ h. option_map (below place (path_parent key hash)) (route H t i places keys h))

@@ -29,6 +29,7 @@ fn is_add(item: &ListItem) -> bool
         Proposal::Add(_) => true,
         Proposal::Update(_) => false,
         Proposal::Remove(_) => false,
+        Proposal::ContextExtensions(_) => false,
     }
 }
 

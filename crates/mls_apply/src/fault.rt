@@ -31,7 +31,8 @@ pub enum ApplyFault {
     /// Refusal 16: two Updates or Removes of a commit's list concern one leaf (RFC 9420, 12.2).
     #[error("two proposals concern one leaf")]
     SameLeafTwice,
-    /// Refusal 17: a commit has no path, though its list is empty or has an Update or a Remove (RFC 9420, 12.4).
+    /// Refusal 17: a commit has no path, though its list is empty, has an Update or a Remove, or brings extensions
+    /// (RFC 9420, 12.4).
     #[error("a path is missing")]
     PathMissing,
     /// Refusal 18: after a commit's list, the group would have more than 1,048,576 members, or a list of unmerged
@@ -54,6 +55,12 @@ pub enum ApplyFault {
     /// Refusal 23: the parent hash in a path's leaf node isn't the one that the path makes (RFC 9420, 7.9.2).
     #[error("the parent hash of a path's leaf is not the one expected")]
     PathParentHash,
+    /// Refusal 26: two proposals of a commit's list bring extensions to the group's context (RFC 9420, 12.2).
+    #[error("two proposals bring extensions to the context")]
+    TwoContextExtensions,
+    /// Refusal 27: what a proposal's extensions require of members can't be read (RFC 9420, 11.1 and 12.1.7).
+    #[error("the extensions brought to the context can't be read")]
+    ContextExtensionsInvalid,
     /// A leaf that a call is about isn't set: that of a proposal's sender, of a committer, or one that is to be
     /// replaced or removed.
     #[error("a leaf is not set")]

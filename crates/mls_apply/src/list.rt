@@ -5,6 +5,7 @@ ghost use Rattle.std.specs.List.{list_any};
 ghost use Rattle.mls_apply.specs.ListRules.{is_leaf_number, replaced_leaf, removed_leaf, concerned_leaf};
 ghost use Rattle.mls_apply.specs.ListRules.{has_concerned_leaf, concern_once, needs_path, list_refusal};
 
+use crate::extensions::{bring_once, has_extensions};
 use crate::fault::ApplyFault;
 use crate::item::ListItem;
 use mls_msgs::Proposal;
@@ -17,7 +18,8 @@ use std::collections::BTreeSet;
 /// 1. `UpdateByCommitter`: no Update is the committer's own.
 /// 2. `RemovesCommitter`: no Remove removes the committer.
 /// 3. `SameLeafTwice`: no two Updates or Removes concern one leaf, an Update its sender's.
-/// 4. `PathMissing`: the commit has a path, or its list has an Add and nothing else.
+/// 4. `TwoContextExtensions`: no two proposals bring extensions to the context.
+/// 5. `PathMissing`: the commit has a path, or its list has an Add and nothing else.
 ///
 /// The first two are judged before memory is taken.
 #[tactic(auto, unfolding(crate::specs::ListRules::list_refusal, crate::specs::ListRules::has_no_update_by, crate::specs::ListRules::has_no_remove_of))]
@@ -44,6 +46,9 @@ pub fn check_list(
     if !concern_once(alloc, items)? {
         return Err(ApplyFault::SameLeafTwice);
     }
+    if !bring_once(items) {
+        return Err(ApplyFault::TwoContextExtensions);
+    }
     if !has_path && needs_path(items) {
         return Err(ApplyFault::PathMissing);
     }
@@ -58,6 +63,7 @@ fn is_update_by(item: &ListItem, member: u32) -> bool
         Proposal::Update(_) => item.sender == member,
         Proposal::Add(_) => false,
         Proposal::Remove(_) => false,
+        Proposal::ContextExtensions(_) => false,
     }
 }
 
@@ -69,6 +75,7 @@ fn is_remove_of(item: &ListItem, member: u32) -> bool
         Proposal::Remove(leaf) => *leaf == member,
         Proposal::Add(_) => false,
         Proposal::Update(_) => false,
+        Proposal::ContextExtensions(_) => false,
     }
 }
 
@@ -80,6 +87,7 @@ fn concerned_leaf(item: &ListItem) -> Option<u32>
         Proposal::Add(_) => None,
         Proposal::Update(_) => Some(item.sender),
         Proposal::Remove(leaf) => Some(*leaf),
+        Proposal::ContextExtensions(_) => None,
     }
 }
 
@@ -121,8 +129,9 @@ pub(crate) fn has_concerned_leaf(items: &[ListItem]) -> bool
 }
 
 /// Whether a commit of this list needs a path.
+#[tactic(auto, unfolding(crate::specs::ListRules::needs_path))]
 fn needs_path(items: &[ListItem]) -> bool
     ensures { result ≡ needs_path items.now }
 {
-    items.is_empty() || has_concerned_leaf(items)
+    items.is_empty() || has_concerned_leaf(items) || has_extensions(items)
 }

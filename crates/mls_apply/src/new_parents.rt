@@ -1,20 +1,18 @@
 //! The parents that an update path makes, from the root down to a leaf, each by the parent hash of the one above it
-//! (RFC 9420, 7.5 and 7.9). A parent hash takes the tree hash of one half: it is read where the hashes of the tree's
-//! subtrees are kept, and else each half is hashed once.
+//! (RFC 9420, 7.5 and 7.9). A parent hash takes the tree hash of one half, which is read where the tree keeps it.
 
-ghost use Rattle.std.specs.Prelude.{◌≡◌, ◌<◌, Some, All, IfOk, IfSome, IsSome, OnOk, [], length, map, reverse};
+ghost use Rattle.std.specs.Prelude.{◌≡◌, ◌<◌, Some, All, IfOk, IsSome, OnOk, [], length, map, reverse};
 ghost use Rattle.mls_tree.specs.Changes.{clear_path, put_leaf};
 ghost use Rattle.mls_tree.specs.Journals.{before};
 ghost use Rattle.mls_tree.specs.Tree.{leaf_count, subtree_at, IsParentPlace};
 ghost use Rattle.mls_hash.specs.Hashing.{hash_of};
 ghost use Rattle.mls_hash.specs.Strip.{tree_hash_at};
-ghost use Rattle.mls_hash.specs.SubtreeHashes.{AreAllHashes};
 ghost use Rattle.mls_apply.specs.Merge.{path_parent};
 ghost use Rattle.mls_apply.specs.Route.{away_at, changed, path_hash_at, route};
 ghost use Rattle.mls_apply.specs.Seen.{change_of, route_of};
 
 use crate::replace::blank_above;
-use mls_hash::{HashFault, SubtreeHashes, Suite, parent_hash_of, tree_hash};
+use mls_hash::{HashFault, Suite, fill_hashes, parent_hash_of, tree_hash};
 use mls_nodes::{LeafNode, ParentNode, Unmerged};
 use mls_tree::{HashValue, Journal, Part, PublicTree};
 use mls_wire::{CodecFault, Opaque};
@@ -54,24 +52,27 @@ pub(crate) fn away_half(tree: &PublicTree, leaf: u32, place: u32) -> u32
     if leaf < middle { right } else { left }
 }
 
-/// The tree hash of the subtree at a place: the kept one, where hashes are kept.
+/// Fills the hashes that a tree keeps of its subtrees, so that each is hashed once.
+pub(crate) fn fill(alloc: Global, suite: Suite, tree: &mut PublicTree) -> Result<(), AllocError>
+    ensures tree { tree.new.tree ≡ tree.old.tree }
+{
+    match fill_hashes(alloc, suite, tree) {
+        Ok(_) => Ok(()),
+        Err(HashFault::OutOfMemory) => Err(AllocError),
+        Err(_) => unreachable!(),
+    }
+}
+
+/// The tree hash of the subtree at a place.
 fn subtree_hash(
     alloc: Global,
     suite: Suite,
     tree: &PublicTree,
-    kept: Option<&SubtreeHashes>,
     place: u32,
 ) -> Result<HashValue, AllocError>
     requires there { IsSome (subtree_at 0 tree.now.tree place) }
-    requires kept { IfSome kept (λ h. AreAllHashes (hash_of suite) tree.now.tree h.now) }
     ensures { IfOk result (λ h. tree_hash_at (hash_of suite) tree.now.tree place ≡ Some h) }
 {
-    if let Some(hashes) = kept {
-        let Some(hash) = hashes.get(place) else {
-            unreachable!();
-        };
-        return Ok(hash);
-    }
     match tree_hash(alloc, suite, tree, place) {
         Ok(hash) => Ok(hash),
         Err(HashFault::OutOfMemory) => Err(AllocError),
@@ -85,18 +86,16 @@ fn path_hash(
     alloc: Global,
     suite: Suite,
     tree: &PublicTree,
-    kept: Option<&SubtreeHashes>,
     leaf: u32,
     place: u32,
     parent: &ParentNode,
 ) -> Result<HashValue, AllocError>
     requires parent { IsParentPlace tree.now.tree place }
-    requires kept { IfSome kept (λ h. AreAllHashes (hash_of suite) tree.now.tree h.now) }
     ensures { IfOk result (λ h.
         path_hash_at (hash_of suite) tree.now.tree leaf place parent.now ≡ Some h) }
 {
     let away = away_half(tree, leaf, place);
-    let original = subtree_hash(alloc, suite, tree, kept, away)?;
+    let original = subtree_hash(alloc, suite, tree, away)?;
     match parent_hash_of(alloc, suite, parent, &original) {
         Ok(hash) => Ok(hash),
         Err(HashFault::OutOfMemory) => Err(AllocError),
@@ -135,19 +134,17 @@ fn path_parent(alloc: Global, key: Opaque, hash: &HashValue) -> Result<Box<Paren
 }
 
 /// The new parents of a path of a leaf through these places, those of parents above it, with these keys, the lowest
-/// first. The hashes of the tree's subtrees may be kept.
+/// first.
 pub(crate) fn new_parents(
     alloc: Global,
     suite: Suite,
     tree: &PublicTree,
-    kept: Option<&SubtreeHashes>,
     leaf: u32,
     places: &[u32],
     mut keys: Vec<Opaque>,
 ) -> Result<NewParents, AllocError>
     requires parents { All (IsParentPlace tree.now.tree) places.now }
     requires paired { length keys.items ≡ length places.now }
-    requires kept { IfSome kept (λ h. AreAllHashes (hash_of suite) tree.now.tree h.now) }
     ensures { IfOk result (λ new.
         route (hash_of suite) tree.now.tree leaf (reverse places.now) (reverse keys.items) []
         ≡ Some (route_of new)) }
@@ -157,7 +154,7 @@ pub(crate) fn new_parents(
     while let Some(key) = keys.pop() {
         let place = places[keys.len()];
         let node = path_parent(alloc, key, &hash)?;
-        hash = path_hash(alloc, suite, tree, kept, leaf, place, &node)?;
+        hash = path_hash(alloc, suite, tree, leaf, place, &node)?;
         parents.push(NewParent { place, node })?;
     }
     Ok(NewParents { parents, hash })

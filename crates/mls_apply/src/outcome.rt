@@ -69,10 +69,11 @@ fn copy_of(alloc: Global, tree: &PublicTree) -> Result<PublicTree, ApplyFault>
 }
 
 /// The tree after a list of proposals (RFC 9420, 12.3): the Updates of the list, then its Removes, then its Adds,
-/// each kind in the order of the list. The tree that is handed in stays. `NoSuchLeaf` where an Update or a Remove
-/// meets a leaf that isn't set at its turn, else `TooManyLeaves` where the set leaves after the Removes plus the Adds
-/// are more than 1,048,576, or a list of unmerged leaves would get more entries. Where the list has neither an Update
-/// nor a Remove, whether there is room for its Adds is judged before the tree is copied.
+/// each kind in the order of the list; what it brings to the context's extensions is passed over. The tree that is
+/// handed in stays. `NoSuchLeaf` where an Update or a Remove meets a leaf that isn't set at its turn, else
+/// `TooManyLeaves` where the set leaves after the Removes plus the Adds are more than 1,048,576, or a list of unmerged
+/// leaves would get more entries. Where the list has neither an Update nor a Remove, whether there is room for its Adds
+/// is judged before the tree is copied.
 pub fn apply_list(
     alloc: Global,
     tree: &PublicTree,

@@ -1,9 +1,8 @@
 //! Update paths: the parent hashes that a path has to carry, and the tree with a path merged into it (RFC 9420, 7.5,
 //! 7.6 and 7.9).
 
-ghost use Rattle.std.specs.Prelude.{◌≡◌, ◌≢◌, ◌<◌, ◌⊎◌, ◌↔◌, ◌∷◌, ℕ, List, All, Err, Some, None, IfOk, IfErr, IfSome, OnOk, is_some, length, map, option_map, true};
+ghost use Rattle.std.specs.Prelude.{◌≡◌, ◌≢◌, ◌<◌, ◌⊎◌, ◌↔◌, ◌∷◌, ℕ, List, All, Err, Some, None, IfOk, IfErr, OnOk, is_some, length, map, option_map, true};
 ghost use Rattle.mls_hash.specs.Hashing.{hash_of};
-ghost use Rattle.mls_hash.specs.SubtreeHashes.{AreAllHashes};
 ghost use Rattle.mls_tree.specs.Tree.{leaf_at, leaf_count, IsParentPlace};
 ghost use Rattle.mls_tree.specs.Paths.{filtered_direct_path};
 ghost use Rattle.mls_tree.specs.Journals.{before};
@@ -16,12 +15,12 @@ ghost use Rattle.mls_apply.specs.Seen.{change_of, hash_refusal, route_of};
 
 use crate::fault::ApplyFault;
 use crate::new_parents::{
-    NewParent, NewParents, new_parents, opaque_of, put_path, put_path_in_place,
+    NewParent, NewParents, fill, new_parents, opaque_of, put_path, put_path_in_place,
 };
 use crate::outcome::{Applied, Leaves};
 use crate::path_rules::{has_new_keys, have_counts};
 use crate::replace::leaf_of;
-use mls_hash::{SubtreeHashes, Suite};
+use mls_hash::Suite;
 use mls_msgs::{PathNode, UpdatePath};
 use mls_nodes::{LeafNode, LeafSource, ParentNode};
 use mls_tree::{HashValue, Journal, PublicTree, TreeError};
@@ -119,7 +118,7 @@ pub fn expected_parent_hashes(
         return Err(ApplyFault::PathLength);
     }
     let keys = copies_of(alloc, keys)?;
-    let new = new_parents(alloc, suite, tree, None, committer, &places, keys)?;
+    let new = new_parents(alloc, suite, tree, committer, &places, keys)?;
     Ok(carried(alloc, new)?)
 }
 
@@ -187,17 +186,15 @@ struct NewNodes {
     parents: Vec<NewParent>,
 }
 
-/// The new nodes of a path, where it keeps the rules for paths. The hashes of the tree's subtrees may be kept.
+/// The new nodes of a path, where it keeps the rules for paths.
 fn new_nodes(
     alloc: Global,
     suite: Suite,
     tree: &PublicTree,
     added: &Leaves,
-    kept: Option<&SubtreeHashes>,
     committer: u32,
     path: &UpdatePath,
 ) -> Result<NewNodes, ApplyFault>
-    requires { IfSome kept (λ h. AreAllHashes (hash_of suite) tree.now.tree h.now) }
     ensures leaf { IfOk result (λ new. new.leaf.value ≡ path.now.leaf_node) }
     ensures route { IfOk result (λ new.
         let keys = node_keys path.now in
@@ -216,7 +213,7 @@ fn new_nodes(
 {
     let places = checked_places(alloc, tree, added, committer, path)?;
     let keys = node_keys(alloc, path.nodes.as_slice())?;
-    let new = new_parents(alloc, suite, tree, kept, committer, &places, keys)?;
+    let new = new_parents(alloc, suite, tree, committer, &places, keys)?;
     if !carries(&path.leaf_node.source, &new.hash) {
         return Err(ApplyFault::PathParentHash);
     }
@@ -227,11 +224,46 @@ fn new_nodes(
     })
 }
 
+/// The new nodes of a path, where it keeps the rules for paths, and where the committer's leaf is set the hashes that
+/// the tree keeps of its subtrees are filled first: parent hashes take them.
+fn filled_nodes(
+    alloc: Global,
+    suite: Suite,
+    tree: &mut PublicTree,
+    added: &Leaves,
+    committer: u32,
+    path: &UpdatePath,
+) -> Result<NewNodes, ApplyFault>
+    ensures tree { tree.new.tree ≡ tree.old.tree }
+    ensures leaf { IfOk result (λ new. new.leaf.value ≡ path.now.leaf_node) }
+    ensures route { IfOk result (λ new.
+        let keys = node_keys path.now in
+        let made = path_route (hash_of suite) tree.old.tree committer keys in
+        option_map (λ r. r.changes) made ≡ Some (map change_of new.parents.items)) }
+    ensures inside { OnOk result (committer < leaf_count tree.old.tree) }
+    ensures parents { IfOk result (λ new.
+        All (λ p. IsParentPlace tree.old.tree p.place) new.parents.items) }
+    ensures kept { let g = grown tree.old.tree added.now in
+        OnOk result (path_refusal (hash_of suite) g committer path.now ≡ None) }
+    ensures refused { let g = grown tree.old.tree added.now in
+        IfErr result (λ e. e ≢ ApplyFault.OutOfMemory
+        → path_refusal (hash_of suite) g committer path.now ≡ Some e) }
+    ensures not_set { (result ≡ Err ApplyFault.NoSuchLeaf)
+        ↔ (leaf_at 0 tree.old.tree committer ≡ None) }
+{
+    if tree.leaf(committer).is_none() {
+        return Err(ApplyFault::NoSuchLeaf);
+    }
+    fill(alloc, suite, tree)?;
+    new_nodes(alloc, suite, tree, added, committer, path)
+}
+
 /// The tree with an update path of the committer merged into it (RFC 9420, 7.5): its leaf is that of the path, the
 /// parents of its filtered direct path have the path's keys and no unmerged leaves, and the other parents above it
 /// are blank. `NoSuchLeaf` where the committer's leaf isn't set, which is judged before memory is taken, else the
 /// first of `PathLength`, `PathSource`, `PathKeyUsed`, `CiphertextCount` and `PathParentHash` that applies. After any
-/// fault, also for want of memory, what was handed in comes back as it was.
+/// fault, also for want of memory, what was handed in comes back as it was, but for the hashes that the tree keeps of
+/// its subtrees, which are filled first.
 pub fn merge_path(
     alloc: Global,
     suite: Suite,
@@ -250,66 +282,35 @@ pub fn merge_path(
     ensures no_such_leaf { let g = grown applied.tree.tree applied.added in
         (result ≡ Err (ApplyFault.NoSuchLeaf, applied))
         ↔ (path_refusal (hash_of suite) g committer path.now ≡ Some ApplyFault.NoSuchLeaf) }
-    ensures handed_back { IfErr result (λ e. e.1 ≡ applied) }
+    ensures handed_back { IfErr result (λ e.
+        (e.1.tree.tree ≡ applied.tree.tree) × (e.1.added ≡ applied.added)) }
 {
-    merge_path_by(alloc, suite, applied, None, committer, path)
-}
-
-/// [`merge_path`], by the hashes of the tree's subtrees, where these are kept: then no subtree is hashed again.
-pub fn merge_path_by(
-    alloc: Global,
-    suite: Suite,
-    applied: Applied,
-    kept: Option<&SubtreeHashes>,
-    committer: u32,
-    path: &UpdatePath,
-) -> Result<PublicTree, (ApplyFault, Applied)>
-    requires { IfSome kept (λ h. AreAllHashes (hash_of suite) applied.tree.tree h.now) }
-    ensures merged { IfOk result (λ tree. let keys = node_keys path.now in
-        merged (hash_of suite) applied.tree.tree committer path.now.leaf_node keys
-        ≡ Some tree.tree) }
-    ensures kept { let g = grown applied.tree.tree applied.added in
-        OnOk result (path_refusal (hash_of suite) g committer path.now ≡ None) }
-    ensures refused { let g = grown applied.tree.tree applied.added in
-        IfErr result (λ e. e.0 ≢ ApplyFault.OutOfMemory
-        → path_refusal (hash_of suite) g committer path.now ≡ Some e.0) }
-    ensures no_such_leaf { let g = grown applied.tree.tree applied.added in
-        (result ≡ Err (ApplyFault.NoSuchLeaf, applied))
-        ↔ (path_refusal (hash_of suite) g committer path.now ≡ Some ApplyFault.NoSuchLeaf) }
-    ensures handed_back { IfErr result (λ e. e.1 ≡ applied) }
-{
-    match new_nodes(
-        alloc,
-        suite,
-        &applied.tree,
-        &applied.added,
-        kept,
-        committer,
-        path,
-    ) {
+    if applied.tree.leaf(committer).is_none() {
+        return Err((ApplyFault::NoSuchLeaf, applied));
+    }
+    let Applied { mut tree, added } = applied;
+    match filled_nodes(alloc, suite, &mut tree, &added, committer, path) {
         Ok(new) => {
-            let mut tree = applied.tree;
             put_path(&mut tree, committer, new.leaf, new.parents);
             Ok(tree)
         }
-        Err(fault) => Err((fault, applied)),
+        Err(fault) => Err((fault, Applied { tree, added })),
     }
 }
 
-/// Merges an update path of the committer into a tree in place, as [`merge_path_by`] does. What is changed is kept in
+/// Merges an update path of the committer into a tree in place, as [`merge_path`] does. What is changed is kept in
 /// the journal. The leaves that the commit's list added are handed in beside the tree. After want of memory a part of
-/// the path may have been merged; any other fault leaves the tree.
+/// the path may have been merged; any other fault leaves the tree, but for the hashes that it keeps of its subtrees,
+/// which are filled first.
 pub fn merge_path_in_place(
     alloc: Global,
     suite: Suite,
     tree: &mut PublicTree,
     journal: &mut Journal,
     added: &Leaves,
-    kept: Option<&SubtreeHashes>,
     committer: u32,
     path: &UpdatePath,
 ) -> Result<(), ApplyFault>
-    requires { IfSome kept (λ h. AreAllHashes (hash_of suite) tree.old.tree h.now) }
     ensures merged { let keys = node_keys path.now in
         OnOk result (merged (hash_of suite) tree.old.tree committer path.now.leaf_node keys
         ≡ Some tree.new.tree) }
@@ -318,10 +319,14 @@ pub fn merge_path_in_place(
     ensures refused { let g = grown tree.old.tree added.now in
         IfErr result (λ e. e ≢ ApplyFault.OutOfMemory
         → path_refusal (hash_of suite) g committer path.now ≡ Some e) }
-    ensures stays { IfErr result (λ e. e ≢ ApplyFault.OutOfMemory → tree.new ≡ tree.old) }
+    ensures no_such_leaf { let g = grown tree.old.tree added.now in
+        (result ≡ Err ApplyFault.NoSuchLeaf)
+        ↔ (path_refusal (hash_of suite) g committer path.now ≡ Some ApplyFault.NoSuchLeaf) }
+    ensures stays { IfErr result
+        (λ e. e ≢ ApplyFault.OutOfMemory → tree.new.tree ≡ tree.old.tree) }
     ensures before { before journal.new tree.new.tree ≡ before journal.old tree.old.tree }
 {
-    let new = new_nodes(alloc, suite, tree, added, kept, committer, path)?;
+    let new = filled_nodes(alloc, suite, tree, added, committer, path)?;
     put_path_in_place(alloc, tree, journal, committer, new.leaf, new.parents)?;
     Ok(())
 }

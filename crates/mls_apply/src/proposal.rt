@@ -1,23 +1,23 @@
-//! Whether a single proposal is valid (RFC 9420, 12.1.1 to 12.1.3).
+//! Whether a single proposal is valid (RFC 9420, 12.1.1 to 12.1.3 and 12.1.7).
 
 ghost use Rattle.std.specs.Prelude.{◌≡◌, ◌≢◌, ◌↔◌, Some, None, Ok, Err, IfOk, IfErr, IsSome, OnOk, false};
 ghost use Rattle.mls_check.specs.Signatures.{is_signed_text};
 ghost use Rattle.mls_tree.specs.Tree.{leaf_at};
 ghost use Rattle.mls_apply.specs.Proposals.{is_from_key_package, is_from_update, is_package_signed};
 ghost use Rattle.mls_apply.specs.Proposals.{fits_group, fits_leaf, adds_fittingly, updates_fittingly};
-ghost use Rattle.mls_apply.specs.Proposals.{is_valid_add, is_valid_update, checked_refusal};
+ghost use Rattle.mls_apply.specs.Proposals.{is_valid_add, is_valid_update, are_valid_extensions, checked_refusal};
 
 use crate::fault::ApplyFault;
 use mls_check::{OutOfMemory, SignatureCheck, is_leaf_signed, signed};
 use mls_hash::Suite;
 use mls_msgs::{KEY_PACKAGE_LABEL, KeyPackage, Proposal, package_tbs};
-use mls_nodes::{GroupContext, LeafNode, LeafSource};
+use mls_nodes::{Extensions, GroupContext, LeafNode, LeafSource, requirements_of};
 use mls_tree::PublicTree;
 use mls_wire::CodecFault;
 use std::alloc::Global;
 
 /// Whether a proposal of a member is valid for itself, in a tree of a group with this context, whose suite is handed
-/// in (RFC 9420, 12.1.1 to 12.1.3). The first of these that fails is answered, but for want of memory:
+/// in (RFC 9420, 12.1.1 to 12.1.3 and 12.1.7). The first of these that fails is answered, but for want of memory:
 ///
 /// 1. `NoSuchLeaf`: the sender's leaf is set.
 /// 2. `AddInvalid`: an added key package is of the group's version and cipher suite, its leaf node has the source of
@@ -27,8 +27,11 @@ use std::alloc::Global;
 ///    present leaf, and its signature, over the group's id and the sender's index too, is good under the signature
 ///    key that it has itself.
 /// 4. `RemoveInvalid`: a leaf that is to be removed is set.
+/// 5. `ContextExtensionsInvalid`: what the extensions that are brought to the context require of members can be read.
+///    Whether members meet it is judged at the commit.
 ///
-/// What is too long to be signed counts as not signed. Memory is taken for signatures alone, which are looked at last.
+/// What is too long to be signed counts as not signed. Memory is taken for signatures, which are looked at last, and
+/// for what extensions require.
 #[tactic(auto, unfolding(crate::specs::Proposals::checked_refusal, crate::specs::Proposals::is_valid_remove))]
 pub fn check_proposal(
     alloc: Global,
@@ -77,8 +80,25 @@ pub fn check_proposal(
                 return Err(ApplyFault::RemoveInvalid);
             }
         }
+        Proposal::ContextExtensions(extensions) => {
+            if !are_valid_extensions(alloc, extensions)? {
+                return Err(ApplyFault::ContextExtensionsInvalid);
+            }
+        }
     }
     Ok(())
+}
+
+/// Whether extensions may be the context's: what they require of members can be read.
+#[tactic(auto, using(crate::proofs::Brought::valid_read, crate::proofs::Brought::invalid_read))]
+fn are_valid_extensions(alloc: Global, extensions: &Extensions) -> Result<bool, OutOfMemory>
+    ensures { IfOk result (λ valid. valid ≡ are_valid_extensions extensions.now) }
+{
+    match requirements_of(alloc, extensions) {
+        Ok(_) => Ok(true),
+        Err(CodecFault::Wire(_)) => Ok(false),
+        Err(CodecFault::OutOfMemory) => Err(OutOfMemory),
+    }
 }
 
 /// Whether a leaf node has the source of a key package.

@@ -1,4 +1,5 @@
 use Rattle.std.proofs.Common.{◌∙◌, Some, sym, ap, arith}
+use Rattle.mls_tree.specs.KeptTree.{plain}
 use Rattle.mls_tree.specs.Tree.{Tree, leaf_count}
 use Rattle.mls_tree.specs.Changes.{put_leaf, with_unmerged, add_at, is_overfilled_above}
 use Rattle.mls_tree.proofs.Kept.{leaf_count-change_above}
@@ -22,5 +23,5 @@ returns-clause-added c =
           ∙ ap (λ (t : Tree). put_leaf 0 t j (Some x)) c.in_ok-enter_unmerged.ensures.entered
           ∙ (λ i. add_at (c.in_ok-index.ensures.tree i) (c.in_ok-index.ensures.index i) x);
       fits = sym (λ i. is_overfilled_above 0 (c.in_ok-index.ensures.tree i) (c.in_ok-index.ensures.index i)) ∙ c.in_ok-enter_unmerged.ensures.fits;
-      small = omega (arith, c.in_ok-index.ensures.inside, leaf_count-limit c.leaf_for_member.new.tree);
+      small = omega (arith, c.in_ok-index.ensures.inside, leaf_count-limit (plain c.leaf_for_member.new.tree));
     }

@@ -1,0 +1,79 @@
+//! The extensions that a commit's list brings to the group's context (RFC 9420, 12.1.7).
+
+ghost use Rattle.std.specs.Prelude.{◌≡◌, IfOk, IfErr, option_map};
+ghost use Rattle.std.specs.List.{list_any};
+ghost use Rattle.mls_apply.specs.Extensions.{brings_extensions, bring_once, brought, new_extensions};
+
+use crate::fault::ApplyFault;
+use crate::item::ListItem;
+use mls_msgs::Proposal;
+use mls_nodes::{Extensions, GroupContext};
+use mls_wire::{CodecFault, TryClone};
+use std::alloc::Global;
+
+/// Whether an item brings extensions to the context.
+fn brings_extensions(item: &ListItem) -> bool
+    ensures { result ≡ brings_extensions item.now }
+{
+    match &item.proposal {
+        Proposal::ContextExtensions(_) => true,
+        Proposal::Add(_) => false,
+        Proposal::Update(_) => false,
+        Proposal::Remove(_) => false,
+    }
+}
+
+/// Whether some item brings extensions to the context.
+pub(crate) fn has_extensions(items: &[ListItem]) -> bool
+    ensures { result ≡ list_any brings_extensions items.now }
+{
+    items.iter().any(|item| brings_extensions(item))
+}
+
+/// Whether no two items bring extensions to the context.
+pub(crate) fn bring_once(items: &[ListItem]) -> bool
+    ensures { result ≡ bring_once items.now }
+{
+    let mut rest = items;
+    while let Some((item, tail)) = rest.split_first() {
+        if brings_extensions(item) {
+            return !has_extensions(tail);
+        }
+        rest = tail;
+    }
+    true
+}
+
+/// The extensions that a list brings to the context: those of the first item that brings some.
+fn brought(items: &[ListItem]) -> Option<&Extensions>
+    ensures { option_map (λ extensions. extensions.now) result ≡ brought items.now }
+{
+    for item in items {
+        if let Proposal::ContextExtensions(extensions) = &item.proposal {
+            return Some(extensions);
+        }
+    }
+    None
+}
+
+/// The extensions of a group's context after the list of a commit (RFC 9420, 12.1.7): those of the first item that
+/// brings some, else the context's own. `OutOfMemory` alone.
+pub fn new_extensions(
+    alloc: Global,
+    context: &GroupContext,
+    items: &[ListItem],
+) -> Result<Extensions, ApplyFault>
+    ensures extensions { IfOk result (λ extensions.
+        extensions ≡ new_extensions context.now.extensions items.now) }
+    ensures memory { IfErr result (λ e. e ≡ ApplyFault.OutOfMemory) }
+{
+    let extensions = match brought(items) {
+        Some(extensions) => extensions,
+        None => &context.extensions,
+    };
+    match extensions.try_clone(alloc) {
+        Ok(copy) => Ok(copy),
+        Err(CodecFault::OutOfMemory) => Err(ApplyFault::OutOfMemory),
+        Err(CodecFault::Wire(_)) => unreachable!(),
+    }
+}

@@ -15,16 +15,19 @@ use Rattle.mls_msgs.specs.declared.authenticated.AuthenticatedParts.{Authenticat
 use Rattle.mls_msgs.specs.declared.commit.Commit.{Commit}
 use Rattle.mls_msgs.specs.declared.commit.UpdatePath.{UpdatePath}
 use Rattle.mls_msgs.specs.declared.frame.Content.TheVariants as contents
+use Rattle.mls_msgs.specs.declared.proposal.Proposal.{Proposal}
 use Rattle.mls_apply.specs.declared.fault.ApplyFault.{ApplyFault}
 use Rattle.mls_apply.specs.declared.item.ListItem.{ListItem}
+use Rattle.mls_apply.specs.Extensions.{brought}
 use Rattle.mls_apply.specs.Items.{resolved}
 use Rattle.mls_apply.specs.ListRules.{list_rules, list_refusal}
 use Rattle.mls_apply.specs.Outcome.{Grown, outcome, without_adds, with_members, new_members}
 use Rattle.mls_apply.specs.PathRules.{path_rules, path_refusal}
+use Rattle.mls_apply.specs.Proposals.{proposal_rules, checked_refusal}
 use Rattle.mls_apply.specs.Rules.{Rule, first_failing, renamed}
 use Rattle.mls_apply.proofs.RuleLists.{first_failing-left, first_failing-right, first_failing-renamed}
 use Rattle.mls_follow.specs.State.{State, last_epoch}
-use Rattle.mls_follow.specs.Rules.{refusal_of, commit_refusal, handshake_refusal, items_rules, inline_rules, outcome_rules, path_rules_of, member_refusal, member_rules, tree_rules, resulting}
+use Rattle.mls_follow.specs.Rules.{refusal_of, is_new_proposal, offer_rules, commit_refusal, handshake_refusal, items_rules, inline_rules, outcome_rules, required_after, rules_under, path_rules_of, member_refusal, member_rules, tree_rules, resulting}
 use Rattle.mls_follow.specs.Changing.{change_rules, changed_tree}
 use Rattle.mls_follow.specs.Judging.{Refuses}
 use Rattle.mls_follow.specs.declared.refusal.Refusal.{Refusal}
@@ -43,7 +46,7 @@ module _ (G : Meaning) (s : State) (required : RequiredCapabilities) (i : ℕ) (
   of_list = renamed refusal_of (list_rules i items (is_some c.path))
 
   of_outcome : List (Rule Refusal)
-  of_outcome = outcome_rules G s required i c.path (outcome items s.tree)
+  of_outcome = rules_under G s i c.path (outcome items s.tree) (required_after required (brought items))
 
   -- its rules are those for its list
   whole : commit_refusal G s required i c ≡ first_failing (items_rules G s required i c (Some items))
@@ -64,7 +67,7 @@ module _ (G : Meaning) (s : State) (required : RequiredCapabilities) (i : ℕ) (
 
     module _ (kept : list_refusal i items (is_some c.path) ≡ None) where
       -- what is left is what follows the list
-      pub past_list : commit_refusal G s required i c ≡ first_failing (outcome_rules G s required i c.path (outcome items s.tree))
+      pub past_list : commit_refusal G s required i c ≡ first_failing (rules_under G s i c.path (outcome items s.tree) (required_after required (brought items)))
       unfolding of_list of_outcome list_refusal
       past_list =
           past_inline
@@ -92,6 +95,12 @@ pub of_commit : (G : Meaning) (s : State) (required : RequiredCapabilities) (a :
     → handshake_refusal G s required a i (contents.Commit c) ≡ commit_refusal G s required i c
 unfolding handshake_refusal commit_refusal
 of_commit G s required a i c = refl
+
+-- a new proposal of a member is judged by the rules for it alone
+pub offer_word : (G : Meaning) (s : State) (a : AuthenticatedParts) (i : ℕ) (p : Proposal) → is_new_proposal s a ≡ true → IsSome (leaf_at 0 s.tree i)
+    → first_failing (offer_rules G s a i p) ≡ option_map refusal_of (checked_refusal G s.context s.tree i p)
+unfolding checked_refusal
+offer_word G s a i p new set = rw new (first_failing-renamed refusal_of (proposal_rules G s.context s.tree i p) ∙ rw set refl)
 
 -- a path of a member is judged by its rules alone
 pub path_word : (H : List ℕ → List ℕ) (g : Grown) (i : ℕ) (path : UpdatePath) → IsSome (leaf_at 0 g.tree i)

@@ -6,7 +6,6 @@ use Rattle.std.proofs.lemmas.Bool.Decides.{nat_tests}
 use Rattle.std.proofs.lemmas.Option.{none-some}
 use Rattle.mls_nodes.specs.declared.required_capabilities.RequiredCapabilities.{RequiredCapabilities}
 use Rattle.mls_check.specs.Signatures.{Meaning}
-use Rattle.mls_msgs.specs.Message.{message}
 use Rattle.mls_msgs.specs.MessageExact.{message_takes, message_again}
 use Rattle.mls_msgs.specs.MessageParsing.{message_at}
 use Rattle.mls_msgs.specs.declared.message.Message.{Message}
@@ -20,7 +19,6 @@ use Rattle.mls_follow.specs.Runs.{IsAnswered, IsHeld, SomeAnswer}
 use Rattle.mls_follow.specs.declared.refusal.Refusal.{Refusal}
 use Rattle.mls_follow.specs.declared.refusal.Refusal.TheVariants.{Malformed, OutOfMemory}
 use Rattle.mls_follow.specs.declared.taken.Taken.{Taken}
-use Rattle.mls_apply.proofs.Spellings.{put_back}
 use Rattle.mls_follow.proofs.OwnRules.{of_message}
 use Rattle.mls_follow.proofs.Advancing.{next_there}
 
@@ -45,7 +43,7 @@ module _ (G : Meaning) (s : State) (required : RequiredCapabilities) (bytes : Li
   -- they spell this one
   judged : (m : Message) → Spells m bytes → (o : Option Refusal) → first_failing (message_rules G s required m) ≡ o → Answered
   judged m spelled None kept =
-      let step = next_there s held G required m (bytes, spelled) kept in (
+      let step = next_there s held G required requires m (bytes, spelled) kept in (
         Ok step.step.taken,
         step.step.state,
         record {

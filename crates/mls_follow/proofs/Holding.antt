@@ -1,16 +1,14 @@
 -- A follower starts in a state that it may hold, and after any run it is in one.
-use Rattle.std.proofs.Common.{◌≡◌, ◌∙◌, ℕ, List, [], ◌∷◌, Option, Result, Ok, Err, IsSome, sym, ap, subst}
+use Rattle.std.proofs.Common.{◌∙◌, ℕ, List, [], ◌∷◌, Option, Result, Ok, Err, IsSome, sym, ap, subst}
 use Rattle.std.proofs.lemmas.List.Elements.{All-nil}
 use Rattle.std.proofs.lemmas.Option.{same_Some}
-use Rattle.mls_nodes.specs.Requirements.{Requires, FindsRequirements, extension_of}
-use Rattle.mls_nodes.specs.declared.extension.Extension.{Extension}
+use Rattle.mls_nodes.specs.Requirements.{Requires}
 use Rattle.mls_nodes.specs.declared.required_capabilities.RequiredCapabilities.{RequiredCapabilities}
 use Rattle.mls_tree.specs.RatchetTree.{RatchetTree}
 use Rattle.mls_tree.specs.TreeHash.{tree_hash}
 use Rattle.mls_hash.specs.Hashing.{hash_of}
 use Rattle.mls_check.specs.Signatures.{Meaning}
 use Rattle.mls_msgs.specs.Layout.{proposal}
-use Rattle.mls_msgs.specs.Message.{message}
 use Rattle.mls_msgs.specs.declared.group_info.GroupInfo.{GroupInfo}
 use Rattle.mls_follow.specs.State.{State}
 use Rattle.mls_follow.specs.Next.{Step, next}
@@ -45,16 +43,12 @@ start_steady G info handed s h =
     })
 
 module _ (G : Meaning) (s : State) (steady : IsSteady s) (bytes : List ℕ) where
-  -- the extensions of the group stay
-  kept_requirements : (t : State) → t.context.extensions ≡ s.context.extensions → Requires t.context steady.required
-  kept_requirements t e = subst (λ (es : List Extension). FindsRequirements (extension_of 3 es) (Ok steady.required)) (sym e) steady.requires
-
   -- what is accepted leads to one
   accepted_steady : (step : Step) → IsAcceptable G s bytes → IsNext s bytes step → IsSteady step.state
   accepted_steady step a n =
-      let l : Leads s steady.held (next s a.message) = next_there s steady.held G a.required a.message (bytes, a.spelled) a.kept in
+      let l : Leads s steady.held (next s a.message) = next_there s steady.held G a.required a.requires a.message (bytes, a.spelled) a.kept in
       let same = same_Some l.step step (sym l.is ∙ ap (next s) (one_message a.message n.message bytes a.spelled n.spelled) ∙ n.after) in
-      subst (λ (t : Step). IsSteady t.state) same (record { held = l.still; required = steady.required; requires = kept_requirements l.step.state l.extensions })
+      subst (λ (t : Step). IsSteady t.state) same (record { held = l.still; required = l.required; requires = l.requires })
 
   taken_steady : (answer : Result Taken Refusal) (new : State) → Takes G s bytes answer new → IsSteady new
   taken_steady (Ok taken) new h = accepted_steady (record { taken = taken; state = new }) h.0 h.1

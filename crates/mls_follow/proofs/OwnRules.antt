@@ -17,12 +17,13 @@ use Rattle.mls_msgs.specs.declared.message.Message.{Message}
 use Rattle.mls_msgs.specs.declared.message.Message.TheVariants as messages
 use Rattle.mls_msgs.specs.declared.proposal.Proposal.{Proposal}
 use Rattle.mls_apply.specs.declared.item.ListItem.{ListItem}
+use Rattle.mls_apply.specs.Extensions.{brought}
 use Rattle.mls_apply.specs.Items.{resolved}
 use Rattle.mls_apply.specs.Outcome.{Grown, outcome}
 use Rattle.mls_apply.specs.Rules.{Rule}
 use Rattle.mls_apply.proofs.RuleLists.{AreOthers, no_rules, one_more, others_both}
 use Rattle.mls_follow.specs.State.{State}
-use Rattle.mls_follow.specs.Rules.{offer_rules, member_rules, tree_rules, resulting, path_rules_of, outcome_rules, items_rules, commit_rules, content_rules, leaf_rules, sender_rules, frame_rules, message_rules}
+use Rattle.mls_follow.specs.Rules.{offer_rules, member_rules, tree_rules, resulting, path_rules_of, outcome_rules, required_after, rules_under, items_rules, commit_rules, content_rules, leaf_rules, sender_rules, frame_rules, message_rules}
 use Rattle.mls_follow.specs.declared.refusal.Refusal.{Refusal}
 use Rattle.mls_follow.specs.declared.refusal.Refusal.TheVariants.{OutOfMemory}
 
@@ -50,14 +51,20 @@ module _ (G : Meaning) (s : State) (required : RequiredCapabilities) where
       others_both (path_rules_of (hash_of s.context.cipher_suite) g i path) (tree_rules G s required (resulting (hash_of s.context.cipher_suite) g i path))
       (of_path (hash_of s.context.cipher_suite) g i path) (of_tree (resulting (hash_of s.context.cipher_suite) g i path))
 
+of_under : (G : Meaning) (s : State) (i : ℕ) (path : Option UpdatePath) (o : Option Grown) (required : Option RequiredCapabilities) → AreOwn (rules_under G s i path o required)
+of_under G s i path o None = one_more (λ e. cc) no_rules
+of_under G s i path o (Some required) = of_outcome G s required i path o
+
+module _ (G : Meaning) (s : State) (required : RequiredCapabilities) where
   of_items : (i : ℕ) (c : Commit) (o : Option (List ListItem)) → AreOwn (items_rules G s required i c o)
   of_items i c None = one_more (λ e. cc) no_rules
   of_items i c (Some items) =
-      one_more (λ e. cc) (one_more (λ e. cc) (one_more (λ e. cc)
-      (one_more (λ e. cc) (one_more (λ e. cc) (one_more (λ e. cc) (one_more (λ e. cc) (of_outcome i c.path (outcome items s.tree))))))))
+      one_more (λ e. cc) (one_more (λ e. cc) (one_more (λ e. cc) (one_more (λ e. cc)
+      (one_more (λ e. cc) (one_more (λ e. cc) (one_more (λ e. cc) (one_more (λ e. cc) (one_more (λ e. cc)
+      (of_under G s i c.path (outcome items s.tree) (required_after required (brought items)))))))))))
 
   of_offer : (a : AuthenticatedParts) (i : ℕ) (p : Proposal) → AreOwn (offer_rules G s a i p)
-  of_offer a i p = one_more (λ e. cc) (one_more (λ e. cc) (one_more (λ e. cc) (one_more (λ e. cc) no_rules)))
+  of_offer a i p = one_more (λ e. cc) (one_more (λ e. cc) (one_more (λ e. cc) (one_more (λ e. cc) (one_more (λ e. cc) no_rules))))
 
   of_commit : (i : ℕ) (c : Commit) → AreOwn (commit_rules G s required i c)
   of_commit i c = one_more (λ e. cc) (of_items i c (resolved i s.known c.proposals))

@@ -17,7 +17,7 @@ use Rattle.mls_msgs.specs.declared.commit.PathNode.{PathNode}
 use Rattle.mls_msgs.specs.declared.commit.UpdatePath.{UpdatePath}
 use Rattle.mls_msgs.specs.declared.key_package.KeyPackage.{KeyPackage}
 use Rattle.mls_msgs.specs.declared.proposal.Proposal.{Proposal}
-use Rattle.mls_msgs.specs.declared.proposal.Proposal.TheVariants.{Add, Update, Remove}
+use Rattle.mls_msgs.specs.declared.proposal.Proposal.TheVariants.{Add, Update, Remove, ContextExtensions}
 use Rattle.mls_msgs.specs.declared.proposal.ProposalOrRef.{ProposalOrRef}
 use Rattle.mls_msgs.specs.declared.proposal.ProposalOrRef.TheVariants as entries
 use Rattle.mls_tree.specs.Tree.{Tree, height, leaf_count, member_count, leaf_at}
@@ -56,12 +56,14 @@ abbrev IsLeafSpelled : Proposal → Type 0
 IsLeafSpelled (Add k) = IsSome (layout.leaf k.leaf_node)
 IsLeafSpelled (Update x) = IsSome (layout.leaf x)
 IsLeafSpelled (Remove i) = Unit {0}
+IsLeafSpelled (ContextExtensions es) = Unit {0}
 
 leaf_of_proposal : (p : Proposal) → IsSome (proposal p) → IsLeafSpelled p
 unfolding proposal
 leaf_of_proposal (Add k) h = key_package_leaf k (right_spelled (number w16 1) (key_package k) h)
 leaf_of_proposal (Update x) h = right_spelled (number w16 2) (layout.leaf x) h
 leaf_of_proposal (Remove i) h = tt
+leaf_of_proposal (ContextExtensions es) h = tt
 
 -- the items of a list
 abbrev pub AreSpelled : List ListItem → Type 0
@@ -119,6 +121,7 @@ HasShape-replaced f t i x s = record {
 update_fit : (sender : ℕ) (p : Proposal) (t u : Tree) → IsLeafSpelled p → IsFit t → after_update sender p t ≡ Some u → IsFit u
 update_fit sender (Add k) t u s h e = subst IsFit (same_Some t u e) h
 update_fit sender (Remove i) t u s h e = subst IsFit (same_Some t u e) h
+update_fit sender (ContextExtensions es) t u s h e = subst IsFit (same_Some t u e) h
 update_fit sender (Update x) t u s h e =
     subst IsFit (cond_some (is_some (leaf_at 0 t sender)) (update t sender x) u e).1 (record {
       shape = HasShape-replaced 0 t sender (Some x) h.shape;
@@ -128,6 +131,7 @@ update_fit sender (Update x) t u s h e =
 remove_fit : (p : Proposal) (t u : Tree) → IsFit t → after_remove p t ≡ Some u → IsFit u
 remove_fit (Add k) t u h e = subst IsFit (same_Some t u e) h
 remove_fit (Update x) t u h e = subst IsFit (same_Some t u e) h
+remove_fit (ContextExtensions es) t u h e = subst IsFit (same_Some t u e) h
 remove_fit (Remove i) t u h e =
     subst IsFit (cond_some (is_some (leaf_at 0 t i)) (remove t i) u e).1 (record {
       shape = HasShape-shrink (clear_path (put_leaf 0 t i None) i) (HasShape-replaced 0 t i None h.shape);
@@ -159,6 +163,7 @@ members_spelled (x ∷ xs) all =
     go (Add k) s h = All-cons (λ x. IsSome (layout.leaf x)) k.leaf_node (new_members xs) s h
     go (Update y) s h = h
     go (Remove i) s h = h
+    go (ContextExtensions es) s h = h
 
 -- a tree that has to grow is not as large as a tree may be
 low_enough : (t : Tree) → HasShape t → first_blank_leaf 0 t ≡ None → member_count t + 1 ≤ leaf_limit → height t < 20

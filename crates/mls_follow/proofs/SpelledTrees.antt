@@ -185,7 +185,8 @@ module _ (H : List ℕ → List ℕ) (short : (m : List ℕ) → length (H m) �
 
     pub merged_spelled : (first : ℕ) (t : Tree) (hash : List ℕ) (keys : List (List ℕ)) (u : Tree) → length hash ≤ 1073741823 → AreKeys keys → IsSpelled t
         → merged_from H leaves first t i x hash keys ≡ Some u → IsMerged t u
-    merged_spelled first (leaf y) hash keys u l ks h e =
+    merged_spelled first (leaf y) hash (_ ∷ _) u l ks h e = absurd (none-some u e)
+    merged_spelled first (leaf y) hash [] u l ks h e =
         subst (IsMerged (leaf y)) (same_Some (leaf (Some x)) u e) (record { spelled = set_leaf_spelled x s; as_high = refl; perfect = λ p. tt })
     merged_spelled first (branch a p b) hash keys u l ks h e =
         go (nat_lt i (first + leaf_count a)) (λ m g v. merged_spelled first a m g v) (λ m g v. merged_spelled (first + leaf_count a) b m g v) e

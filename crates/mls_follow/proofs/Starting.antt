@@ -1,5 +1,5 @@
 -- What each check of a start says of the whole start.
-use Rattle.std.proofs.Common.{◌≡◌, ◌≢◌, ◌↔◌, ℕ, List, false, Option, Some, None, refl, subst}
+use Rattle.std.proofs.Common.{◌≡◌, ◌≢◌, ◌↔◌, ℕ, List, false, Option, Some, None, refl, sym, subst}
 use Rattle.mls_nodes.specs.declared.required_capabilities.RequiredCapabilities.{RequiredCapabilities}
 use Rattle.mls_nodes.specs.declared.leaf.LeafNode.{LeafNode}
 use Rattle.mls_tree.specs.RatchetTree.{RatchetTree}
@@ -14,7 +14,7 @@ use Rattle.mls_check.specs.declared.valid.TreeFault.{TreeFault}
 use Rattle.mls_check.specs.declared.valid.TreeFault.TheVariants as trees
 use Rattle.mls_msgs.specs.declared.group_info.GroupInfo.{GroupInfo}
 use Rattle.mls_nodes.specs.Requirements.{Requires, HasNoRequirements}
-use Rattle.mls_follow.specs.Start.{UsesTree, IsFollowed, HasTree, IsReadable, HasValidTree, HasMembers, IsSignedIn, StartsWith, FailsWith, FailsSigned, IsStartFault, FailsSuite, FailsValid, FailsMembers, is_info_signed, info_interim, tree_fault_of, member_fault_of}
+use Rattle.mls_follow.specs.Start.{UsesTree, IsFollowed, HasTree, IsReadable, HasValidTree, HasMembers, IsSignedIn, StartsWith, FailsWith, FailsSigned, IsStart, first_state, IsStartFault, FailsSuite, FailsValid, FailsMembers, is_info_signed, info_interim, tree_fault_of, member_fault_of}
 use Rattle.mls_follow.specs.declared.start.StartFault.{StartFault}
 use Rattle.mls_follow.specs.declared.start.StartFault.TheVariants.{UnsupportedVersion, UnsupportedSuite, RequirementsUnreadable, SignerNotMember, InfoSignature, OutOfMemory}
 
@@ -110,3 +110,8 @@ module _ (G : Meaning) (info : GroupInfo) (t : RatchetTree) (followed : IsFollow
           hashed = hashed;
           state = refl;
         }
+
+-- a start in a tree is one in any that is equal to it
+pub start_again : (G : Meaning) (info : GroupInfo) (handed : Option RatchetTree) (t u : RatchetTree) (interim : List ℕ) → u ≡ t
+    → IsStart G info handed (first_state info t interim) → IsStart G info handed (first_state info u interim)
+start_again G info handed t u interim e h = subst (λ v. IsStart G info handed (first_state info v interim)) (sym e) h

@@ -7,7 +7,7 @@ use Rattle.std.proofs.lemmas.Bool.Decides.{nat_tests}
 use Rattle.std.proofs.lemmas.Option.{none-some, same_Some, option_and_then_some, cond_some}
 use Rattle.mls_nodes.specs.declared.leaf.LeafNode.{LeafNode}
 use Rattle.mls_msgs.specs.declared.proposal.Proposal.{Proposal}
-use Rattle.mls_msgs.specs.declared.proposal.Proposal.TheVariants.{Add, Update, Remove}
+use Rattle.mls_msgs.specs.declared.proposal.Proposal.TheVariants.{Add, Update, Remove, ContextExtensions}
 use Rattle.mls_tree.specs.Tree.{Tree, height, leaf_at, leaf_count, member_count}
 use Rattle.mls_tree.specs.Blanks.{first_blank_leaf, IsFirstBlank, AllLeavesSet}
 use Rattle.mls_tree.specs.Changes.{put_leaf, clear_path, update, remove, grow, add, add_at, added_leaf, grown_for, number_or, blank_tree, is_overfilled_above}
@@ -18,12 +18,13 @@ use Rattle.mls_tree.proofs.Kept.{leaf_at-put_leaf_other, leaf_at-change_above, l
 use Rattle.mls_apply.proofs.Leaves.{leaf_inside}
 use Rattle.mls_apply.proofs.SoundOutcomes.{unless, where_so, mapped}
 use Rattle.mls_apply.specs.declared.item.ListItem.{ListItem}
+use Rattle.mls_apply.specs.Extensions.{bring_once}
 use Rattle.mls_apply.specs.ListRules.{list_refusal, is_leaf_number, replaced_leaf, removed_leaf, has_no_update_by, has_no_remove_of, concern_once, needs_path}
 use Rattle.mls_nodes.specs.Limits.{leaf_limit}
 use Rattle.mls_apply.specs.Outcome.{Grown, outcome, with_members, new_members, after_leaf, after_adds, after_update, after_updates, after_remove, after_removes}
 use Rattle.mls_apply.specs.Rules.{Rule, rule, first_failing}
 use Rattle.mls_apply.specs.declared.fault.ApplyFault.{ApplyFault}
-use Rattle.mls_apply.specs.declared.fault.ApplyFault.TheVariants.{UpdateByCommitter, RemovesCommitter, SameLeafTwice, PathMissing}
+use Rattle.mls_apply.specs.declared.fault.ApplyFault.TheVariants.{UpdateByCommitter, RemovesCommitter, SameLeafTwice, TwoContextExtensions, PathMissing}
 
 other : (j i : ℕ) → (j == i) ≡ false → i ≢ j
 other j i f e = grind (arith, nat_tests)
@@ -40,6 +41,7 @@ either_false false b e = (refl, e)
 after_update-stays : (i sender : ℕ) (p : Proposal) (t u : Tree) → is_leaf_number (replaced_leaf sender p) i ≡ false → after_update sender p t ≡ Some u → IsSome (leaf_at 0 t i) → IsSome (leaf_at 0 u i)
 after_update-stays i sender (Add k) t u away e set = subst (λ (v : Tree). IsSome (leaf_at 0 v i)) (same_Some t u e) set
 after_update-stays i sender (Remove k) t u away e set = subst (λ (v : Tree). IsSome (leaf_at 0 v i)) (same_Some t u e) set
+after_update-stays i sender (ContextExtensions es) t u away e set = subst (λ (v : Tree). IsSome (leaf_at 0 v i)) (same_Some t u e) set
 after_update-stays i sender (Update x) t u away e set =
     let parts = cond_some (is_some (leaf_at 0 t sender)) (update t sender x) u e in
     subst (λ (v : Tree). IsSome (leaf_at 0 v i)) parts.1 (ap is_some (changed_other t i sender (Some x) parts.0 away) ∙ set)
@@ -47,6 +49,7 @@ after_update-stays i sender (Update x) t u away e set =
 after_remove-stays : (i : ℕ) (p : Proposal) (t u : Tree) → is_leaf_number (removed_leaf p) i ≡ false → after_remove p t ≡ Some u → IsSome (leaf_at 0 t i) → IsSome (leaf_at 0 u i)
 after_remove-stays i (Add k) t u away e set = subst (λ (v : Tree). IsSome (leaf_at 0 v i)) (same_Some t u e) set
 after_remove-stays i (Update x) t u away e set = subst (λ (v : Tree). IsSome (leaf_at 0 v i)) (same_Some t u e) set
+after_remove-stays i (ContextExtensions es) t u away e set = subst (λ (v : Tree). IsSome (leaf_at 0 v i)) (same_Some t u e) set
 after_remove-stays i (Remove j) t u away e set =
     let parts = cond_some (is_some (leaf_at 0 t j)) (remove t j) u e in
     subst (λ (v : Tree). IsSome (leaf_at 0 v i)) parts.1
@@ -97,15 +100,19 @@ holds : {E : Type 0} (b : Bool) (o : Option E) (x : E) → (if b then o else Som
 holds true o x e = (refl, e)
 holds false o x e = absurd (none-some x (sym e))
 
+abbrev past_removes : List ListItem → Bool → List (Rule ApplyFault)
+past_removes items has_path =
+    rule SameLeafTwice (concern_once items) ∷ rule TwoContextExtensions (bring_once items) ∷ rule PathMissing (has_path || not (needs_path items)) ∷ []
+
 abbrev list_rest : ℕ → List ListItem → Bool → List (Rule ApplyFault)
-list_rest i items has_path = rule RemovesCommitter (has_no_remove_of i items) ∷ rule SameLeafTwice (concern_once items) ∷ rule PathMissing (has_path || not (needs_path items)) ∷ []
+list_rest i items has_path = rule RemovesCommitter (has_no_remove_of i items) ∷ past_removes items has_path
 
 kept_parts : (i : ℕ) (items : List ListItem) (has_path : Bool) → list_refusal i items has_path ≡ None
     → (has_no_update_by i items ≡ true) × (has_no_remove_of i items ≡ true)
 unfolding list_refusal
 kept_parts i items has_path kept =
     let first = holds (has_no_update_by i items) (first_failing (list_rest i items has_path)) UpdateByCommitter kept in
-    let second = holds (has_no_remove_of i items) (first_failing (rule SameLeafTwice (concern_once items) ∷ rule PathMissing (has_path || not (needs_path items)) ∷ [])) RemovesCommitter first.1 in
+    let second = holds (has_no_remove_of i items) (first_failing (past_removes items has_path)) RemovesCommitter first.1 in
     (first.0, second.0)
 
 -- the committer's leaf stays set

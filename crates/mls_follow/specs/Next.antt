@@ -1,5 +1,6 @@
 -- What an accepted message changes (RFC 9420, 8.1, 8.2 and 12.4).
-use Rattle.std.specs.Prelude.{ℕ, ◌+◌, List, [], ◌∷◌, ◌++◌, Option, None, option_map, option_and_then}
+use Rattle.std.specs.Prelude.{ℕ, ◌+◌, List, [], ◌∷◌, ◌++◌, Option, Some, None, option_map, option_and_then}
+use Rattle.mls_nodes.specs.declared.extension.Extension.{Extension}
 use Rattle.mls_tree.specs.Tree.{Tree}
 use Rattle.mls_tree.specs.TreeHash.{tree_hash}
 use Rattle.mls_hash.specs.Hashing.{hash_of}
@@ -12,6 +13,8 @@ use Rattle.mls_msgs.specs.declared.frame.Sender.TheVariants as senders
 use Rattle.mls_msgs.specs.declared.message.Message.{Message}
 use Rattle.mls_msgs.specs.declared.message.Message.TheVariants as messages
 use Rattle.mls_msgs.specs.declared.proposal.Proposal.{Proposal}
+use Rattle.mls_apply.specs.declared.item.ListItem.{ListItem}
+use Rattle.mls_apply.specs.Extensions.{new_extensions}
 use Rattle.mls_apply.specs.Items.{resolved}
 use Rattle.mls_apply.specs.Outcome.{outcome}
 use Rattle.mls_follow.specs.State.{State}
@@ -69,9 +72,21 @@ commit_tree s i c =
     (outcome items s.tree))
     (resolved i s.known c.proposals)
 
+-- the extensions of the next context, by the items of the commit's list (12.1.7)
+abbrev pub extensions_after : List Extension → Option (List ListItem) → List Extension
+extensions_after present None = present
+extensions_after present (Some items) = new_extensions present items
+
+-- the same state, with other extensions of the context
+abbrev pub with_extensions : State → List Extension → State
+with_extensions s extensions = record s { context = record s.context { extensions = extensions } }
+
 -- after a commit of member i (12.4.2)
 abbrev pub after_commit : State → AuthenticatedParts → ℕ → Commit → Option Step
-after_commit s a i c = option_and_then (after_tree s a) (commit_tree s i c)
+after_commit s a i c =
+    option_and_then
+    (after_tree (with_extensions s (extensions_after s.context.extensions (resolved i s.known c.proposals))) a)
+    (commit_tree s i c)
 
 -- after what member i has sent
 abbrev pub after_content : State → AuthenticatedParts → ℕ → Content → Option Step

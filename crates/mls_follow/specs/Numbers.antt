@@ -33,6 +33,8 @@ number_of refusals.CiphertextCount = 22
 number_of refusals.PathParentHash = 23
 number_of refusals.KeyRepeated = 24
 number_of (refusals.Member fault) = 25
+number_of refusals.TwoContextExtensions = 26
+number_of refusals.ContextExtensionsInvalid = 27
 
 -- the number of a refused start
 abbrev pub start_number_of : StartFault → ℕ

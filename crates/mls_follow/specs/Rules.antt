@@ -3,8 +3,10 @@
 use Rattle.std.specs.Prelude.{ℕ, ◌==◌, nat_lt, is_some, not, List, [], ◌∷◌, ◌++◌, Bool, true, false, Option, Some, None, option_map, option_and_then}
 use Rattle.std.specs.Str.{bytes_eq}
 use Rattle.mls_nodes.specs.declared.context.GroupContext.{GroupContext}
+use Rattle.mls_nodes.specs.declared.extension.Extension.{Extension}
 use Rattle.mls_nodes.specs.declared.leaf.LeafNode.{LeafNode}
 use Rattle.mls_nodes.specs.declared.required_capabilities.RequiredCapabilities.{RequiredCapabilities}
+use Rattle.mls_nodes.specs.Requirements.{required_by}
 use Rattle.mls_tree.specs.Tree.{Tree, leaf_at}
 use Rattle.mls_hash.specs.Hashing.{hash_of, ref_hash_input}
 use Rattle.mls_check.specs.Distinct.{has_distinct_keys}
@@ -30,14 +32,15 @@ use Rattle.mls_apply.specs.declared.item.ListItem.{ListItem}
 use Rattle.mls_apply.specs.declared.item.KnownProposal.{KnownProposal}
 use Rattle.mls_apply.specs.Rules.{Rule, rule, first_failing, renamed}
 use Rattle.mls_apply.specs.Items.{find_known, resolved}
-use Rattle.mls_apply.specs.Proposals.{proposal_rules, adds_validly, updates_validly, removes_validly, all_inline}
+use Rattle.mls_apply.specs.Extensions.{brought}
+use Rattle.mls_apply.specs.Proposals.{proposal_rules, adds_validly, updates_validly, removes_validly, extends_validly, all_inline}
 use Rattle.mls_apply.specs.ListRules.{list_rules}
 use Rattle.mls_apply.specs.Outcome.{Grown, outcome}
 use Rattle.mls_apply.specs.Merge.{merged}
 use Rattle.mls_apply.specs.PathRules.{path_rules, node_keys}
 use Rattle.mls_follow.specs.State.{State, last_epoch}
 use Rattle.mls_follow.specs.declared.refusal.Refusal.{Refusal}
-use Rattle.mls_follow.specs.declared.refusal.Refusal.TheVariants.{NotPublic, WrongGroup, WrongEpoch, SenderNotMember, NotHandshake, BadSignature, AlreadyKnown, AddInvalid, UpdateInvalid, RemoveInvalid, LastEpoch, UnknownReference, UpdateByCommitter, RemovesCommitter, SameLeafTwice, PathMissing, TooManyLeaves, PathLength, PathSource, PathKeyUsed, CiphertextCount, PathParentHash, KeyRepeated, Member, OutOfMemory}
+use Rattle.mls_follow.specs.declared.refusal.Refusal.TheVariants.{NotPublic, WrongGroup, WrongEpoch, SenderNotMember, NotHandshake, BadSignature, AlreadyKnown, AddInvalid, UpdateInvalid, RemoveInvalid, LastEpoch, UnknownReference, UpdateByCommitter, RemovesCommitter, SameLeafTwice, PathMissing, TooManyLeaves, PathLength, PathSource, PathKeyUsed, CiphertextCount, PathParentHash, KeyRepeated, Member, TwoContextExtensions, ContextExtensionsInvalid, OutOfMemory}
 
 -- a rule that fails
 abbrev pub refuse : Refusal → List (Rule Refusal)
@@ -60,6 +63,8 @@ refusal_of faults.PathSource = PathSource
 refusal_of faults.PathKeyUsed = PathKeyUsed
 refusal_of faults.CiphertextCount = CiphertextCount
 refusal_of faults.PathParentHash = PathParentHash
+refusal_of faults.TwoContextExtensions = TwoContextExtensions
+refusal_of faults.ContextExtensionsInvalid = ContextExtensionsInvalid
 refusal_of faults.NoSuchLeaf = TooManyLeaves
 refusal_of faults.OutOfMemory = OutOfMemory
 
@@ -131,12 +136,26 @@ outcome_rules G s required i path (Some g) =
     path_rules_of (hash_of s.context.cipher_suite) g i path ++
     tree_rules G s required (resulting (hash_of s.context.cipher_suite) g i path)
 
+-- what is required of members after a commit, where it can be read: by the extensions that its list brings, else
+-- what is required before it (11.1, 12.1.7)
+abbrev pub required_after : RequiredCapabilities → Option (List Extension) → Option RequiredCapabilities
+required_after required None = Some required
+required_after required (Some extensions) = required_by extensions
+
+-- The rules for what follows the list of a commit, by what is then required of members. That this can be read was
+-- judged when its proposal came, so here it is asked again only for the sake of states that no follower comes to.
+abbrev pub rules_under : Meaning → State → ℕ → Option UpdatePath → Option Grown
+    → Option RequiredCapabilities → List (Rule Refusal)
+rules_under G s i path o None = refuse ContextExtensionsInvalid
+rules_under G s i path o (Some required) = outcome_rules G s required i path o
+
 -- the rules for the proposals in a commit itself (12.1)
 abbrev pub inline_rules : Meaning → State → ℕ → Commit → List (Rule Refusal)
 inline_rules G s i c =
     rule AddInvalid (all_inline (adds_validly G s.context) c.proposals) ∷
     rule UpdateInvalid (all_inline (updates_validly G s.context s.tree i) c.proposals) ∷
-    rule RemoveInvalid (all_inline (removes_validly s.tree) c.proposals) ∷ []
+    rule RemoveInvalid (all_inline (removes_validly s.tree) c.proposals) ∷
+    rule ContextExtensionsInvalid (all_inline extends_validly c.proposals) ∷ []
 
 -- the rules for the list of a commit (12.2, 12.4): those for each proposal in the commit itself,
 -- then those for the whole list
@@ -146,7 +165,7 @@ items_rules G s required i c None = refuse UnknownReference
 items_rules G s required i c (Some items) =
     inline_rules G s i c ++
     (renamed refusal_of (list_rules i items (is_some c.path)) ++
-    outcome_rules G s required i c.path (outcome items s.tree))
+    rules_under G s i c.path (outcome items s.tree) (required_after required (brought items)))
 
 -- the rules for a commit of member i (12.4.2)
 abbrev pub commit_rules : Meaning → State → RequiredCapabilities → ℕ → Commit → List (Rule Refusal)

@@ -1,8 +1,7 @@
 //! The rules for a commit (RFC 9420, 12.4.2), and how it changes the group's tree, in place.
 
-ghost use Rattle.std.specs.Prelude.{◌≡◌, ◌<◌, Some, None, IsSome, IfOk, IfErr, IfSome, OnOk, is_some};
+ghost use Rattle.std.specs.Prelude.{◌≡◌, ◌<◌, Some, None, IsSome, IfOk, IfErr, OnOk, is_some};
 ghost use Rattle.mls_hash.specs.Hashing.{hash_of};
-ghost use Rattle.mls_hash.specs.SubtreeHashes.{AreAllHashes};
 ghost use Rattle.mls_tree.specs.Journals.{before};
 ghost use Rattle.mls_tree.specs.Tree.{leaf_at};
 ghost use Rattle.mls_tree.specs.TreeHash.{tree_hash};
@@ -16,17 +15,18 @@ ghost use Rattle.mls_follow.specs.Seen.{group_state};
 ghost use Rattle.mls_follow.specs.Rules.{commit_refusal, inline_rules, path_rules_of, tree_rules, resulting};
 ghost use Rattle.mls_follow.specs.Changing.{change_rules, changed_tree, in_context};
 
-use crate::group::{Group, TreeHashes, tree_hashes};
+use crate::group::{Group, filled_hash};
 use crate::inline::check_inline;
 use crate::refusal::Refusal;
 use mls_apply::{
     Leaves, ListItem, apply_list_in_place, check_list, merge_path_in_place, resolve_list,
 };
 use mls_check::{SignatureCheck, has_distinct_keys, validate_members};
-use mls_hash::{SubtreeHashes, Suite};
+use mls_hash::Suite;
 use mls_msgs::{Commit, UpdatePath};
 use mls_nodes::{GroupContext, RequiredCapabilities};
 use mls_tree::{Journal, PublicTree};
+use mls_wire::Opaque;
 use std::alloc::Global;
 
 /// The items of a member's commit, where it keeps the rules that are judged before the tree is changed: its epoch is
@@ -60,106 +60,56 @@ pub(crate) fn check_items(
     Ok(items)
 }
 
-/// Merges a commit's path into the tree after its proposals, whose subtrees have these hashes, where the path keeps the
-/// rules for paths. The hashes after it are answered: only the committer's leaf and the parents above it are hashed.
-fn merge_hashed(
-    alloc: Global,
-    suite: Suite,
-    tree: &mut PublicTree,
-    journal: &mut Journal,
-    added: &Leaves,
-    hashes: &SubtreeHashes,
-    committer: u32,
-    path: &UpdatePath,
-) -> Result<SubtreeHashes, Refusal>
-    requires member { IsSome (leaf_at 0 tree.old.tree committer) }
-    requires hashed { AreAllHashes (hash_of suite) tree.old.tree hashes.now }
-    ensures kept { let g = grown tree.old.tree added.now in
-        OnOk result (first_failing (path_rules_of (hash_of suite) g committer (Some path.now))
-        ≡ None) }
-    ensures tree { let g = grown tree.old.tree added.now in
-        OnOk result (resulting (hash_of suite) g committer (Some path.now) ≡ Some tree.new.tree) }
-    ensures hashed { IfOk result (AreAllHashes (hash_of suite) tree.new.tree) }
-    ensures refused { let g = grown tree.old.tree added.now in
-        IfErr result
-        (Refuses (first_failing (path_rules_of (hash_of suite) g committer (Some path.now)))) }
-    ensures before { before journal.new tree.new.tree ≡ before journal.old tree.old.tree }
-{
-    merge_path_in_place(
-        alloc,
-        suite,
-        tree,
-        journal,
-        added,
-        Some(hashes),
-        committer,
-        path,
-    )?;
-    Ok(hashes.rehashed(alloc, suite, tree, committer)?)
-}
-
-/// Merges the path of a commit, if it has one, into the tree after its proposals, where it keeps the rules for paths,
-/// and answers the hashes after it. The hashes of the tree after the proposals may be kept.
+/// Merges the path of a commit, if it has one, into the tree after its proposals, where it keeps the rules for paths.
 fn merge(
     alloc: Global,
     suite: Suite,
     tree: &mut PublicTree,
     journal: &mut Journal,
     added: &Leaves,
-    kept: Option<&SubtreeHashes>,
     committer: u32,
     path: &Option<UpdatePath>,
-) -> Result<SubtreeHashes, Refusal>
+) -> Result<(), Refusal>
     requires member { IsSome (leaf_at 0 tree.old.tree committer) }
-    requires hashed { IfSome kept (λ h. AreAllHashes (hash_of suite) tree.old.tree h.now) }
     ensures kept { let g = grown tree.old.tree added.now in
         OnOk result (first_failing (path_rules_of (hash_of suite) g committer path.now) ≡ None) }
     ensures tree { let g = grown tree.old.tree added.now in
         OnOk result (resulting (hash_of suite) g committer path.now ≡ Some tree.new.tree) }
-    ensures hashed { IfOk result (AreAllHashes (hash_of suite) tree.new.tree) }
     ensures refused { let g = grown tree.old.tree added.now in
         IfErr result
         (Refuses (first_failing (path_rules_of (hash_of suite) g committer path.now))) }
     ensures before { before journal.new tree.new.tree ≡ before journal.old tree.old.tree }
 {
     let Some(path) = path else {
-        return Ok(SubtreeHashes::new(alloc, suite, tree)?);
+        return Ok(());
     };
-    if let Some(hashes) = kept {
-        return merge_hashed(alloc, suite, tree, journal, added, hashes, committer, path);
-    }
-    let hashes = SubtreeHashes::new(alloc, suite, tree)?;
-    merge_hashed(alloc, suite, tree, journal, added, &hashes, committer, path)
+    Ok(merge_path_in_place(alloc, suite, tree, journal, added, committer, path)?)
 }
 
-/// Changes a group's tree, whose subtrees have these hashes, as a member's commit with these items and this path does:
-/// the list is applied, and the path is merged. The hashes after both are answered.
+/// Changes a group's tree as a member's commit with these items and this path does: the list is applied, and the path
+/// is merged.
 pub(crate) fn change_tree(
     alloc: Global,
     suite: Suite,
     tree: &mut PublicTree,
     journal: &mut Journal,
-    hashes: &SubtreeHashes,
     committer: u32,
     items: &[ListItem],
     path: &Option<UpdatePath>,
-) -> Result<SubtreeHashes, Refusal>
+) -> Result<(), Refusal>
     requires member { IsSome (leaf_at 0 tree.old.tree committer) }
     requires list { list_refusal committer items.now (is_some path.now) ≡ None }
-    requires hashed { AreAllHashes (hash_of suite) tree.old.tree hashes.now }
     ensures kept { let o = outcome items.now tree.old.tree in
         OnOk result (first_failing (change_rules (hash_of suite) committer path.now o) ≡ None) }
     ensures tree { let o = outcome items.now tree.old.tree in
         OnOk result (changed_tree (hash_of suite) committer path.now o ≡ Some tree.new.tree) }
-    ensures hashed { IfOk result (AreAllHashes (hash_of suite) tree.new.tree) }
     ensures refused { let o = outcome items.now tree.old.tree in
         IfErr result
         (Refuses (first_failing (change_rules (hash_of suite) committer path.now o))) }
     ensures before { before journal.new tree.new.tree ≡ before journal.old tree.old.tree }
 {
     let added = apply_list_in_place(alloc, tree, journal, items)?;
-    let kept = if items.is_empty() { Some(hashes) } else { None };
-    merge(alloc, suite, tree, journal, &added, kept, committer, path)
+    merge(alloc, suite, tree, journal, &added, committer, path)
 }
 
 /// Whether the tree after a commit keeps the rules of a group with this context, which requires this of its members:
@@ -191,33 +141,25 @@ fn check_tree(
     )?)
 }
 
-/// The hashes of the tree after a commit, by those of its subtrees, where the tree keeps the rules.
+/// The tree hash of the tree after a commit, where it keeps the rules. What is empty of the hashes that the tree keeps
+/// of its subtrees is filled.
 pub(crate) fn judge_tree(
     alloc: Global,
     suite: Suite,
     context: &GroupContext,
     required: &RequiredCapabilities,
     checker: &dyn SignatureCheck,
-    tree: &PublicTree,
-    subtrees: SubtreeHashes,
-) -> Result<TreeHashes, Refusal>
-    requires { AreAllHashes (hash_of suite) tree.now.tree subtrees }
+    tree: &mut PublicTree,
+) -> Result<Opaque, Refusal>
+    ensures tree { tree.new.tree ≡ tree.old.tree }
     ensures kept { let s = in_context context.now in
         OnOk result (first_failing
-        (tree_rules (meaning checker.now) s required.now (Some tree.now.tree)) ≡ None) }
+        (tree_rules (meaning checker.now) s required.now (Some tree.old.tree)) ≡ None) }
     ensures refused { let s = in_context context.now in
         IfErr result (Refuses (first_failing
-        (tree_rules (meaning checker.now) s required.now (Some tree.now.tree)))) }
-    ensures subtrees { IfOk result (λ hashes.
-        AreAllHashes (hash_of suite) tree.now.tree hashes.subtrees) }
-    ensures whole { IfOk result (λ hashes. tree_hash (hash_of suite) 0 tree.now.tree
-        ≡ Some hashes.whole) }
+        (tree_rules (meaning checker.now) s required.now (Some tree.old.tree)))) }
+    ensures hash { IfOk result (λ hash. tree_hash (hash_of suite) 0 tree.old.tree ≡ Some hash) }
 {
-    match check_tree(alloc, context, required, checker, tree) {
-        Ok(()) => Ok(tree_hashes(alloc, suite, tree, subtrees)?),
-        Err(refusal) => {
-            drop(subtrees);
-            Err(refusal)
-        }
-    }
+    check_tree(alloc, context, required, checker, tree)?;
+    Ok(filled_hash(alloc, suite, tree)?)
 }

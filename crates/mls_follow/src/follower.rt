@@ -1,8 +1,7 @@
 //! The follower.
 
-ghost use Rattle.std.specs.Prelude.{◌≡◌, ◌≢◌, ◌↔◌, ℕ, List, None, IfOk, IfErr, OnOk, OnErr, IsErrAnd};
-ghost use Rattle.mls_hash.specs.Hashing.{hash_of};
-ghost use Rattle.mls_hash.specs.SubtreeHashes.{AreAllHashes};
+ghost use Rattle.std.specs.Prelude.{◌≡◌, ◌≢◌, ◌↔◌, ℕ, List, None, IfOk, IfErr, OnOk, OnErr, IsErrAnd, option_map};
+ghost use Rattle.mls_tree.specs.KeptTree.{plain};
 ghost use Rattle.mls_nodes.specs.Requirements.{extension_of, Requires};
 ghost use Rattle.mls_follow.specs.State.{IsInput, Spells};
 ghost use Rattle.mls_follow.specs.Seen.{state_of, group_state, boxed_checker_of};
@@ -26,9 +25,9 @@ use std::alloc::Global;
 /// A follower of a group: the group's public state, and the checker of signatures that it asks.
 #[derive(Drop)]
 pub struct Follower {
-    group: Group,
+    pub(crate) group: Group,
     checker: Box<dyn SignatureCheck>,
-    alloc: Global,
+    pub(crate) alloc: Global,
 }
 
 /// The group of a group info, with its tree, and with no known proposals.
@@ -41,15 +40,13 @@ fn first_group(
 ) -> Group
     requires suite_of_context { suite ≡ info.context.cipher_suite }
     requires required { Requires info.context judged.required }
-    requires hashed { AreAllHashes (hash_of suite) tree.tree judged.hashes }
-    ensures { group_state result ≡ first_state info tree judged.interim }
+    ensures { group_state result ≡ first_state info (plain tree) judged.interim }
 {
     Group {
         context: info.context,
         tree,
         interim: judged.interim,
         known: Vec::new(alloc),
-        hashes: judged.hashes,
         suite,
         required: judged.required,
     }
@@ -60,7 +57,7 @@ impl Follower {
     /// in the info, which then isn't read. These are asked, in this order:
     ///
     /// 1. The version is 1.
-    /// 2. The cipher suite is 1, 2 or 3.
+    /// 2. The cipher suite is one from 1 to 7.
     /// 3. There is a tree.
     /// 4. What the group requires of its members can be read.
     /// 5. The tree is valid ([`mls_check::validate_tree`]).
@@ -69,7 +66,7 @@ impl Follower {
     /// 8. The signer has signed the info.
     ///
     /// Where one fails the first is answered, and all that was handed in comes back as it was, as it does
-    /// where memory runs out. The first two, and that no tree is handed in and none in the info, are judged
+    /// where memory runs out; of the hashes that the tree keeps of its subtrees some may be filled. The first two, and that no tree is handed in and none in the info, are judged
     /// before memory is taken.
     pub fn start(
         alloc: Global,
@@ -77,17 +74,19 @@ impl Follower {
         tree: Option<PublicTree>,
         checker: Box<dyn SignatureCheck>,
     ) -> Result<Follower, StartRefused>
-        ensures started { IfOk result (λ f. IsStart (meaning checker) info tree (state_of f)) }
+        ensures started { IfOk result (λ f. IsStart (meaning checker) info
+            (option_map plain tree) (state_of f)) }
         ensures checker { IfOk result (λ f. meaning (boxed_checker_of f) ≡ meaning checker) }
-        ensures refused { IfErr result (λ r. IsStartFault (meaning checker) info tree r.fault) }
+        ensures refused { IfErr result (λ r. IsStartFault (meaning checker) info
+            (option_map plain tree) r.fault) }
         ensures unsupported_version { IsErrAnd result
             (λ r. r.fault ≡ StartFault.UnsupportedVersion) ↔ (info.context.version ≢ 1) }
         ensures unsupported_suite { IsErrAnd result
             (λ r. r.fault ≡ StartFault.UnsupportedSuite) ↔ FailsSuite info }
         ensures no_tree { IsFollowed info → tree ≡ None → extension_of 2 info.extensions ≡ None
             → IsErrAnd result (λ r. r.fault ≡ StartFault.NoTree) }
-        ensures handed_back { IfErr result (λ r. (r.info ≡ info) × (r.tree ≡ tree) × (r.checker
-            ≡ checker)) }
+        ensures handed_back { IfErr result (λ r. (r.info ≡ info)
+            × (option_map plain r.tree ≡ option_map plain tree) × (r.checker ≡ checker)) }
     {
         let suite = match followed_suite(&info) {
             Ok(suite) => suite,
@@ -101,7 +100,7 @@ impl Follower {
             }
         };
         match tree {
-            Some(tree) => match judge(alloc, suite, &info, &tree, checker.as_ref()) {
+            Some(mut tree) => match judge(alloc, suite, &info, &mut tree, checker.as_ref()) {
                 Ok(judged) => Ok(Follower {
                     group: first_group(alloc, suite, info, tree, judged),
                     checker,

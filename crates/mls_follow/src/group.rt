@@ -2,20 +2,21 @@
 
 ghost use Rattle.std.specs.Prelude.{◌≡◌, ◌<◌, Some, IsSome, IsTrue, IfOk, OnErr};
 ghost use Rattle.mls_hash.specs.Hashing.{hash_of};
-ghost use Rattle.mls_hash.specs.SubtreeHashes.{AreAllHashes, AreAllHashes-prop};
+ghost use Rattle.mls_tree.specs.KeptTree.{plain};
 ghost use Rattle.mls_tree.specs.TreeHash.{tree_hash};
 ghost use Rattle.mls_msgs.specs.Layout.{is_commit};
 ghost use Rattle.mls_msgs.specs.Signed.{confirmed_input};
-ghost use Rattle.mls_nodes.specs.Requirements.{Requires};
+ghost use Rattle.mls_nodes.specs.Requirements.{Requires, RequiresBy};
 ghost use Rattle.mls_nodes.proofs.RequiredOnce.{Requires-prop};
 ghost use Rattle.mls_follow.specs.State.{last_epoch};
 ghost use Rattle.mls_follow.specs.Transcript.{confirmed_hash, interim_hash};
 
 use crate::refusal::Refusal;
 use crate::taken::Taken;
+use crate::terms::Terms;
 use crate::transcript::{confirmed_hash, interim_hash, opaque_of};
 use mls_apply::KnownProposal;
-use mls_hash::{SubtreeHashes, Suite};
+use mls_hash::{HashFault, Suite, fill_hashes, tree_hash};
 use mls_msgs::{Authenticated, Proposal};
 use mls_nodes::{GroupContext, RequiredCapabilities};
 use mls_tree::{HashValue, PublicTree};
@@ -23,18 +24,15 @@ use mls_wire::{CodecFault, Opaque, TryClone};
 use std::alloc::{AllocError, Global};
 
 /// The public state of a group: its context, its tree, the interim transcript hash and the proposals that are
-/// known in the present epoch; and, once read or made of these, the tree hashes of all subtrees, the cipher suite
-/// and what the group requires of its members.
+/// known in the present epoch; and, once read of these, the cipher suite and what the group requires of its members.
 #[derive(Drop)]
 pub(crate) struct Group {
     pub(crate) context: GroupContext,
     pub(crate) tree: PublicTree,
     pub(crate) interim: HashValue,
     pub(crate) known: Vec<KnownProposal>,
-    pub(crate) hashes: SubtreeHashes,
     pub(crate) suite: Suite,
     pub(crate) required: RequiredCapabilities,
-    ghost hashed: { AreAllHashes (hash_of suite) tree.tree hashes } by { AreAllHashes-prop (hash_of suite) tree.tree hashes },
     ghost same_suite: { suite ≡ context.cipher_suite },
     ghost requires_these: { Requires context required } by { Requires-prop context required },
 }
@@ -44,13 +42,6 @@ pub(crate) struct Group {
 pub(crate) struct Transcript {
     confirmed: Opaque,
     interim: HashValue,
-}
-
-/// The hashes of the tree that a commit leads to: those of its subtrees, and its tree hash.
-#[derive(Drop)]
-pub(crate) struct TreeHashes {
-    pub(crate) subtrees: SubtreeHashes,
-    pub(crate) whole: Opaque,
 }
 
 /// A second proposal, equal to this one.
@@ -66,7 +57,7 @@ fn copy_of(alloc: Global, proposal: &Proposal) -> Result<Proposal, AllocError>
 
 impl Group {
     ghost use Rattle.mls_follow.specs.Seen.{group_state};
-    ghost use Rattle.mls_follow.specs.Next.{after_proposal, committed};
+    ghost use Rattle.mls_follow.specs.Next.{after_proposal, committed, with_extensions};
 
     /// Knows a proposal under its reference.
     pub(crate) fn keep(
@@ -115,14 +106,17 @@ impl Group {
         })
     }
 
-    /// Moves to the next epoch, whose tree is in place and has this tree hash. It takes no memory.
-    pub(crate) fn enter(&mut self, tree_hash: Opaque, transcript: Transcript) -> Taken
-        requires { self.old.context.epoch < last_epoch }
-        ensures { committed (group_state self.old) self.old.tree.tree tree_hash
-            transcript.confirmed transcript.interim
+    /// Moves to the next epoch, whose tree is in place and has this tree hash, on these terms. It takes no memory.
+    pub(crate) fn enter(&mut self, tree_hash: Opaque, transcript: Transcript, terms: Terms) -> Taken
+        requires later { self.old.context.epoch < last_epoch }
+        requires terms { RequiresBy terms.extensions terms.required }
+        ensures { committed (with_extensions (group_state self.old) terms.extensions)
+            self.old.tree.tree tree_hash transcript.confirmed transcript.interim
             ≡ record { taken = result; state = group_state self.new } }
     {
         self.context.epoch += 1;
+        self.context.extensions = terms.extensions;
+        self.required = terms.required;
         self.context.tree_hash = tree_hash;
         self.context.confirmed = transcript.confirmed;
         self.interim = transcript.interim;
@@ -131,26 +125,40 @@ impl Group {
     }
 }
 
-/// The hashes of a tree, by those of its subtrees.
-pub(crate) fn tree_hashes(
+/// Fills the hashes that a tree keeps of its subtrees, so that each is hashed once.
+pub(crate) fn fill(alloc: Global, suite: Suite, tree: &mut PublicTree) -> Result<(), AllocError>
+    ensures tree { tree.new.tree ≡ tree.old.tree }
+    ensures plain { plain tree.new ≡ plain tree.old }
+{
+    match fill_hashes(alloc, suite, tree) {
+        Ok(_) => Ok(()),
+        Err(HashFault::OutOfMemory) => Err(AllocError),
+        Err(_) => unreachable!(),
+    }
+}
+
+/// The tree hash of a tree (RFC 9420, 7.8).
+fn root_hash(alloc: Global, suite: Suite, tree: &PublicTree) -> Result<HashValue, AllocError>
+    ensures { IfOk result (λ hash. tree_hash (hash_of suite) 0 tree.now.tree ≡ Some hash) }
+{
+    match tree_hash(alloc, suite, tree, tree.leaf_count() - 1) {
+        Ok(hash) => Ok(hash),
+        Err(HashFault::OutOfMemory) => Err(AllocError),
+        Err(_) => unreachable!(),
+    }
+}
+
+/// The tree hash of a tree. What is empty of the hashes that it keeps of its subtrees is filled, and nothing else is
+/// hashed.
+pub(crate) fn filled_hash(
     alloc: Global,
     suite: Suite,
-    tree: &PublicTree,
-    subtrees: SubtreeHashes,
-) -> Result<TreeHashes, AllocError>
-    requires { AreAllHashes (hash_of suite) tree.now.tree subtrees }
-    ensures subtrees { IfOk result (λ hashes. hashes.subtrees ≡ subtrees) }
-    ensures whole { IfOk result (λ hashes. tree_hash (hash_of suite) 0 tree.now.tree
-        ≡ Some hashes.whole) }
+    tree: &mut PublicTree,
+) -> Result<Opaque, AllocError>
+    ensures tree { tree.new.tree ≡ tree.old.tree }
+    ensures hash { IfOk result (λ hash. tree_hash (hash_of suite) 0 tree.old.tree ≡ Some hash) }
 {
-    let Some(root) = subtrees.get(tree.leaf_count() - 1) else {
-        unreachable!();
-    };
-    match opaque_of(alloc, &root) {
-        Ok(whole) => Ok(TreeHashes { subtrees, whole }),
-        Err(error) => {
-            drop(subtrees);
-            Err(error)
-        }
-    }
+    fill(alloc, suite, tree)?;
+    let root = root_hash(alloc, suite, tree)?;
+    opaque_of(alloc, &root)
 }

@@ -3,7 +3,7 @@
 ghost use Rattle.std.specs.Prelude.{◌≡◌, ◌&&◌, true, None, IsSome, IfOk, IfErr, OnOk};
 ghost use Rattle.mls_tree.specs.Tree.{leaf_at};
 ghost use Rattle.mls_apply.specs.Rules.{first_failing};
-ghost use Rattle.mls_apply.specs.Proposals.{all_inline, asked_inline, adds_validly, updates_validly, removes_validly};
+ghost use Rattle.mls_apply.specs.Proposals.{all_inline, asked_inline, adds_validly, updates_validly, removes_validly, extends_validly};
 ghost use Rattle.mls_follow.specs.Judging.{Refuses};
 ghost use Rattle.mls_follow.specs.Seen.{group_state};
 ghost use Rattle.mls_follow.specs.Rules.{inline_rules};
@@ -15,12 +15,13 @@ use mls_check::SignatureCheck;
 use mls_msgs::{Commit, ProposalOrRef};
 use std::alloc::{AllocError, Global};
 
-/// Whether the Adds, the Updates and the Removes among some proposals are valid.
+/// Whether the Adds, the Updates, the Removes and the extensions for the context among some proposals are valid.
 #[derive(Clone, Copy)]
 struct Validity {
     adds: bool,
     updates: bool,
     removes: bool,
+    extensions: bool,
 }
 
 impl Validity {
@@ -29,11 +30,13 @@ impl Validity {
         ensures adds { result.adds ≡ true }
         ensures updates { result.updates ≡ true }
         ensures removes { result.removes ≡ true }
+        ensures extensions { result.extensions ≡ true }
     {
         Validity {
             adds: true,
             updates: true,
             removes: true,
+            extensions: true,
         }
     }
 
@@ -42,11 +45,13 @@ impl Validity {
         ensures adds { result.adds ≡ (self.adds && other.adds) }
         ensures updates { result.updates ≡ (self.updates && other.updates) }
         ensures removes { result.removes ≡ (self.removes && other.removes) }
+        ensures extensions { result.extensions ≡ (self.extensions && other.extensions) }
     {
         Validity {
             adds: self.adds && other.adds,
             updates: self.updates && other.updates,
             removes: self.removes && other.removes,
+            extensions: self.extensions && other.extensions,
         }
     }
 }
@@ -68,6 +73,7 @@ fn entry_validity(
         (meaning checker.now) group.now.context group.now.tree.tree committer) entry.now) }
     ensures removes { IfOk result (λ v. v.removes ≡ asked_inline
         (removes_validly group.now.tree.tree) entry.now) }
+    ensures extensions { IfOk result (λ v. v.extensions ≡ asked_inline extends_validly entry.now) }
 {
     let ProposalOrRef::Proposal(proposal) = entry else {
         return Ok(Validity::full());
@@ -87,25 +93,27 @@ fn entry_validity(
     match fault {
         ApplyFault::AddInvalid => Ok(Validity {
             adds: false,
-            updates: true,
-            removes: true,
+            ..Validity::full()
         }),
         ApplyFault::UpdateInvalid => Ok(Validity {
-            adds: true,
             updates: false,
-            removes: true,
+            ..Validity::full()
         }),
         ApplyFault::RemoveInvalid => Ok(Validity {
-            adds: true,
-            updates: true,
             removes: false,
+            ..Validity::full()
+        }),
+        ApplyFault::ContextExtensionsInvalid => Ok(Validity {
+            extensions: false,
+            ..Validity::full()
         }),
         ApplyFault::OutOfMemory => Err(AllocError),
         _ => unreachable!(),
     }
 }
 
-/// Whether the proposals in a commit itself are valid: first each Add, then each Update, then each Remove.
+/// Whether the proposals in a commit itself are valid: first each Add, then each Update, then each Remove, then each
+/// list of extensions for the context.
 pub(crate) fn check_inline(
     alloc: Global,
     group: &Group,
@@ -133,6 +141,9 @@ pub(crate) fn check_inline(
     }
     if !valid.removes {
         return Err(Refusal::RemoveInvalid);
+    }
+    if !valid.extensions {
+        return Err(Refusal::ContextExtensionsInvalid);
     }
     Ok(())
 }

@@ -5,6 +5,8 @@
 //! [`Follower::start`] judges a group info with its tree, and [`Follower::take`] one message after the other.
 //! Contracts see a follower as its state (`specs/State.antt`): the context, the tree, the interim transcript
 //! hash and the proposals that are known in the present epoch.
+//!
+//! [`wanted_by_start`] and [`Follower::wanted`] tell which signatures are asked about, for who checks them elsewhere.
 #![tactic(auto)]
 
 mod commit;
@@ -18,10 +20,13 @@ mod refusal;
 mod start;
 mod take;
 mod taken;
+mod terms;
 mod transcript;
+mod wanted;
 
 pub use follower::Follower;
 pub use refusal::Refusal;
-pub use start::{StartFault, StartRefused};
+pub use start::{StartFault, StartRefused, tree_in};
 pub use taken::Taken;
 pub use transcript::{confirmed_hash, interim_hash};
+pub use wanted::{WantedFault, WantedSignature, wanted_by_start};

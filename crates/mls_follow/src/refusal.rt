@@ -6,8 +6,10 @@ use std::alloc::{AllocError, AllocFailed};
 use thiserror::Error;
 
 /// Why a message is refused: the first rule, in this order, that it fails. For a commit the rules for the
-/// proposals in it, [`Refusal::AddInvalid`] to [`Refusal::RemoveInvalid`], stand between
-/// [`Refusal::UnknownReference`] and [`Refusal::UpdateByCommitter`].
+/// proposals in it, [`Refusal::AddInvalid`] to [`Refusal::RemoveInvalid`] and then
+/// [`Refusal::ContextExtensionsInvalid`], stand between [`Refusal::UnknownReference`] and
+/// [`Refusal::UpdateByCommitter`], and [`Refusal::TwoContextExtensions`] before [`Refusal::PathMissing`]. For a
+/// proposal [`Refusal::ContextExtensionsInvalid`] stands beside [`Refusal::RemoveInvalid`].
 #[derive(Clone, Copy, Debug, PartialEq, Eq, Error)]
 pub enum Refusal {
     /// The bytes spell no message, or are more than 268,435,456 (RFC 9420, 6).
@@ -63,7 +65,8 @@ pub enum Refusal {
     /// Two Updates or Removes of a commit's list concern one leaf (RFC 9420, 12.2).
     #[error("two proposals concern one leaf")]
     SameLeafTwice,
-    /// A commit without a path, though its list is empty or has an Update or a Remove (RFC 9420, 12.4).
+    /// A commit without a path, though its list is empty, has an Update or a Remove, or brings extensions to
+    /// the context (RFC 9420, 12.4).
     #[error("a path is missing")]
     PathMissing,
     /// The group would get more than 1,048,576 members, or a list of unmerged leaves as many entries.
@@ -88,9 +91,17 @@ pub enum Refusal {
     /// Two nodes of the tree after a commit have one encryption key (RFC 9420, 7.3).
     #[error("two nodes have one encryption key")]
     KeyRepeated,
-    /// The leaves of the tree after a commit are no members of the group, for this fault (RFC 9420, 7.3).
+    /// The leaves of the tree after a commit are no members of the group, for this fault (RFC 9420, 7.3). They
+    /// are judged by what the context requires after the commit.
     #[error("{0}")]
     Member(MemberFault),
+    /// Two proposals of a commit's list bring extensions to the context (RFC 9420, 12.2).
+    #[error("two proposals bring extensions to the context")]
+    TwoContextExtensions,
+    /// What the extensions that a proposal brings to the context require of members can't be read (RFC 9420,
+    /// 11.1 and 12.1.7).
+    #[error("the extensions brought to the context can't be read")]
+    ContextExtensionsInvalid,
     /// An allocation was refused. It says nothing of the message.
     #[error("out of memory")]
     OutOfMemory,
@@ -132,6 +143,8 @@ impl Refusal {
             Refusal::PathParentHash => 23,
             Refusal::KeyRepeated => 24,
             Refusal::Member(_) => 25,
+            Refusal::TwoContextExtensions => 26,
+            Refusal::ContextExtensionsInvalid => 27,
         }
     }
 }
@@ -205,6 +218,8 @@ impl From<ApplyFault> for Refusal {
             ApplyFault::PathKeyUsed => Refusal::PathKeyUsed,
             ApplyFault::CiphertextCount => Refusal::CiphertextCount,
             ApplyFault::PathParentHash => Refusal::PathParentHash,
+            ApplyFault::TwoContextExtensions => Refusal::TwoContextExtensions,
+            ApplyFault::ContextExtensionsInvalid => Refusal::ContextExtensionsInvalid,
             ApplyFault::NoSuchLeaf => Refusal::TooManyLeaves,
             ApplyFault::OutOfMemory => Refusal::OutOfMemory,
         }

@@ -1,18 +1,18 @@
 //! What a follower starts from, and why it doesn't (RFC 9420, 12.4.3.1).
 
 ghost use Rattle.std.specs.Prelude.{◌≡◌, ◌≢◌, ◌↔◌, ℕ, List, Option, None, Some, Err, IfOk, IfErr, OnOk, OnErr};
-ghost use Rattle.mls_hash.specs.Hashing.{hash_of};
-ghost use Rattle.mls_hash.specs.SubtreeHashes.{AreAllHashes};
 ghost use Rattle.mls_check.specs.Signatures.{Meaning};
+ghost use Rattle.mls_tree.specs.KeptTree.{plain};
 ghost use Rattle.mls_tree.specs.RatchetTree.{RatchetTree};
 ghost use Rattle.mls_nodes.specs.Requirements.{extension_of, Requires, HasNoRequirements};
 ghost use Rattle.mls_follow.specs.Start.{FailsSuite, UsesTree, UsesNoTree, IsFollowed, IsStart, IsStartFault, StartsWith, FailsWith, IsSignedIn, FailsSigned, first_state, is_info_signed};
 
+use crate::group::fill;
 use crate::transcript::interim_hash;
 use mls_check::{
-    MemberFault, OutOfMemory, SignatureCheck, TreeFault, signed, validate_members, validate_tree_by,
+    MemberFault, OutOfMemory, SignatureCheck, TreeFault, signed, validate_members, validate_tree,
 };
-use mls_hash::{SubtreeHashes, Suite};
+use mls_hash::Suite;
 use mls_msgs::{GROUP_INFO_LABEL, GroupInfo, info_tbs};
 use mls_nodes::{LeafNode, NodeFault, RequiredCapabilities, find_extension, requirements};
 use mls_tree::{HashValue, PublicTree};
@@ -29,7 +29,7 @@ pub enum StartFault {
     /// The group's version isn't 1 (RFC 9420, 6).
     #[error("the version is not followed")]
     UnsupportedVersion,
-    /// The group's cipher suite isn't 1, 2 or 3 (RFC 9420, 17.1).
+    /// The group's cipher suite isn't one from 1 to 7 (RFC 9420, 17.1).
     #[error("the cipher suite is not followed")]
     UnsupportedSuite,
     /// No tree was handed in, and the info has no extension of type 2, or the first one can't be read (RFC
@@ -129,7 +129,7 @@ impl From<MemberFault> for StartFault {
     }
 }
 
-/// A refused start, with all that was handed in, as it was.
+/// A refused start, with all that was handed in, as it was, but for the hashes that the tree keeps of its subtrees.
 #[derive(Drop)]
 pub struct StartRefused {
     /// The first check that failed.
@@ -146,15 +146,7 @@ pub struct StartRefused {
 #[derive(Drop)]
 pub(crate) struct Judged {
     pub(crate) required: RequiredCapabilities,
-    pub(crate) hashes: SubtreeHashes,
     pub(crate) interim: HashValue,
-}
-
-/// The tree hashes of a tree's subtrees, and the interim transcript hash.
-#[derive(Drop)]
-struct Hashes {
-    subtrees: SubtreeHashes,
-    interim: HashValue,
 }
 
 /// The cipher suite of a group info whose version and suite are followed.
@@ -177,9 +169,10 @@ pub(crate) fn followed_suite(info: &GroupInfo) -> Result<Suite, StartFault>
     }
 }
 
-/// The tree in a group info's first extension of type 2.
-fn tree_in(alloc: Global, info: &GroupInfo) -> Result<PublicTree, StartFault>
-    ensures tree { IfOk result (UsesTree None info.now.extensions) }
+/// The tree in a group info's first extension of type 2 (RFC 9420, 12.4.3.3): `NoTree` where there is none that can be
+/// read, but for want of memory.
+pub fn tree_in(alloc: Global, info: &GroupInfo) -> Result<PublicTree, StartFault>
+    ensures tree { IfOk result (λ t. UsesTree None info.now.extensions (plain t)) }
     ensures none { IfErr result (λ e. e ≢ StartFault.OutOfMemory → (e ≡ StartFault.NoTree)
         × UsesNoTree None info.now.extensions) }
     ensures no_extension { extension_of 2 info.now.extensions ≡ None
@@ -243,8 +236,8 @@ fn check_signer(
     tree: &PublicTree,
     checker: &dyn SignatureCheck,
 ) -> Result<(), StartFault>
-    ensures signed { OnOk result (IsSignedIn (meaning checker.now) info.now tree.now) }
-    ensures refused { IfErr result (FailsSigned (meaning checker.now) info.now tree.now) }
+    ensures signed { OnOk result (IsSignedIn (meaning checker.now) info.now (plain tree.now)) }
+    ensures refused { IfErr result (FailsSigned (meaning checker.now) info.now (plain tree.now)) }
 {
     let Some(signer) = tree.leaf(info.signer) else {
         return Err(StartFault::SignerNotMember);
@@ -255,26 +248,24 @@ fn check_signer(
     Ok(())
 }
 
-/// The hashes of a group info that is followed and of a tree, where a follower starts with this tree.
-fn judged_hashes(
+/// The interim transcript hash of a group info that is followed, where a follower starts with this tree.
+fn judged_interim(
     alloc: Global,
     suite: Suite,
     info: &GroupInfo,
     required: &RequiredCapabilities,
     tree: &PublicTree,
     checker: &dyn SignatureCheck,
-) -> Result<Hashes, StartFault>
+) -> Result<HashValue, StartFault>
     requires followed { IsFollowed info.now }
     requires suite_of_context { suite ≡ info.now.context.cipher_suite }
     requires required { Requires info.now.context required.now }
-    ensures hashed { IfOk result (λ h. AreAllHashes (hash_of suite) tree.now.tree h.subtrees) }
-    ensures started { IfOk result (λ h. StartsWith
-        (meaning checker.now) info.now tree.now h.interim) }
-    ensures refused { IfErr result (FailsWith (meaning checker.now) info.now tree.now) }
+    ensures started { IfOk result (λ interim. StartsWith
+        (meaning checker.now) info.now (plain tree.now) interim) }
+    ensures refused { IfErr result (FailsWith (meaning checker.now) info.now (plain tree.now)) }
 {
     let context = &info.context;
-    let subtrees = SubtreeHashes::new(alloc, suite, tree)?;
-    validate_tree_by(alloc, suite, context, tree, &subtrees)?;
+    validate_tree(alloc, suite, context, tree)?;
     validate_members(
         alloc,
         context.cipher_suite,
@@ -285,8 +276,28 @@ fn judged_hashes(
     )?;
     check_signer(alloc, info, tree, checker)?;
     let confirmed = context.confirmed.as_slice();
-    let interim = interim_hash(alloc, suite, confirmed, &info.confirmation_tag)?;
-    Ok(Hashes { subtrees, interim })
+    Ok(interim_hash(alloc, suite, confirmed, &info.confirmation_tag)?)
+}
+
+/// The same, and the hashes that the tree keeps of its subtrees are filled before it is validated.
+fn filled_interim(
+    alloc: Global,
+    suite: Suite,
+    info: &GroupInfo,
+    required: &RequiredCapabilities,
+    tree: &mut PublicTree,
+    checker: &dyn SignatureCheck,
+) -> Result<HashValue, StartFault>
+    requires followed { IsFollowed info.now }
+    requires suite_of_context { suite ≡ info.now.context.cipher_suite }
+    requires required { Requires info.now.context required.now }
+    ensures tree { plain tree.new ≡ plain tree.old }
+    ensures started { IfOk result (λ interim. StartsWith
+        (meaning checker.now) info.now (plain tree.old) interim) }
+    ensures refused { IfErr result (FailsWith (meaning checker.now) info.now (plain tree.old)) }
+{
+    fill(alloc, suite, tree)?;
+    judged_interim(alloc, suite, info, required, tree, checker)
 }
 
 /// What is found of a group info that is followed, where a follower starts with this tree: the group's
@@ -296,25 +307,20 @@ pub(crate) fn judge(
     alloc: Global,
     suite: Suite,
     info: &GroupInfo,
-    tree: &PublicTree,
+    tree: &mut PublicTree,
     checker: &dyn SignatureCheck,
 ) -> Result<Judged, StartFault>
     requires followed { IsFollowed info.now }
     requires suite_of_context { suite ≡ info.now.context.cipher_suite }
+    ensures tree { plain tree.new ≡ plain tree.old }
     ensures required { IfOk result (λ judged. Requires info.now.context judged.required) }
-    ensures hashed { IfOk result (λ judged.
-        AreAllHashes (hash_of suite) tree.now.tree judged.hashes) }
     ensures started { IfOk result (λ judged. StartsWith
-        (meaning checker.now) info.now tree.now judged.interim) }
-    ensures refused { IfErr result (FailsWith (meaning checker.now) info.now tree.now) }
+        (meaning checker.now) info.now (plain tree.old) judged.interim) }
+    ensures refused { IfErr result (FailsWith (meaning checker.now) info.now (plain tree.old)) }
 {
     let required = required_of(alloc, info)?;
-    match judged_hashes(alloc, suite, info, &required, tree, checker) {
-        Ok(hashes) => Ok(Judged {
-            required,
-            hashes: hashes.subtrees,
-            interim: hashes.interim,
-        }),
+    match filled_interim(alloc, suite, info, &required, tree, checker) {
+        Ok(interim) => Ok(Judged { required, interim }),
         Err(fault) => {
             drop(required);
             Err(fault)
@@ -332,16 +338,14 @@ pub(crate) fn judge_own(
     requires followed { IsFollowed info.now }
     requires suite_of_context { suite ≡ info.now.context.cipher_suite }
     ensures required { IfOk result (λ found. Requires info.now.context found.1.required) }
-    ensures hashed { IfOk result (λ found.
-        AreAllHashes (hash_of suite) found.0.tree found.1.hashes) }
     ensures started { IfOk result (λ found. IsStart (meaning checker.now) info.now None
-        (first_state info.now found.0 found.1.interim)) }
+        (first_state info.now (plain found.0) found.1.interim)) }
     ensures refused { IfErr result (IsStartFault (meaning checker.now) info.now None) }
     ensures no_extension { extension_of 2 info.now.extensions ≡ None
         → result ≡ Err StartFault.NoTree }
 {
-    let tree = tree_in(alloc, info)?;
-    match judge(alloc, suite, info, &tree, checker) {
+    let mut tree = tree_in(alloc, info)?;
+    match judge(alloc, suite, info, &mut tree, checker) {
         Ok(judged) => Ok((tree, judged)),
         Err(fault) => {
             drop(tree);

@@ -1,18 +1,20 @@
 //! How a group takes what one of its members has sent.
 
 ghost use Rattle.std.specs.Prelude.{◌≡◌, ◌<◌, ℕ, List, Some, None, IsSome, IsTrue, IfOk, IfErr, OnOk, OnErr, is_some, option_and_then};
+ghost use Rattle.mls_nodes.specs.Requirements.{RequiresBy};
 ghost use Rattle.mls_tree.specs.Tree.{leaf_at};
 ghost use Rattle.mls_msgs.specs.Layout.{is_commit};
 ghost use Rattle.mls_msgs.specs.Signed.{confirmed_input};
 ghost use Rattle.mls_msgs.specs.declared.frame.Content.TheVariants as contents;
 ghost use Rattle.mls_hash.specs.Hashing.{hash_of};
+ghost use Rattle.mls_apply.specs.Extensions.{brought, new_extensions};
 ghost use Rattle.mls_apply.specs.ListRules.{list_refusal};
 ghost use Rattle.mls_apply.specs.Outcome.{outcome};
 ghost use Rattle.mls_apply.specs.Rules.{first_failing};
 ghost use Rattle.mls_follow.specs.Changing.{changed_tree};
 ghost use Rattle.mls_follow.specs.Seen.{group_state};
-ghost use Rattle.mls_follow.specs.Rules.{frame_refusal, handshake_refusal, outcome_rules, reference_of};
-ghost use Rattle.mls_follow.specs.Next.{after_content, after_sender, after_tree};
+ghost use Rattle.mls_follow.specs.Rules.{frame_refusal, handshake_refusal, outcome_rules, required_after, rules_under, reference_of};
+ghost use Rattle.mls_follow.specs.Next.{after_content, after_sender, after_tree, with_extensions};
 ghost use Rattle.mls_follow.specs.State.{IsInput, Spells, last_epoch};
 ghost use Rattle.mls_follow.specs.Judging.{Refuses};
 ghost use Rattle.mls_follow.specs.Runs.{Takes};
@@ -23,6 +25,7 @@ use crate::group::Group;
 use crate::offer::check_offer;
 use crate::refusal::Refusal;
 use crate::taken::Taken;
+use crate::terms::{Terms, terms_after};
 use mls_apply::ListItem;
 use mls_check::SignatureCheck;
 use mls_msgs::{Authenticated, Commit, Content, Message, Proposal, UpdatePath};
@@ -58,9 +61,70 @@ impl Group {
     }
 
     /// Changes the tree in place as a member's commit with these items does, whose list keeps its rules, and moves to
-    /// the next epoch, where the path and the tree after both keep theirs. Any refusal, also for want of memory, takes
-    /// the changes back; the last step takes no memory.
+    /// the next epoch on these terms, where the path and the tree after both keep their rules. Any refusal, also for
+    /// want of memory, takes the changes back; the last step takes no memory.
     fn apply_commit(
+        &mut self,
+        alloc: Global,
+        checker: &dyn SignatureCheck,
+        auth: &Authenticated,
+        committer: u32,
+        items: &[ListItem],
+        path: &Option<UpdatePath>,
+        terms: Terms,
+    ) -> Result<Taken, Refusal>
+        requires member { IsSome (leaf_at 0 self.old.tree.tree committer) }
+        requires later { self.old.context.epoch < last_epoch }
+        requires list { list_refusal committer items.now (is_some path.now) ≡ None }
+        requires hashed { IsSome (confirmed_input auth.now) }
+        requires commit { IsTrue (is_commit auth.now.content.content) }
+        requires terms { RequiresBy terms.extensions terms.required }
+        ensures kept { let o = outcome items.now self.old.tree.tree in
+            OnOk result (first_failing (outcome_rules (meaning checker.now)
+            (group_state self.old) terms.required committer path.now o) ≡ None) }
+        ensures next { let o = outcome items.now self.old.tree.tree in
+            let H = hash_of self.old.context.cipher_suite in
+            let s = with_extensions (group_state self.old) terms.extensions in
+            IfOk result (λ taken. option_and_then (after_tree s auth.now)
+            (changed_tree H committer path.now o)
+            ≡ Some (record { taken = taken; state = group_state self.new })) }
+        ensures refused { let o = outcome items.now self.old.tree.tree in
+            IfErr result (Refuses (first_failing (outcome_rules (meaning checker.now)
+            (group_state self.old) terms.required committer path.now o))) }
+        ensures stays { OnErr result (group_state self.new ≡ group_state self.old) }
+    {
+        let transcript = match self.transcript(alloc, auth) {
+            Ok(transcript) => transcript,
+            Err(_) => {
+                drop(terms);
+                return Err(Refusal::OutOfMemory);
+            }
+        };
+        let mut journal = Journal::new(alloc);
+        let suite = self.suite;
+        let tree = &mut self.tree;
+        match change_tree(alloc, suite, tree, &mut journal, committer, items, path) {
+            Ok(()) => {
+                let required = &terms.required;
+                let context = &self.context;
+                match judge_tree(alloc, suite, context, required, checker, &mut self.tree) {
+                    Ok(tree_hash) => Ok(self.enter(tree_hash, transcript, terms)),
+                    Err(refusal) => {
+                        journal.take_back(&mut self.tree);
+                        Err(refusal)
+                    }
+                }
+            }
+            Err(refusal) => {
+                journal.take_back(&mut self.tree);
+                Err(refusal)
+            }
+        }
+    }
+
+    /// Takes a member's commit with these items, whose list keeps its rules: the terms after it are read, and the
+    /// commit is applied.
+    fn take_items(
         &mut self,
         alloc: Global,
         checker: &dyn SignatureCheck,
@@ -75,51 +139,24 @@ impl Group {
         requires hashed { IsSome (confirmed_input auth.now) }
         requires commit { IsTrue (is_commit auth.now.content.content) }
         ensures kept { let o = outcome items.now self.old.tree.tree in
-            OnOk result (first_failing (outcome_rules (meaning checker.now)
-            (group_state self.old) self.old.required committer path.now o) ≡ None) }
+            let required = required_after self.old.required (brought items.now) in
+            OnOk result (first_failing (rules_under (meaning checker.now)
+            (group_state self.old) committer path.now o required) ≡ None) }
         ensures next { let o = outcome items.now self.old.tree.tree in
             let H = hash_of self.old.context.cipher_suite in
-            IfOk result (λ taken. option_and_then (after_tree (group_state self.old) auth.now)
+            let extensions = new_extensions self.old.context.extensions items.now in
+            let s = with_extensions (group_state self.old) extensions in
+            IfOk result (λ taken. option_and_then (after_tree s auth.now)
             (changed_tree H committer path.now o)
             ≡ Some (record { taken = taken; state = group_state self.new })) }
         ensures refused { let o = outcome items.now self.old.tree.tree in
-            IfErr result (Refuses (first_failing (outcome_rules (meaning checker.now)
-            (group_state self.old) self.old.required committer path.now o))) }
+            let required = required_after self.old.required (brought items.now) in
+            IfErr result (Refuses (first_failing (rules_under (meaning checker.now)
+            (group_state self.old) committer path.now o required))) }
         ensures stays { OnErr result (group_state self.new ≡ group_state self.old) }
     {
-        let transcript = self.transcript(alloc, auth)?;
-        let mut journal = Journal::new(alloc);
-        let suite = self.suite;
-        let tree = &mut self.tree;
-        match change_tree(
-            alloc,
-            suite,
-            tree,
-            &mut journal,
-            &self.hashes,
-            committer,
-            items,
-            path,
-        ) {
-            Ok(hashes) => {
-                let required = &self.required;
-                let context = &self.context;
-                match judge_tree(alloc, suite, context, required, checker, &self.tree, hashes) {
-                    Ok(hashes) => {
-                        self.hashes = hashes.subtrees;
-                        Ok(self.enter(hashes.whole, transcript))
-                    }
-                    Err(refusal) => {
-                        journal.take_back(&mut self.tree);
-                        Err(refusal)
-                    }
-                }
-            }
-            Err(refusal) => {
-                journal.take_back(&mut self.tree);
-                Err(refusal)
-            }
-        }
+        let terms = terms_after(alloc, self, items)?;
+        self.apply_commit(alloc, checker, auth, committer, items, path, terms)
     }
 
     /// Takes a commit that a member has sent and signed.
@@ -147,14 +184,7 @@ impl Group {
         ensures stays { OnErr result (group_state self.new ≡ group_state self.old) }
     {
         let items = check_items(alloc, self, checker, sender, commit)?;
-        let answer = self.apply_commit(
-            alloc,
-            checker,
-            auth,
-            sender,
-            items.as_slice(),
-            &commit.path,
-        );
+        let answer = self.take_items(alloc, checker, auth, sender, items.as_slice(), &commit.path);
         drop(items);
         answer
     }

@@ -1,18 +1,13 @@
-use Rattle.std.proofs.Common.{ap, inl, inr, sym, subst, Option, Some, Err, ◌∙◌}
-use Rattle.std.proofs.lemmas.Bool.{eqb-true}
-use Rattle.std.proofs.lemmas.List.{nil_from_length}
+use Rattle.std.proofs.Common.{ap, inl, inr, sym, Option, Some, Err, ◌∙◌}
 use Rattle.std.proofs.lemmas.Result.{err_from_is_err_and}
 use Rattle.mls_hash.specs.Hashing.{hash_of}
-use Rattle.mls_hash.specs.SubtreeHashes.{AreAllHashes}
-use Rattle.mls_apply.specs.Outcome.{Grown, grown}
+use Rattle.mls_apply.specs.Outcome.{Grown}
 use Rattle.mls_apply.specs.Rules.{first_failing}
 use Rattle.mls_follow.specs.Changing.{change_rules}
 use Rattle.mls_follow.specs.Rules.{refusal_of}
 use Rattle.mls_follow.proofs.Committing.{no_outcome}
 use Rattle.mls_follow.proofs.Staying.{committer_stays}
-use Rattle.mls_follow.proofs.Unchanged.{no_proposals}
 use Rattle.mls_follow.proofs.commit.change_tree.Goals as goal
-use Rattle.mls_follow.proofs.commit.change_tree.Goals.{then-is_empty, else-is_empty}
 
 -- the list has no outcome
 pub returns-in_err-added-clause-refused : goal.returns-in_err-added-clause-refused
@@ -26,20 +21,9 @@ returns-in_err-added-clause-refused c =
     ])
 
 -- the committer's leaf stays
-pub merge-requires-clause-member : goal.merge-requires-clause-member
-merge-requires-clause-member c =
-    committer_stays c.args.committer c.args.items.now _ c.args.tree.now.tree _ c.requires.list c.in_ok-added.ensures.applied c.requires.member
-
--- no proposal leaves the tree, and so its hashes
-pub merge-requires-clause-hashed : goal.merge-requires-clause-hashed
-merge-requires-clause-hashed c =
-    elim c.if-is_empty.branch [
-      | then-is_empty w ↦
-          let none = nil_from_length c.args.items.now (eqb-true _ 0 (sym c.is_empty.ensures ∙ w.if-is_empty.true)) in
-          rw w.kept-is (subst (λ t. AreAllHashes (hash_of c.args.suite) t c.args.hashes.now)
-          (no_proposals c.args.items.now c.args.tree.now.tree (grown c.apply_list_in_place.new.tree.tree c.in_ok-added.added) none c.in_ok-added.ensures.applied) c.requires.hashed)
-      | else-is_empty w ↦ rw w.kept-is tt
-    ]
+pub merge-requires : goal.merge-requires
+merge-requires c =
+    record { member = committer_stays c.args.committer c.args.items.now _ c.args.tree.now.tree _ c.requires.list c.in_ok-added.ensures.applied c.requires.member }
 
 pub returns-clause-kept : goal.returns-clause-kept
 returns-clause-kept c = rw c.in_ok-added.ensures.applied c.merge.ensures.kept

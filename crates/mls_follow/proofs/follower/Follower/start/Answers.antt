@@ -1,23 +1,32 @@
 use Rattle.std.proofs.Common.{Some, refl, subst}
-use Rattle.mls_follow.specs.Start.{IsStartFault}
-use Rattle.mls_follow.proofs.Starting.{version_followed, suite_followed}
+use Rattle.std.specs.Prelude.{option_map}
+use Rattle.mls_tree.specs.KeptTree.{plain}
+use Rattle.mls_follow.specs.Start.{IsStart, IsStartFault, first_state}
+use Rattle.mls_follow.proofs.Starting.{version_followed, suite_followed, start_again}
 use Rattle.mls_follow.proofs.follower.Follower.start.Goals as goal
 
 pub returns-in-Err-clause-refused : goal.returns-in-Err-clause-refused
-returns-in-Err-clause-refused g c = c.in-Err.ensures.refused _ c.args.tree
+returns-in-Err-clause-refused g c = c.in-Err.ensures.refused _ (option_map plain c.args.tree)
 
 pub returns-in-Err-judge-clause-refused : goal.returns-in-Err-judge-clause-refused
 returns-in-Err-judge-clause-refused g c =
-    let h = c.in-Err-judge.ensures.refused (Some c.in-Some.tree) refl in
-    rw c.in-Some.is (subst (λ d. IsStartFault ((goal.SignatureCheck-dyn g d).meaning d.1) c.args.info (Some c.in-Some.tree) c.in-Err-judge.fault) c.as_ref.ensures.1 h)
+    let h = c.in-Err-judge.ensures.refused (Some (plain c.in-Some.tree)) refl in
+    rw c.in-Some.is (subst (λ d. IsStartFault ((goal.SignatureCheck-dyn g d).meaning d.1) c.args.info (Some (plain c.in-Some.tree)) c.in-Err-judge.fault) c.as_ref.ensures.1 h)
 
 pub returns-in-Err-clause-no_tree : goal.returns-in-Err-clause-no_tree
 returns-in-Err-clause-no_tree g c followed _ _ = absurd (c.in-Err.ensures.unfollowed followed)
 
 pub returns-in-Err-judge-clause-unsupported_version : goal.returns-in-Err-judge-clause-unsupported_version
 returns-in-Err-judge-clause-unsupported_version g c =
-    version_followed _ c.args.info (Some c.in-Some.tree) c.in-Err-judge.fault c.in-Ok.ensures.followed (c.in-Err-judge.ensures.refused (Some c.in-Some.tree) refl)
+    version_followed _ c.args.info (Some (plain c.in-Some.tree)) c.in-Err-judge.fault c.in-Ok.ensures.followed (c.in-Err-judge.ensures.refused (Some (plain c.in-Some.tree)) refl)
 
 pub returns-in-Err-judge-clause-unsupported_suite : goal.returns-in-Err-judge-clause-unsupported_suite
 returns-in-Err-judge-clause-unsupported_suite g c =
-    suite_followed _ c.args.info (Some c.in-Some.tree) c.in-Err-judge.fault c.in-Ok.ensures.followed (c.in-Err-judge.ensures.refused (Some c.in-Some.tree) refl)
+    suite_followed _ c.args.info (Some (plain c.in-Some.tree)) c.in-Err-judge.fault c.in-Ok.ensures.followed (c.in-Err-judge.ensures.refused (Some (plain c.in-Some.tree)) refl)
+
+pub returns-in-Ok-judge-clause-started : goal.returns-in-Ok-judge-clause-started
+returns-in-Ok-judge-clause-started g c =
+    let h = c.in-Ok-judge.ensures.started (Some (plain c.in-Some.tree)) refl in
+    let again = start_again _ c.args.info (Some (plain c.in-Some.tree)) (plain c.in-Some.tree) (plain c.judge.new.tree) c.in-Ok-judge.judged.interim c.judge.ensures.tree h in
+    rw (c.in-Some.is, c.first_group.ensures)
+    (subst (λ d. IsStart ((goal.SignatureCheck-dyn g d).meaning d.1) c.args.info (Some (plain c.in-Some.tree)) (first_state c.args.info (plain c.judge.new.tree) c.in-Ok-judge.judged.interim)) c.as_ref.ensures.1 again)

@@ -1,0 +1,5 @@
+use Rattle.mls_follow.proofs.WantedAnswers.{members_stay}
+use Rattle.mls_follow.proofs.laws.members_stay.Goals as goal
+
+pub returns : goal.returns
+returns c = record { members = members_stay }

@@ -1,4 +1,4 @@
--- Who judges signatures in a report, and why nobody does.
+-- Who judges signatures in a report, and why nobody does. For the code alone.
 use Rattle.mls_cli.specs.Program.{Opener, LosesReceipts, RefusesReceipts}
 use Rattle.mls_cli.specs.declared.order.Checker.{Checker}
 use Rattle.mls_cli.specs.declared.judge.JudgeFault.{JudgeFault}

@@ -8,7 +8,7 @@ use Rattle.mls_check.specs.Receipts.{listed, IsReceipts, IsReceiptsFault}
 use Rattle.mls_check.specs.Signatures.{Meaning}
 use Rattle.mls_check.specs.declared.receipts.ReceiptsFault.{ReceiptsFault}
 use Rattle.mls_vectors.specs.Check.{Checks, ChecksPart}
-use Rattle.mls_cli.specs.Orders.{IsOrderOf, IsHelp, AsksForHelp, Refuses}
+use Rattle.mls_cli.specs.Orders.{IsOrderOf, IsHelp, IsUsage, AsksForHelp, AsksForHelpAlone, Refuses}
 use Rattle.mls_report.specs.ReadAll.{ReadsAll, ReadsSome}
 use Rattle.mls_report.specs.Replay.{Replays, ReplaysPart}
 use Rattle.mls_report.specs.Show.{Shows, ShowsPart}
@@ -366,6 +366,7 @@ module _ {File : Type 0} (F : Opener File) (written0 written1 : Option (List ℕ
     pub fault : OrderFault
     pub refused : Refuses (IsOrderOf words) fault
     pub help : IsHelp fault → AsksForHelp words
+    pub usage : IsUsage fault → ¬ AsksForHelpAlone words
     pub ends : EndsFault written0 written1 is_failed noted0 noted1 has_failed_notes exit fault
 
   -- the program is run on these words, of which the first is its name

@@ -261,6 +261,10 @@ fn replay_order<F: Files, K: Sink>(
 /// Carries out an order, and tells its report on `out`. The receipts are read first, where there are any; then the
 /// other files are opened, in the order of the command's words; then the report begins.
 ///
+/// In which order files are opened, and that no other file is, no clause says, since nothing is known of an opener but
+/// what it may give: that is so by the code alone. A clause says which file is read as which input, that nothing is
+/// written where one can't be opened, and that bad receipts alone are told.
+///
 /// Receipts that can't be read are told by one line, `No`, and no other file is opened. `Read` comes where a file can't
 /// be opened, and then nothing is written, and where one fails; `Write` where the output fails. Then a prefix of the
 /// report may be written already. Want of memory comes before anything is written, but in `replay`, which tells its lines

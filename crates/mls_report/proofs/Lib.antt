@@ -9,4 +9,9 @@ pub mod FindingsOnce
 pub mod ReplaysOnce
 pub mod StartsOnce
 pub mod TurnsOnce
+pub mod Decided
+pub mod StartsExist
+pub mod FindingsExist
+pub mod LogsExist
+pub mod ReplaysExist
 mod ValidEpochs

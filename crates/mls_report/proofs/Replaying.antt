@@ -16,7 +16,7 @@ use Rattle.mls_report.specs.declared.outcome.RunFault.TheVariants.{Read, Write, 
 use Rattle.mls_report.specs.declared.outcome.Verdict.{Verdict}
 use Rattle.mls_report.specs.Replay.{Turn, AreTurns, state_after, turn_line, turn_lines, one_if, accepted_count, refused_count, message_limit, still_to_come, AreRecords, Follows, TellsLog, TellsPart, IsVerdict, last_lines, ending, Replays, ReplaysPart, StopsBefore}
 use Rattle.mls_report.specs.ReplaySteps.{ReadsUndecided, TellsTurn, StopsAt, FollowsLog, ReplaysStart, ReplaysStartPart, RefusesBefore}
-use Rattle.mls_report.specs.Starting.{ReadsBoth, IsReadAs, IsStarted, Opens, Declines}
+use Rattle.mls_report.specs.Starting.{ReadsBoth, IsReadAs, IsStarted, ReadsAndStarts, ReadsAndDeclines}
 use Rattle.mls_report.specs.StartingSteps.{IsUnread}
 use Rattle.mls_report.specs.declared.finding.Finding.{Finding}
 use Rattle.mls_report.specs.declared.finding.Finding.TheVariants.{StartRefused}
@@ -131,6 +131,7 @@ part-read G s l0 l1 l2 w0 w1 ts now most Memory f count u other = record {
   turns = ts;
   rest = u.rest;
   follows = follows-read G s l0 l1 l2 ts u.rest f.follows u.read;
+  left_over = inl (subst (λ k. IsUndecided k u.rest) (still ts most count) u.undecided);
   wrote = f.wrote;
 }
 
@@ -154,6 +155,7 @@ part-turn G s l0 l1 l2 w0 w1 w2 ts now n body read Memory f count below r taken 
   turns = ts;
   rest = read;
   follows = follows-read G s l0 l1 l2 ts read f.follows taken;
+  left_over = inr (inl (body, r));
   wrote = subst (Appends w0 w2) (append-nil (turn_lines 1 ts)) (Appends-trans w0 w1 w2 _ _ f.wrote stops);
 }
 
@@ -239,6 +241,7 @@ part-followed G s l0 l1 w0 w1 now a r broken f = record {
   turns = f.turns;
   rest = f.rest;
   follows = f.follows;
+  left_over = inr (inr (broken, f.log_end));
   wrote = f.wrote;
 }
 
@@ -255,7 +258,7 @@ line-part (Err Memory) P part of_part memory of_memory own = of_memory (memory r
 
 pub declines-unread :
     (G : Meaning) (i0 i1 : Option (List ℕ)) (t0 t1 : Option (Option (List ℕ))) (info_bytes : List ℕ) (tree_bytes : Option (List ℕ)) (finding : Finding)
-    → ReadsBoth i0 i1 t0 t1 info_bytes tree_bytes → IsUnread info_bytes tree_bytes finding → Declines G i0 i1 t0 t1 finding
+    → ReadsBoth i0 i1 t0 t1 info_bytes tree_bytes → IsUnread info_bytes tree_bytes finding → ReadsAndDeclines G i0 i1 t0 t1 finding
 declines-unread G i0 i1 t0 t1 info_bytes tree_bytes finding both unread = record {
   info_bytes = info_bytes;
   tree_bytes = tree_bytes;
@@ -270,10 +273,10 @@ module _ (G : Meaning) (info_bytes : List ℕ) (tree_bytes : Option (List ℕ)) 
   started s start = record { info = info; handed = handed; is_read = is_read; start = start }
 
   module _ (i0 i1 : Option (List ℕ)) (t0 t1 : Option (Option (List ℕ))) (both : ReadsBoth i0 i1 t0 t1 info_bytes tree_bytes) where
-    opens : (s : State) → IsStart G info handed s → Opens G i0 i1 t0 t1 s
-    opens s start = record { info_bytes = info_bytes; tree_bytes = tree_bytes; both_read = both; started = started s start }
+    starts_in : (s : State) → IsStart G info handed s → ReadsAndStarts G i0 i1 t0 t1 s
+    starts_in s start = record { info_bytes = info_bytes; tree_bytes = tree_bytes; both_read = both; started = started s start }
 
-    declines : (fault : StartFault) → fault ≢ starts.OutOfMemory → IsStartFault G info handed fault → Declines G i0 i1 t0 t1 (StartRefused fault)
+    declines : (fault : StartFault) → fault ≢ starts.OutOfMemory → IsStartFault G info handed fault → ReadsAndDeclines G i0 i1 t0 t1 (StartRefused fault)
     declines fault own fails = record {
       info_bytes = info_bytes;
       tree_bytes = tree_bytes;
@@ -283,7 +286,7 @@ module _ (G : Meaning) (info_bytes : List ℕ) (tree_bytes : Option (List ℕ)) 
     }
 
     pub replays-start : (l0 l1 w0 w1 : Option (List ℕ)) (verdict : Verdict) → ReplaysStart G info handed l0 l1 w0 w1 verdict → Replays G i0 i1 t0 t1 l0 l1 w0 w1 verdict
-    replays-start l0 l1 w0 w1 verdict (inl p) = inr (record { state = p.state; opens = opens p.state p.start; tells = p.tells })
+    replays-start l0 l1 w0 w1 verdict (inl p) = inr (record { state = p.state; starts = starts_in p.state p.start; tells = p.tells })
     replays-start l0 l1 w0 w1 verdict (inr p) = inl (record {
       finding = StartRefused p.fault;
       declines = declines p.fault p.own p.fails;
@@ -303,5 +306,5 @@ module _ (G : Meaning) (info_bytes : List ℕ) (tree_bytes : Option (List ℕ)) 
     refused-part l0 l1 w0 w1 Memory p = p
 
     pub replays-part : (l0 l1 w0 w1 : Option (List ℕ)) (fault : RunFault) → ReplaysStartPart G info handed l0 l1 w0 w1 fault → ReplaysPart G i0 i1 t0 t1 l0 l1 w0 w1 fault
-    replays-part l0 l1 w0 w1 fault (inl p) = inr (record { state = p.state; opens = opens p.state p.start; tells = p.tells })
+    replays-part l0 l1 w0 w1 fault (inl p) = inr (record { state = p.state; starts = starts_in p.state p.start; tells = p.tells })
     replays-part l0 l1 w0 w1 fault (inr p) = inl (refused-part l0 l1 w0 w1 fault p)

@@ -113,11 +113,11 @@ module _ (G : Meaning) (info_bytes : List ℕ) (tree_bytes : Option (List ℕ)) 
   not_both : (i j : Option (List ℕ)) (t u : Option (Option (List ℕ))) (l m w x y z : Option (List ℕ)) (v o : Verdict)
       → TellsDecline G (Some info_bytes) i Tree t (Some log_bytes) l w x v → TellsReplay G (Some info_bytes) j Tree u (Some log_bytes) m y z o → ⊥
   not_both i j t u l m w x y z v o a b =
-      let ei = one_input info_bytes i j a.declines.info_bytes b.opens.info_bytes a.declines.both_read.info b.opens.both_read.info in
-      let et = one_tree_input tree_bytes t u a.declines.tree_bytes b.opens.tree_bytes a.declines.both_read.tree b.opens.both_read.tree in
-      let found = subst (λ (z : Option (List ℕ)). IsStartFinding G b.opens.info_bytes z a.finding) et
+      let ei = one_input info_bytes i j a.declines.info_bytes b.starts.info_bytes a.declines.both_read.info b.starts.both_read.info in
+      let et = one_tree_input tree_bytes t u a.declines.tree_bytes b.starts.tree_bytes a.declines.both_read.tree b.starts.both_read.tree in
+      let found = subst (λ (z : Option (List ℕ)). IsStartFinding G b.starts.info_bytes z a.finding) et
       (subst (λ (z : List ℕ). IsStartFinding G z a.declines.tree_bytes a.finding) ei a.declines.found) in
-      let alike = one_start_finding G b.opens.info_bytes b.opens.tree_bytes a.finding (Starts (started_of b.state)) found (b.state, b.opens.started, refl) in
+      let alike = one_start_finding G b.starts.info_bytes b.starts.tree_bytes a.finding (Starts (started_of b.state)) found (b.state, b.starts.started, refl) in
       yes_no (sym (alike_starts a.finding b.state (started_of b.state) refl alike) ∙ a.declines.verdict)
 
   -- a follower starts, twice
@@ -125,11 +125,11 @@ module _ (G : Meaning) (info_bytes : List ℕ) (tree_bytes : Option (List ℕ)) 
       → TellsReplay G (Some info_bytes) i Tree t (Some log_bytes) l (Some before) (Some (before ++ text)) v
       → TellsReplay G (Some info_bytes) j Tree u (Some log_bytes) m (Some after) (Some (after ++ other)) o → AreAlikeTexts text other × (v ≡ o)
   both_replay i j t u l m before after text other v o a b =
-      let ei = one_input info_bytes i j a.opens.info_bytes b.opens.info_bytes a.opens.both_read.info b.opens.both_read.info in
-      let et = one_tree_input tree_bytes t u a.opens.tree_bytes b.opens.tree_bytes a.opens.both_read.tree b.opens.both_read.tree in
-      let start = subst (λ (z : Option (List ℕ)). IsStarted G b.opens.info_bytes z a.state) et
-      (subst (λ (z : List ℕ). IsStarted G z a.opens.tree_bytes a.state) ei a.opens.started) in
-      let es = one_started G b.opens.info_bytes b.opens.tree_bytes a.state b.state start b.opens.started in
+      let ei = one_input info_bytes i j a.starts.info_bytes b.starts.info_bytes a.starts.both_read.info b.starts.both_read.info in
+      let et = one_tree_input tree_bytes t u a.starts.tree_bytes b.starts.tree_bytes a.starts.both_read.tree b.starts.both_read.tree in
+      let start = subst (λ (z : Option (List ℕ)). IsStarted G b.starts.info_bytes z a.state) et
+      (subst (λ (z : List ℕ). IsStarted G z a.starts.tree_bytes a.state) ei a.starts.started) in
+      let es = one_started G b.starts.info_bytes b.starts.tree_bytes a.state b.state start b.starts.started in
       let ends : EndsLog G a.state (Some log_bytes) l a.tells.turns a.tells.broken = record { rest = a.tells.rest; follows = a.tells.follows; log_end = a.tells.log_end } in
       let other_ends : EndsLog G b.state (Some log_bytes) m b.tells.turns b.tells.broken = record { rest = b.tells.rest; follows = b.tells.follows; log_end = b.tells.log_end } in
       let moved = subst (λ (s : State). EndsLog G s (Some log_bytes) l a.tells.turns a.tells.broken) es ends in

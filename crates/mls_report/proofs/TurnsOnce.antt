@@ -42,20 +42,20 @@ one_end false false e = refl
 one_end true false e = absurd cc
 one_end false true e = absurd cc
 
-abbrev bytes_of : List Turn → List (List ℕ)
+abbrev pub bytes_of : List Turn → List (List ℕ)
 bytes_of turns = map (λ turn. turn.bytes) turns
 
 module _ (G : Meaning) where
   -- what is told of the bytes of a log, of which so many messages may come
-  record Told (most : ℕ) (s : State) (log : List ℕ) (turns : List Turn) (broken : Bool) : Type 0 where
-    taken : AreTurns G s turns
-    bounded : length turns ≤ most
-    records : List ℕ
-    are_records : AreRecords (bytes_of turns) records
-    rest : List ℕ
-    left : List ℕ
-    read : log ≡ (records ++ rest) ++ left
-    log_end : IsLogEnd (most - length turns) rest (Some left) broken
+  pub record Told (most : ℕ) (s : State) (log : List ℕ) (turns : List Turn) (broken : Bool) : Type 0 where
+    pub taken : AreTurns G s turns
+    pub bounded : length turns ≤ most
+    pub records : List ℕ
+    pub are_records : AreRecords (bytes_of turns) records
+    pub rest : List ℕ
+    pub left : List ℕ
+    pub read : log ≡ (records ++ rest) ++ left
+    pub log_end : IsLogEnd (most - length turns) rest (Some left) broken
 
   at_end : (most : ℕ) (s : State) (log : List ℕ) (broken : Bool) (a : Told most s log [] broken) → Meets (Some log) (Some a.left) most [] (Ok (end_step broken))
   at_end most s log broken a =

@@ -7,6 +7,7 @@ pub mod ReadAll
 pub mod Replay
 pub mod ReplaySteps
 pub mod Show
+pub mod SomeReport
 pub mod Starting
 pub mod StartingSteps
 pub mod Status

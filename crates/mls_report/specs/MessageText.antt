@@ -13,7 +13,8 @@ use Rattle.mls_msgs.specs.declared.key_package.KeyPackage.{KeyPackage}
 use Rattle.mls_msgs.specs.declared.message.Message.{Message}
 use Rattle.mls_msgs.specs.declared.message.Message.TheVariants as messages
 use Rattle.mls_msgs.specs.declared.proposal.Proposal.{Proposal}
-use Rattle.mls_msgs.specs.declared.proposal.Proposal.TheVariants.{Add, Update, Remove}
+use Rattle.mls_msgs.specs.declared.proposal.Proposal.TheVariants.{Add, Update, Remove, ContextExtensions}
+use Rattle.mls_report.specs.InfoText.{types_text}
 use Rattle.mls_report.specs.Texts.{hex_text}
 
 -- who sent a message (6): a member by the index of its leaf, an external sender by its
@@ -29,6 +30,7 @@ abbrev pub proposal_text : Proposal → List ℕ
 proposal_text (Add key_package) = codes "proposal add"
 proposal_text (Update leaf) = codes "proposal update"
 proposal_text (Remove removed) = codes "proposal remove " ++ decimal removed
+proposal_text (ContextExtensions extensions) = codes "proposal extensions " ++ types_text extensions
 
 -- whether a commit has an update path (12.4)
 abbrev pub path_text : Option UpdatePath → List ℕ

@@ -15,7 +15,7 @@ use Rattle.mls_follow.specs.declared.taken.Taken.{Taken}
 use Rattle.mls_follow.specs.declared.taken.Taken.TheVariants.{Proposal, Commit}
 use Rattle.mls_report.specs.FaultText.{member_number}
 use Rattle.mls_report.specs.Finding.{finding_line}
-use Rattle.mls_report.specs.Starting.{Opens, Declines}
+use Rattle.mls_report.specs.Starting.{ReadsAndStarts, ReadsAndDeclines}
 use Rattle.mls_report.specs.Texts.{hex_text}
 use Rattle.mls_report.specs.declared.finding.Finding.{Finding}
 use Rattle.mls_report.specs.declared.outcome.RunFault.{RunFault}
@@ -179,12 +179,20 @@ pub record StopsInEnding (G : Meaning) (s : State) (log0 log1 written0 written1 
   pub ending_is : ending broken s turns ≡ part ++ more
   pub wrote : Appends written0 written1 (turn_lines 1 turns ++ part)
 
--- memory ran out: the messages that were taken before are told
+-- What was read behind the messages that were told, where memory ran out: bytes that don't tell yet what comes next,
+-- the record of one more message, or what shows that the log has ended or is broken.
+abbrev pub IsLeftOver : ℕ → List ℕ → Option (List ℕ) → Type 0
+IsLeftOver most rest left =
+    IsUndecided most rest ⊎ (((body : List ℕ) × IsRecord rest body)
+    ⊎ ((broken : Bool) × IsLogEnd most rest left broken))
+
+-- memory ran out: each message that was read is told, but the one at which it ran out
 pub record StopsWithoutMemory (G : Meaning) (s : State) (log0 log1 written0 written1 : Option (List ℕ)) :
     Type 0 where
   pub turns : List Turn
   pub rest : List ℕ
   pub follows : Follows G s log0 log1 turns rest
+  pub left_over : IsLeftOver (still_to_come turns) rest log1
   pub wrote : Appends written0 written1 (turn_lines 1 turns)
 
 -- what was told where the report of the log was not written whole, by the fault that is answered
@@ -202,7 +210,7 @@ pub record TellsDecline (G : Meaning) (info0 info1 : Option (List ℕ))
     (tree0 tree1 : Option (Option (List ℕ))) (log0 log1 written0 written1 : Option (List ℕ))
     (verdict : Verdict) : Type 0 where
   pub finding : Finding
-  pub declines : Declines G info0 info1 tree0 tree1 finding
+  pub declines : ReadsAndDeclines G info0 info1 tree0 tree1 finding
   pub unread : log1 ≡ log0
   pub wrote : Appends written0 written1 (finding_line finding)
   pub verdict_is : verdict ≡ No
@@ -212,7 +220,7 @@ pub record TellsReplay (G : Meaning) (info0 info1 : Option (List ℕ))
     (tree0 tree1 : Option (Option (List ℕ))) (log0 log1 written0 written1 : Option (List ℕ))
     (verdict : Verdict) : Type 0 where
   pub state : State
-  pub opens : Opens G info0 info1 tree0 tree1 state
+  pub starts : ReadsAndStarts G info0 info1 tree0 tree1 state
   pub tells : TellsLog G state log0 log1 written0 written1 verdict
 
 abbrev pub Replays : Meaning → Option (List ℕ) → Option (List ℕ) → Option (Option (List ℕ))
@@ -234,7 +242,7 @@ pub record StopsInDecline (G : Meaning) (info0 info1 : Option (List ℕ))
     (tree0 tree1 : Option (Option (List ℕ))) (log0 log1 written0 written1 : Option (List ℕ))
     : Type 0 where
   pub finding : Finding
-  pub declines : Declines G info0 info1 tree0 tree1 finding
+  pub declines : ReadsAndDeclines G info0 info1 tree0 tree1 finding
   pub unread : log1 ≡ log0
   pub wrote : AppendsPrefix written0 written1 (finding_line finding)
 
@@ -254,7 +262,7 @@ pub record StopsAfter (G : Meaning) (info0 info1 : Option (List ℕ))
     (tree0 tree1 : Option (Option (List ℕ))) (log0 log1 written0 written1 : Option (List ℕ))
     (fault : RunFault) : Type 0 where
   pub state : State
-  pub opens : Opens G info0 info1 tree0 tree1 state
+  pub starts : ReadsAndStarts G info0 info1 tree0 tree1 state
   pub tells : TellsPart G state log0 log1 written0 written1 fault
 
 -- what was written where the report was not written whole, by the fault that is answered: always a prefix

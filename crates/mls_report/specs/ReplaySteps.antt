@@ -1,4 +1,4 @@
--- What the steps of `replay` ensure.
+-- What the steps of `replay` ensure. For the code alone.
 use Rattle.std.specs.Prelude.{List, [], ℕ, ◌+◌, ◌++◌, codes, length, Bool, Option, Result, is_ok, ◌≡◌, ◌≢◌, ◌⊎◌}
 use Rattle.std.specs.Fmt.{decimal}
 use Rattle.std.specs.Io.KnownBytes.{Appends, Consumes}

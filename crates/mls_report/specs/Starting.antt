@@ -104,7 +104,7 @@ pub record ReadsBoth (info0 info1 : Option (List ℕ)) (tree0 tree1 : Option (Op
   pub tree : ReadsHanded tree0 tree1 tree_bytes
 
 -- both were read, and a follower starts from them in this state
-pub record Opens (G : Meaning) (info0 info1 : Option (List ℕ))
+pub record ReadsAndStarts (G : Meaning) (info0 info1 : Option (List ℕ))
     (tree0 tree1 : Option (Option (List ℕ))) (s : State) : Type 0 where
   pub info_bytes : List ℕ
   pub tree_bytes : Option (List ℕ)
@@ -112,7 +112,7 @@ pub record Opens (G : Meaning) (info0 info1 : Option (List ℕ))
   pub started : IsStarted G info_bytes tree_bytes s
 
 -- both were read, and for this no follower starts from them
-pub record Declines (G : Meaning) (info0 info1 : Option (List ℕ))
+pub record ReadsAndDeclines (G : Meaning) (info0 info1 : Option (List ℕ))
     (tree0 tree1 : Option (Option (List ℕ))) (finding : Finding) : Type 0 where
   pub info_bytes : List ℕ
   pub tree_bytes : Option (List ℕ)

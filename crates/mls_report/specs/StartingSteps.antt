@@ -1,4 +1,4 @@
--- What the steps of a start ensure.
+-- What the steps of a start ensure. For the code alone.
 use Rattle.std.specs.Prelude.{List, ℕ, Option, ◌≡◌}
 use Rattle.mls_check.specs.Signatures.{Meaning}
 use Rattle.mls_report.specs.Finding.{finding_verdict}

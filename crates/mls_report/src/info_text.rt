@@ -20,7 +20,7 @@ fn types_of(alloc: Global, extensions: &[Extension]) -> Result<Vec<u32>, AllocEr
 }
 
 /// The types of extensions, as they stand in a line.
-fn types_text(alloc: Global, extensions: &[Extension]) -> Result<String, AllocError>
+pub(crate) fn types_text(alloc: Global, extensions: &[Extension]) -> Result<String, AllocError>
     ensures { IfOk result (λ text. string_bytes text ≡ lines.types_text extensions.now) }
 {
     let types = types_of(alloc, extensions)?;

@@ -1,6 +1,7 @@
 //! Laws about the definitions of the reports, which no call of a caller's needs to run.
 
 ghost use Rattle.mls_report.specs.OneReport.{OneTreeFinding, OneStartFinding, OneStart, OneLog, OneReplay};
+ghost use Rattle.mls_report.specs.SomeReport.{SomeTreeFinding, SomeStartFinding, SomeReplay};
 ghost use Rattle.mls_report.specs.ValidEpochs.{StartedEpochsAreValid, ToldEpochsAreValid};
 
 /// What is found of a context and a tree, and of a group info and a tree, is one function of their bytes and of what the
@@ -18,6 +19,15 @@ pub fn findings_are_determined()
 pub fn replays_are_determined()
     ensures log { OneLog }
     ensures report { OneReplay }
+{}
+
+/// Something is found of the bytes of any context and tree, and of any group info and tree, and a replay of any bytes has
+/// a report, whatever the checker of signatures means. So what the reports' contracts leave to want of memory and to
+/// devices that fail is never all that there is to tell.
+pub fn reports_exist()
+    ensures tree { SomeTreeFinding }
+    ensures start { SomeStartFinding }
+    ensures replay { SomeReplay }
 {}
 
 /// Each epoch that `validate` or `replay` tells is one whose tree is valid by the group context's tree hash, and whose

@@ -3,6 +3,7 @@
 ghost use Rattle.std.specs.Prelude.{◌≡◌, IfOk, length, string_bytes};
 ghost use Rattle.mls_report.specs.MessageText as lines;
 
+use crate::info_text::types_text;
 use crate::text::hex_of;
 use mls_msgs::{Commit, Content, FramedContent, GroupInfo, KeyPackage, Message, Proposal, Sender};
 use std::alloc::{AllocError, Global};
@@ -27,6 +28,10 @@ fn proposal_text(alloc: Global, proposal: &Proposal) -> Result<String, AllocErro
         Proposal::Add(_) => String::from_str(alloc, "proposal add"),
         Proposal::Update(_) => String::from_str(alloc, "proposal update"),
         Proposal::Remove(removed) => format!(in alloc; "proposal remove {removed}"),
+        Proposal::ContextExtensions(extensions) => {
+            let types = types_text(alloc, extensions.as_slice())?;
+            format!(in alloc; "proposal extensions {types}")
+        }
     }
 }
 

@@ -2,6 +2,7 @@
 //! them.
 
 ghost use Rattle.std.specs.Prelude.{◌≡◌, ◌≢◌, ◌↔◌, ◌⊎◌, List, ℕ, Option, false, true, Err, IfOk, IfErr, option_map};
+ghost use Rattle.mls_tree.specs.KeptTree.{plain};
 ghost use Rattle.mls_report.specs.Starting.{IsInfo, IsHanded, IsHandedUnread, IsReadAs, ReadsBoth, ReadsHanded, has_failed};
 ghost use Rattle.mls_report.specs.StartingSteps.{Says, IsUnread};
 
@@ -97,7 +98,8 @@ fn read_info(alloc: Global, bytes: &[u8]) -> Result<GroupInfo, NoStart>
 
 /// The tree that is handed in, where one is.
 fn read_tree(alloc: Global, bytes: &Option<Vec<u8>>) -> Result<Option<PublicTree>, NodeFault>
-    ensures tree { IfOk result (IsHanded (option_map (λ v. v.items) bytes.now)) }
+    ensures tree { IfOk result (λ t.
+        IsHanded (option_map (λ v. v.items) bytes.now) (option_map plain t)) }
     ensures unread { IfErr result (λ fault. fault ≢ NodeFault.OutOfMemory
         → IsHandedUnread (option_map (λ v. v.items) bytes.now)) }
 {
@@ -124,7 +126,7 @@ pub(crate) fn read_inputs(
 ) -> Result<Inputs, NoStart>
     ensures read { IfOk result
         (λ inputs. IsReadAs info_bytes.items (option_map (λ v. v.items) tree_bytes)
-        inputs.info inputs.tree) }
+        inputs.info (option_map plain inputs.tree)) }
     ensures unread { IfErr result
         (Says (IsUnread info_bytes.items (option_map (λ v. v.items) tree_bytes))) }
 {

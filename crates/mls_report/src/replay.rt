@@ -1,6 +1,7 @@
 //! The report `replay`: what a follower answers to each message of a log.
 
 ghost use Rattle.std.specs.Prelude.{◌≡◌, ◌≢◌, ◌↔◌, ◌⊎◌, ◌+◌, ◌≤◌, false, true, Ok, Err, IfOk, IfErr, OnErr, option_map};
+ghost use Rattle.mls_tree.specs.KeptTree.{plain};
 ghost use Rattle.mls_wire.specs.Logs.{Meets, GoesOn};
 ghost use Rattle.mls_follow.specs.Seen.{checker_of, state_of};
 ghost use Rattle.mls_report.specs.Starting.{has_failed};
@@ -185,11 +186,11 @@ fn replay_from<L: Source, K: Sink>(
     requires log { L.is_failed log.old ≡ false }
     requires out { K.is_failed out.old ≡ false }
     ensures told { IfOk result
-        (ReplaysStart (meaning checker) info tree (L.left log.old) (L.left log.new)
-        (K.written out.old) (K.written out.new)) }
+        (ReplaysStart (meaning checker) info (option_map plain tree)
+        (L.left log.old) (L.left log.new) (K.written out.old) (K.written out.new)) }
     ensures part { IfErr result
-        (ReplaysStartPart (meaning checker) info tree (L.left log.old) (L.left log.new)
-        (K.written out.old) (K.written out.new)) }
+        (ReplaysStartPart (meaning checker) info (option_map plain tree)
+        (L.left log.old) (L.left log.new) (K.written out.old) (K.written out.new)) }
     ensures read { (result ≡ Err RunFault.Read) ↔ (L.is_failed log.new ≡ true) }
     ensures write { (result ≡ Err RunFault.Write) ↔ (K.is_failed out.new ≡ true) }
 {
@@ -224,7 +225,7 @@ fn replay_from<L: Source, K: Sink>(
 ///
 /// `Read` comes where an input fails: then just the messages are told that were read whole. `Write` comes
 /// where the output does: then nothing was read behind the message in whose line it failed. `Memory` comes
-/// where there is not enough: the messages before are told.
+/// where there is not enough: then each message is told that was read, but the one at which it ran out.
 pub fn run_replay<I: Source, T: Source, L: Source, K: Sink>(
     alloc: Global,
     info: &mut I,

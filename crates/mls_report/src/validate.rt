@@ -2,6 +2,7 @@
 
 ghost use Rattle.std.specs.Prelude.{◌≡◌, ◌≤◌, ◌↔◌, ◌⊎◌, List, ℕ, Option, false, true, [], length, Err, IfOk, IfErr, OnErr, option_map};
 ghost use Rattle.std.specs.Io.KnownBytes.{Appends};
+ghost use Rattle.mls_tree.specs.KeptTree.{plain};
 ghost use Rattle.mls_follow.specs.Seen.{state_of};
 ghost use Rattle.mls_report.specs.Starting.{IsReadAs, IsStartFinding, has_failed, started_of};
 ghost use Rattle.mls_report.specs.Validate.{Validates, ValidatesPart};
@@ -34,7 +35,7 @@ fn judge_inputs(
     checker: Box<dyn SignatureCheck>,
 ) -> Result<Finding, RunFault>
     ensures found { (info_bytes : List ℕ) (tree_bytes : Option (List ℕ))
-        → IsReadAs info_bytes tree_bytes inputs.info inputs.tree
+        → IsReadAs info_bytes tree_bytes inputs.info (option_map plain inputs.tree)
         → IfOk result (IsStartFinding (meaning checker) info_bytes tree_bytes) }
     ensures memory { IfErr result (λ e. e ≡ RunFault.Memory) }
 {

@@ -2,6 +2,7 @@
 
 ghost use Rattle.std.specs.Prelude.{◌≡◌, ◌↔◌, ◌⊎◌, List, ℕ, false, true, [], Err, IfOk, OnErr, IfErr};
 ghost use Rattle.std.specs.Io.KnownBytes.{Appends};
+ghost use Rattle.mls_tree.specs.KeptTree.{plain};
 ghost use Rattle.mls_hash.specs.Hashing.{hash_of};
 ghost use Rattle.mls_check.specs.Valid.{Valid};
 ghost use Rattle.mls_report.specs.ValidateTree.{IsContext, IsUsable, HasTree, IsReadable, HasValidTree, IsTreeFinding, ValidatesTree, ValidatesTreePart};
@@ -27,7 +28,7 @@ fn judge_members(
 ) -> Result<Finding, RunFault>
     requires { Valid (hash_of context.now.cipher_suite) context.now.tree_hash tree.now.tree }
     ensures found { (context_bytes tree_bytes : List ℕ)
-        → HasValidTree context_bytes tree_bytes context.now tree.now required.now
+        → HasValidTree context_bytes tree_bytes context.now (plain tree.now) required.now
         → IfOk result (IsTreeFinding (meaning checker.now) context_bytes tree_bytes) }
     ensures memory { IfErr result (λ e. e ≡ RunFault.Memory) }
 {
@@ -50,7 +51,7 @@ fn judge_tree(
 ) -> Result<Finding, RunFault>
     requires { suite ≡ context.now.cipher_suite }
     ensures found { (context_bytes tree_bytes : List ℕ)
-        → IsReadable context_bytes tree_bytes context.now tree.now required.now
+        → IsReadable context_bytes tree_bytes context.now (plain tree.now) required.now
         → IfOk result (IsTreeFinding (meaning checker.now) context_bytes tree_bytes) }
     ensures memory { IfErr result (λ e. e ≡ RunFault.Memory) }
 {
@@ -71,7 +72,7 @@ fn judge_required(
 ) -> Result<Finding, RunFault>
     requires { suite ≡ context.now.cipher_suite }
     ensures found { (context_bytes tree_bytes : List ℕ)
-        → HasTree context_bytes tree_bytes context.now tree.now
+        → HasTree context_bytes tree_bytes context.now (plain tree.now)
         → IfOk result (IsTreeFinding (meaning checker.now) context_bytes tree_bytes) }
     ensures memory { IfErr result (λ e. e ≡ RunFault.Memory) }
 {

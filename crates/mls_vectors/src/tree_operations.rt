@@ -2,6 +2,7 @@
 
 ghost use Rattle.std.specs.Prelude.{◌≡◌, ◌↔◌, ℕ, IsTrue, IfOk, IfSome, IfNone, codes, option_map};
 ghost use Rattle.serde_json.specs.View.{view};
+ghost use Rattle.mls_tree.specs.KeptTree.{plain};
 ghost use Rattle.mls_nodes.specs.RatchetTree.{ratchet_tree, trimmed};
 ghost use Rattle.mls_tree.specs.Tree.{listing};
 ghost use Rattle.mls_hash.specs.Hashing.{hash_of};
@@ -167,7 +168,7 @@ fn proposal_outcome(
     vector: &Value,
 ) -> Result<Outcome, AllocError>
     requires suite { HasSuite (view vector.now) suite }
-    requires tree { HasTree (codes "tree_before") (view vector.now) tree.now }
+    requires tree { HasTree (codes "tree_before") (view vector.now) (plain tree.now) }
     requires proposal { HasProposal (view vector.now) proposal }
     ensures { IfOk result (λ o. IsTreeOperation (view vector.now) (outcome_of o)) }
 {
@@ -193,7 +194,7 @@ fn tree_outcome(
     vector: &Value,
 ) -> Result<Outcome, AllocError>
     requires suite { HasSuite (view vector.now) suite }
-    requires tree { HasTree (codes "tree_before") (view vector.now) tree.now }
+    requires tree { HasTree (codes "tree_before") (view vector.now) (plain tree.now) }
     ensures { IfOk result (λ o. IsTreeOperation (view vector.now) (outcome_of o)) }
 {
     match proposal_in(alloc, vector)? {

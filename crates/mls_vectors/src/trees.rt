@@ -1,7 +1,8 @@
 //! The trees of vectors.
 
-ghost use Rattle.std.specs.Prelude.{◌≡◌, IfOk, Some};
+ghost use Rattle.std.specs.Prelude.{◌≡◌, IfOk, Some, option_map};
 ghost use Rattle.serde_json.specs.View.{view};
+ghost use Rattle.mls_tree.specs.KeptTree.{plain};
 ghost use Rattle.mls_tree.specs.TreeHash.{tree_hash};
 ghost use Rattle.mls_hash.specs.Hashing.{hash_of};
 ghost use Rattle.mls_vectors.specs.CheckSeen.{FindsTree, ReadsTreeOf};
@@ -15,7 +16,7 @@ use std::alloc::{AllocError, Global};
 
 /// The tree that bytes spell. None where they spell none.
 fn tree_of(alloc: Global, bytes: &[u8]) -> Result<Option<PublicTree>, AllocError>
-    ensures { IfOk result (λ o. ReadsTreeOf bytes.now o) }
+    ensures { IfOk result (λ o. ReadsTreeOf bytes.now (option_map plain o)) }
 {
     match PublicTree::decode(alloc, bytes) {
         Ok(tree) => Ok(Some(tree)),
@@ -32,7 +33,7 @@ pub(crate) fn tree_under(
     vector: &Value,
     name: &str,
 ) -> Result<Option<PublicTree>, AllocError>
-    ensures { IfOk result (λ o. FindsTree name.now (view vector.now) o) }
+    ensures { IfOk result (λ o. FindsTree name.now (view vector.now) (option_map plain o)) }
 {
     match bytes_under(alloc, vector, name)? {
         Some(bytes) => tree_of(alloc, bytes.as_slice()),

@@ -1,6 +1,7 @@
 use Rattle.std.proofs.Common.{◌∙◌, inl, refl}
 use Rattle.std.specs.Prelude.{option_map}
 use Rattle.std.proofs.lemmas.Result.{IfOk-weaker, IfErr-weaker}
+use Rattle.mls_tree.specs.KeptTree.{plain}
 use Rattle.mls_report.proofs.Replaying.{declines-unread, line-part, replays-start, replays-part}
 use Rattle.mls_report.proofs.replay.run_replay.Goals as goal
 
@@ -9,7 +10,7 @@ returns-in-Ok-clause-replayed g c =
     let info = c.in_ok-bytes.bytes.info.items in
     let tree = option_map (λ v. v.items) c.in_ok-bytes.bytes.tree in
     let is_read = c.in-Ok.ensures.read in
-    IfOk-weaker c.replay_from.result _ _ (λ v h. replays-start _ info tree c.in-Ok.inputs.info c.in-Ok.inputs.tree is_read _ _ _ _
+    IfOk-weaker c.replay_from.result _ _ (λ v h. replays-start _ info tree c.in-Ok.inputs.info (option_map plain c.in-Ok.inputs.tree) is_read _ _ _ _
     c.in_ok-bytes.ensures.both _ _ _ _ v h) c.replay_from.ensures.told
 
 pub returns-in-Ok-clause-part : goal.returns-in-Ok-clause-part
@@ -17,7 +18,7 @@ returns-in-Ok-clause-part g c =
     let info = c.in_ok-bytes.bytes.info.items in
     let tree = option_map (λ v. v.items) c.in_ok-bytes.bytes.tree in
     let is_read = c.in-Ok.ensures.read in
-    IfErr-weaker c.replay_from.result _ _ (λ e h. replays-part _ info tree c.in-Ok.inputs.info c.in-Ok.inputs.tree is_read _ _ _ _
+    IfErr-weaker c.replay_from.result _ _ (λ e h. replays-part _ info tree c.in-Ok.inputs.info (option_map plain c.in-Ok.inputs.tree) is_read _ _ _ _
     c.in_ok-bytes.ensures.both _ _ _ _ e h) c.replay_from.ensures.part
 
 pub returns-in-Err-Found-clause-replayed : goal.returns-in-Err-Found-clause-replayed

@@ -1,4 +1,5 @@
 use Rattle.std.proofs.Common.{List, ℕ, Option, Some, None, Ok, Err}
+use Rattle.mls_tree.specs.KeptTree.{plain}
 use Rattle.mls_wire.specs.declared.fault.CodecFault.TheVariants.{Wire}
 use Rattle.mls_wire.specs.declared.fault.WireFault.{WireFault}
 use Rattle.mls_nodes.specs.Requirements.{FindsRequirements}
@@ -12,4 +13,4 @@ none_found (Some body) fault h r found = h r found
 pub returns-in-Err-Wire-clause-found : goal.returns-in-Err-Wire-clause-found
 returns-in-Err-Wire-clause-found g c =
     let fails = rw c.in-Err-Wire.field-0-is at c.in-Err-Wire.ensures in
-    λ context_bytes tree_bytes h. (c.args.context.now, c.args.tree.now, h, none_found _ c.in-Err-Wire.field-0-0 fails)
+    λ context_bytes tree_bytes h. (c.args.context.now, plain c.args.tree.now, h, none_found _ c.in-Err-Wire.field-0-0 fails)

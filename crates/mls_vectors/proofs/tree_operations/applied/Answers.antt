@@ -1,6 +1,7 @@
 use Rattle.std.proofs.Common.{◌≡◌, ◌≢◌, List, ap, subst, inl, inr, Option, Err, None}
 use Rattle.std.specs.Prelude.{◌⊎◌, option_and_then}
 use Rattle.mls_tree.specs.Tree.{Tree}
+use Rattle.mls_tree.specs.KeptTree.{plain}
 use Rattle.mls_tree.specs.RatchetTree.{RatchetTree}
 use Rattle.mls_apply.specs.Outcome.{outcome, with_members, new_members, without_adds}
 use Rattle.mls_apply.specs.declared.fault.ApplyFault.{ApplyFault}
@@ -23,7 +24,7 @@ unapplied items t fault cases other leaf many =
 
 pub returns-in_default : goal.returns-in_default
 returns-in_default c =
-    let tree : RatchetTree = c.args.tree.now in
+    let tree : RatchetTree = plain c.args.tree.now in
     let none = unapplied c.from_ref.result.now tree.tree c.in-Err.fault c.in-Err.ensures.else_memory c.in_default.not-OutOfMemory
     (λ e. c.in-Err.ensures.no_such_leaf (ap (λ (f : ApplyFault). Err f) e))
     (λ e. (c.in-Err.ensures.too_many_leaves (ap (λ (f : ApplyFault). Err f) e)).1) in

@@ -1,5 +1,6 @@
 use Rattle.std.proofs.Common.{refl, inl, inr}
 use Rattle.std.proofs.lemmas.Result.{IfOk-weaker}
+use Rattle.mls_tree.specs.KeptTree.{plain}
 use Rattle.mls_vectors.proofs.tree_operations.proposal_outcome.Goals as goal
 
 pub returns-in-Some : goal.returns-in-Some
@@ -8,7 +9,7 @@ returns-in-Some c =
       operands = record {
         suite = c.args.suite;
         has_suite = c.requires.suite;
-        tree = c.args.tree.now;
+        tree = plain c.args.tree.now;
         has_tree = c.requires.tree;
         item = record { sender = c.in-Some.sender; proposal = c.args.proposal };
         has_proposal = c.requires.proposal;
@@ -18,4 +19,4 @@ returns-in-Some c =
     })) c.item_outcome-outcome.ensures
 
 pub returns-in-None : goal.returns-in-None
-returns-in-None c = inl (inr ((c.args.suite, c.requires.suite), inr ((c.args.tree.now, c.requires.tree), inr ((c.args.proposal, c.requires.proposal), inl (refl, λ h. c.in-None.ensures.none h.0 h.1)))))
+returns-in-None c = inl (inr ((c.args.suite, c.requires.suite), inr ((plain c.args.tree.now, c.requires.tree), inr ((c.args.proposal, c.requires.proposal), inl (refl, λ h. c.in-None.ensures.none h.0 h.1)))))

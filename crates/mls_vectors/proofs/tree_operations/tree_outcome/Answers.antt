@@ -1,5 +1,6 @@
 use Rattle.std.proofs.Common.{Option, subst, refl, inl, inr}
 use Rattle.serde_json.specs.View.{view}
+use Rattle.mls_tree.specs.KeptTree.{plain}
 use Rattle.mls_msgs.specs.declared.proposal.Proposal.{Proposal}
 use Rattle.mls_vectors.specs.CheckSeen.{FindsProposal}
 use Rattle.mls_vectors.proofs.tree_operations.tree_outcome.Goals as goal
@@ -7,4 +8,4 @@ use Rattle.mls_vectors.proofs.tree_operations.tree_outcome.Goals as goal
 pub returns-in-None : goal.returns-in-None
 returns-in-None c =
     let none = subst (λ (o : Option Proposal). FindsProposal (view c.args.vector.now) o) c.in-None.is c.in_ok-proposal.ensures in
-    inl (inr ((c.args.suite, c.requires.suite), inr ((c.args.tree.now, c.requires.tree), inl (refl, λ h. none h.0 h.1))))
+    inl (inr ((c.args.suite, c.requires.suite), inr ((plain c.args.tree.now, c.requires.tree), inl (refl, λ h. none h.0 h.1))))

@@ -1,4 +1,5 @@
 use Rattle.std.proofs.Common.{arith}
+use Rattle.mls_tree.specs.KeptTree.{plain}
 use Rattle.mls_tree.specs.RatchetTree.{RatchetTree}
 use Rattle.mls_tree.specs.Tree.{leaf_count}
 use Rattle.mls_vectors.specs.TreeValidation.{IsResolution}
@@ -8,10 +9,10 @@ use Rattle.mls_vectors.proofs.tree_validation.are_resolutions.Goals as goal
 
 pub returns-then-entries-leaf_count : goal.returns-then-entries-leaf_count
 returns-then-entries-leaf_count c =
-    let tree : RatchetTree = c.args.tree.now in (
+    let tree : RatchetTree = plain c.args.tree.now in (
       λ h. cc,
       λ h. absurd (omega (arith, AreEntries-length (IsResolution tree.tree) (leaf_count tree.tree) 0 c.args.entries.now h, c.leaf_count.ensures, c.if-entries-leaf_count.true)),
     )
 
 pub overflow_add-place : goal.overflow_add-place
-overflow_add-place c = omega (arith, c.loop-entry.invariant.left, leaves_low c.args.tree.now)
+overflow_add-place c = omega (arith, c.loop-entry.invariant.left, leaves_low (plain c.args.tree.now))

@@ -1,6 +1,7 @@
 use Rattle.std.proofs.Common.{ℕ, sym, subst, codes, arith}
 use Rattle.std.proofs.lemmas.Result.{IfOk-weaker}
 use Rattle.serde_json.specs.View.{view}
+use Rattle.mls_tree.specs.KeptTree.{plain}
 use Rattle.mls_tree.specs.RatchetTree.{RatchetTree}
 use Rattle.mls_tree.specs.Tree.{leaf_count}
 use Rattle.mls_hash.specs.Hashing.{hash_of}
@@ -12,11 +13,11 @@ use Rattle.mls_vectors.proofs.Entries.{HasEntries-weaker, kept-tree_hash, tree_h
 use Rattle.mls_vectors.proofs.tree_validation.has_tree_hashes.Goals as goal
 
 pub has_kept_hashes-requires : goal.has_kept_hashes-requires
-has_kept_hashes-requires c = omega (arith, c.leaf_count.ensures, leaves_low c.args.tree.now)
+has_kept_hashes-requires c = omega (arith, c.leaf_count.ensures, leaves_low (plain c.args.tree.now))
 
 pub returns : goal.returns
 returns c =
-    let tree : RatchetTree = c.args.tree.now in
+    let tree : RatchetTree = plain c.args.tree.now in
     let H = hash_of c.args.suite in
     let d = view c.args.vector.now in
     let hashes = c.in_ok-hashes.hashes in

@@ -1,6 +1,7 @@
 use Rattle.std.proofs.Common.{ℕ, List, ◌∙◌, sym, subst}
 use Rattle.std.proofs.lemmas.Option.{same_Some}
 use Rattle.std.proofs.lemmas.Result.{IfOk-weaker}
+use Rattle.mls_tree.specs.KeptTree.{plain}
 use Rattle.mls_tree.specs.RatchetTree.{RatchetTree}
 use Rattle.mls_hash.specs.Hashing.{hash_of}
 use Rattle.mls_check.specs.Valid.{Valid}
@@ -8,7 +9,7 @@ use Rattle.mls_vectors.proofs.tree_validation.is_valid.Goals as goal
 
 pub returns : goal.returns
 returns c =
-    let tree : RatchetTree = c.args.tree.now in
+    let tree : RatchetTree = plain c.args.tree.now in
     let own = c.in_ok-hash.ensures in
     let held = c.in_ok-context.ensures.hash in
     IfOk-weaker c.is_valid_in.result _ _ (λ b h. (

@@ -1,16 +1,17 @@
 use Rattle.std.proofs.Common.{Option, subst, refl, inl, inr, codes}
 use Rattle.std.proofs.lemmas.Result.{IfOk-weaker}
 use Rattle.serde_json.specs.View.{view}
-use Rattle.mls_tree.specs.RatchetTree.{RatchetTree}
+use Rattle.std.specs.Prelude.{option_map}
+use Rattle.mls_tree.specs.KeptTree.{KeptTree, plain}
 use Rattle.mls_vectors.specs.CheckSeen.{FindsTree}
 use Rattle.mls_vectors.proofs.tree_validation.suite_outcome.Goals as goal
 
 pub returns-in-Some : goal.returns-in-Some
 returns-in-Some c =
-    let found = subst (λ (o : Option RatchetTree). FindsTree (codes "tree") (view c.args.vector.now) o) c.in-Some.is c.in_ok-tree.ensures in
-    IfOk-weaker c.tree_outcome-outcome.result _ _ (λ o h. inr (record { suite = c.args.suite; has_suite = c.requires; tree = c.in-Some.tree; has_tree = found; outcome = h })) c.tree_outcome-outcome.ensures
+    let found = subst (λ (o : Option KeptTree). FindsTree (codes "tree") (view c.args.vector.now) (option_map plain o)) c.in-Some.is c.in_ok-tree.ensures in
+    IfOk-weaker c.tree_outcome-outcome.result _ _ (λ o h. inr (record { suite = c.args.suite; has_suite = c.requires; tree = plain c.in-Some.tree; has_tree = found; outcome = h })) c.tree_outcome-outcome.ensures
 
 pub returns-in-None : goal.returns-in-None
 returns-in-None c =
-    let none = subst (λ (o : Option RatchetTree). FindsTree (codes "tree") (view c.args.vector.now) o) c.in-None.is c.in_ok-tree.ensures in
+    let none = subst (λ (o : Option KeptTree). FindsTree (codes "tree") (view c.args.vector.now) (option_map plain o)) c.in-None.is c.in_ok-tree.ensures in
     inl (inr ((c.args.suite, c.requires), inl (refl, λ h. none h.0 h.1)))

@@ -1,0 +1,145 @@
+-- Something is found of any bytes.
+use Rattle.std.proofs.Common.{◌≡◌, ◌∙◌, ℕ, List, length, Option, Some, None, refl, sym, inl, inr}
+use Rattle.std.specs.Prelude.{◌⊎◌, ◌≤◌}
+use Rattle.std.proofs.lemmas.Option.{none-some}
+use Rattle.mls_wire.specs.Limits.{input_limit}
+use Rattle.mls_nodes.specs.Exact.{group_context_exact}
+use Rattle.mls_nodes.specs.Layout.{group_context}
+use Rattle.mls_nodes.specs.Parsing.{group_context_at}
+use Rattle.mls_nodes.specs.declared.context.GroupContext.{GroupContext}
+use Rattle.mls_nodes.specs.declared.fault.NodeFault.TheVariants.{EmptyTree}
+use Rattle.mls_nodes.specs.declared.required_capabilities.RequiredCapabilities.{RequiredCapabilities}
+use Rattle.mls_tree.specs.RatchetTree.{RatchetTree}
+use Rattle.mls_hash.specs.Hashing.{hash_of}
+use Rattle.mls_check.proofs.Faulted.{valid_or_fault}
+use Rattle.mls_check.specs.Signatures.{Meaning}
+use Rattle.mls_msgs.specs.MessageExact.{message_takes, message_again}
+use Rattle.mls_msgs.specs.MessageParsing.{message_at}
+use Rattle.mls_msgs.specs.declared.group_info.GroupInfo.{GroupInfo}
+use Rattle.mls_msgs.specs.declared.message.Message.{Message}
+use Rattle.mls_msgs.specs.declared.message.Message.TheVariants as messages
+use Rattle.mls_follow.specs.State.{State}
+use Rattle.mls_report.proofs.Decided.{some_fault, read_or_not, fits_or_not, requires_or_not, tree_or_not, members_or_fault}
+use Rattle.mls_report.proofs.StartsExist.{interim_of, starts_or_not, supported_or_not, same_or_not}
+use Rattle.mls_report.specs.Finding.{finding_verdict}
+use Rattle.mls_report.specs.Show.{IsMessage}
+use Rattle.mls_report.specs.SomeReport.{SomeTreeFinding, SomeStartFinding}
+use Rattle.mls_report.specs.Starting.{IsInfo, IsNoMessage, IsHanded, IsHandedUnread, IsReadAs, IsStarted, IsStartFinding, started_of}
+use Rattle.mls_report.specs.ValidateTree.{IsContext, IsNoContext, IsUsable, HasTree, IsReadable, HasValidTree, IsTreeFinding}
+use Rattle.mls_report.specs.declared.finding.Finding.{Finding}
+use Rattle.mls_report.specs.declared.finding.Finding.TheVariants.{ContextUnreadable, InfoUnreadable, NotGroupInfo, TreeUnreadable, UnsupportedVersion, UnsupportedSuite, RequirementsUnreadable, TreeRefused, MembersRefused, StartRefused, TreeValid, Starts}
+use Rattle.mls_report.specs.declared.outcome.Verdict.TheVariants.{No}
+
+-- ---- a context and a tree
+
+-- the bytes spell a context, or none
+context_or_not : (bytes : List ℕ) → ((c : GroupContext) × IsContext bytes c) ⊎ IsNoContext bytes
+context_or_not bytes = go (read_or_not group_context group_context_at group_context_exact bytes) (fits_or_not bytes)
+  where
+    go : ((c : GroupContext) × (group_context c ≡ Some bytes)) ⊎ ((c : GroupContext) → group_context c ≡ Some bytes → ⊥)
+        → (length bytes ≤ input_limit) ⊎ (length bytes ≤ input_limit → ⊥) → ((c : GroupContext) × IsContext bytes c) ⊎ IsNoContext bytes
+    go (inr none) fits = inr (λ c h. none c h.spelled)
+    go (inl c) (inr over) = inr (λ d h. over h.bounded)
+    go (inl c) (inl le) = inl (c.0, record { spelled = c.1; bounded = le })
+
+module _ (G : Meaning) (context_bytes tree_bytes : List ℕ) where
+  abbrev Found : Type 0
+  Found = (finding : Finding) × IsTreeFinding G context_bytes tree_bytes finding
+
+  by_members : (c : GroupContext) (t : RatchetTree) (r : RequiredCapabilities) → HasValidTree context_bytes tree_bytes c t r → Found
+  by_members c t r h =
+      elim (members_or_fault G c.cipher_suite c.group_id r t.tree) [
+        | inl m ↦ (TreeValid c.tree_hash, (c, t, r, h, m, refl))
+        | inr f ↦ (MembersRefused f.0, (c, t, r, h, f.1, f.2))
+      ]
+
+  by_tree : (c : GroupContext) (t : RatchetTree) (r : RequiredCapabilities) → IsReadable context_bytes tree_bytes c t r → Found
+  by_tree c t r h =
+      elim (valid_or_fault (hash_of c.cipher_suite) c.tree_hash t.tree) [
+        | inl v ↦ by_members c t r (record { readable = h; valid = v })
+        | inr f ↦ (TreeRefused f.0, (c, t, r, h, f.1, f.2))
+      ]
+
+  by_requirements : (c : GroupContext) (t : RatchetTree) → HasTree context_bytes tree_bytes c t → Found
+  by_requirements c t h =
+      elim (requires_or_not c) [
+        | inl r ↦ by_tree c t r.0 (record { has_tree = h; requires = r.1 })
+        | inr none ↦ (RequirementsUnreadable, (c, t, h, none))
+      ]
+
+  by_use : (c : GroupContext) → IsUsable context_bytes c → Found
+  by_use c h =
+      elim (tree_or_not tree_bytes) [
+        | inl t ↦ by_requirements c t.0 (record { usable = h; is_tree = t.1 })
+        | inr none ↦ (TreeUnreadable EmptyTree, (c, h, none, λ own. cc))
+      ]
+
+  by_suite : (c : GroupContext) → IsContext context_bytes c → c.version ≡ 1 → Found
+  by_suite c h version =
+      elim (supported_or_not c.cipher_suite) [
+        | inl suite ↦ by_use c (record { is_context = h; version = version; suite = suite })
+        | inr none ↦ (UnsupportedSuite, (c, h, version, none))
+      ]
+
+  by_context : (c : GroupContext) → IsContext context_bytes c → Found
+  by_context c h = elim (same_or_not c.version 1) [ inl version ↦ by_suite c h version | inr other ↦ (UnsupportedVersion, (c, h, other)) ]
+
+pub some_tree_finding : SomeTreeFinding
+some_tree_finding G context_bytes tree_bytes =
+    elim (context_or_not context_bytes) [
+      | inl c ↦ by_context G context_bytes tree_bytes c.0 c.1
+      | inr none ↦ (ContextUnreadable some_fault, none)
+    ]
+
+-- ---- a group info, and a tree where one is handed in
+
+-- the bytes spell a message, or none
+message_or_not : (bytes : List ℕ) → ((m : Message) × IsMessage bytes m) ⊎ IsNoMessage bytes
+message_or_not bytes = go (message_at bytes) refl (fits_or_not bytes)
+  where
+    go : (o : Option Message) → message_at bytes ≡ o → (length bytes ≤ input_limit) ⊎ (length bytes ≤ input_limit → ⊥) → ((m : Message) × IsMessage bytes m) ⊎ IsNoMessage bytes
+    go None e fits = inr (λ m h. none-some m (sym e ∙ message_again m bytes h.spelled))
+    go (Some m) e (inr over) = inr (λ n h. over h.bounded)
+    go (Some m) e (inl le) = inl (m, record { spelled = message_takes bytes m e; bounded = le })
+
+-- the tree that is handed in can be read, or not
+handed_or_not : (bytes : Option (List ℕ)) → ((t : Option RatchetTree) × IsHanded bytes t) ⊎ IsHandedUnread bytes
+handed_or_not None = inl (None, tt)
+handed_or_not (Some bytes) = elim (tree_or_not bytes) [ inl t ↦ inl (Some t.0, t.1) | inr none ↦ inr none ]
+
+module _ (G : Meaning) (info_bytes : List ℕ) (tree_bytes : Option (List ℕ)) where
+  -- a follower starts, or something is found for which none does
+  abbrev pub Begun : Type 0
+  Begun = ((s : State) × IsStarted G info_bytes tree_bytes s)
+      ⊎ ((finding : Finding) × IsStartFinding G info_bytes tree_bytes finding × (finding_verdict finding ≡ No))
+
+  by_inputs : (info : GroupInfo) (handed : Option RatchetTree) → IsReadAs info_bytes tree_bytes info handed → Begun
+  by_inputs info handed h =
+      let interim = interim_of info info_bytes h.is_info.spelled in
+      elim (starts_or_not G info handed interim.0 interim.1) [
+        | inl s ↦ inl (s.0, record { info = info; handed = handed; is_read = h; start = s.1 })
+        | inr f ↦ inr (StartRefused f.0, (info, handed, h, f.1, f.2), refl)
+      ]
+
+  by_info : (info : GroupInfo) → IsInfo info_bytes info → Begun
+  by_info info h =
+      elim (handed_or_not tree_bytes) [
+        | inl t ↦ by_inputs info t.0 (record { is_info = h; is_handed = t.1 })
+        | inr none ↦ inr (TreeUnreadable EmptyTree, (info, h, none, λ own. cc), refl)
+      ]
+
+  by_message : (m : Message) → IsMessage info_bytes m → Begun
+  by_message (messages.GroupInfo info) h = by_info info h
+  by_message (messages.Public p) h = inr (NotGroupInfo, (messages.Public p, h, λ info e. cc), refl)
+  by_message (messages.Unread format body) h = inr (NotGroupInfo, (messages.Unread format body, h, λ info e. cc), refl)
+  by_message (messages.KeyPackage k) h = inr (NotGroupInfo, (messages.KeyPackage k, h, λ info e. cc), refl)
+
+  pub begun : Begun
+  begun = elim (message_or_not info_bytes) [ inl m ↦ by_message m.0 m.1 | inr none ↦ inr (InfoUnreadable some_fault, none, refl) ]
+
+pub some_start_finding : SomeStartFinding
+some_start_finding G info_bytes tree_bytes =
+    elim (begun G info_bytes tree_bytes) [
+      | inl s ↦ (Starts (started_of s.0), (s.0, s.1, refl))
+      | inr f ↦ (f.0, f.1)
+    ]

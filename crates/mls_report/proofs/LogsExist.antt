@@ -1,0 +1,181 @@
+-- What is told of any bytes of a log, from a state on after which there is an answer to any message.
+use Rattle.std.proofs.Common.{◌≡◌, ◌∙◌, ℕ, zero, suc, ◌-◌, ◌<◌, ◌≤◌, List, [], ◌∷◌, ◌++◌, length, take, drop, Bool, true, false, Option, Some, None, refl, sym, ap, subst, inl, inr, arith, append_assoc, append-nil, take-append-drop, length-take-le}
+use Rattle.std.specs.Prelude.{◌⊎◌, nat_lt, nat_le, if◌then◌else◌}
+use Rattle.std.proofs.lemmas.Bool.Decides.{nat_tests}
+use Rattle.mls_wire.proofs.Logs.{length_cut, body_cut, body_bytes, size_found, size_refused, size_over}
+use Rattle.mls_wire.specs.Input.{Input, at}
+use Rattle.mls_wire.specs.Limits.{input_limit}
+use Rattle.mls_wire.specs.Logs.{length_size, IsRecord, IsBadLength, IsCut, IsBreak}
+use Rattle.mls_wire.specs.Parsing.{length_at}
+use Rattle.mls_wire.specs.Spelling.{length_form}
+use Rattle.mls_check.specs.Signatures.{Meaning}
+use Rattle.mls_follow.specs.Runs.{Call, IsRun, IsAnswered}
+use Rattle.mls_follow.specs.State.{State}
+use Rattle.mls_report.proofs.TurnsOnce.{Told}
+use Rattle.mls_report.specs.Replay.{Turn, IsLogEnd}
+
+-- ---- what comes next in a log
+
+-- a record, and what is behind it
+record Begins (log : List ℕ) : Type 0 where
+  body : List ℕ
+  read : List ℕ
+  after : List ℕ
+  is_record : IsRecord read body
+  log_is : log ≡ read ++ after
+
+-- a break, and what is behind it
+record Breaks (most : ℕ) (log : List ℕ) : Type 0 where
+  rest : List ℕ
+  left : List ℕ
+  is_break : IsBreak most rest (Some left)
+  log_is : log ≡ rest ++ left
+
+size_some : (first : ℕ) → 1 ≤ length_size first
+unfolding length_size
+size_some first = go (nat_lt first 64) (nat_lt first 128) (nat_lt first 192)
+  where
+    go : (a b c : Bool) → 1 ≤ (if a then 1 else if b then 2 else if c then 4 else 1)
+    go true b c = omega arith
+    go false true c = omega arith
+    go false false true = omega arith
+    go false false false = omega arith
+
+-- bytes that begin with one: a record may come
+module _ (most first : ℕ) (bytes : List ℕ) where
+  abbrev Comes : Type 0
+  Comes = Begins (first ∷ bytes) ⊎ Breaks (suc most) (first ∷ bytes)
+
+  some_more : 0 < suc most
+  some_more = omega arith
+
+  cut_there : (rest : List ℕ) → first ∷ bytes ≡ rest → IsCut rest → Comes
+  cut_there rest e cut = inr (record { rest = rest; left = []; is_break = inr (some_more, inr (cut, refl)); log_is = e ∙ sym (append-nil rest) })
+
+  -- there is the whole length
+  module _ (whole : length_size first ≤ length (first ∷ bytes)) where
+    abbrev more : List ℕ
+    more = take (length_size first - 1) bytes
+
+    abbrev behind : List ℕ
+    behind = drop (length_size first - 1) bytes
+
+    parts : first ∷ bytes ≡ (first ∷ more) ++ behind
+    parts = ap (λ (x : List ℕ). first ∷ x) (sym (take-append-drop (length_size first - 1) bytes))
+
+    long : length (first ∷ more) ≡ length_size first
+    long = let some = size_some first in let len = length-take-le (length_size first - 1) bytes (omega (arith, whole)) in omega (arith, len, some)
+
+    bad_there : IsBadLength (first ∷ more) → Comes
+    bad_there bad = inr (record { rest = first ∷ more; left = behind; is_break = inr (some_more, inl bad); log_is = parts })
+
+    -- the length is that of a body
+    by_body : (n : ℕ) → n ≤ input_limit → length_form n ≡ Some (first ∷ more) → (b : Bool) → nat_lt (length behind) n ≡ b → Comes
+    by_body n le form true e =
+        let lt : length behind < n = grind (arith, nat_tests) in
+        cut_there (first ∷ (more ++ behind)) parts (body_cut n first more behind form le lt)
+    by_body n le form false e =
+        let ge : n ≤ length behind = grind (arith, nat_tests) in
+        inl (record {
+          body = take n behind;
+          read = first ∷ (more ++ take n behind);
+          after = drop n behind;
+          is_record = body_bytes n first more (take n behind) form le (length-take-le n behind ge);
+          log_is =
+              parts
+              ∙ ap (λ (x : List ℕ). (first ∷ more) ++ x) (sym (take-append-drop n behind))
+              ∙ sym (append_assoc (first ∷ more) (take n behind) (drop n behind));
+        })
+
+    by_size : (n : ℕ) (j : Input) → length_at (at 0 (first ∷ more)) ≡ Some (n, j) → (b : Bool) → nat_le n input_limit ≡ b → Comes
+    by_size n j e true f =
+        by_body n (grind (arith, nat_tests)) (size_found (first ∷ more) first more refl long n j e) (nat_lt (length behind) n) refl
+    by_size n j e false f = bad_there (size_over (first ∷ more) first more refl long n j e (grind (arith, nat_tests)))
+
+    by_length : (o : Option (ℕ × Input)) → length_at (at 0 (first ∷ more)) ≡ o → Comes
+    by_length None e = bad_there (size_refused (first ∷ more) first more refl long e)
+    by_length (Some x) e = by_size x.0 x.1 e (nat_le x.0 input_limit) refl
+
+  comes : Comes
+  comes = go (nat_lt (length (first ∷ bytes)) (length_size first)) refl
+    where
+      go : (b : Bool) → nat_lt (length (first ∷ bytes)) (length_size first) ≡ b → Comes
+      go true e = cut_there (first ∷ bytes) refl (length_cut first bytes (grind (arith, nat_tests)))
+      go false e = let whole : length_size first ≤ length (first ∷ bytes) = grind (arith, nat_tests) in by_length whole (length_at (at 0 (first ∷ more whole))) refl
+
+-- ---- all that is told
+
+module _ (G : Meaning) where
+  -- whatever messages come, there is an answer to the next
+  abbrev pub IsAnswering : State → Type 0
+  IsAnswering s = (calls : List Call) (last : State) (bytes : List ℕ) → IsRun G s calls last → IsAnswered G last bytes
+
+  pub record IsTold (most : ℕ) (s : State) (log : List ℕ) : Type 0 where
+    pub turns : List Turn
+    pub broken : Bool
+    pub told : Told G most s log turns broken
+
+  none_told : (most : ℕ) (s : State) → IsTold most s []
+  none_told most s = record {
+    turns = [];
+    broken = false;
+    told = record { taken = tt; bounded = omega arith; records = []; are_records = refl; rest = []; left = []; read = refl; log_end = (refl, refl) };
+  }
+
+  breaks_told : (most : ℕ) (s : State) (log : List ℕ) → Breaks most log → IsTold most s log
+  breaks_told most s log b = record {
+    turns = [];
+    broken = true;
+    told = record {
+      taken = tt;
+      bounded = omega arith;
+      records = [];
+      are_records = refl;
+      rest = b.rest;
+      left = b.left;
+      read = b.log_is;
+      log_end = subst (λ (n : ℕ). IsLogEnd n b.rest (Some b.left) true) (omega arith) b.is_break;
+    };
+  }
+
+  -- one message, and what is told behind it
+  one_more : (most : ℕ) (s : State) (log : List ℕ) (n : Begins log) (answer : IsAnswered G s n.body) → IsTold most answer.1 n.after → IsTold (suc most) s log
+  one_more most s log n answer rest =
+      let turn : Turn = record { bytes = n.body; answer = answer.0; state = answer.1 } in
+      let behind = rest.told in
+      let fewer = behind.bounded in
+      record {
+        turns = turn ∷ rest.turns;
+        broken = rest.broken;
+        told = record {
+          taken = (answer.2, behind.taken);
+          bounded = omega (arith, fewer);
+          records = n.read ++ behind.records;
+          are_records = (n.read, behind.records, n.is_record, behind.are_records, refl);
+          rest = behind.rest;
+          left = behind.left;
+          read =
+              n.log_is
+              ∙ ap (λ (x : List ℕ). n.read ++ x) behind.read
+              ∙ sym (append_assoc n.read (behind.records ++ behind.rest) behind.left)
+              ∙ ap (λ (x : List ℕ). x ++ behind.left) (sym (append_assoc n.read behind.records behind.rest));
+          log_end = subst (λ (k : ℕ). IsLogEnd k behind.rest (Some behind.left) rest.broken) (omega (arith, fewer)) behind.log_end;
+        };
+      }
+
+  -- the answer to a message leads to a state of the same kind
+  still_answering : (s : State) (bytes : List ℕ) → IsAnswering s → (answer : IsAnswered G s bytes) → IsAnswering answer.1
+  still_answering s bytes all answer calls last more run =
+      all (record { bytes = bytes; answer = answer.0 } ∷ calls) last more (answer.1, answer.2.takes, run)
+
+  pub log_told : (most : ℕ) (s : State) (log : List ℕ) → IsAnswering s → IsTold most s log
+  log_told most s [] all = none_told most s
+  log_told zero s (first ∷ bytes) all =
+      breaks_told zero s (first ∷ bytes) (record { rest = first ∷ []; left = bytes; is_break = inl (refl, refl); log_is = refl })
+  log_told (suc most) s (first ∷ bytes) all =
+      elim (comes most first bytes) [
+        | inl n ↦
+            (let answer = all [] s n.body refl in
+            one_more most s (first ∷ bytes) n answer (log_told most answer.1 n.after (still_answering s n.body all answer)))
+        | inr b ↦ breaks_told (suc most) s (first ∷ bytes) b
+      ]

@@ -163,8 +163,8 @@ pub(crate) fn end_of(alloc: Global, story: Story) -> Result<String, Fail> {
 
 // ---- hashes
 
-/// The SHA-256 of bytes.
-fn digest(alloc: Global, input: &str) -> Result<String, Fail> {
+/// The SHA-256 of bytes, both as hexadecimal text.
+pub(crate) fn hashed(alloc: Global, input: &str) -> Result<String, Fail> {
     let input = bytes(alloc, input)?;
     text(alloc, &Sha256::digest(input.as_slice()))
 }
@@ -172,7 +172,7 @@ fn digest(alloc: Global, input: &str) -> Result<String, Fail> {
 /// The tree hash of a leaf that is set.
 pub(crate) fn leaf_hash(alloc: Global, index: u32, leaf: &str) -> Result<String, Fail> {
     let input = format!(in alloc; "01{index:08x}01{leaf}")?;
-    digest(alloc, input.as_str())
+    hashed(alloc, input.as_str())
 }
 
 /// The tree hash of a parent, by what is written of it, `00` for a blank one, and the tree hashes of its children.
@@ -183,7 +183,7 @@ pub(crate) fn tree_hash_of(
     right: &str,
 ) -> Result<String, Fail> {
     let input = format!(in alloc; "02{parent}20{left}20{right}")?;
-    digest(alloc, input.as_str())
+    hashed(alloc, input.as_str())
 }
 
 /// The parent hash of a parent with a key of one byte, by its own parent hash as a vector and the tree hash of its
@@ -195,5 +195,5 @@ pub(crate) fn parent_hash_of(
     copath: &str,
 ) -> Result<String, Fail> {
     let input = format!(in alloc; "01{key}{above}20{copath}")?;
-    digest(alloc, input.as_str())
+    hashed(alloc, input.as_str())
 }

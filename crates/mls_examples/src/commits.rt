@@ -3,7 +3,8 @@
 //!
 //! Most stories begin in the group of two members, of `crate::follower`.
 
-use crate::follower::{Story, first_answer, follow, last_answer, proposed, sent};
+use crate::by_hand::{commit_of, vector};
+use crate::follower::{Story, first_answer, follow, last_answer, proposed};
 use crate::support::{
     COMMIT, GROUP_INFO, LOWER, PROPOSAL, RECEIPT, expect_texts, key_package, updated_leaf,
 };
@@ -14,22 +15,9 @@ use std::test::Fail;
 /// SHA-256 of `01d10020` and the hash of member 1's leaf.
 const SOURCE: &str = "03207e534e72295b2ed4520a7628873779052cbc9788fb7a2927ad4234fd78396990";
 
-/// A vector by its body.
-fn vector(alloc: Global, body: &str) -> Result<String, Fail> {
-    let length = body.len() / 2 % 16384;
-    if length < 64 {
-        Ok(format!(in alloc; "{length:02x}{body}")?)
-    } else {
-        let form = 16384 + length;
-        Ok(format!(in alloc; "{form:04x}{body}")?)
-    }
-}
-
 /// Member 0's commit of a list, with a path or `00`.
 fn commit(alloc: Global, epoch: u64, list: &str, path: &str) -> Result<String, Fail> {
-    let list = vector(alloc, list)?;
-    let content = format!(in alloc; "03{list}{path}01c601e101c5")?;
-    sent(alloc, epoch, 0, content.as_str())
+    commit_of(alloc, epoch, 0, list, path)
 }
 
 /// A path of member 0's, by its leaf's key and source, and its nodes.

@@ -3,7 +3,7 @@
 //! The example group is followed from member 0's group info on. Member 0 proposes to add member 1 and commits
 //! the proposal: that is the first epoch, of two members. Every answer to a message is told by its text;
 //! where a refusal changed the follower's context, tree, interim hash or known proposals, the text says so.
-//! After each accepted message both validators have to say yes to the follower's tree.
+//! After each accepted message both validators have to say yes to the follower's tree, by the checker that it has.
 
 use crate::support::{
     COMMIT, GROUP_INFO, KEY_PACKAGE, PROPOSAL, RECEIPT, bytes, expect_texts, text, tree_of,
@@ -60,7 +60,7 @@ fn known_text(alloc: Global, known: &[KnownProposal]) -> Result<String, Fail> {
 }
 
 /// A follower's state: context, tree, interim transcript hash and known proposals.
-fn state_text(alloc: Global, follower: &Follower) -> Result<String, Fail> {
+pub(crate) fn state_text(alloc: Global, follower: &Follower) -> Result<String, Fail> {
     let context = text(alloc, encode_context(alloc, follower.context())?.as_slice())?;
     let tree = tree_text(alloc, follower.tree())?;
     let interim = text(alloc, follower.interim().as_slice())?;
@@ -69,7 +69,7 @@ fn state_text(alloc: Global, follower: &Follower) -> Result<String, Fail> {
 }
 
 /// An accepted message.
-fn taken_text(alloc: Global, taken: Taken) -> Result<String, Fail> {
+pub(crate) fn taken_text(alloc: Global, taken: Taken) -> Result<String, Fail> {
     match taken {
         Taken::Proposal(reference) => {
             let reference = text(alloc, reference.as_slice())?;
@@ -164,7 +164,7 @@ impl Story {
 }
 
 /// A follower that starts from a group info and is told of good signatures by receipts; with none it takes each as good.
-fn started(alloc: Global, receipts: Option<&str>, info: &str) -> Result<Follower, Fail> {
+pub(crate) fn started(alloc: Global, receipts: Option<&str>, info: &str) -> Result<Follower, Fail> {
     let checker: Box<dyn SignatureCheck> = match receipts {
         Some(receipts) => Box::new(alloc, listed(alloc, receipts)?)?,
         None => Box::new(alloc, Trusting)?,
@@ -179,8 +179,13 @@ fn started(alloc: Global, receipts: Option<&str>, info: &str) -> Result<Follower
     }
 }
 
-/// What it answers to messages.
-fn story_of(alloc: Global, follower: &mut Follower, messages: &[&str]) -> Result<Story, Fail> {
+/// What it answers to messages, judged by a checker like its own.
+fn story_of(
+    alloc: Global,
+    follower: &mut Follower,
+    checker: &dyn SignatureCheck,
+    messages: &[&str],
+) -> Result<Story, Fail> {
     let mut story = Story {
         answers: String::new(alloc),
         last: String::new(alloc),
@@ -189,11 +194,27 @@ fn story_of(alloc: Global, follower: &mut Follower, messages: &[&str]) -> Result
     for message in messages {
         let message = bytes(alloc, message)?;
         let taken = follower.take(message.as_slice());
-        let answer = answer_text(alloc, follower, &Trusting, story.state.as_str(), taken)?;
+        let answer = answer_text(alloc, follower, checker, story.state.as_str(), taken)?;
         let state = state_text(alloc, follower)?;
         story.go_on(answer, state)?;
     }
     Ok(story)
+}
+
+/// The same, where the checker takes each signature as good, or knows receipts.
+fn story_under(
+    alloc: Global,
+    follower: &mut Follower,
+    receipts: Option<&str>,
+    messages: &[&str],
+) -> Result<Story, Fail> {
+    let Some(receipts) = receipts else {
+        return story_of(alloc, follower, &Trusting, messages);
+    };
+    let checker = listed(alloc, receipts)?;
+    let story = story_of(alloc, follower, &checker, messages);
+    drop(checker);
+    story
 }
 
 /// What a follower answers that starts so.
@@ -204,7 +225,7 @@ pub(crate) fn follow(
     messages: &[&str],
 ) -> Result<Story, Fail> {
     let mut follower = started(alloc, receipts, info)?;
-    let story = story_of(alloc, &mut follower, messages);
+    let story = story_under(alloc, &mut follower, receipts, messages);
     drop(follower);
     story
 }
@@ -293,11 +314,11 @@ fn starts(rt: HostRuntime) -> Result<(), Fail> {
         "2d00022a29010101a001b0000101400200010200010000020001010000000000000000ffffffffffffffff0001c0";
     const FAULTS: &[((&str, &str, &str, &str, &str, &str), &str)] = &[
         (
-            ("0002", "0004", HASH, "00", "00", "00000001"),
+            ("0002", "0008", HASH, "00", "00", "00000001"),
             "1 UnsupportedVersion",
         ),
         (
-            ("0001", "0004", HASH, "00", "00", "00000001"),
+            ("0001", "0008", HASH, "00", "00", "00000001"),
             "2 UnsupportedSuite",
         ),
         (

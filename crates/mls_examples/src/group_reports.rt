@@ -7,15 +7,15 @@ use mls_wire::{MemorySink, MemorySource};
 use std::alloc::Global;
 use std::test::Fail;
 
-/// The example log: a proposal, its commit, a private message, and a record that the log ends in.
-const LOG: &str =
+/// The example log, of 151 bytes: a proposal, its commit, a private message, and a record that the log ends in.
+pub(crate) const LOG: &str =
     "404b00010001014700000000000000000100000000000200010001000101f101a101b100010141020001\
     0200010000020001010000000000000000ffffffffffffffff0001c10001c901c801c73f000100010147000000000000\
     000001000000000003220220419afc0a88fe171b793b00410d11c8121fb96fdfde7b5ced43d5912144a3a9f90001c601\
     e101c50600010002abcd050001";
 
 /// What is told of it.
-const TOLD: &str = "no: \
+pub(crate) const TOLD: &str = "no: \
     1 accepted proposal 419afc0a88fe171b793b00410d11c8121fb96fdfde7b5ced43d5912144a3a9f9\n\
     2 accepted commit 1 3dd545ada09b9e9be453de8b5c20702e810685eca3710882583a67d8a3eddd8b \
     3b3fe4cf185f12883575d4bc9a402561feafe917dc05379ecd9f3f0abe6607e5\n\
@@ -119,6 +119,10 @@ fn short_logs_are_replayed(rt: HostRuntime) -> Result<(), Fail> {
         (
             ("00", 40),
             "no: 1 refused 1\naccepted 0 refused 1 broken 0 epoch 0\n",
+        ),
+        (
+            ("8fffffff", 40),
+            "no: 1 broken\naccepted 0 refused 0 broken 1 epoch 0\n",
         ),
     ];
     expect_texts(&rt, rt.alloc(), told, LOGS)

@@ -26,8 +26,11 @@ fn suites(rt: HostRuntime) -> Result<(), Fail> {
         (1, "1"),
         (2, "2"),
         (3, "3"),
+        (4, "4"),
+        (5, "5"),
+        (6, "6"),
+        (7, "7"),
         (0, "the cipher suite is not supported"),
-        (4, "the cipher suite is not supported"),
         (8, "the cipher suite is not supported"),
     ];
     expect_texts(&rt, rt.alloc(), suite_of, SUITES)
@@ -115,39 +118,19 @@ fn hashes_after_a_path(rt: HostRuntime) -> Result<(), Fail> {
     )
 }
 
-/// The hash that is kept for a place.
-fn kept_at(alloc: Global, kept: &SubtreeHashes, place: u32) -> Result<String, Fail> {
+/// The hash that is kept for a place after a path.
+fn kept_hash(alloc: Global, place: u32) -> Result<String, Fail> {
+    let kept = SubtreeHashes::new(alloc, suite()?, &path_tree(alloc)?)?;
     match kept.get(place) {
         Some(hash) => text(alloc, hash.as_slice()),
         None => Ok(String::from_str(alloc, "-")?),
     }
 }
 
-/// The hash that is kept for a place after a path.
-fn kept_hash(alloc: Global, place: u32) -> Result<String, Fail> {
-    let kept = SubtreeHashes::new(alloc, suite()?, &path_tree(alloc)?)?;
-    kept_at(alloc, &kept, place)
-}
-
 #[test]
 fn hashes_are_kept(rt: HostRuntime) -> Result<(), Fail> {
     const PLACES: &[(u32, &str)] = &[(2, SECOND_HASH), (3, PATH_HASH), (5, RIGHT_HASH), (7, "-")];
-    expect_texts(&rt, rt.alloc(), kept_hash, PLACES)?;
-    expect_texts(&rt, rt.alloc(), rehashed, PLACES)
-}
-
-/// The same, once leaf 2 and the parents above it are hashed anew.
-fn rehashed(alloc: Global, place: u32) -> Result<String, Fail> {
-    let tree = path_tree(alloc)?;
-    let suite = suite()?;
-    if tree.leaf_count() < 3 {
-        return Err(Fail::from("a leaf 2"));
-    }
-    let kept = SubtreeHashes::new(alloc, suite, &tree)?;
-    let again = kept.rehashed(alloc, suite, &tree, 2);
-    drop(kept);
-    drop(tree);
-    kept_at(alloc, &again?, place)
+    expect_texts(&rt, rt.alloc(), kept_hash, PLACES)
 }
 
 /// The hash at a place once leaf 3 was added.

@@ -18,6 +18,8 @@ mod chains;
 #[cfg(test)]
 mod commits;
 #[cfg(test)]
+mod context_extensions;
+#[cfg(test)]
 mod contexts;
 #[cfg(test)]
 mod devices;
@@ -28,7 +30,11 @@ mod group_reports;
 #[cfg(test)]
 mod hashes;
 #[cfg(test)]
+mod hostile;
+#[cfg(test)]
 mod journals;
+#[cfg(test)]
+mod kept_hashes;
 #[cfg(test)]
 mod large_inputs;
 #[cfg(test)]
@@ -69,6 +75,8 @@ mod real_messages;
 mod real_race;
 #[cfg(test)]
 mod real_trees;
+#[cfg(test)]
+mod replay_devices;
 #[cfg(test)]
 mod rules;
 #[cfg(test)]

@@ -31,6 +31,10 @@ fn put_proposal(alloc: Global, out: &mut String, proposal: &Proposal) -> Result<
             put_leaf_fields(alloc, out, leaf)
         }
         Proposal::Remove(removed) => put_number(out, "remove", u64::from(*removed)),
+        Proposal::ContextExtensions(extensions) => {
+            out.push_str("context; ")?;
+            put_extensions(alloc, out, extensions)
+        }
     }
 }
 

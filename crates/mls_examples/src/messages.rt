@@ -72,7 +72,7 @@ fn other_messages_are_refused(rt: HostRuntime) -> Result<(), Fail> {
         ),
         (
             "0001000101470000000000000000010000000000020007",
-            "BadTag 7 at 21",
+            "Truncated at 23",
         ),
         (
             "0001000101470000000000000000010000000000020008",

@@ -6,10 +6,7 @@ use crate::support::{
     LOWER, UPPER, bytes, committed_leaf, expect_texts, joined_leaf, leaf_with, put_parent, suite,
     text, tree_of, tree_text,
 };
-use mls_apply::{
-    Applied, Leaves, ListItem, apply_list, expected_parent_hashes, merge_path, merge_path_by,
-};
-use mls_hash::SubtreeHashes;
+use mls_apply::{Applied, Leaves, ListItem, apply_list, expected_parent_hashes, merge_path};
 use mls_msgs::{UpdatePath, decode_proposal};
 use mls_wire::{Opaque, read_all_of};
 use std::alloc::Global;
@@ -99,30 +96,6 @@ fn merged_into_two(alloc: Global, path: (&str, &str, &str)) -> Result<String, Fa
     merged(alloc, unchanged(alloc, 2, &[0, 1])?, leaf.as_str(), nodes)
 }
 
-/// The same, by the hashes of the tree's subtrees.
-fn merged_by_hashes(alloc: Global, path: (&str, &str, &str)) -> Result<String, Fail> {
-    let (digit, source, nodes) = path;
-    let suite = suite()?;
-    let leaf = leaf_with(alloc, 0, digit, source)?;
-    let path = path_of(alloc, leaf.as_str(), nodes)?;
-    let tree = tree_of(alloc, 2, &[0, 1])?;
-    let hashes = SubtreeHashes::new(alloc, suite, &tree)?;
-    let added = Leaves::new(Vec::new(alloc));
-    let answer = merge_path_by(
-        alloc,
-        suite,
-        Applied { tree, added },
-        Some(&hashes),
-        0,
-        &path,
-    );
-    drop(path);
-    match answer {
-        Ok(tree) => tree_text(alloc, &tree),
-        Err((fault, _)) => Ok(format!(in alloc; "{fault}")?),
-    }
-}
-
 /// The path of two members has one node, and its leaf carries the parent hash of that node.
 #[test]
 fn a_path_of_two_members(rt: HostRuntime) -> Result<(), Fail> {
@@ -131,8 +104,7 @@ fn a_path_of_two_members(rt: HostRuntime) -> Result<(), Fail> {
         010201d100000101\
         01a101b1000101410200010200010000020001010000000000000000ffffffffffffffff0001c1";
     const PATHS: &[((&str, &str, &str), &str)] = &[(("8", COMMIT, "01d10401aa01bb"), TREE)];
-    expect_texts(&rt, rt.alloc(), merged_into_two, PATHS)?;
-    expect_texts(&rt, rt.alloc(), merged_by_hashes, PATHS)
+    expect_texts(&rt, rt.alloc(), merged_into_two, PATHS)
 }
 
 #[test]

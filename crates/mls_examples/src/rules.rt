@@ -69,7 +69,8 @@ fn proposals_in_a_commit_are_judged(rt: HostRuntime) -> Result<(), Fail> {
 
 /// The receipts of the group info, and of the frames of the commits that add member 1 and that update member 0: of
 /// suite 1, key `b0`, what is signed, and signature `c4` or `c6`.
-const SIGNED_FRAMES: &str = "584cca8421eb79fc5ddfb3f6cc7af53016bdb08bef17bdfff9609d6ae9071284\n\
+pub(crate) const SIGNED_FRAMES: &str =
+    "584cca8421eb79fc5ddfb3f6cc7af53016bdb08bef17bdfff9609d6ae9071284\n\
     0939527601c7577dc86330ea0053695d9489265abf7217188f12db7d2f1e6adf\n\
     0f3f2213880c1262945499153b75b1909b9f5d69f5954a76e5448c30260090fc";
 
@@ -158,7 +159,8 @@ fn rules_for_frames_are_asked_in_order(rt: HostRuntime) -> Result<(), Fail> {
 }
 
 /// The receipts of member 1's leaf and key package, and of the frame of member 0's proposal of it.
-const PROPOSAL_RECEIPTS: &str = "e60b8f3c0a227ffc5e084212caecf78d7e2b38f53addb2f55387762615d6872a\n\
+pub(crate) const PROPOSAL_RECEIPTS: &str =
+    "e60b8f3c0a227ffc5e084212caecf78d7e2b38f53addb2f55387762615d6872a\n\
     47c350198b187b8db3ec7885f5f8de0799a2ebdd4d7c97610b7b94d2af36410e\n\
     fd064fc6472edfe1ed558ad948a217e66423a65a87d59215cf027574c22d998a";
 

@@ -115,6 +115,20 @@ fn public_messages_are_shown(rt: HostRuntime) -> Result<(), Fail> {
         (
             (
                 ShowKind::Message,
+                "000100010147000000000000000101000000010002000708000305000002000101c801c7",
+            ),
+            "public member 1 epoch 1 proposal extensions 3\n",
+        ),
+        (
+            (
+                ShowKind::Message,
+                "00010001014700000000000000010100000001000200070001c801c7",
+            ),
+            "public member 1 epoch 1 proposal extensions -\n",
+        ),
+        (
+            (
+                ShowKind::Message,
                 "000100010147000000000000000504014403000101a101b2000101430200010200020200030200\
                  0402000503000001c90001c601e1",
             ),
@@ -132,7 +146,7 @@ fn public_messages_are_shown(rt: HostRuntime) -> Result<(), Fail> {
     expect_texts(&rt, rt.alloc(), shown, MESSAGES)
 }
 
-/// A suite that isn't followed, an id of two bytes, two extensions of the group and two of the info, and no confirmation tag.
+/// Suite 7, an id of two bytes, two extensions of the group and two of the info, and no confirmation tag.
 #[test]
 fn group_infos_are_shown(rt: HostRuntime) -> Result<(), Fail> {
     let info = "0001000400010007024748000000000000010501540\

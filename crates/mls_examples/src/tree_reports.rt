@@ -39,7 +39,7 @@ pub(crate) fn report(
     let tree = bytes(alloc, tree)?;
     let mut context = MemorySource::new(context.as_slice(), 40, context_fails);
     let mut tree = MemorySource::new(tree.as_slice(), 40, tree_fails);
-    let mut out = MemorySink::new(alloc, 100, 6, out_fails)?;
+    let mut out = MemorySink::new(alloc, 110, 6, out_fails)?;
     let outcome = run_validate_tree(alloc, &mut context, &mut tree, checker, &mut out);
     said(alloc, outcome, &out)
 }
@@ -70,11 +70,11 @@ fn trees_are_validated(rt: HostRuntime) -> Result<(), Fail> {
             "no: context unreadable Truncated 48\n",
         ),
         (
-            ("00020004000000000000000000000000", "00"),
+            ("00020008000000000000000000000000", "00"),
             "no: context refused UnsupportedVersion\n",
         ),
         (
-            ("00010004000000000000000000000000", "00"),
+            ("00010008000000000000000000000000", "00"),
             "no: context refused UnsupportedSuite\n",
         ),
     ];

@@ -4,14 +4,14 @@ use crate::support::{
     FIRST_HASH, LEAF, SECOND_LEAF, UPPER, bytes, committed_leaf, expect_text, expect_texts,
     grown_tree, put_leaf, put_parent, suite, text, tree_of,
 };
-use mls_check::{TreeFault, validate_tree, validate_tree_by};
-use mls_hash::{SubtreeHashes, tree_hash};
+use mls_check::{TreeFault, validate_tree};
+use mls_hash::{fill_hashes, tree_hash};
 use mls_nodes::{GroupContext, decode_context};
 use mls_tree::{PublicTree, root};
 use std::alloc::Global;
 use std::test::Fail;
 
-/// What is found of a tree in a context with a hash, also by the hashes of its subtrees: `valid`, or the first fault.
+/// What is found of a tree in a context with a hash, also where it keeps its hashes: `valid`, or the first fault.
 fn judged_with(alloc: Global, tree: &PublicTree, hash: &str) -> Result<String, Fail> {
     let context = format!(in alloc; "000100010147000000000000000020{hash}0000")?;
     let context = bytes(alloc, context.as_str())?;
@@ -24,7 +24,7 @@ fn judged_with(alloc: Global, tree: &PublicTree, hash: &str) -> Result<String, F
     }
 }
 
-/// What both validators find of it in this context.
+/// What the validator finds of it in this context, also where it keeps its hashes.
 fn judged_twice(
     alloc: Global,
     tree: &PublicTree,
@@ -34,12 +34,14 @@ fn judged_twice(
     if suite.number() != context.cipher_suite {
         return Err(Fail::from("the context's suite"));
     }
-    let hashes = SubtreeHashes::new(alloc, suite, tree)?;
-    let by_hashes = validate_tree_by(alloc, suite, context, tree, &hashes);
-    drop(hashes);
+    let mut keeping = tree.try_clone(alloc)?;
+    let filled = fill_hashes(alloc, suite, &mut keeping);
+    let by_hashes = validate_tree(alloc, suite, context, &keeping);
+    drop(keeping);
+    filled?;
     let answer = validate_tree(alloc, suite, context, tree);
     if answer != by_hashes {
-        return Err(Fail::from("one answer, also by the hashes"));
+        return Err(Fail::from("one answer, also by the kept hashes"));
     }
     Ok(answer)
 }

@@ -1,10 +1,10 @@
 //! The reports of `check` on files of test vectors, and files that hold none. Their hashes are joined from what they
 //! are hashes of (RFC 9420, 7.8, 7.9 and 8.2), by SHA-256 itself and nothing of these libraries.
 
-use crate::support::{bytes, expect_text, expect_texts, text};
+use crate::by_hand::hashed;
+use crate::support::{expect_text, expect_texts};
 use mls_cli::{CheckKind, RunFault, Verdict, run_check};
 use mls_wire::{MemorySink, MemorySource};
-use sha2::{Digest, Sha256};
 use std::alloc::Global;
 use std::process::Abort;
 use std::test::Fail;
@@ -84,6 +84,14 @@ const ADDED: &str =
     ter\":\"4053010101a001b0000101400200010200010000020001010000000000000000ffffffffffffffff000\
     1c000010101a101b1000101410200010200010000020001010000000000000000ffffffffffffffff0001c1\",\
     \"tree_hash_after\":\"3dd545ada09b9e9be453de8b5c20702e810685eca3710882583a67d8a3eddd8b\"";
+
+/// Member 0 brings an extension to the context, which leaves the tree.
+const EXTENDED: &str =
+    "\"cipher_suite\":1,\"tree_before\":\"29010101a001b0000101400200010200010000020001010000000\
+    000000000ffffffffffffffff0001c0\",\"proposal\":\"0007080003050000020001\",\"proposal_sender\":\
+    0,\"tree_hash_before\":\"e32ab6a0a711ec8a732c3fad9263ed5fa61caf53fdf9b9690dc57271d8f110d7\",\
+    \"tree_after\":\"29010101a001b0000101400200010200010000020001010000000000000000ffffffffffffffff0001\
+    c0\",\"tree_hash_after\":\"e32ab6a0a711ec8a732c3fad9263ed5fa61caf53fdf9b9690dc57271d8f110d7\"";
 
 /// Member 0 removes member 1.
 const REMOVED: &str =
@@ -288,7 +296,7 @@ fn tree_math_vectors_are_checked(rt: HostRuntime) -> Result<(), Fail> {
     expect_reports(&rt, rt.alloc(), CheckKind::TreeMath, ROWS)
 }
 
-/// Each of the trees, in each suite; suites that are not followed; and each member changed.
+/// Each of the trees, in each suite that hashes with SHA-256; suites that are not followed; and each member changed.
 #[test]
 fn tree_validation_vectors_are_checked(rt: HostRuntime) -> Result<(), Fail> {
     const ROWS: &[((&str, &str), &str)] = &[
@@ -379,6 +387,7 @@ fn tree_operations_vectors_are_checked(rt: HostRuntime) -> Result<(), Fail> {
         ((REMOVED, ""), PASS),
         ((UPDATED, "\"cipher_suite\":3"), PASS),
         ((ADDED_BELOW, ""), PASS),
+        ((EXTENDED, ""), PASS),
         ((ADDED, "\"cipher_suite\":9"), SKIP),
         (
             (ADDED, "\"cipher_suite\":null"),
@@ -510,12 +519,6 @@ fn transcript_vectors_are_checked(rt: HostRuntime) -> Result<(), Fail> {
         ),
     ];
     expect_reports(&rt, rt.alloc(), CheckKind::Transcript, ROWS)
-}
-
-/// The SHA-256 of bytes, both as hexadecimal text.
-fn hashed(alloc: Global, input: &str) -> Result<String, Fail> {
-    let input = bytes(alloc, input)?;
-    text(alloc, &Sha256::digest(input.as_slice()))
 }
 
 /// Each hash that stands in a vector, joined from what it is a hash of: tree hashes, parent hashes, and transcript hashes.

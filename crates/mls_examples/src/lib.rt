@@ -84,6 +84,8 @@ mod show;
 #[cfg(test)]
 mod single_checks;
 #[cfg(test)]
+mod suites;
+#[cfg(test)]
 mod support;
 #[cfg(test)]
 mod tree;

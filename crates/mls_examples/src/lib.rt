@@ -76,6 +76,8 @@ mod real_race;
 #[cfg(test)]
 mod real_trees;
 #[cfg(test)]
+mod refused_commits;
+#[cfg(test)]
 mod replay_devices;
 #[cfg(test)]
 mod rules;

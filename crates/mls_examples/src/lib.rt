@@ -86,6 +86,8 @@ mod show;
 #[cfg(test)]
 mod single_checks;
 #[cfg(test)]
+mod suite_groups;
+#[cfg(test)]
 mod suites;
 #[cfg(test)]
 mod support;

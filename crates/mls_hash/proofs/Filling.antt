@@ -18,7 +18,7 @@ use Rattle.mls_tree.proofs.Trees.{length-listing, subtree_at-stands, subtree_at-
 use Rattle.mls_hash.specs.declared.fault.HashFault.{HashFault}
 use Rattle.mls_hash.specs.Inputs.{HashesText, HashesSubtree}
 use Rattle.mls_tree.specs.Parts.{HasChildren}
-use Rattle.mls_hash.specs.HashLists.{EqualHashes}
+use Rattle.mls_tree.specs.HashLists.{EqualHashes}
 use Rattle.mls_hash.specs.Strip.{stripped_parent, tree_hash_at}
 use Rattle.mls_hash.specs.SubtreeHashes.{AreAllHashes, IsSubtreeHashAt, AreSubtreeHashes, AreHashesKept, AreHashesUnder, HasRoom}
 use Rattle.mls_hash.proofs.Answers.{leaf_answer, parent_answer, whole_tree}

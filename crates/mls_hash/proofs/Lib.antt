@@ -1,6 +1,5 @@
 pub mod Feeding
 pub mod Lengths
-pub mod HashRows
 pub mod Sets
 pub mod Inputs
 pub mod Strips

@@ -5,7 +5,7 @@ use native.Mathlib.Nat.{ℕ_set}
 use Rattle.mls_nodes.specs.declared.parent.ParentNode.{ParentNode}
 use Rattle.mls_tree.specs.Tree.{Tree, leaf_count, Subtree, subtree_at}
 use Rattle.mls_hash.specs.Hashing.{hash_length}
-use Rattle.mls_hash.specs.HashLists.{EqualHashes}
+use Rattle.mls_tree.specs.HashLists.{EqualHashes}
 use Rattle.mls_hash.specs.ParentHash.{root_parent}
 use Rattle.mls_hash.specs.Strip.{tree_hash_at}
 

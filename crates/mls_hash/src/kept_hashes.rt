@@ -24,10 +24,7 @@ pub(crate) fn kept_hash(suite: Suite, tree: &PublicTree, place: u32) -> Option<H
     if tree.hash_kind() != Some(suite.kind()) {
         return None;
     }
-    match tree.kept_hash(place) {
-        Some(hash) => Some(*hash),
-        None => None,
-    }
+    tree.kept_hash(place)
 }
 
 /// The tree hash of the subtree at a place: that of its cell, where it is filled. Else its halves are hashed first, in the same way, and
@@ -48,7 +45,7 @@ fn fill(
     ensures filled { OnOk result (IsFilled tree.new.cells place) }
 {
     if let Some(hash) = tree.kept_hash(place) {
-        return Ok(*hash);
+        return Ok(hash);
     }
     match tree.part(place) {
         None => Err(HashFault::NoSuchNode),

@@ -10,7 +10,6 @@
 
 mod digest;
 mod fault;
-mod hash_list;
 mod hasher;
 mod input;
 mod kept_hashes;

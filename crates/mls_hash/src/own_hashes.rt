@@ -2,8 +2,7 @@
 
 ghost use Rattle.std.specs.Prelude.{◌≡◌, ◌≢◌, ◌≤◌, ◌<◌, ◌^◌, ◌⊎◌, ℕ, List, IfOk, IfSome, Some, slice_get, slice_set};
 
-use crate::hash_list::HashList;
-use mls_tree::HashValue;
+use mls_tree::{HashList, HashValue};
 use std::alloc::{AllocError, Global};
 use std::marker::Model;
 
@@ -18,7 +17,7 @@ pub(crate) struct OwnHashes {
 
 impl Model for OwnHashes {
     ghost use Rattle.std.specs.Prelude.{◌≡◌, ℕ, List, Option, length};
-    ghost use Rattle.mls_hash.specs.HashLists.{known_hashes};
+    ghost use Rattle.mls_tree.specs.HashLists.{known_hashes};
 
     ghost Value = { List (Option (List ℕ)) };
 

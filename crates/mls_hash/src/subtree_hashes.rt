@@ -9,12 +9,11 @@ ghost use Rattle.mls_hash.specs.Strip.{tree_hash_at};
 ghost use Rattle.mls_hash.specs.SubtreeHashes.{AreAllHashes, AreHashesKept, AreHashesUnder, AreSubtreeHashes, HasRoom};
 
 use crate::fault::HashFault;
-use crate::hash_list::HashList;
 use crate::input::{hash_leaf, hash_parent};
 use crate::kept_hashes::kept_hash;
 use crate::leaf_set::LeafSet;
 use crate::suite::Suite;
-use mls_tree::{HashValue, Part, PublicTree};
+use mls_tree::{HashList, HashValue, Part, PublicTree};
 use mls_wire::Writer;
 use std::alloc::{AllocError, Global};
 use std::marker::Model;

@@ -1,6 +1,6 @@
 -- A change of a tree keeps the cells right that it doesn't empty.
-use Rattle.std.proofs.Common.{◌≡◌, ◌≢◌, ℕ, zero, suc, ◌+◌, ◌*◌, ◌-◌, ◌<◌, ◌≤◌, List, [], ◌∷◌, ◌++◌, length, replicate, Option, Some, None, refl, sym, ap, ◌∙◌, subst, inl, inr, arith, length-set, nat_lt}
-use Rattle.std.specs.Prelude.{slice_get, slice_set, option_and_then, ◌==◌, if◌then◌else◌, IsSome}
+use Rattle.std.proofs.Common.{◌≡◌, ◌≢◌, ℕ, zero, suc, ◌+◌, ◌*◌, ◌-◌, ◌<◌, ◌≤◌, List, [], ◌∷◌, ◌++◌, length, replicate, true, false, Option, Some, None, refl, sym, ap, ◌∙◌, subst, inl, inr, arith, length-set, nat_lt}
+use Rattle.std.specs.Prelude.{slice_get, slice_set, is_some, option_map, option_and_then, ◌==◌, if◌then◌else◌, IsSome}
 use Rattle.std.proofs.lemmas.Bool.{cases_lt, cases_order}
 use Rattle.std.proofs.Math.ListN.{length-replicate}
 use Rattle.std.proofs.lemmas.Option.{none-some}
@@ -22,20 +22,6 @@ pub empty_count-low : (cells : List (Option (List ℕ))) → empty_count cells �
 empty_count-low [] = omega arith
 empty_count-low (None ∷ cells) = let a = empty_count-low cells in omega arith
 empty_count-low (Some h ∷ cells) = let a = empty_count-low cells in omega arith
-
-pub empty_count-filled : (cells : List (Option (List ℕ))) (p : ℕ) (h : List ℕ) → slice_get cells p ≡ Some (Some h) → empty_count (slice_set cells p None) ≡ empty_count cells + 1
-empty_count-filled [] p h e = absurd (cc)
-empty_count-filled (None ∷ cells) zero h e = absurd (cc)
-empty_count-filled (Some g ∷ cells) zero h e = omega arith
-empty_count-filled (None ∷ cells) (suc p) h e = let a = empty_count-filled cells p h e in omega arith
-empty_count-filled (Some g ∷ cells) (suc p) h e = empty_count-filled cells p h e
-
-pub empty_count-empty : (cells : List (Option (List ℕ))) (p : ℕ) → slice_get cells p ≡ Some None → empty_count (slice_set cells p None) ≡ empty_count cells
-empty_count-empty [] p e = absurd (cc)
-empty_count-empty (None ∷ cells) zero e = refl
-empty_count-empty (Some g ∷ cells) zero e = absurd (cc)
-empty_count-empty (None ∷ cells) (suc p) e = ap (λ n. suc n) (empty_count-empty cells p e)
-empty_count-empty (Some g ∷ cells) (suc p) e = empty_count-empty cells p e
 
 pub empty_count-fill : (cells : List (Option (List ℕ))) (n : ℕ) → empty_count (cells ++ replicate n None) ≡ empty_count cells + n
 empty_count-fill [] zero = refl
@@ -269,43 +255,39 @@ emptied-nothing (p ∷ ps) = emptied-nothing ps
 pub nothing-emptied : (cells : List (Option (List ℕ))) (ps : List ℕ) → cells ≡ [] → cells ≡ emptied cells ps
 nothing-emptied cells ps none = none ∙ sym (ap (λ cs. emptied cs ps) none ∙ emptied-nothing ps)
 
--- an emptied cell is counted
-pub counted-filled : (cells : List (Option (List ℕ))) (p n : ℕ) (c new : Option (List ℕ)) (h : List ℕ) → p < length cells → slice_get cells p ≡ Some c → c ≡ Some h → new ≡ None
-    → n ≡ empty_count cells → n + 1 ≡ empty_count (slice_set cells p new)
-counted-filled cells p n c new h inside at filled none e =
-    let a = empty_count-filled cells p h (at ∙ ap (λ (v : Option (List ℕ)). Some v) filled) in
-    omega (arith, a, ap (λ v. empty_count (slice_set cells p v)) none)
+-- a filled cell that is emptied is counted
+pub cleared-filled : (cells : List (Option (List ℕ))) (p : ℕ) → Some true ≡ option_map is_some (slice_get cells p) → empty_count (slice_set cells p None) ≡ empty_count cells + 1
+cleared-filled [] p e = absurd (cc)
+cleared-filled (None ∷ cells) zero e = absurd (cc)
+cleared-filled (Some g ∷ cells) zero e = omega arith
+cleared-filled (None ∷ cells) (suc p) e = let a = cleared-filled cells p e in omega arith
+cleared-filled (Some g ∷ cells) (suc p) e = cleared-filled cells p e
 
-pub counted-empty : (cells : List (Option (List ℕ))) (p n : ℕ) (c new : Option (List ℕ)) → p < length cells → slice_get cells p ≡ Some c → c ≡ None → new ≡ None
-    → n ≡ empty_count cells → n ≡ empty_count (slice_set cells p new)
-counted-empty cells p n c new inside at empty none e =
-    e ∙ sym (empty_count-empty cells p (at ∙ ap (λ (v : Option (List ℕ)). Some v) empty)) ∙ ap (λ v. empty_count (slice_set cells p v)) (sym none)
+-- an empty one was counted
+pub cleared-blank : (cells : List (Option (List ℕ))) (p : ℕ) → Some false ≡ option_map is_some (slice_get cells p) → empty_count (slice_set cells p None) ≡ empty_count cells
+cleared-blank [] p e = absurd (cc)
+cleared-blank (None ∷ cells) zero e = refl
+cleared-blank (Some g ∷ cells) zero e = absurd (cc)
+cleared-blank (None ∷ cells) (suc p) e = ap (λ n. suc n) (cleared-blank cells p e)
+cleared-blank (Some g ∷ cells) (suc p) e = cleared-blank cells p e
 
 -- ---- a cell is filled
 
-filled-empty : (cells : List (Option (List ℕ))) (p : ℕ) (h : List ℕ) → slice_get cells p ≡ Some None → empty_count cells ≡ empty_count (slice_set cells p (Some h)) + 1
-filled-empty [] p h e = absurd (cc)
-filled-empty (None ∷ cells) zero h e = omega arith
-filled-empty (Some g ∷ cells) zero h e = absurd (cc)
-filled-empty (None ∷ cells) (suc p) h e = let a = filled-empty cells p h e in omega arith
-filled-empty (Some g ∷ cells) (suc p) h e = filled-empty cells p h e
+-- an empty cell that is filled is counted no more
+pub put-empty : (cells : List (Option (List ℕ))) (p : ℕ) (h : List ℕ) → Some false ≡ option_map is_some (slice_get cells p) → empty_count cells ≡ empty_count (slice_set cells p (Some h)) + 1
+put-empty [] p h e = absurd (cc)
+put-empty (None ∷ cells) zero h e = omega arith
+put-empty (Some g ∷ cells) zero h e = absurd (cc)
+put-empty (None ∷ cells) (suc p) h e = let a = put-empty cells p h e in omega arith
+put-empty (Some g ∷ cells) (suc p) h e = put-empty cells p h e
 
-filled-filled : (cells : List (Option (List ℕ))) (p : ℕ) (g h : List ℕ) → slice_get cells p ≡ Some (Some g) → empty_count (slice_set cells p (Some h)) ≡ empty_count cells
-filled-filled [] p g h e = absurd (cc)
-filled-filled (None ∷ cells) zero g h e = absurd (cc)
-filled-filled (Some f ∷ cells) zero g h e = refl
-filled-filled (None ∷ cells) (suc p) g h e = ap (λ n. suc n) (filled-filled cells p g h e)
-filled-filled (Some f ∷ cells) (suc p) g h e = filled-filled cells p g h e
-
--- a cell that is filled is counted no more
-module _ (cells : List (Option (List ℕ))) (p n : ℕ) (c new : Option (List ℕ)) (h : List ℕ) (at : slice_get cells p ≡ Some c) (is : new ≡ Some h) (counted : n ≡ empty_count cells) where
-  pub put-empty : c ≡ None → n ≡ empty_count (slice_set cells p new) + 1
-  put-empty empty =
-      counted ∙ filled-empty cells p h (at ∙ ap (λ (v : Option (List ℕ)). Some v) empty) ∙ ap (λ v. empty_count (slice_set cells p v) + 1) (sym is)
-
-  pub put-filled : (g : List ℕ) → c ≡ Some g → n ≡ empty_count (slice_set cells p new)
-  put-filled g filled =
-      counted ∙ sym (filled-filled cells p g h (at ∙ ap (λ (v : Option (List ℕ)). Some v) filled)) ∙ ap (λ v. empty_count (slice_set cells p v)) (sym is)
+-- a filled one was not
+pub put-filled : (cells : List (Option (List ℕ))) (p : ℕ) (h : List ℕ) → Some true ≡ option_map is_some (slice_get cells p) → empty_count (slice_set cells p (Some h)) ≡ empty_count cells
+put-filled [] p h e = absurd (cc)
+put-filled (None ∷ cells) zero h e = absurd (cc)
+put-filled (Some f ∷ cells) zero h e = refl
+put-filled (None ∷ cells) (suc p) h e = ap (λ n. suc n) (put-filled cells p h e)
+put-filled (Some f ∷ cells) (suc p) h e = put-filled cells p h e
 
 -- a right hash keeps the cells right
 pub AreCells-filled : (H : List ℕ → List ℕ) (t : Tree) (cells new : List (Option (List ℕ))) (p : ℕ) (h : List ℕ) → new ≡ slice_set cells p (Some h) → hash_at H t p ≡ Some h

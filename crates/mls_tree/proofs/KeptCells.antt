@@ -175,7 +175,7 @@ subtree_at-left_half : (t : Tree) (p : ℕ) → p + 1 < 2 * leaf_count (left_hal
 subtree_at-left_half (leaf x) p lt = refl
 subtree_at-left_half (branch l n r) p lt = sym (subtree_at-in_left 0 l n r p (omega arith))
 
-leaf_count-left_half : (t : Tree) → leaf_count (left_half t) ≤ leaf_count t
+pub leaf_count-left_half : (t : Tree) → leaf_count (left_half t) ≤ leaf_count t
 leaf_count-left_half (leaf x) = omega arith
 leaf_count-left_half (branch l n r) = omega arith
 

@@ -32,3 +32,10 @@ pub mod LeafCounts
 pub mod Rejoining
 pub mod KeptCells
 pub mod EmptiedAgain
+pub mod ChangedPlaces
+pub mod Counting
+pub mod KeptCounts
+pub mod CountsRead
+pub mod CountedBlanks
+pub mod HashRows
+pub mod HashLengths

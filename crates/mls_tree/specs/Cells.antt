@@ -13,6 +13,12 @@ hash_by Sha256 message = sha256 message
 hash_by Sha384 message = sha384 message
 hash_by Sha512 message = sha512 message
 
+-- how many bytes its values have
+abbrev pub hash_len : HashKind → ℕ
+hash_len Sha256 = 32
+hash_len Sha384 = 48
+hash_len Sha512 = 64
+
 -- the tree hash of the subtree at a place, if there is one
 abbrev pub hash_at : (List ℕ → List ℕ) → Tree → ℕ → Option (List ℕ)
 hash_at H t p = option_and_then (λ s. tree_hash H s.first s.tree) (subtree_at 0 t p)

@@ -1,7 +1,7 @@
 -- What is seen of the cells that a tree may have. For the code alone.
-use Rattle.std.specs.Prelude.{◌≡◌, ℕ, ◌+◌, ◌*◌, ◌≤◌, List, [], Option, Some, None, length}
-use Rattle.std.specs.Vec.{vec_len, vec_capacity}
+use Rattle.std.specs.Prelude.{◌≡◌, ℕ, ◌+◌, ◌*◌, List, [], Option, Some, None, length}
 use Rattle.mls_tree.specs.Tree.{leaves_at}
+use Rattle.mls_tree.specs.HashLists.{HasRoomToDouble}
 use Rattle.mls_tree.specs.declared.hash_kind.HashKind.{HashKind}
 use Rattle.mls_tree.specs.declared.cells.Cells.{Cells}
 
@@ -23,4 +23,4 @@ IsOfHeight h (Some c) = length c.hashes.items + 1 ≡ 2 * leaves_at h
 -- there is room for the cells of a tree twice as large
 abbrev pub HasRoom : Option Cells → Type 0
 HasRoom None = Unit {0}
-HasRoom (Some c) = vec_len c.hashes + (vec_len c.hashes + 1) ≤ vec_capacity c.hashes
+HasRoom (Some c) = HasRoomToDouble c.hashes

@@ -8,7 +8,8 @@ use Rattle.mls_tree.specs.Tree.{Tree, leaf, branch, height, leaf_count, subtree_
 use Rattle.mls_tree.specs.Parts.{parent_of}
 use Rattle.mls_tree.specs.Blanks.{first_blank_leaf}
 
--- leaf i becomes x
+-- leaf i becomes x, which is what the call `set_leaf` does. The index of the leaf is read inside the tree alone: past its end it goes
+-- down to the last leaf, so a call that uses this asks `index < leaf_count`
 abbrev pub put_leaf : ℕ → Tree → ℕ → Option LeafNode → Tree
 put_leaf first (leaf _) i x = leaf x
 put_leaf first (branch l n r) i x =
@@ -34,7 +35,7 @@ change_above f first (leaf x) i = leaf x
 change_above f first (branch l n r) i =
     if nat_lt i (first + leaf_count l) then branch (change_above f first l i) (f n) r else branch l (f n) (change_above f (first + leaf_count l) r i)
 
--- each parent above leaf i becomes blank (12.1.2, 12.1.3)
+-- each parent above leaf i becomes blank (12.1.2, 12.1.3), which is what the call `blank_path` does
 abbrev pub clear_path : Tree → ℕ → Tree
 clear_path t i = change_above (λ _. None) 0 t i
 
@@ -62,7 +63,7 @@ abbrev pub without_unmerged : ℕ → Option ParentNode → Option ParentNode
 without_unmerged i None = None
 without_unmerged i (Some p) = Some (record p { unmerged = without_number i p.unmerged })
 
--- i enters the list of unmerged leaves of each set parent above leaf i (12.1.1)
+-- i enters the list of unmerged leaves of each set parent above leaf i (12.1.1), which is what the call `add_unmerged` does
 abbrev pub enter_unmerged : Tree → ℕ → Tree
 enter_unmerged t i = change_above (with_unmerged i) 0 t i
 
@@ -87,7 +88,7 @@ has_set_leaf (leaf None) = false
 has_set_leaf (leaf (Some _)) = true
 has_set_leaf (branch l _ r) = has_set_leaf l || has_set_leaf r
 
--- the left half, while the right one has no set leaf (7.7)
+-- the left half, while the right one has no set leaf (7.7), which is what the call `truncate` does
 abbrev pub shrink : Tree → Tree
 shrink (leaf x) = leaf x
 shrink (branch l n r) = if has_set_leaf r then branch l n r else shrink l
@@ -111,7 +112,7 @@ with_left t (branch _ n r) = branch t n r
 abbrev pub rejoined : Tree → Tree → Tree
 rejoined t w = if (height t + 1) == height w then with_left t w else t
 
--- the tree as the left half of one twice as large, whose other nodes are blank (7.7)
+-- the tree as the left half of one twice as large, whose other nodes are blank (7.7), which is what the call `extend` does
 abbrev pub grow : Tree → Tree
 grow t = branch t None (blank_tree (height t))
 

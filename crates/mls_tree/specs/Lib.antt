@@ -7,11 +7,15 @@ pub mod Blanks
 pub mod Changes
 pub mod Cells
 pub mod CellsSeen
+pub mod Counts
+pub mod CountsSeen
 pub mod KeptTree
 pub mod Journals
+pub mod ChangedPlaces
 pub mod Sizes
 pub mod Array
 pub mod NewLists
 pub mod HashValue
+pub mod HashLists
 pub mod TreeHash
 pub mod Reading

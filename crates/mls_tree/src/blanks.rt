@@ -1,13 +1,17 @@
 //! Blank nodes: those that a tree grows by, the path of a leaf made blank, and the search for a leaf that is not.
 //!
 //! Each walk is over a subtree given by its height `level` and the index of its first leaf `first`, and goes at most 20 halves deep.
-ghost use Rattle.std.specs.Prelude.{◌≡◌, ℕ, ◌≤◌, ◌+◌, ◌*◌, ◌-◌, ◌++◌, None, length, replicate, OnOk, OnErr};
+ghost use Rattle.std.specs.Prelude.{◌≡◌, ℕ, ◌≤◌, ◌+◌, ◌*◌, ◌-◌, ◌++◌, None, length, replicate, OnOk, OnErr, option_copied};
 ghost use Rattle.std.specs.Vec.{VecUnchanged};
 ghost use Rattle.mls_nodes.specs.Limits.{leaf_limit};
 ghost use Rattle.mls_tree.specs.Tree.{leaves_at};
 ghost use Rattle.mls_tree.specs.Array.{tree_in, ChangesWithin};
 ghost use Rattle.mls_tree.specs.Changes.{change_above, has_set_leaf};
+ghost use Rattle.mls_tree.specs.Blanks.{next_blank_leaf};
+ghost use Rattle.mls_tree.specs.Counts.{AreCounts};
+ghost use Rattle.mls_tree.specs.CountsSeen.{AreCountsIfAny};
 
+use crate::count::{Count, count_of};
 use crate::entries::as_leaf;
 use crate::sizes::leaves_of;
 use mls_nodes::Node;
@@ -50,6 +54,57 @@ pub(crate) fn has_set_leaf(nodes: &[Option<Node>], level: u32, first: u32) -> bo
         return true;
     }
     has_set_leaf(nodes, level - 1, middle)
+}
+
+/// The same, by the counts of the subtree's parents where there are any.
+pub(crate) fn counts_set_leaf(
+    nodes: &[Option<Node>],
+    counts: Option<&[Count]>,
+    level: u32,
+    first: u32,
+) -> bool
+    requires low { level ≤ 20 }
+    requires inside { first + leaves_at level ≤ leaf_limit }
+    requires long { 2 * (first + leaves_at level) ≤ length nodes.now + 1 }
+    requires counts { AreCountsIfAny (option_copied counts) first (tree_in nodes.now level first) }
+    ensures { result ≡ has_set_leaf (tree_in nodes.now level first) }
+{
+    match counts {
+        Some(counts) => count_of(nodes, counts, level, first).members > 0,
+        None => has_set_leaf(nodes, level, first),
+    }
+}
+
+/// The leftmost blank leaf of the subtree whose index is not below `start`, by the counts of the subtree's parents. Goes down two paths
+/// at most, since a part whose leaves are all set is left at once.
+pub(crate) fn counted_blank_leaf(
+    nodes: &[Option<Node>],
+    counts: &[Count],
+    level: u32,
+    first: u32,
+    start: u32,
+) -> Option<u32>
+    requires low { level ≤ 20 }
+    requires inside { first + leaves_at level ≤ leaf_limit }
+    requires long { 2 * (first + leaves_at level) ≤ length nodes.now + 1 }
+    requires room { first + leaves_at level ≤ length counts.now + 1 }
+    requires counts { AreCounts first (tree_in nodes.now level first) counts.now }
+    ensures { result ≡ next_blank_leaf start first (tree_in nodes.now level first) }
+{
+    if count_of(nodes, counts, level, first).members == leaves_of(level) {
+        return None;
+    }
+    if level == 0 {
+        return if first < start { None } else { Some(first) };
+    }
+    let middle = first + leaves_of(level - 1);
+    if start < middle {
+        let found = counted_blank_leaf(nodes, counts, level - 1, first, start);
+        if found.is_some() {
+            return found;
+        }
+    }
+    counted_blank_leaf(nodes, counts, level - 1, middle, start)
 }
 
 /// Adds blank entries at the end.

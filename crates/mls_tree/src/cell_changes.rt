@@ -71,9 +71,7 @@ pub(crate) fn reserve_double(cells: &mut Option<Cells>) -> Result<(), AllocError
     let Some(cells) = cells else {
         return Ok(());
     };
-    let more = cells.hashes.len() + 1;
-    cells.hashes.try_reserve(more)?;
-    Ok(())
+    cells.hashes.reserve_double()
 }
 
 /// Adds the empty cells that a tree twice as large has more.
@@ -96,8 +94,7 @@ pub(crate) fn double_in_place(cells: Option<Cells>) -> Option<Cells>
     let Some(mut cells) = cells else {
         return None;
     };
-    let len = cells.hashes.len();
-    if cells.hashes.capacity() - len <= len {
+    if !cells.hashes.can_double() {
         return None;
     }
     cells.double();

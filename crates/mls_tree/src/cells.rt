@@ -1,66 +1,35 @@
 //! Cells for the tree hashes of the subtrees of a tree, one for each place.
-ghost use Rattle.std.specs.Prelude.{◌≡◌, ℕ, ◌+◌, ◌*◌, ◌++◌, ◌<◌, ◌≤◌, None, Some, IfOk, replicate, take, length, slice_set};
-ghost use Rattle.std.specs.Vec.{vec_len, vec_capacity};
+ghost use Rattle.std.specs.Prelude.{◌≡◌, ℕ, ◌+◌, ◌*◌, ◌++◌, ◌<◌, ◌≤◌, ◌^◌, None, Some, IfOk, replicate, take, length, slice_set};
 ghost use Rattle.mls_nodes.specs.Limits.{leaf_limit};
 ghost use Rattle.mls_tree.specs.Tree.{Tree, height, leaves_at, IsPerfect};
 ghost use Rattle.mls_tree.specs.Paths.{direct_path};
-ghost use Rattle.mls_tree.specs.Cells.{empty_count, emptied, parents_from};
+ghost use Rattle.mls_tree.specs.Cells.{empty_count, emptied, hash_len, parents_from};
+ghost use Rattle.mls_tree.specs.HashLists.{HasRoomToDouble};
 
+use crate::hash_cells::HashCells;
 use crate::hash_kind::HashKind;
 use crate::hash_value::HashValue;
 use crate::sizes::leaves_of;
 use std::alloc::{AllocError, Global};
-use std::mem;
-
-// Adds so many empty cells at the end, for which there is room.
-fn push_empty(cells: &mut Vec<Option<HashValue>>, count: usize)
-    requires { vec_len cells.old + count ≤ vec_capacity cells.old }
-    ensures { cells.new.items ≡ cells.old.items ++ replicate count None }
-{
-    for _ in 0..count {
-        cells.push_reserved(None);
-    }
-}
-
-// So many empty cells.
-fn blank_cells(alloc: Global, count: usize) -> Result<Vec<Option<HashValue>>, AllocError>
-    ensures { IfOk result (λ cells. cells.items ≡ replicate count None) }
-{
-    let mut cells = Vec::new(alloc);
-    cells.try_reserve(count)?;
-    push_empty(&mut cells, count);
-    Ok(cells)
-}
-
-// How many of the cells are empty.
-fn count_empty(cells: &[Option<HashValue>]) -> usize
-    ensures { result ≡ empty_count cells.now }
-{
-    let mut empty = 0;
-    for cell in cells {
-        if cell.is_none() {
-            empty += 1;
-        }
-    }
-    empty
-}
 
 /// Cells, each of which is empty or has a hash, and how many of them are empty.
 #[derive(Debug, Drop)]
 pub(crate) struct Cells {
     pub(crate) kind: HashKind,
-    pub(crate) hashes: Vec<Option<HashValue>>,
+    pub(crate) hashes: HashCells,
     pub(crate) empty: usize,
     ghost counted: { empty ≡ empty_count hashes.items },
+    ghost wide: { hashes.width ≡ hash_len kind },
 }
 
 impl Cells {
     /// So many empty cells of a kind.
     pub(crate) fn blank(alloc: Global, kind: HashKind, count: usize) -> Result<Cells, AllocError>
+        requires { count < 2 ^ 32 }
         ensures cells { IfOk result (λ c. c.hashes.items ≡ replicate count None) }
         ensures kind { IfOk result (λ c. c.kind ≡ kind) }
     {
-        let hashes = blank_cells(alloc, count)?;
+        let hashes = HashCells::blank(alloc, count, kind.hash_len())?;
         let cells = Cells {
             kind,
             hashes,
@@ -74,8 +43,7 @@ impl Cells {
         ensures { IfOk result (λ c. (c.kind ≡ self.now.kind)
             × (c.hashes.items ≡ self.now.hashes.items)) }
     {
-        let mut hashes = Vec::new(alloc);
-        hashes.extend_from_slice(self.hashes.as_slice())?;
+        let hashes = self.hashes.try_clone(alloc)?;
         let cells = Cells {
             kind: self.kind,
             hashes,
@@ -90,21 +58,20 @@ impl Cells {
         ensures cells { self.new.hashes.items ≡ slice_set self.old.hashes.items place None }
         ensures kind { self.new.kind ≡ self.old.kind }
     {
-        match mem::replace(&mut self.hashes[place as usize], None) {
-            Some(_hash) => self.empty += 1,
-            None => {}
+        if self.hashes.clear(place) {
+            self.empty += 1;
         }
     }
 
     /// Fills the cell at a place.
     pub(crate) fn put(&mut self, place: u32, hash: HashValue)
-        requires { place < length self.old.hashes.items }
+        requires place { place < length self.old.hashes.items }
+        requires width { length hash ≡ hash_len self.old.kind }
         ensures cells { self.new.hashes.items ≡ slice_set self.old.hashes.items place (Some hash) }
         ensures kind { self.new.kind ≡ self.old.kind }
     {
-        match mem::replace(&mut self.hashes[place as usize], Some(hash)) {
-            Some(_hash) => {}
-            None => self.empty -= 1,
+        if !self.hashes.put(place, &hash) {
+            self.empty -= 1;
         }
     }
 
@@ -155,14 +122,13 @@ impl Cells {
 
     /// Adds as many empty cells as there are, and one more.
     pub(crate) fn double(&mut self)
-        requires { vec_len self.old.hashes + (vec_len self.old.hashes + 1)
-            ≤ vec_capacity self.old.hashes }
+        requires { HasRoomToDouble self.old.hashes }
         ensures cells { self.new.hashes.items ≡ self.old.hashes.items
             ++ replicate (length self.old.hashes.items + 1) None }
         ensures kind { self.new.kind ≡ self.old.kind }
     {
         let more = self.hashes.len() + 1;
-        push_empty(&mut self.hashes, more);
+        self.hashes.double();
         self.empty += more;
     }
 
@@ -173,7 +139,7 @@ impl Cells {
     {
         if count < self.hashes.len() {
             self.hashes.truncate(count);
-            self.empty = count_empty(self.hashes.as_slice());
+            self.empty = self.hashes.count_empty();
         }
     }
 }

@@ -1,4 +1,6 @@
 //! Kinds of hash functions.
+ghost use Rattle.std.specs.Prelude.{◌≡◌, ◌≤◌};
+ghost use Rattle.mls_tree.specs.Cells.{hash_len};
 
 /// A hash function by which a tree keeps the hashes of its subtrees: one of those that the cipher suites hash with (RFC 9420, 17.1).
 #[derive(Clone, Copy, Debug, PartialEq, Eq)]
@@ -9,4 +11,18 @@ pub enum HashKind {
     Sha384,
     /// SHA-512.
     Sha512,
+}
+
+impl HashKind {
+    /// How many bytes a hash by this function has.
+    pub(crate) fn hash_len(self) -> usize
+        ensures length { result ≡ hash_len self }
+        ensures limit { result ≤ 64 }
+    {
+        match self {
+            HashKind::Sha256 => 32,
+            HashKind::Sha384 => 48,
+            HashKind::Sha512 => 64,
+        }
+    }
 }

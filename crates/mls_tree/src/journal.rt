@@ -3,7 +3,7 @@
 //! A large tree is changed where it stands, and not on a copy of it, and judged then: each call here changes the tree
 //! and keeps what it replaced. The changes are either kept, or taken back, the last one first, which takes no memory
 //! and can't be refused.
-ghost use Rattle.std.specs.Prelude.{◌≡◌, ◌<◌, ◌-◌, ◌*◌, ◌∷◌, ◌↔◌, ◌⊎◌, take, false, Err, IfErr, OnOk, OnErr, option_map};
+ghost use Rattle.std.specs.Prelude.{◌≡◌, ◌<◌, ◌-◌, ◌*◌, ◌∷◌, ◌↔◌, ◌⊎◌, take, false, Err, IfOk, IfErr, OnOk, OnErr, option_map};
 ghost use Rattle.mls_nodes.specs.Limits.{leaf_limit};
 ghost use Rattle.mls_tree.specs.Tree.{leaf_count, node_at, IsParentPlace};
 ghost use Rattle.mls_tree.specs.Changes.{put_leaf, put_parent, change_parent, clear_path, with_unmerged, enter_unmerged, is_overfilled, IsOverfull, grow, shrink};
@@ -11,7 +11,9 @@ ghost use Rattle.mls_tree.specs.Paths.{direct_path};
 ghost use Rattle.mls_tree.specs.Parts.{parent_of};
 ghost use Rattle.mls_tree.specs.Cells.{emptied, extended, parents_from};
 ghost use Rattle.mls_tree.specs.Journals.{taken_back, before, TellsNothing};
+ghost use Rattle.mls_tree.specs.ChangedPlaces.{HaveSameNodesBut};
 
+use crate::changed_places::push_changed;
 use crate::error::TreeError;
 use crate::public_tree::PublicTree;
 use mls_nodes::{LeafNode, ParentNode};
@@ -237,6 +239,25 @@ impl Journal {
             self.formers.push_reserved(Former::Halved(whole));
         }
         Ok(())
+    }
+
+    /// The places at which the changes have replaced a node, and all those that a doubling has added or a halving has
+    /// taken away (RFC 9420, Appendix C): at each other place the tree has the node, or none, that the tree before
+    /// has there. `tree` is the one that was changed with this journal; the contract holds for every tree all the same.
+    /// A place may stand in the list more than once. Time and memory go with the number of changes, and with the
+    /// sizes of the halves that were added or taken away.
+    pub fn changed_places(&self, alloc: Global, tree: &PublicTree) -> Result<Vec<u32>, AllocError>
+        ensures { IfOk result (λ places.
+            HaveSameNodesBut places.items (before self.now tree.now.tree) tree.now.tree) }
+    {
+        let mut places = Vec::new(alloc);
+        let mut leaves = tree.leaf_count();
+        let formers = self.formers.as_slice();
+        for index in (0..formers.len()).rev() {
+            let former_leaves = push_changed(&mut places, &formers[index], leaves)?;
+            leaves = former_leaves;
+        }
+        Ok(places)
     }
 
     /// Takes back all changes, the last one first: the tree is the one before them, and the journal has none. It

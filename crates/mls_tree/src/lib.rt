@@ -9,11 +9,16 @@
 mod blanks;
 mod cell_changes;
 mod cells;
+mod changed_places;
+mod count;
+mod counts;
 mod decode;
 mod entries;
 mod error;
 mod exchange;
+mod hash_cells;
 mod hash_kind;
+mod hash_list;
 mod hash_value;
 mod journal;
 pub mod laws;
@@ -29,6 +34,7 @@ mod unmerged;
 
 pub use error::TreeError;
 pub use hash_kind::HashKind;
+pub use hash_list::HashList;
 pub use hash_value::HashValue;
 pub use journal::Journal;
 pub use part::Part;

@@ -1,5 +1,5 @@
 //! The nodes of a tree, kept as one array.
-ghost use Rattle.std.specs.Prelude.{◌≡◌, ℕ, ◌≤◌, ◌<◌, length, IfOk, IfErr, Err, MatchOption, OnOk, OnErr, IsOk, IsErr, ◌↔◌, ◌⊎◌, None, Some, false, map, option_map, option_copied};
+ghost use Rattle.std.specs.Prelude.{◌≡◌, ℕ, ◌+◌, ◌≤◌, ◌<◌, length, IfOk, IfErr, Err, MatchOption, OnOk, OnErr, IsOk, IsErr, ◌↔◌, ◌⊎◌, None, Some, false, map, option_map, option_copied};
 ghost use Rattle.std.specs.Bool.{OnTrue, OnFalse};
 ghost use Rattle.mls_nodes.specs.Limits.{leaf_limit};
 ghost use Rattle.mls_nodes.specs.Value.{entry_value, node_value};
@@ -9,8 +9,11 @@ ghost use Rattle.mls_tree.specs.Blanks.{first_blank_leaf, next_blank_leaf, IsFir
 ghost use Rattle.mls_tree.specs.Changes.{put_leaf, put_parent, clear_path, change_parent, with_unmerged, without_unmerged, enter_unmerged, is_overfilled, is_overfilled_above, IsOverfull, shrink, blank_tree, grow, left_half, rejoined};
 ghost use Rattle.mls_tree.specs.Parts.{parent_of};
 ghost use Rattle.mls_tree.specs.Sizes.{IsPowerOfTwo, IsTooLong, IsListing};
+ghost use Rattle.mls_tree.specs.Counts.{counted, AreCounts, AreBeside};
+ghost use Rattle.mls_tree.specs.CountsSeen.{AreCountsIfAny};
 
-use crate::blanks::{blank_above, has_set_leaf, push_blanks};
+use crate::blanks::{blank_above, counted_blank_leaf, counts_set_leaf, push_blanks};
+use crate::count::{Count, count_all, count_of, recount};
 use crate::entries::{
     all_fit, as_leaf, clone_entries, count_leaves, into_leaf, into_parent, leaf_entry, parent_entry,
 };
@@ -115,6 +118,34 @@ impl NodeArray {
         count_leaves(self.nodes.as_slice()) as u32
     }
 
+    /// The count of the tree, by those of its parents.
+    pub(crate) fn total(&self, counts: &[Count]) -> Count
+        requires count { length counts.now + 1 ≡ leaf_count self.now.tree }
+        requires counts { AreCounts 0 self.now.tree counts.now }
+        ensures { result ≡ counted self.now.tree }
+    {
+        count_of(self.nodes.as_slice(), counts, self.height, 0)
+    }
+
+    /// Sets the counts of the parents above a leaf, where the others are right.
+    pub(crate) fn recount(&self, counts: &mut [Count], leaf: u32)
+        requires count { length counts.old + 1 ≡ leaf_count self.now.tree }
+        requires beside { AreBeside 0 self.now.tree leaf counts.old }
+        ensures count { length counts.new ≡ length counts.old }
+        ensures counts { AreCounts 0 self.now.tree counts.new }
+    {
+        recount(self.nodes.as_slice(), counts, self.height, 0, leaf);
+    }
+
+    /// Sets the counts of all parents.
+    pub(crate) fn count_all(&self, counts: &mut [Count])
+        requires { length counts.old + 1 ≡ leaf_count self.now.tree }
+        ensures count { length counts.new ≡ length counts.old }
+        ensures counts { AreCounts 0 self.now.tree counts.new }
+    {
+        count_all(self.nodes.as_slice(), counts, self.height, 0);
+    }
+
     /// All nodes, in the order of their places.
     pub(crate) fn nodes(&self) -> &[Option<Node>]
         ensures { map entry_value result.now ≡ listing self.now.tree }
@@ -142,18 +173,32 @@ impl NodeArray {
         }
     }
 
-    /// The index of the leftmost blank leaf. None where all leaves are set.
-    pub(crate) fn first_blank_leaf(&self) -> Option<u32>
+    /// The index of the leftmost blank leaf, by the counts of the tree's parents where there are any. None where all leaves are set.
+    pub(crate) fn first_blank_leaf(&self, counts: Option<&[Count]>) -> Option<u32>
+        requires { AreCountsIfAny (option_copied counts) 0 self.now.tree }
         ensures first { result ≡ first_blank_leaf 0 self.now.tree }
         ensures leftmost { MatchOption result (AllLeavesSet self.now.tree)
             (λ j. IsFirstBlank self.now.tree j) }
     {
-        self.next_blank_leaf(0)
+        self.next_blank_leaf(counts, 0)
     }
 
-    /// The index of the leftmost blank leaf among those from `start` on. None where all of them are set, or the tree has
-    /// no leaf `start`.
-    pub(crate) fn next_blank_leaf(&self, start: u32) -> Option<u32>
+    /// The index of the leftmost blank leaf among those from `start` on, by the counts of the tree's parents where there are any. None
+    /// where all of them are set, or the tree has no leaf `start`.
+    pub(crate) fn next_blank_leaf(&self, counts: Option<&[Count]>, start: u32) -> Option<u32>
+        requires { AreCountsIfAny (option_copied counts) 0 self.now.tree }
+        ensures { result ≡ next_blank_leaf start 0 self.now.tree }
+    {
+        match counts {
+            Some(counts) => {
+                counted_blank_leaf(self.nodes.as_slice(), counts, self.height, 0, start)
+            }
+            None => self.search_blank_leaf(start),
+        }
+    }
+
+    // The same, leaf by leaf.
+    fn search_blank_leaf(&self, start: u32) -> Option<u32>
         ensures { result ≡ next_blank_leaf start 0 self.now.tree }
     {
         for index in start..self.leaf_count() {
@@ -198,12 +243,14 @@ impl NodeArray {
     }
 
     /// The places of those parents above a leaf whose child on the copath has a resolution that is not empty, the lowest first (RFC 9420,
-    /// 4.1.2). `NoSuchNode` where the tree has no such leaf.
+    /// 4.1.2), by the counts of the tree's parents where there are any. `NoSuchNode` where the tree has no such leaf.
     pub(crate) fn filtered_direct_path(
         &self,
         alloc: Global,
+        counts: Option<&[Count]>,
         leaf: u32,
     ) -> Result<Vec<u32>, TreeError>
+        requires { AreCountsIfAny (option_copied counts) 0 self.now.tree }
         ensures places { IfOk result
             (λ v. v.items ≡ filtered_direct_path (leaf_count self.now.tree) 0 self.now.tree leaf) }
         ensures no_such_node { (result ≡ Err TreeError.NoSuchNode)
@@ -215,7 +262,8 @@ impl NodeArray {
             return Err(TreeError::NoSuchNode);
         }
         let mut out = Vec::new(alloc);
-        push_filtered_direct_path(&mut out, self.nodes.as_slice(), self.height, 0, leaf)?;
+        let nodes = self.nodes.as_slice();
+        push_filtered_direct_path(&mut out, nodes, counts, self.height, 0, leaf)?;
         Ok(out)
     }
 
@@ -418,8 +466,9 @@ impl NodeArray {
         self.height = below;
     }
 
-    /// Whether the tree has halves, and the right one has no set leaf.
-    pub(crate) fn can_be_halved(&self) -> bool
+    /// Whether the tree has halves, and the right one has no set leaf, by the counts of the tree's parents where there are any.
+    pub(crate) fn can_be_halved(&self, counts: Option<&[Count]>) -> bool
+        requires { AreCountsIfAny (option_copied counts) 0 self.now.tree }
         ensures halves { OnTrue result (IsBranch self.now.tree) }
         ensures smaller { OnTrue result
             (shrink self.now.tree ≡ shrink (left_half self.now.tree)) }
@@ -429,14 +478,16 @@ impl NodeArray {
             return false;
         }
         let below = self.height - 1;
-        !has_set_leaf(self.nodes.as_slice(), below, leaves_of(below))
+        !counts_set_leaf(self.nodes.as_slice(), counts, below, leaves_of(below))
     }
 
-    /// Takes the left half of the tree for as long as there is one and the right half has no set leaf (RFC 9420, 7.7). Takes no memory.
-    pub(crate) fn truncate(&mut self)
+    /// Takes the left half of the tree for as long as there is one and the right half has no set leaf (RFC 9420, 7.7), by the counts of
+    /// the tree's parents where there are any. Takes no memory.
+    pub(crate) fn truncate(&mut self, counts: Option<&[Count]>)
+        requires { AreCountsIfAny (option_copied counts) 0 self.old.tree }
         ensures { self.new.tree ≡ shrink self.old.tree }
     {
-        while self.can_be_halved() {
+        while self.can_be_halved(counts) {
             self.cut();
         }
     }

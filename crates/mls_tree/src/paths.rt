@@ -1,13 +1,15 @@
 //! Walks that collect the places of a path from a leaf to the root (RFC 9420, 4.1.2), the lowest first.
 //!
 //! Each walks a subtree given by its height `level` and the index of its first leaf `first`, and goes at most 20 halves deep.
-ghost use Rattle.std.specs.Prelude.{◌≡◌, ℕ, ◌≤◌, ◌+◌, ◌*◌, ◌-◌, ◌++◌, length, OnOk};
+ghost use Rattle.std.specs.Prelude.{◌≡◌, ℕ, ◌≤◌, ◌+◌, ◌*◌, ◌-◌, ◌++◌, length, OnOk, option_copied};
 ghost use Rattle.mls_nodes.specs.Limits.{leaf_limit};
 ghost use Rattle.mls_tree.specs.Tree.{Tree, height, leaves_at, IsPerfect};
 ghost use Rattle.mls_tree.specs.Array.{tree_in};
 ghost use Rattle.mls_tree.specs.Paths.{direct_path, copath, filtered_direct_path};
+ghost use Rattle.mls_tree.specs.CountsSeen.{AreCountsIfAny};
 
-use crate::resolution::has_resolution;
+use crate::count::Count;
+use crate::resolution::counts_resolution;
 use crate::sizes::leaves_of;
 use mls_nodes::Node;
 use std::alloc::AllocError;
@@ -74,10 +76,12 @@ pub(crate) fn push_copath(
     Ok(())
 }
 
-/// Adds the places of those parents above a leaf of the subtree whose half away from it has a resolution that is not empty.
+/// Adds the places of those parents above a leaf of the subtree whose half away from it has a resolution that is not empty, by the
+/// counts of the subtree's parents where there are any.
 pub(crate) fn push_filtered_direct_path(
     out: &mut Vec<u32>,
     nodes: &[Option<Node>],
+    counts: Option<&[Count]>,
     level: u32,
     first: u32,
     leaf: u32,
@@ -85,6 +89,7 @@ pub(crate) fn push_filtered_direct_path(
     requires low { level ≤ 20 }
     requires inside { first + leaves_at level ≤ leaf_limit }
     requires long { 2 * (first + leaves_at level) ≤ length nodes.now + 1 }
+    requires counts { AreCountsIfAny (option_copied counts) first (tree_in nodes.now level first) }
     ensures { OnOk result
         ((leaves : ℕ) → out.new.items
         ≡ out.old.items ++ filtered_direct_path leaves first (tree_in nodes.now level first) leaf) }
@@ -94,13 +99,13 @@ pub(crate) fn push_filtered_direct_path(
     }
     let middle = first + leaves_of(level - 1);
     if leaf < middle {
-        push_filtered_direct_path(out, nodes, level - 1, first, leaf)?;
-        if has_resolution(nodes, level - 1, middle) {
+        push_filtered_direct_path(out, nodes, counts, level - 1, first, leaf)?;
+        if counts_resolution(nodes, counts, level - 1, middle) {
             out.push(2 * middle - 1)?;
         }
     } else {
-        push_filtered_direct_path(out, nodes, level - 1, middle, leaf)?;
-        if has_resolution(nodes, level - 1, first) {
+        push_filtered_direct_path(out, nodes, counts, level - 1, middle, leaf)?;
+        if counts_resolution(nodes, counts, level - 1, first) {
             out.push(2 * middle - 1)?;
         }
     }

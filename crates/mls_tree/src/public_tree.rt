@@ -16,6 +16,10 @@ use crate::cell_changes::{
     truncate,
 };
 use crate::cells::Cells;
+use crate::counts::{
+    Counts, clone_counts, count_anew, count_in_place, counts_in, recount, reserve_counts,
+    truncate_counts,
+};
 use crate::error::TreeError;
 use crate::hash_kind::HashKind;
 use crate::hash_value::HashValue;
@@ -30,16 +34,21 @@ use std::mem;
 ///
 /// It may keep, beside its nodes, a cell for the tree hash of the subtree at each place (RFC 9420, 7.8). A cell is empty, or the hash in it
 /// is right: each call that changes the tree empties the cells of the subtrees that it changes, and no other.
+///
+/// A tree with cells also counts the leaves and the nodes set under each parent, and so tells its members, its blank leaves, a filtered
+/// direct path and whether its right half is empty without going through its nodes.
 #[derive(Debug, Drop)]
 pub struct PublicTree {
     tree: NodeArray,
     cells: Option<Cells>,
+    counts: Option<Counts>,
 }
 
 impl Model for PublicTree {
     ghost use Rattle.mls_tree.specs.KeptTree.{KeptTree, kept_tree_coded};
     ghost use Rattle.mls_tree.specs.Cells.{AreCellsOf};
     ghost use Rattle.mls_tree.specs.CellsSeen.{kind_in, cells_in};
+    ghost use Rattle.mls_tree.specs.CountsSeen.{AreCountsIn};
 
     ghost Value = { KeptTree };
 
@@ -47,7 +56,8 @@ impl Model for PublicTree {
 
     ghost view = { λ s. record { tree = s.tree.tree; shape = s.tree.shape; kind = kind_in s.cells; cells = cells_in s.cells } };
 
-    ghost invariant = { λ s. AreCellsOf (kind_in s.cells) s.tree.tree (cells_in s.cells) };
+    ghost invariant = { λ s. AreCellsOf (kind_in s.cells) s.tree.tree (cells_in s.cells)
+        × AreCountsIn s.counts s.tree.tree };
 }
 
 impl PublicTree {
@@ -69,7 +79,11 @@ impl PublicTree {
         ensures cells { IfOk result (λ t. t.cells ≡ []) }
     {
         let tree = NodeArray::from_nodes(nodes)?;
-        Ok(PublicTree { tree, cells: None })
+        Ok(PublicTree {
+            tree,
+            cells: None,
+            counts: None,
+        })
     }
 
     /// The tree of so many leaves with no set node. `BadShape` where `leaves` is no power of two, else `TooManyLeaves` where it is above
@@ -88,7 +102,11 @@ impl PublicTree {
         ensures cells { IfOk result (λ t. t.cells ≡ []) }
     {
         let tree = NodeArray::blank(alloc, leaves)?;
-        Ok(PublicTree { tree, cells: None })
+        Ok(PublicTree {
+            tree,
+            cells: None,
+            counts: None,
+        })
     }
 
     /// How many leaves the tree has, blank ones among them.
@@ -102,7 +120,10 @@ impl PublicTree {
     pub fn member_count(&self) -> u32
         ensures { result ≡ member_count self.now.tree }
     {
-        self.tree.member_count()
+        match &self.counts {
+            Some(counts) => self.tree.total(counts.list.as_slice()).members,
+            None => self.tree.member_count(),
+        }
     }
 
     /// All nodes, in the order of their places.
@@ -132,7 +153,7 @@ impl PublicTree {
         ensures leftmost { MatchOption result (AllLeavesSet self.now.tree)
             (λ j. IsFirstBlank self.now.tree j) }
     {
-        self.tree.first_blank_leaf()
+        self.tree.first_blank_leaf(counts_in(&self.counts))
     }
 
     /// The index of the leftmost blank leaf among those from `start` on. None where all of them are set, or the tree has
@@ -140,7 +161,7 @@ impl PublicTree {
     pub fn next_blank_leaf(&self, start: u32) -> Option<u32>
         ensures { result ≡ next_blank_leaf start 0 self.now.tree }
     {
-        self.tree.next_blank_leaf(start)
+        self.tree.next_blank_leaf(counts_in(&self.counts), start)
     }
 
     /// The places of the parents above a leaf, the lowest first (RFC 9420, 4.1.2). `NoSuchNode` where the tree has no such leaf.
@@ -176,7 +197,8 @@ impl PublicTree {
         ensures else_memory { IfErr result
             (λ e. (e ≡ TreeError.NoSuchNode) ⊎ (e ≡ TreeError.OutOfMemory)) }
     {
-        self.tree.filtered_direct_path(alloc, leaf)
+        self.tree
+            .filtered_direct_path(alloc, counts_in(&self.counts), leaf)
     }
 
     /// The places of the resolution of the node at a place (RFC 9420, 4.1.1): a set node and its unmerged leaves, or of a blank one what
@@ -216,22 +238,18 @@ impl PublicTree {
     }
 
     /// The hash that is kept of the subtree at a place. None where its cell is empty, or there is none.
-    pub fn kept_hash(&self, place: u32) -> Option<&HashValue>
-        ensures kept { option_copied result ≡ hash_in (slice_get self.now.cells place) }
-        ensures right { IfSome (option_copied result)
-            (IsRightHash self.now.kind self.now.tree place) }
+    pub fn kept_hash(&self, place: u32) -> Option<HashValue>
+        ensures kept { result ≡ hash_in (slice_get self.now.cells place) }
+        ensures right { IfSome result (IsRightHash self.now.kind self.now.tree place) }
     {
-        let Some(cells) = &self.cells else {
-            return None;
-        };
-        match cells.hashes.get(place as usize) {
-            Some(cell) => cell.as_ref(),
+        match &self.cells {
+            Some(cells) => cells.hashes.get(place),
             None => None,
         }
     }
 
-    /// Gives each place an empty cell for hashes of this kind, where the tree has no cells or cells of another kind. Else it
-    /// changes nothing.
+    /// Gives each place an empty cell for hashes of this kind, where the tree has no cells or cells of another kind, and counts the set
+    /// leaves and nodes. Else it changes nothing.
     pub fn reserve_hashes(&mut self, alloc: Global, kind: HashKind) -> Result<(), AllocError>
         ensures tree { self.new.tree ≡ self.old.tree }
         ensures kind { OnOk result (self.new.kind ≡ Some kind) }
@@ -244,8 +262,10 @@ impl PublicTree {
             return Ok(());
         }
         let count = self.tree.nodes().len();
+        let counts = count_anew(alloc, &self.tree)?;
         let cells = Cells::blank(alloc, kind, count)?;
         self.cells = Some(cells);
+        self.counts = Some(counts);
         Ok(())
     }
 
@@ -270,7 +290,12 @@ impl PublicTree {
     {
         let tree = self.tree.try_clone(alloc)?;
         let cells = clone_cells(alloc, &self.cells)?;
-        Ok(PublicTree { tree, cells })
+        let counts = clone_counts(alloc, &self.counts)?;
+        Ok(PublicTree {
+            tree,
+            cells,
+            counts,
+        })
     }
 
     /// Replaces a leaf, by a blank one for None. `NoSuchNode` where the tree has no such leaf; the leaf handed in then comes back.
@@ -292,6 +317,7 @@ impl PublicTree {
         let level = self.tree.height();
         self.tree.set_leaf(index, leaf)?;
         empty_leaf(&mut self.cells, level, index);
+        recount(&mut self.counts, &self.tree, index);
         Ok(())
     }
 
@@ -314,6 +340,7 @@ impl PublicTree {
         let level = self.tree.height();
         self.tree.put_parent(place, parent)?;
         empty_parents(&mut self.cells, level, place);
+        recount(&mut self.counts, &self.tree, place / 2);
         Ok(())
     }
 
@@ -334,6 +361,7 @@ impl PublicTree {
         let level = self.tree.height();
         let former = self.tree.replace_leaf(index, leaf);
         empty_leaf(&mut self.cells, level, index);
+        recount(&mut self.counts, &self.tree, index);
         former
     }
 
@@ -354,6 +382,7 @@ impl PublicTree {
         let level = self.tree.height();
         let former = self.tree.replace_parent(place, parent);
         empty_parents(&mut self.cells, level, place);
+        recount(&mut self.counts, &self.tree, place / 2);
         former
     }
 
@@ -372,6 +401,7 @@ impl PublicTree {
         let level = self.tree.height();
         self.tree.blank_path(index)?;
         empty_path(&mut self.cells, level, index);
+        recount(&mut self.counts, &self.tree, index);
         Ok(())
     }
 
@@ -397,6 +427,7 @@ impl PublicTree {
         let level = self.tree.height();
         self.tree.add_unmerged(alloc, index)?;
         empty_path(&mut self.cells, level, index);
+        recount(&mut self.counts, &self.tree, index);
         Ok(())
     }
 
@@ -436,6 +467,7 @@ impl PublicTree {
         let level = self.tree.height();
         let changed = self.tree.enter_at(place, index);
         empty_parents(&mut self.cells, level, place);
+        recount(&mut self.counts, &self.tree, place / 2);
         changed
     }
 
@@ -446,6 +478,7 @@ impl PublicTree {
         let level = self.tree.height();
         self.tree.leave_at(place, index);
         empty_parents(&mut self.cells, level, place);
+        recount(&mut self.counts, &self.tree, place / 2);
     }
 
     /// Takes the left half of the tree, where there is one. Takes no memory.
@@ -455,6 +488,7 @@ impl PublicTree {
         self.tree.cut();
         let count = self.tree.nodes().len();
         truncate(&mut self.cells, count);
+        truncate_counts(&mut self.counts, self.tree.leaf_count());
     }
 
     /// Whether the tree has halves, and the right one has no set leaf.
@@ -465,7 +499,7 @@ impl PublicTree {
         ensures done { OnFalse result (shrink self.now.tree ≡ self.now.tree) }
         ensures cells { length self.now.cells < 2 * leaf_count self.now.tree }
     {
-        self.tree.can_be_halved()
+        self.tree.can_be_halved(counts_in(&self.counts))
     }
 
     /// Takes the left half of the tree for as long as there is one and the right half has no set leaf (RFC 9420, 7.7). Takes no memory.
@@ -475,9 +509,10 @@ impl PublicTree {
         ensures kind { self.new.kind ≡ self.old.kind }
         ensures cells { self.new.cells ≡ take (2 * leaf_count self.new.tree - 1) self.old.cells }
     {
-        self.tree.truncate();
+        self.tree.truncate(counts_in(&self.counts));
         let count = self.tree.nodes().len();
         truncate(&mut self.cells, count);
+        truncate_counts(&mut self.counts, self.tree.leaf_count());
     }
 
     /// Takes the left half out of the tree, which has blank nodes there then, and no cells. The left half has those of its places.
@@ -493,7 +528,13 @@ impl PublicTree {
         let left = self.tree.take_left(alloc)?;
         let mut cells = mem::replace(&mut self.cells, None);
         truncate(&mut cells, left.nodes().len());
-        Ok(PublicTree { tree: left, cells })
+        let mut counts = mem::replace(&mut self.counts, None);
+        truncate_counts(&mut counts, left.leaf_count());
+        Ok(PublicTree {
+            tree: left,
+            cells,
+            counts,
+        })
     }
 
     /// Puts the tree in the place of the left half of another one, and that one in its place. A tree of another
@@ -506,8 +547,10 @@ impl PublicTree {
             return;
         }
         let cells = mem::replace(&mut self.cells, None);
+        let counts = mem::replace(&mut self.counts, None);
         self.tree.rejoin(whole.tree);
         self.cells = double_in_place(cells);
+        self.counts = count_in_place(counts, &self.tree);
     }
 
     /// Doubles the tree, which becomes the left half of one whose other nodes are blank (RFC 9420, 7.7). `TooManyLeaves` where the tree has
@@ -526,8 +569,11 @@ impl PublicTree {
             return Err(TreeError::TooManyLeaves);
         }
         reserve_double(&mut self.cells)?;
+        reserve_counts(&mut self.counts)?;
         self.tree.extend()?;
         double(&mut self.cells);
+        let counts = mem::replace(&mut self.counts, None);
+        self.counts = count_in_place(counts, &self.tree);
         Ok(())
     }
 }

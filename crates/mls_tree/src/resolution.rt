@@ -1,12 +1,14 @@
 //! Walks that collect the resolution of a subtree (RFC 9420, 4.1.1).
 //!
 //! Each walks a subtree given by its height `level` and the index of its first leaf `first`, and goes at most 20 halves deep.
-ghost use Rattle.std.specs.Prelude.{◌≡◌, ◌≢◌, ℕ, ◌≤◌, ◌+◌, ◌*◌, [], ◌++◌, length, OnOk, IsTrue, ◌↔◌};
+ghost use Rattle.std.specs.Prelude.{◌≡◌, ◌≢◌, ℕ, ◌≤◌, ◌+◌, ◌*◌, [], ◌++◌, length, OnOk, IsTrue, ◌↔◌, option_copied};
 ghost use Rattle.mls_nodes.specs.Limits.{leaf_limit};
 ghost use Rattle.mls_tree.specs.Tree.{leaves_at};
 ghost use Rattle.mls_tree.specs.Array.{tree_in};
 ghost use Rattle.mls_tree.specs.Paths.{resolution, unmerged_places};
+ghost use Rattle.mls_tree.specs.CountsSeen.{AreCountsIfAny};
 
+use crate::count::{Count, count_of};
 use crate::entries::{as_leaf, as_parent};
 use crate::sizes::leaves_of;
 use mls_nodes::Node;
@@ -79,4 +81,24 @@ pub(crate) fn has_resolution(nodes: &[Option<Node>], level: u32, first: u32) -> 
         return true;
     }
     has_resolution(nodes, level - 1, middle)
+}
+
+/// The same, by the counts of the subtree's parents where there are any.
+pub(crate) fn counts_resolution(
+    nodes: &[Option<Node>],
+    counts: Option<&[Count]>,
+    level: u32,
+    first: u32,
+) -> bool
+    requires low { level ≤ 20 }
+    requires inside { first + leaves_at level ≤ leaf_limit }
+    requires long { 2 * (first + leaves_at level) ≤ length nodes.now + 1 }
+    requires counts { AreCountsIfAny (option_copied counts) first (tree_in nodes.now level first) }
+    ensures { (leaves : ℕ) → IsTrue result
+        ↔ (resolution leaves first (tree_in nodes.now level first) ≢ []) }
+{
+    match counts {
+        Some(counts) => count_of(nodes, counts, level, first).nodes > 0,
+        None => has_resolution(nodes, level, first),
+    }
 }

@@ -11,17 +11,17 @@ use Rattle.mls_tree.proofs.public_tree.PublicTree.empty_cells.Goals as goal
 
 pub overflow_cast-result : goal.overflow_cast-result
 overflow_cast-result c =
-    let right = subst (λ o. AreCellsOf (kind_in o) c.self.inside.tree.tree (cells_in o)) c.in-Some.is c.self.invariant in
+    let right = subst (λ o. AreCellsOf (kind_in o) c.self.inside.tree.tree (cells_in o)) c.in-Some.is c.self.invariant.0 in
     omega (arith, c.in-Some.cells.counted, empty_count-low c.in-Some.cells.hashes.items, right.count, leaf_count-limit c.self.inside.tree)
 
 pub returns-in-Some-clause-most : goal.returns-in-Some-clause-most
 returns-in-Some-clause-most c =
-    let right = subst (λ o. AreCellsOf (kind_in o) c.self.inside.tree.tree (cells_in o)) c.in-Some.is c.self.invariant in
+    let right = subst (λ o. AreCellsOf (kind_in o) c.self.inside.tree.tree (cells_in o)) c.in-Some.is c.self.invariant.0 in
     omega (arith, c.in-Some.cells.counted, empty_count-low c.in-Some.cells.hashes.items, right.count, ap (λ (v : KeptTree). leaf_count v.tree) c.self.view_is)
 
 pub returns-in-Some-clause-none : goal.returns-in-Some-clause-none
 returns-in-Some-clause-none c =
-    let right = subst (λ o. AreCellsOf (kind_in o) c.self.inside.tree.tree (cells_in o)) c.in-Some.is c.self.invariant in
+    let right = subst (λ o. AreCellsOf (kind_in o) c.self.inside.tree.tree (cells_in o)) c.in-Some.is c.self.invariant.0 in
     let t = c.self.inside.tree.tree in
     λ all. all_counted (hash_by c.in-Some.cells.kind) t c.in-Some.cells.hashes.items c.in-Some.cells.empty c.in-Some.cells.counted right
     (subst (λ o. AreAllFilled t (cells_in o)) c.in-Some.is (subst (λ (v : KeptTree). AreAllFilled v.tree v.cells) (sym c.self.view_is) all))
@@ -31,7 +31,7 @@ returns-in-None-clause-most c = omega (arith, leaf_count-positive c.args.self.no
 
 pub returns-in-Some-clause-full : goal.returns-in-Some-clause-full
 returns-in-Some-clause-full c =
-    let right = subst (λ o. AreCellsOf (kind_in o) c.self.inside.tree.tree (cells_in o)) c.in-Some.is c.self.invariant in
+    let right = subst (λ o. AreCellsOf (kind_in o) c.self.inside.tree.tree (cells_in o)) c.in-Some.is c.self.invariant.0 in
     let t = c.self.inside.tree.tree in
     λ nothing some. subst (λ (v : KeptTree). AreAllFilled v.tree v.cells) c.self.view_is
     (subst (λ o. AreAllFilled t (cells_in o)) (sym c.in-Some.is)

@@ -9,7 +9,9 @@ invariant_of-self-2 c =
     let old = c.self.inside.cells in
     let new = c.double.new.cells in
     let t = c.self.inside.tree in
-    let u = c.extend.new.self.tree in
-    of_kind old new u (c.double.ensures.kind ∙ c.reserve_double.ensures.kind)
-    (cells-grow (kind_in old) t.tree u (cells_in old) (cells_in new) t.shape.perfect c.in_ok-extend.ensures.ok
-    (c.double.ensures.cells ∙ (λ i. extended (c.reserve_double.ensures.kind i) (c.reserve_double.ensures.cells i))) c.self.invariant)
+    let u = c.extend.new.self.tree in (
+      of_kind old new u (c.double.ensures.kind ∙ c.reserve_double.ensures.kind)
+          (cells-grow (kind_in old) t.tree u (cells_in old) (cells_in new) t.shape.perfect c.in_ok-extend.ensures.ok
+          (c.double.ensures.cells ∙ (λ i. extended (c.reserve_double.ensures.kind i) (c.reserve_double.ensures.cells i))) c.self.invariant.0),
+      c.count_in_place.ensures,
+    )

@@ -3,17 +3,23 @@ use Rattle.mls_tree.specs.Tree.{leaf_count}
 use Rattle.mls_tree.specs.KeptTree.{KeptTree}
 use Rattle.mls_tree.specs.Cells.{AreCells, hash_by}
 use Rattle.mls_tree.proofs.Trees.{leaf_count-positive}
+use Rattle.mls_tree.proofs.Descent.{leaf_count-limit}
 use Rattle.mls_tree.proofs.Emptying.{AreCells-fresh}
 use Rattle.mls_tree.proofs.KeptCells.{listed}
 use Rattle.mls_tree.proofs.public_tree.PublicTree.reserve_hashes.Goals as goal
+
+pub blank-requires : goal.blank-requires
+blank-requires c = omega (arith, listed c.nodes-count.result.now c.self.inside.tree.tree c.nodes-count.ensures, leaf_count-limit c.self.inside.tree)
 
 pub invariant_of-self : goal.invariant_of-self
 invariant_of-self c =
     let t = c.self.inside.tree.tree in
     let nodes = c.nodes-count.result.now in
-    let kind = c.in_ok-cells.ensures.kind in
-    subst (λ k. AreCells (hash_by k) t c.in_ok-cells.cells.hashes.items) (sym kind)
-    (AreCells-fresh (hash_by c.args.kind) t c.in_ok-cells.cells.hashes.items (length nodes) c.in_ok-cells.ensures.cells (omega (arith, listed nodes t c.nodes-count.ensures, leaf_count-positive t)))
+    let kind = c.in_ok-cells.ensures.kind in (
+      subst (λ k. AreCells (hash_by k) t c.in_ok-cells.cells.hashes.items) (sym kind)
+          (AreCells-fresh (hash_by c.args.kind) t c.in_ok-cells.cells.hashes.items (length nodes) c.in_ok-cells.ensures.cells (omega (arith, listed nodes t c.nodes-count.ensures, leaf_count-positive t))),
+      c.in_ok-counts.ensures,
+    )
 
 pub returns-clause-fresh : goal.returns-clause-fresh
 returns-clause-fresh c =

@@ -1,7 +1,9 @@
-use Rattle.std.proofs.Common.{ap, ◌∙◌, take}
+use Rattle.std.proofs.Common.{ap, arith, sym, ◌∙◌, take}
 use Rattle.mls_tree.specs.KeptTree.{KeptTree}
 use Rattle.mls_tree.specs.CellsSeen.{kind_in, cells_in}
 use Rattle.mls_tree.proofs.KeptCells.{listed, of_kind, cells-shrink}
+use Rattle.mls_tree.proofs.KeptCounts.{counts-shrink}
+use Rattle.mls_tree.proofs.Trees.{leaf_count-positive}
 use Rattle.mls_tree.proofs.public_tree.PublicTree.truncate.Goals as goal
 
 pub invariant_of-self : goal.invariant_of-self
@@ -9,13 +11,21 @@ invariant_of-self c =
     let old = c.self.inside.cells in
     let new = c.truncate-2.new.cells in
     let t = c.self.inside.tree.tree in
-    let u = c.truncate.new.self.tree in
-    of_kind old new u c.truncate-2.ensures.kind
-    (cells-shrink (kind_in old) t u (cells_in old) (cells_in new) c.truncate.ensures
-    (c.truncate-2.ensures.cells ∙ ap (λ n. take n (cells_in old)) (listed c.nodes-count.result.now u c.nodes-count.ensures)) c.self.invariant)
+    let u = c.truncate.new.self.tree in (
+      of_kind old new u c.truncate-2.ensures.kind
+          (cells-shrink (kind_in old) t u (cells_in old) (cells_in new) c.truncate.ensures
+          (c.truncate-2.ensures.cells ∙ ap (λ n. take n (cells_in old)) (listed c.nodes-count.result.now u c.nodes-count.ensures)) c.self.invariant.0),
+      c.truncate_counts.ensures u (sym c.leaf_count.ensures) (counts-shrink c.self.inside.counts t u c.truncate.ensures c.self.invariant.1),
+    )
 
 pub returns-clause-cells : goal.returns-clause-cells
 returns-clause-cells c =
     let u = c.truncate.new.self.tree in
     c.truncate-2.ensures.cells
     ∙ (λ i. take (listed c.nodes-count.result.now u c.nodes-count.ensures i) ((ap (λ (v : KeptTree). v.cells) c.self.view_is) i))
+
+pub truncate_counts-requires : goal.truncate_counts-requires
+truncate_counts-requires c = omega (arith, c.leaf_count.ensures, leaf_count-positive c.truncate.new.self.tree)
+
+pub truncate-requires : goal.truncate-requires
+truncate-requires c = c.counts_in.ensures c.self.inside.tree.tree c.self.invariant.1

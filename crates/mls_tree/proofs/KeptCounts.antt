@@ -1,0 +1,72 @@
+-- The counts of a tree beside a change of the tree.
+use Rattle.std.proofs.Common.{◌≡◌, ℕ, ◌+◌, ◌/◌, ◌≤◌, List, ◌++◌, length, take, drop, Result, Ok, Err, Option, Some, None, sym, ap, ◌∙◌, subst, arith}
+use Rattle.std.specs.Prelude.{OnOk, OnErr}
+use Rattle.std.proofs.lemmas.List.{take_at}
+use Rattle.mls_nodes.specs.declared.leaf.LeafNode.{LeafNode}
+use Rattle.mls_nodes.specs.declared.parent.ParentNode.{ParentNode}
+use Rattle.mls_tree.specs.declared.count.Count.{Count}
+use Rattle.mls_tree.specs.declared.counts.Counts.{Counts}
+use Rattle.mls_tree.specs.Tree.{Tree, leaf_count}
+use Rattle.mls_tree.specs.Changes.{put_leaf, put_parent, change_above, shrink, left_half}
+use Rattle.mls_tree.specs.Counts.{AreCounts, AreBeside}
+use Rattle.mls_tree.specs.CountsSeen.{AreCountsIn, AreBesideIn, AreFrontOf}
+use Rattle.mls_tree.proofs.Kept.{leaf_count-put_leaf, leaf_count-put_parent, leaf_count-change_above, leaf_count-shrink}
+use Rattle.mls_tree.proofs.KeptCells.{leaf_count-left_half}
+use Rattle.mls_tree.proofs.Counting.{beside, beside-put_leaf, beside-put_parent, beside-change_above, AreCounts-left_half, AreCounts-shrink}
+
+module _ (counts : Option Counts) (t u : Tree) where
+  beside-in : (i : ℕ) → leaf_count u ≡ leaf_count t → ((c : Counts) → AreCounts 0 t c.list.items → AreBeside 0 u i c.list.items) → AreCountsIn counts t → AreBesideIn counts u i
+  beside-in i e f ok = by_counts counts ok
+    where
+      by_counts : (o : Option Counts) → AreCountsIn o t → AreBesideIn o u i
+      by_counts None ok = tt
+      by_counts (Some c) ok = (ok.0 ∙ sym e, f c ok.1)
+
+  front-in : leaf_count u ≤ leaf_count t → ((c : Counts) → AreCounts 0 t c.list.items → AreCounts 0 u c.list.items) → AreCountsIn counts t → AreFrontOf counts u
+  front-in low f ok = by_counts counts ok
+    where
+      by_counts : (o : Option Counts) → AreCountsIn o t → AreFrontOf o u
+      by_counts None ok = tt
+      by_counts (Some c) ok = (omega (arith, ok.0, low), f c ok.1)
+
+  -- where a leaf is replaced
+  pub counts-put_leaf : (i : ℕ) (x : Option LeafNode) → u ≡ put_leaf 0 t i x → AreCountsIn counts t → AreBesideIn counts u i
+  counts-put_leaf i x at =
+      beside-in i (ap leaf_count at ∙ leaf_count-put_leaf 0 t i x) (λ c ok. subst (λ v. AreBeside 0 v i c.list.items) (sym at) (beside-put_leaf 0 t i x c.list.items ok))
+
+  -- where the parents above a leaf are changed
+  pub counts-change_above : (f : Option ParentNode → Option ParentNode) (i : ℕ) → u ≡ change_above f 0 t i → AreCountsIn counts t → AreBesideIn counts u i
+  counts-change_above f i at =
+      beside-in i (ap leaf_count at ∙ leaf_count-change_above f 0 t i) (λ c ok. subst (λ v. AreBeside 0 v i c.list.items) (sym at) (beside-change_above f 0 t i c.list.items ok))
+
+  -- where a parent is replaced
+  pub counts-put_parent : (q i : ℕ) (x : Option ParentNode) → i ≡ q / 2 → u ≡ put_parent 0 t q x → AreCountsIn counts t → AreBesideIn counts u i
+  counts-put_parent q i x e at =
+      beside-in i (ap leaf_count at ∙ leaf_count-put_parent 0 t q x) (λ c ok. subst (λ v. AreBeside 0 v i c.list.items) (sym at) (beside-put_parent 0 t q x i c.list.items e ok))
+
+  -- where no node is
+  pub counts-same : (i : ℕ) → u ≡ t → AreCountsIn counts t → AreBesideIn counts u i
+  counts-same i at = beside-in i (ap leaf_count at) (λ c ok. subst (λ v. AreBeside 0 v i c.list.items) (sym at) (beside 0 t i c.list.items ok))
+
+  -- where a parent is replaced, if the call isn't refused
+  pub counts-if_put_parent : {A E : Type 0} (answer : Result A E) (q i : ℕ) (x : Option ParentNode) → i ≡ q / 2 → OnOk answer (u ≡ put_parent 0 t q x) → OnErr answer (u ≡ t)
+      → AreCountsIn counts t → AreBesideIn counts u i
+  counts-if_put_parent (Ok a) q i x e put same = counts-put_parent q i x e put
+  counts-if_put_parent (Err a) q i x e put same = counts-same i same
+
+  -- where the tree is halved once
+  pub counts-left_half : u ≡ left_half t → AreCountsIn counts t → AreFrontOf counts u
+  counts-left_half at =
+      front-in (let a = ap leaf_count at in let b = leaf_count-left_half t in omega arith) (λ c ok. subst (λ v. AreCounts 0 v c.list.items) (sym at) (AreCounts-left_half 0 t c.list.items ok))
+
+  -- where it is halved as often as it can be
+  pub counts-shrink : u ≡ shrink t → AreCountsIn counts t → AreFrontOf counts u
+  counts-shrink at =
+      front-in (let a = ap leaf_count at in let b = leaf_count-shrink t in omega arith) (λ c ok. subst (λ v. AreCounts 0 v c.list.items) (sym at) (AreCounts-shrink 0 t c.list.items ok))
+
+-- what stands in a list whose slice was written
+pub counts-written : (t : Tree) (cs items : List Count) (n : ℕ) → n ≡ length items → length cs ≡ length items → length items + 1 ≡ leaf_count t → AreCounts 0 t cs
+    → (length (take n (cs ++ drop (length cs) items)) + 1 ≡ leaf_count t) × AreCounts 0 t (take n (cs ++ drop (length cs) items))
+counts-written t cs items n len same count ok =
+    let at : take n (cs ++ drop (length cs) items) ≡ cs = take_at cs (drop (length cs) items) n (same ∙ sym len) in
+    (omega (arith, ap length at), subst (AreCounts 0 t) (sym at) ok)

@@ -1,0 +1,156 @@
+//! Hashes of one length as they are stored in large numbers: by their bytes alone, one after the other.
+
+ghost use Rattle.std.specs.Prelude.{◌≡◌, ◌+◌, ◌≤◌, ◌<◌, ◌^◌, ◌++◌, IfOk, OnOk, OnErr, Some, length, take, drop, replicate, slice_get, slice_range, slice_set};
+ghost use Rattle.std.specs.Vec.{vec_len, vec_capacity};
+
+use crate::hash_value::HashValue;
+use std::alloc::{AllocError, Global};
+use std::marker::Model;
+
+/// Hashes of one length.
+///
+/// Contracts see it as that length, its width, and the list of the hashes.
+#[derive(Debug, Drop)]
+pub struct HashList {
+    width: usize,
+    count: usize,
+    bytes: Vec<u8>,
+}
+
+impl Model for HashList {
+    ghost use Rattle.mls_tree.specs.HashLists.{EqualHashes, FillsBytes, hashes_in};
+
+    ghost Value = { EqualHashes };
+
+    ghost view = { λ s. record { width = s.width; hashes = hashes_in s.width s.count s.bytes.items } };
+
+    ghost invariant = { λ s. FillsBytes s.width s.count s.bytes.items };
+}
+
+/// The bytes from one index up to another.
+fn part(bytes: &[u8], start: usize, end: usize) -> &[u8]
+    requires order { start ≤ end }
+    requires inside { end ≤ length bytes.now }
+    ensures { result.now ≡ slice_range bytes.now start end }
+{
+    &bytes[start..end]
+}
+
+/// Puts bytes over those from an index on.
+fn put_part(bytes: &mut [u8], start: usize, part: &[u8])
+    requires { start + length part.now ≤ length bytes.old }
+    ensures { let rest = drop (length part.now) (drop start bytes.old) in
+        bytes.new ≡ take start bytes.old ++ (part.now ++ rest) }
+{
+    bytes[start..start + part.len()].copy_from_slice(part);
+}
+
+/// The hash value with these bytes.
+fn value_of(bytes: &[u8]) -> HashValue
+    requires { length bytes.now ≤ 64 }
+    ensures { result ≡ bytes.now }
+{
+    HashValue::new(bytes).unwrap()
+}
+
+// Adds so many zeros at the end, for which there is room.
+fn push_zeros(bytes: &mut Vec<u8>, count: usize)
+    requires { vec_len bytes.old + count ≤ vec_capacity bytes.old }
+    ensures { bytes.new.items ≡ bytes.old.items ++ replicate count 0 }
+{
+    for _ in 0..count {
+        bytes.push_reserved(0);
+    }
+}
+
+impl HashList {
+    /// As many hashes of this width as are wanted. What they are is not said.
+    pub fn blank(alloc: Global, count: usize, width: usize) -> Result<HashList, AllocError>
+        requires count { count < 2 ^ 32 }
+        requires width { width ≤ 64 }
+        ensures width { IfOk result (λ l. l.width ≡ width) }
+        ensures count { IfOk result (λ l. length l.hashes ≡ count) }
+    {
+        let bytes = vec![in alloc; 0; count * width]?;
+        Ok(HashList {
+            width,
+            count,
+            bytes,
+        })
+    }
+
+    /// The width.
+    pub fn width(&self) -> usize
+        ensures width { result ≡ self.now.width }
+        ensures limit { result ≤ 64 }
+    {
+        self.width
+    }
+
+    /// The hash at a place of the list.
+    pub fn at(&self, place: u32) -> HashValue
+        requires { place < length self.now.hashes }
+        ensures { slice_get self.now.hashes place ≡ Some result }
+    {
+        let start = place as usize * self.width;
+        value_of(part(self.bytes.as_slice(), start, start + self.width))
+    }
+
+    /// The hash at a place. `None` past the end.
+    pub fn get(&self, place: u32) -> Option<HashValue>
+        ensures { result ≡ slice_get self.now.hashes place }
+    {
+        if (place as usize) < self.count {
+            Some(self.at(place))
+        } else {
+            None
+        }
+    }
+
+    /// Puts a hash at a place.
+    pub fn put(&mut self, place: u32, hash: &HashValue)
+        requires place { place < length self.old.hashes }
+        requires width { length hash.now ≡ self.old.width }
+        ensures { self.new
+            ≡ record self.old { hashes = slice_set self.old.hashes place hash.now } }
+    {
+        let start = place as usize * self.width;
+        put_part(self.bytes.as_mut_slice(), start, hash.as_slice());
+    }
+
+    /// How many hashes there are.
+    pub(crate) fn len(&self) -> usize
+        ensures { result ≡ length self.now.hashes }
+    {
+        self.count
+    }
+
+    /// Adds so many hashes at the end. What they are is not said.
+    pub(crate) fn lengthen(&mut self, more: usize) -> Result<(), AllocError>
+        requires more { more ≤ length self.old.hashes + 1 }
+        requires count { length self.old.hashes + more < 2 ^ 64 }
+        ensures width { self.new.width ≡ self.old.width }
+        ensures count { OnOk result
+            (length self.new.hashes ≡ length self.old.hashes + more) }
+        ensures kept { OnOk result
+            (take (length self.old.hashes) self.new.hashes ≡ self.old.hashes) }
+        ensures err { OnErr result (self.new ≡ self.old) }
+    {
+        let added = more * self.width;
+        self.bytes.try_reserve(added)?;
+        push_zeros(&mut self.bytes, added);
+        self.count += more;
+        Ok(())
+    }
+
+    /// A copy.
+    pub fn try_clone(&self, alloc: Global) -> Result<HashList, AllocError>
+        ensures { IfOk result (λ l. l ≡ self.now) }
+    {
+        Ok(HashList {
+            width: self.width,
+            count: self.count,
+            bytes: self.bytes.as_slice().to_vec(alloc)?,
+        })
+    }
+}

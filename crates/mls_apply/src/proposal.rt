@@ -33,24 +33,24 @@ use std::alloc::Global;
 /// What is too long to be signed counts as not signed. Memory is taken for signatures, which are looked at last, and
 /// for what extensions require.
 #[tactic(auto, unfolding(crate::specs::Proposals::checked_refusal, crate::specs::Proposals::is_valid_remove))]
-pub fn check_proposal(
+pub fn check_proposal<C: SignatureCheck>(
     alloc: Global,
     suite: Suite,
     context: &GroupContext,
     tree: &PublicTree,
     sender: u32,
     proposal: &Proposal,
-    checker: &dyn SignatureCheck,
+    checker: &C,
 ) -> Result<(), ApplyFault>
     requires suite_of_context { suite ≡ context.now.cipher_suite }
     ensures valid { OnOk result
-        (checked_refusal (meaning checker.now) context.now tree.now.tree sender proposal.now
+        (checked_refusal (C.meaning checker.now) context.now tree.now.tree sender proposal.now
         ≡ None) }
     ensures refused { IfErr result (λ e. e ≢ ApplyFault.OutOfMemory
-        → checked_refusal (meaning checker.now) context.now tree.now.tree sender proposal.now
+        → checked_refusal (C.meaning checker.now) context.now tree.now.tree sender proposal.now
         ≡ Some e) }
     ensures no_such_leaf { (result ≡ Err ApplyFault.NoSuchLeaf)
-        ↔ (checked_refusal (meaning checker.now) context.now tree.now.tree sender proposal.now
+        ↔ (checked_refusal (C.meaning checker.now) context.now tree.now.tree sender proposal.now
         ≡ Some ApplyFault.NoSuchLeaf) }
     ensures unfit_add { IsSome (leaf_at 0 tree.now.tree sender)
         → adds_fittingly context.now proposal.now ≡ false → result ≡ Err ApplyFault.AddInvalid }
@@ -58,7 +58,7 @@ pub fn check_proposal(
         → updates_fittingly tree.now.tree sender proposal.now ≡ false
         → result ≡ Err ApplyFault.UpdateInvalid }
     ensures remove_invalid { (result ≡ Err ApplyFault.RemoveInvalid)
-        ↔ (checked_refusal (meaning checker.now) context.now tree.now.tree sender proposal.now
+        ↔ (checked_refusal (C.meaning checker.now) context.now tree.now.tree sender proposal.now
         ≡ Some ApplyFault.RemoveInvalid) }
 {
     let Some(present) = tree.leaf(sender) else {
@@ -117,14 +117,14 @@ fn is_from_update(source: &LeafSource) -> bool
 
 /// Whether a key package is signed by its client (RFC 9420, 10.1).
 #[tactic(auto, unfolding(crate::specs::Proposals::is_package_signed))]
-fn is_package_signed(
+fn is_package_signed<C: SignatureCheck>(
     alloc: Global,
     suite: u16,
     key_package: &KeyPackage,
-    checker: &dyn SignatureCheck,
+    checker: &C,
 ) -> Result<bool, OutOfMemory>
     ensures { IfOk result (λ good.
-        good ≡ is_package_signed (meaning checker.now) suite key_package.now) }
+        good ≡ is_package_signed (C.meaning checker.now) suite key_package.now) }
 {
     let tbs = match package_tbs(alloc, key_package) {
         Ok(tbs) => tbs,
@@ -157,16 +157,16 @@ fn fits_group(context: &GroupContext, key_package: &KeyPackage) -> bool
 /// Whether a key package may be added to a group. Its signatures are looked at last. What is signed of a leaf node of
 /// a key package has no index in it.
 #[tactic(auto, unfolding(crate::specs::Proposals::is_valid_add))]
-fn is_valid_add(
+fn is_valid_add<C: SignatureCheck>(
     alloc: Global,
     suite: Suite,
     context: &GroupContext,
     key_package: &KeyPackage,
-    checker: &dyn SignatureCheck,
+    checker: &C,
 ) -> Result<bool, OutOfMemory>
     requires suite_of_context { suite ≡ context.now.cipher_suite }
     ensures valid { IfOk result (λ valid.
-        valid ≡ is_valid_add (meaning checker.now) context.now key_package.now) }
+        valid ≡ is_valid_add (C.meaning checker.now) context.now key_package.now) }
     ensures unfit { fits_group context.now key_package.now ≡ false → result ≡ Ok false }
 {
     if !fits_group(context, key_package) {
@@ -190,19 +190,19 @@ fn fits_leaf(present: &LeafNode, leaf: &LeafNode) -> bool
 
 /// Whether a leaf node may take the place of a member's present one. Its signature is looked at last.
 #[tactic(auto, unfolding(crate::specs::Proposals::is_valid_update))]
-fn is_valid_update(
+fn is_valid_update<C: SignatureCheck>(
     alloc: Global,
     suite: Suite,
     context: &GroupContext,
     sender: u32,
     present: &LeafNode,
     leaf: &LeafNode,
-    checker: &dyn SignatureCheck,
+    checker: &C,
 ) -> Result<bool, OutOfMemory>
     requires suite_of_context { suite ≡ context.now.cipher_suite }
     ensures valid { IfOk result (λ valid.
         valid
-        ≡ is_valid_update (meaning checker.now) context.now sender (Some present.now) leaf.now) }
+        ≡ is_valid_update (C.meaning checker.now) context.now sender (Some present.now) leaf.now) }
     ensures unfit { fits_leaf (Some present.now) leaf.now ≡ false → result ≡ Ok false }
 {
     if !fits_leaf(present, leaf) {

@@ -69,19 +69,19 @@ impl From<OutOfMemory> for MemberFault {
 /// 5. The checker takes each leaf's signature as good.
 ///
 /// The first rule that fails anywhere is answered, with the smallest leaf at which it fails.
-pub fn validate_members(
+pub fn validate_members<C: SignatureCheck>(
     alloc: Global,
     suite: u16,
     group_id: &Opaque,
     requirements: &RequiredCapabilities,
     tree: &PublicTree,
-    checker: &dyn SignatureCheck,
+    checker: &C,
 ) -> Result<(), MemberFault>
     ensures members { OnOk result
-        (Members (meaning checker.now) suite group_id.now requirements.now tree.now.tree) }
+        (Members (C.meaning checker.now) suite group_id.now requirements.now tree.now.tree) }
     ensures fault { IfErr result
-        (λ e. IsMemberFault (meaning checker.now) suite group_id.now requirements.now tree.now.tree
-        e) }
+        (λ e. IsMemberFault (C.meaning checker.now) suite group_id.now requirements.now
+        tree.now.tree e) }
 {
     if let Some(leaf) = first_unlisted_extension(alloc, tree)? {
         return Err(MemberFault::ExtensionUnlisted(leaf));
@@ -158,17 +158,17 @@ fn put_content(
 /// Whether a leaf is signed, as [`is_leaf_signed`] tells. What is signed is made in this room, which serves for many
 /// leaves.
 #[tactic(auto, unfolding(crate::specs::Members::is_leaf_signed))]
-fn is_signed_in(
+fn is_signed_in<C: SignatureCheck>(
     alloc: Global,
     suite: u16,
     group_id: &Opaque,
     index: u32,
     leaf: &LeafNode,
-    checker: &dyn SignatureCheck,
+    checker: &C,
     room: &mut Vec<u8>,
 ) -> Result<bool, OutOfMemory>
     ensures good { IfOk result
-        (λ good. good ≡ is_leaf_signed (meaning checker.now) suite group_id.now index leaf.now) }
+        (λ good. good ≡ is_leaf_signed (C.meaning checker.now) suite group_id.now index leaf.now) }
     ensures memory { IsErr result
         → IfSome (leaf_tbs leaf.now group_id.now index) (λ tbs. length tbs ≤ vector_limit) }
 {
@@ -198,15 +198,15 @@ fn is_signed_in(
 }
 
 /// The smallest leaf whose signature isn't good.
-fn first_unsigned_leaf(
+fn first_unsigned_leaf<C: SignatureCheck>(
     alloc: Global,
     suite: u16,
     group_id: &Opaque,
     tree: &PublicTree,
-    checker: &dyn SignatureCheck,
+    checker: &C,
 ) -> Result<Option<u32>, OutOfMemory>
     ensures { IfOk result
-        (FindsFailing (is_leaf_signed (meaning checker.now) suite group_id.now) tree.now.tree) }
+        (FindsFailing (is_leaf_signed (C.meaning checker.now) suite group_id.now) tree.now.tree) }
 {
     let mut room = Vec::new(alloc);
     for index in 0..tree.leaf_count() {
@@ -222,16 +222,16 @@ fn first_unsigned_leaf(
 /// Whether the leaf of this index has signed its LeafNodeTBS in the group of this id (RFC 9420, 7.2), as the checker
 /// takes it. The group's id and the index count only where the leaf comes from an Update or a Commit. A leaf whose
 /// LeafNodeTBS is too long for a SignContent has not signed it, which is judged before memory is taken.
-pub fn is_leaf_signed(
+pub fn is_leaf_signed<C: SignatureCheck>(
     alloc: Global,
     suite: u16,
     group_id: &Opaque,
     index: u32,
     leaf: &LeafNode,
-    checker: &dyn SignatureCheck,
+    checker: &C,
 ) -> Result<bool, OutOfMemory>
     ensures good { IfOk result
-        (λ good. good ≡ is_leaf_signed (meaning checker.now) suite group_id.now index leaf.now) }
+        (λ good. good ≡ is_leaf_signed (C.meaning checker.now) suite group_id.now index leaf.now) }
     ensures memory { IsErr result
         → IfSome (leaf_tbs leaf.now group_id.now index) (λ tbs. length tbs ≤ vector_limit) }
 {

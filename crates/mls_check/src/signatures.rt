@@ -9,7 +9,8 @@ use mls_wire::{CodecFault, Draft, MAX_BODY};
 use std::alloc::{AllocError, AllocFailed, Global};
 use thiserror::Error;
 
-/// Says whether a signature is good. The arithmetic of the signature schemes is the checker's own.
+/// Says whether a signature is good. The arithmetic of the signature schemes is the checker's own. Its type is a parameter
+/// of whoever asks it; a checker that is picked at run time is an enum of the ones to pick from.
 pub trait SignatureCheck: Drop {
     /// What the checker says of a cipher suite, a public key, a signed content and a signature.
     ghost meaning: { Self → ℕ → List ℕ → List ℕ → List ℕ → Bool };
@@ -29,15 +30,6 @@ impl SignatureCheck for Trusting {
 
     fn good(&self, _suite: u16, _key: &[u8], _content: &[u8], _signature: &[u8]) -> bool {
         true
-    }
-}
-
-/// A boxed checker says what the checker in it says.
-impl SignatureCheck for Box<dyn SignatureCheck> {
-    ghost meaning = { λ b. (SignatureCheck-box b).meaning b.value };
-
-    fn good(&self, suite: u16, key: &[u8], content: &[u8], signature: &[u8]) -> bool {
-        (**self).good(suite, key, content, signature)
     }
 }
 
@@ -77,9 +69,9 @@ pub fn sign_content(alloc: Global, label: &str, content: &[u8]) -> Result<Vec<u8
 /// VerifyWithLabel (RFC 9420, 5.1.2): whether the checker takes `signature` as good for the bytes `tbs` under the label
 /// `label`, which begins with `MLS 1.0 `. Bytes that are too long for a SignContent count as not signed, which is judged
 /// before memory is taken.
-pub fn signed(
+pub fn signed<C: SignatureCheck>(
     alloc: Global,
-    checker: &dyn SignatureCheck,
+    checker: &C,
     suite: u16,
     key: &[u8],
     label: &str,
@@ -88,7 +80,7 @@ pub fn signed(
 ) -> Result<bool, OutOfMemory>
     ensures good { IfOk result
         (λ good. good ≡ is_signed
-        (meaning checker.now) suite key.now label.now tbs.now signature.now) }
+        (C.meaning checker.now) suite key.now label.now tbs.now signature.now) }
     ensures memory { IsErr result → IsSome (sign_content label.now tbs.now) }
 {
     if label.len() > MAX_BODY || tbs.len() > MAX_BODY {

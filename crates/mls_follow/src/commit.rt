@@ -11,7 +11,7 @@ ghost use Rattle.mls_apply.specs.Rules.{first_failing};
 ghost use Rattle.mls_apply.specs.Outcome.{grown, outcome};
 ghost use Rattle.mls_follow.specs.State.{last_epoch};
 ghost use Rattle.mls_follow.specs.Judging.{Refuses};
-ghost use Rattle.mls_follow.specs.Seen.{group_state};
+ghost use Rattle.mls_follow.specs.GroupSeen.{group_state};
 ghost use Rattle.mls_follow.specs.Rules.{commit_refusal, inline_rules, path_rules_of, tree_rules, resulting};
 ghost use Rattle.mls_follow.specs.Changing.{change_rules, changed_tree, in_context};
 
@@ -32,10 +32,10 @@ use std::alloc::Global;
 /// The items of a member's commit, where it keeps the rules that are judged before the tree is changed: its epoch is
 /// not the last one, its list can be resolved, and it keeps the rules for the proposals in it and for the whole list.
 #[tactic(auto, unfolding(crate::specs::Rules::commit_refusal))]
-pub(crate) fn check_items(
+pub(crate) fn check_items<C: SignatureCheck>(
     alloc: Global,
     group: &Group,
-    checker: &dyn SignatureCheck,
+    checker: &C,
     committer: u32,
     commit: &Commit,
 ) -> Result<Vec<ListItem>, Refusal>
@@ -43,11 +43,11 @@ pub(crate) fn check_items(
     ensures later { OnOk result (group.now.context.epoch < last_epoch) }
     ensures items { IfOk result (λ items.
         resolved committer group.now.known.items commit.now.proposals ≡ Some items.items) }
-    ensures inline { OnOk result (first_failing (inline_rules (meaning checker.now)
+    ensures inline { OnOk result (first_failing (inline_rules (C.meaning checker.now)
         (group_state group.now) committer commit.now) ≡ None) }
     ensures list { IfOk result (λ items.
         list_refusal committer items.items (is_some commit.now.path) ≡ None) }
-    ensures refused { IfErr result (Refuses (commit_refusal (meaning checker.now)
+    ensures refused { IfErr result (Refuses (commit_refusal (C.meaning checker.now)
         (group_state group.now)
         group.now.required committer commit.now)) }
 {
@@ -114,19 +114,19 @@ pub(crate) fn change_tree(
 
 /// Whether the tree after a commit keeps the rules of a group with this context, which requires this of its members:
 /// its encryption keys are distinct, and its leaves are members.
-fn check_tree(
+fn check_tree<C: SignatureCheck>(
     alloc: Global,
     context: &GroupContext,
     required: &RequiredCapabilities,
-    checker: &dyn SignatureCheck,
+    checker: &C,
     tree: &PublicTree,
 ) -> Result<(), Refusal>
     ensures kept { let s = in_context context.now in
         OnOk result (first_failing
-        (tree_rules (meaning checker.now) s required.now (Some tree.now.tree)) ≡ None) }
+        (tree_rules (C.meaning checker.now) s required.now (Some tree.now.tree)) ≡ None) }
     ensures refused { let s = in_context context.now in
         IfErr result (Refuses (first_failing
-        (tree_rules (meaning checker.now) s required.now (Some tree.now.tree)))) }
+        (tree_rules (C.meaning checker.now) s required.now (Some tree.now.tree)))) }
 {
     if !has_distinct_keys(alloc, tree)? {
         return Err(Refusal::KeyRepeated);
@@ -143,21 +143,21 @@ fn check_tree(
 
 /// The tree hash of the tree after a commit, where it keeps the rules. What is empty of the hashes that the tree keeps
 /// of its subtrees is filled.
-pub(crate) fn judge_tree(
+pub(crate) fn judge_tree<C: SignatureCheck>(
     alloc: Global,
     suite: Suite,
     context: &GroupContext,
     required: &RequiredCapabilities,
-    checker: &dyn SignatureCheck,
+    checker: &C,
     tree: &mut PublicTree,
 ) -> Result<Opaque, Refusal>
     ensures tree { tree.new.tree ≡ tree.old.tree }
     ensures kept { let s = in_context context.now in
         OnOk result (first_failing
-        (tree_rules (meaning checker.now) s required.now (Some tree.old.tree)) ≡ None) }
+        (tree_rules (C.meaning checker.now) s required.now (Some tree.old.tree)) ≡ None) }
     ensures refused { let s = in_context context.now in
         IfErr result (Refuses (first_failing
-        (tree_rules (meaning checker.now) s required.now (Some tree.old.tree)))) }
+        (tree_rules (C.meaning checker.now) s required.now (Some tree.old.tree)))) }
     ensures hash { IfOk result (λ hash. tree_hash (hash_of suite) 0 tree.old.tree ≡ Some hash) }
 {
     check_tree(alloc, context, required, checker, tree)?;

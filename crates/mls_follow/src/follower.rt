@@ -4,7 +4,8 @@ ghost use Rattle.std.specs.Prelude.{◌≡◌, ◌≢◌, ◌↔◌, ℕ, List, 
 ghost use Rattle.mls_tree.specs.KeptTree.{plain};
 ghost use Rattle.mls_nodes.specs.Requirements.{extension_of, Requires};
 ghost use Rattle.mls_follow.specs.State.{IsInput, Spells};
-ghost use Rattle.mls_follow.specs.Seen.{state_of, group_state, boxed_checker_of};
+ghost use Rattle.mls_follow.specs.GroupSeen.{group_state};
+ghost use Rattle.mls_follow.specs.Judged.{IsJudged, IsJudged-prop};
 ghost use Rattle.mls_follow.specs.Judging.{IsAcceptable, IsNext, IsFirstRefusal};
 ghost use Rattle.mls_follow.specs.Runs.{Takes};
 ghost use Rattle.mls_follow.specs.Start.{FailsSuite, IsFollowed, IsStart, IsStartFault, first_state};
@@ -22,12 +23,14 @@ use mls_nodes::GroupContext;
 use mls_tree::{HashValue, PublicTree};
 use std::alloc::Global;
 
-/// A follower of a group: the group's public state, and the checker of signatures that it asks.
+/// A follower of a group: the group's public state, and the checker of signatures that it asks. The group's encryption
+/// keys are always distinct, and its leaves members by what this checker means.
 #[derive(Drop)]
-pub struct Follower {
+pub struct Follower<C: SignatureCheck> {
     pub(crate) group: Group,
-    checker: Box<dyn SignatureCheck>,
+    checker: C,
     pub(crate) alloc: Global,
+    ghost judged: { IsJudged (C.meaning checker) (group_state group) } by { IsJudged-prop (C.meaning checker) (group_state group) },
 }
 
 /// The group of a group info, with its tree, and with no known proposals.
@@ -52,7 +55,9 @@ fn first_group(
     }
 }
 
-impl Follower {
+impl<C: SignatureCheck> Follower<C> {
+    ghost use Rattle.mls_follow.specs.Seen.{state_of, checker_of};
+
     /// A follower of the group of a group info (RFC 9420, 12.4.3), with the tree handed in, or else the one
     /// in the info, which then isn't read. These are asked, in this order:
     ///
@@ -72,12 +77,12 @@ impl Follower {
         alloc: Global,
         info: GroupInfo,
         tree: Option<PublicTree>,
-        checker: Box<dyn SignatureCheck>,
-    ) -> Result<Follower, StartRefused>
-        ensures started { IfOk result (λ f. IsStart (meaning checker) info
+        checker: C,
+    ) -> Result<Follower<C>, StartRefused<C>>
+        ensures started { IfOk result (λ f. IsStart (C.meaning checker) info
             (option_map plain tree) (state_of f)) }
-        ensures checker { IfOk result (λ f. meaning (boxed_checker_of f) ≡ meaning checker) }
-        ensures refused { IfErr result (λ r. IsStartFault (meaning checker) info
+        ensures checker { IfOk result (λ f. C.meaning (checker_of f) ≡ C.meaning checker) }
+        ensures refused { IfErr result (λ r. IsStartFault (C.meaning checker) info
             (option_map plain tree) r.fault) }
         ensures unsupported_version { IsErrAnd result
             (λ r. r.fault ≡ StartFault.UnsupportedVersion) ↔ (info.context.version ≢ 1) }
@@ -100,7 +105,7 @@ impl Follower {
             }
         };
         match tree {
-            Some(mut tree) => match judge(alloc, suite, &info, &mut tree, checker.as_ref()) {
+            Some(mut tree) => match judge(alloc, suite, &info, &mut tree, &checker) {
                 Ok(judged) => Ok(Follower {
                     group: first_group(alloc, suite, info, tree, judged),
                     checker,
@@ -113,7 +118,7 @@ impl Follower {
                     checker,
                 }),
             },
-            None => match judge_own(alloc, suite, &info, checker.as_ref()) {
+            None => match judge_own(alloc, suite, &info, &checker) {
                 Ok((tree, judged)) => Ok(Follower {
                     group: first_group(alloc, suite, info, tree, judged),
                     checker,
@@ -161,27 +166,25 @@ impl Follower {
     fn take_message(&mut self, message: &Message) -> Result<Taken, Refusal>
         requires { IsInput message.now }
         ensures takes { (bytes : List ℕ) → Spells message.now bytes
-            → Takes (meaning (boxed_checker_of self.old)) (state_of self.old) bytes result
+            → Takes (C.meaning (checker_of self.old)) (state_of self.old) bytes result
             (state_of self.new) }
-        ensures checker { meaning (boxed_checker_of self.new)
-            ≡ meaning (boxed_checker_of self.old) }
+        ensures checker { C.meaning (checker_of self.new) ≡ C.meaning (checker_of self.old) }
     {
-        self.group.take(self.alloc, self.checker.as_ref(), message)
+        self.group.take(self.alloc, &self.checker, message)
     }
 
     /// Takes one message (RFC 9420, 6): it is accepted where it keeps every rule, and else refused for the
     /// first one that it fails, or for want of memory. A refused message changes nothing.
     pub fn take(&mut self, bytes: &[u8]) -> Result<Taken, Refusal>
-        ensures accepted { OnOk result (IsAcceptable (meaning (boxed_checker_of self.old))
+        ensures accepted { OnOk result (IsAcceptable (C.meaning (checker_of self.old))
             (state_of self.old) bytes.now) }
         ensures next { IfOk result (λ taken. IsNext (state_of self.old) bytes.now
             (record { taken = taken; state = state_of self.new })) }
         ensures refused { IfErr result (λ e. e ≢ Refusal.OutOfMemory
-            → IsFirstRefusal (meaning (boxed_checker_of self.old)) (state_of self.old)
+            → IsFirstRefusal (C.meaning (checker_of self.old)) (state_of self.old)
             bytes.now e) }
         ensures stays { OnErr result (state_of self.new ≡ state_of self.old) }
-        ensures checker { meaning (boxed_checker_of self.new)
-            ≡ meaning (boxed_checker_of self.old) }
+        ensures checker { C.meaning (checker_of self.new) ≡ C.meaning (checker_of self.old) }
     {
         let message = read_message(self.alloc, bytes)?;
         let answer = self.take_message(&message);

@@ -4,7 +4,7 @@ ghost use Rattle.std.specs.Prelude.{◌≡◌, ◌≢◌, Some, None, IsSome, Is
 ghost use Rattle.mls_tree.specs.Tree.{leaf_at};
 ghost use Rattle.mls_msgs.specs.declared.frame.Sender.TheVariants.{Member};
 ghost use Rattle.mls_follow.specs.State.{Spells};
-ghost use Rattle.mls_follow.specs.Seen.{group_state};
+ghost use Rattle.mls_follow.specs.GroupSeen.{group_state};
 ghost use Rattle.mls_follow.specs.Rules.{frame_refusal, handshake_refusal, is_frame_signed, is_handshake};
 ghost use Rattle.mls_follow.specs.Judging.{Refuses, SpellNothing};
 
@@ -33,15 +33,15 @@ pub(crate) fn read_message(alloc: Global, bytes: &[u8]) -> Result<Message, Refus
 
 /// Whether the sender's leaf has signed a frame over the group's context.
 #[tactic(auto, unfolding(crate::specs::Rules::is_frame_signed))]
-fn is_frame_signed(
+fn is_frame_signed<C: SignatureCheck>(
     alloc: Global,
     context: &GroupContext,
     leaf: &LeafNode,
     auth: &Authenticated,
-    checker: &dyn SignatureCheck,
+    checker: &C,
 ) -> Result<bool, OutOfMemory>
     ensures { IfOk result (λ good. good ≡ is_frame_signed
-        (meaning checker.now) context.now leaf.now auth.now) }
+        (C.meaning checker.now) context.now leaf.now auth.now) }
 {
     let tbs = match content_tbs(alloc, auth, Some(context)) {
         Ok(tbs) => tbs,
@@ -62,21 +62,21 @@ fn is_frame_signed(
 /// The leaf of the member that sent a frame, where it keeps the rules for every frame: it is of the group and
 /// its epoch, from a member, a proposal or a commit, and signed.
 #[tactic(auto, unfolding(crate::specs::Rules::frame_refusal, crate::specs::Rules::handshake_refusal))]
-pub(crate) fn check_frame(
+pub(crate) fn check_frame<C: SignatureCheck>(
     alloc: Global,
     group: &Group,
-    checker: &dyn SignatureCheck,
+    checker: &C,
     auth: &Authenticated,
 ) -> Result<u32, Refusal>
     ensures sender { IfOk result (λ i. auth.now.content.sender ≡ Member i) }
     ensures member { IfOk result (λ i. IsSome (leaf_at 0 group.now.tree.tree i)) }
     ensures handshake { OnOk result (IsTrue (is_handshake auth.now.content.content)) }
     ensures kept { IfOk result (λ i.
-        frame_refusal (meaning checker.now) (group_state group.now) group.now.required auth.now
-        ≡ handshake_refusal (meaning checker.now)
+        frame_refusal (C.meaning checker.now) (group_state group.now) group.now.required auth.now
+        ≡ handshake_refusal (C.meaning checker.now)
         (group_state group.now) group.now.required auth.now i
         auth.now.content.content) }
-    ensures refused { IfErr result (Refuses (frame_refusal (meaning checker.now)
+    ensures refused { IfErr result (Refuses (frame_refusal (C.meaning checker.now)
         (group_state group.now)
         group.now.required auth.now)) }
 {

@@ -56,7 +56,7 @@ fn copy_of(alloc: Global, proposal: &Proposal) -> Result<Proposal, AllocError>
 }
 
 impl Group {
-    ghost use Rattle.mls_follow.specs.Seen.{group_state};
+    ghost use Rattle.mls_follow.specs.GroupSeen.{group_state};
     ghost use Rattle.mls_follow.specs.Next.{after_proposal, committed, with_extensions};
 
     /// Knows a proposal under its reference.

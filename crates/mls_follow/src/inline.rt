@@ -5,7 +5,7 @@ ghost use Rattle.mls_tree.specs.Tree.{leaf_at};
 ghost use Rattle.mls_apply.specs.Rules.{first_failing};
 ghost use Rattle.mls_apply.specs.Proposals.{all_inline, asked_inline, adds_validly, updates_validly, removes_validly, extends_validly};
 ghost use Rattle.mls_follow.specs.Judging.{Refuses};
-ghost use Rattle.mls_follow.specs.Seen.{group_state};
+ghost use Rattle.mls_follow.specs.GroupSeen.{group_state};
 ghost use Rattle.mls_follow.specs.Rules.{inline_rules};
 
 use crate::group::Group;
@@ -58,19 +58,19 @@ impl Validity {
 
 /// Whether the proposal that an entry of a commit's list has in itself is valid.
 #[tactic(auto, unfolding(mls_apply::specs::Proposals::checked_refusal))]
-fn entry_validity(
+fn entry_validity<C: SignatureCheck>(
     alloc: Global,
     group: &Group,
-    checker: &dyn SignatureCheck,
+    checker: &C,
     committer: u32,
     entry: &ProposalOrRef,
 ) -> Result<Validity, AllocError>
     requires member { IsSome (leaf_at 0 group.now.tree.tree committer) }
     ensures adds { IfOk result (λ v. v.adds ≡ asked_inline (adds_validly
-        (meaning checker.now) group.now.context) entry.now) }
+        (C.meaning checker.now) group.now.context) entry.now) }
     ensures updates { IfOk result (λ v. v.updates ≡ asked_inline
         (updates_validly
-        (meaning checker.now) group.now.context group.now.tree.tree committer) entry.now) }
+        (C.meaning checker.now) group.now.context group.now.tree.tree committer) entry.now) }
     ensures removes { IfOk result (λ v. v.removes ≡ asked_inline
         (removes_validly group.now.tree.tree) entry.now) }
     ensures extensions { IfOk result (λ v. v.extensions ≡ asked_inline extends_validly entry.now) }
@@ -114,18 +114,19 @@ fn entry_validity(
 
 /// Whether the proposals in a commit itself are valid: first each Add, then each Update, then each Remove, then each
 /// list of extensions for the context.
-pub(crate) fn check_inline(
+pub(crate) fn check_inline<C: SignatureCheck>(
     alloc: Global,
     group: &Group,
-    checker: &dyn SignatureCheck,
+    checker: &C,
     committer: u32,
     commit: &Commit,
 ) -> Result<(), Refusal>
     requires member { IsSome (leaf_at 0 group.now.tree.tree committer) }
     ensures kept { OnOk result (first_failing
-        (inline_rules (meaning checker.now) (group_state group.now) committer commit.now) ≡ None) }
+        (inline_rules (C.meaning checker.now) (group_state group.now) committer commit.now)
+        ≡ None) }
     ensures refused { IfErr result (Refuses (first_failing
-        (inline_rules (meaning checker.now) (group_state group.now) committer commit.now))) }
+        (inline_rules (C.meaning checker.now) (group_state group.now) committer commit.now))) }
 {
     let mut valid = Validity::full();
     let mut rest = commit.proposals.as_slice();

@@ -4,7 +4,7 @@ ghost use Rattle.std.specs.Prelude.{◌≡◌, Some, None, IsSome, IfOk, IfErr, 
 ghost use Rattle.mls_tree.specs.Tree.{leaf_at};
 ghost use Rattle.mls_apply.specs.Rules.{first_failing};
 ghost use Rattle.mls_follow.specs.Judging.{Refuses};
-ghost use Rattle.mls_follow.specs.Seen.{group_state};
+ghost use Rattle.mls_follow.specs.GroupSeen.{group_state};
 ghost use Rattle.mls_follow.specs.Rules.{offer_rules, reference_of};
 
 use crate::group::Group;
@@ -36,10 +36,10 @@ fn reference_of(alloc: Global, group: &Group, auth: &Authenticated) -> Result<Ha
 
 /// The reference of a member's proposal, where the proposal is new and keeps the rules for it.
 #[tactic(auto, unfolding(crate::specs::Rules::is_new_proposal, mls_apply::specs::Proposals::checked_refusal))]
-pub(crate) fn check_offer(
+pub(crate) fn check_offer<C: SignatureCheck>(
     alloc: Global,
     group: &Group,
-    checker: &dyn SignatureCheck,
+    checker: &C,
     auth: &Authenticated,
     sender: u32,
     proposal: &Proposal,
@@ -47,12 +47,13 @@ pub(crate) fn check_offer(
     requires member { IsSome (leaf_at 0 group.now.tree.tree sender) }
     requires referenced { IsSome (reference_of group.now.context auth.now) }
     ensures kept { OnOk result (first_failing
-        (offer_rules (meaning checker.now) (group_state group.now) auth.now sender proposal.now)
+        (offer_rules (C.meaning checker.now) (group_state group.now) auth.now sender proposal.now)
         ≡ None) }
     ensures reference { IfOk result (λ reference. reference_of group.now.context auth.now
         ≡ Some reference) }
     ensures refused { IfErr result (Refuses (first_failing
-        (offer_rules (meaning checker.now) (group_state group.now) auth.now sender proposal.now))) }
+        (offer_rules (C.meaning checker.now) (group_state group.now)
+        auth.now sender proposal.now))) }
 {
     let reference = reference_of(alloc, group, auth)?;
     if find_known(group.known.as_slice(), reference.as_slice()).is_some() {

@@ -131,7 +131,7 @@ impl From<MemberFault> for StartFault {
 
 /// A refused start, with all that was handed in, as it was, but for the hashes that the tree keeps of its subtrees.
 #[derive(Drop)]
-pub struct StartRefused {
+pub struct StartRefused<C> {
     /// The first check that failed.
     pub fault: StartFault,
     /// The group info.
@@ -139,7 +139,7 @@ pub struct StartRefused {
     /// The tree, where one was handed in.
     pub tree: Option<PublicTree>,
     /// The checker of signatures.
-    pub checker: Box<dyn SignatureCheck>,
+    pub checker: C,
 }
 
 /// What is found of a group info and a tree that a follower starts from.
@@ -204,14 +204,14 @@ fn required_of(alloc: Global, info: &GroupInfo) -> Result<RequiredCapabilities, 
 
 /// Whether a leaf has signed the group info.
 #[tactic(auto, unfolding(crate::specs::Start::is_info_signed))]
-fn is_info_signed(
+fn is_info_signed<C: SignatureCheck>(
     alloc: Global,
     info: &GroupInfo,
     signer: &LeafNode,
-    checker: &dyn SignatureCheck,
+    checker: &C,
 ) -> Result<bool, OutOfMemory>
     ensures { IfOk result (λ good. good ≡ is_info_signed
-        (meaning checker.now) info.now signer.now) }
+        (C.meaning checker.now) info.now signer.now) }
 {
     let tbs = match info_tbs(alloc, info) {
         Ok(tbs) => tbs,
@@ -230,14 +230,14 @@ fn is_info_signed(
 }
 
 /// Whether the leaf of a group info's signer is set and has signed it.
-fn check_signer(
+fn check_signer<C: SignatureCheck>(
     alloc: Global,
     info: &GroupInfo,
     tree: &PublicTree,
-    checker: &dyn SignatureCheck,
+    checker: &C,
 ) -> Result<(), StartFault>
-    ensures signed { OnOk result (IsSignedIn (meaning checker.now) info.now (plain tree.now)) }
-    ensures refused { IfErr result (FailsSigned (meaning checker.now) info.now (plain tree.now)) }
+    ensures signed { OnOk result (IsSignedIn (C.meaning checker.now) info.now (plain tree.now)) }
+    ensures refused { IfErr result (FailsSigned (C.meaning checker.now) info.now (plain tree.now)) }
 {
     let Some(signer) = tree.leaf(info.signer) else {
         return Err(StartFault::SignerNotMember);
@@ -249,20 +249,20 @@ fn check_signer(
 }
 
 /// The interim transcript hash of a group info that is followed, where a follower starts with this tree.
-fn judged_interim(
+fn judged_interim<C: SignatureCheck>(
     alloc: Global,
     suite: Suite,
     info: &GroupInfo,
     required: &RequiredCapabilities,
     tree: &PublicTree,
-    checker: &dyn SignatureCheck,
+    checker: &C,
 ) -> Result<HashValue, StartFault>
     requires followed { IsFollowed info.now }
     requires suite_of_context { suite ≡ info.now.context.cipher_suite }
     requires required { Requires info.now.context required.now }
     ensures started { IfOk result (λ interim. StartsWith
-        (meaning checker.now) info.now (plain tree.now) interim) }
-    ensures refused { IfErr result (FailsWith (meaning checker.now) info.now (plain tree.now)) }
+        (C.meaning checker.now) info.now (plain tree.now) interim) }
+    ensures refused { IfErr result (FailsWith (C.meaning checker.now) info.now (plain tree.now)) }
 {
     let context = &info.context;
     validate_tree(alloc, suite, context, tree)?;
@@ -280,21 +280,21 @@ fn judged_interim(
 }
 
 /// The same, and the hashes that the tree keeps of its subtrees are filled before it is validated.
-fn filled_interim(
+fn filled_interim<C: SignatureCheck>(
     alloc: Global,
     suite: Suite,
     info: &GroupInfo,
     required: &RequiredCapabilities,
     tree: &mut PublicTree,
-    checker: &dyn SignatureCheck,
+    checker: &C,
 ) -> Result<HashValue, StartFault>
     requires followed { IsFollowed info.now }
     requires suite_of_context { suite ≡ info.now.context.cipher_suite }
     requires required { Requires info.now.context required.now }
     ensures tree { plain tree.new ≡ plain tree.old }
     ensures started { IfOk result (λ interim. StartsWith
-        (meaning checker.now) info.now (plain tree.old) interim) }
-    ensures refused { IfErr result (FailsWith (meaning checker.now) info.now (plain tree.old)) }
+        (C.meaning checker.now) info.now (plain tree.old) interim) }
+    ensures refused { IfErr result (FailsWith (C.meaning checker.now) info.now (plain tree.old)) }
 {
     fill(alloc, suite, tree)?;
     judged_interim(alloc, suite, info, required, tree, checker)
@@ -303,20 +303,20 @@ fn filled_interim(
 /// What is found of a group info that is followed, where a follower starts with this tree: the group's
 /// requirements are read, the tree is validated, its leaves are judged as members, and then the info's
 /// signature.
-pub(crate) fn judge(
+pub(crate) fn judge<C: SignatureCheck>(
     alloc: Global,
     suite: Suite,
     info: &GroupInfo,
     tree: &mut PublicTree,
-    checker: &dyn SignatureCheck,
+    checker: &C,
 ) -> Result<Judged, StartFault>
     requires followed { IsFollowed info.now }
     requires suite_of_context { suite ≡ info.now.context.cipher_suite }
     ensures tree { plain tree.new ≡ plain tree.old }
     ensures required { IfOk result (λ judged. Requires info.now.context judged.required) }
     ensures started { IfOk result (λ judged. StartsWith
-        (meaning checker.now) info.now (plain tree.old) judged.interim) }
-    ensures refused { IfErr result (FailsWith (meaning checker.now) info.now (plain tree.old)) }
+        (C.meaning checker.now) info.now (plain tree.old) judged.interim) }
+    ensures refused { IfErr result (FailsWith (C.meaning checker.now) info.now (plain tree.old)) }
 {
     let required = required_of(alloc, info)?;
     match filled_interim(alloc, suite, info, &required, tree, checker) {
@@ -329,18 +329,18 @@ pub(crate) fn judge(
 }
 
 /// The same of the tree in the group info, with that tree.
-pub(crate) fn judge_own(
+pub(crate) fn judge_own<C: SignatureCheck>(
     alloc: Global,
     suite: Suite,
     info: &GroupInfo,
-    checker: &dyn SignatureCheck,
+    checker: &C,
 ) -> Result<(PublicTree, Judged), StartFault>
     requires followed { IsFollowed info.now }
     requires suite_of_context { suite ≡ info.now.context.cipher_suite }
     ensures required { IfOk result (λ found. Requires info.now.context found.1.required) }
-    ensures started { IfOk result (λ found. IsStart (meaning checker.now) info.now None
+    ensures started { IfOk result (λ found. IsStart (C.meaning checker.now) info.now None
         (first_state info.now (plain found.0) found.1.interim)) }
-    ensures refused { IfErr result (IsStartFault (meaning checker.now) info.now None) }
+    ensures refused { IfErr result (IsStartFault (C.meaning checker.now) info.now None) }
     ensures no_extension { extension_of 2 info.now.extensions ≡ None
         → result ≡ Err StartFault.NoTree }
 {

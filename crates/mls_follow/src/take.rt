@@ -12,7 +12,7 @@ ghost use Rattle.mls_apply.specs.ListRules.{list_refusal};
 ghost use Rattle.mls_apply.specs.Outcome.{outcome};
 ghost use Rattle.mls_apply.specs.Rules.{first_failing};
 ghost use Rattle.mls_follow.specs.Changing.{changed_tree};
-ghost use Rattle.mls_follow.specs.Seen.{group_state};
+ghost use Rattle.mls_follow.specs.GroupSeen.{group_state};
 ghost use Rattle.mls_follow.specs.Rules.{frame_refusal, handshake_refusal, outcome_rules, required_after, rules_under, reference_of};
 ghost use Rattle.mls_follow.specs.Next.{after_content, after_sender, after_tree, with_extensions};
 ghost use Rattle.mls_follow.specs.State.{IsInput, Spells, last_epoch};
@@ -35,23 +35,23 @@ use std::alloc::Global;
 impl Group {
     /// Takes a proposal that a member has sent and signed.
     #[tactic(auto, unfolding(crate::specs::Rules::handshake_refusal))]
-    fn take_proposal(
+    fn take_proposal<C: SignatureCheck>(
         &mut self,
         alloc: Global,
-        checker: &dyn SignatureCheck,
+        checker: &C,
         auth: &Authenticated,
         sender: u32,
         proposal: &Proposal,
     ) -> Result<Taken, Refusal>
         requires member { IsSome (leaf_at 0 self.old.tree.tree sender) }
         requires referenced { IsSome (reference_of self.old.context auth.now) }
-        ensures kept { OnOk result (handshake_refusal (meaning checker.now)
+        ensures kept { OnOk result (handshake_refusal (C.meaning checker.now)
             (group_state self.old) self.old.required
             auth.now sender (contents.Proposal proposal.now) ≡ None) }
         ensures next { IfOk result (λ taken. after_content (group_state self.old) auth.now sender
             (contents.Proposal proposal.now) ≡ Some
             (record { taken = taken; state = group_state self.new })) }
-        ensures refused { IfErr result (Refuses (handshake_refusal (meaning checker.now)
+        ensures refused { IfErr result (Refuses (handshake_refusal (C.meaning checker.now)
             (group_state self.old)
             self.old.required auth.now sender (contents.Proposal proposal.now))) }
         ensures stays { OnErr result (group_state self.new ≡ group_state self.old) }
@@ -63,10 +63,10 @@ impl Group {
     /// Changes the tree in place as a member's commit with these items does, whose list keeps its rules, and moves to
     /// the next epoch on these terms, where the path and the tree after both keep their rules. Any refusal, also for
     /// want of memory, takes the changes back; the last step takes no memory.
-    fn apply_commit(
+    fn apply_commit<C: SignatureCheck>(
         &mut self,
         alloc: Global,
-        checker: &dyn SignatureCheck,
+        checker: &C,
         auth: &Authenticated,
         committer: u32,
         items: &[ListItem],
@@ -80,7 +80,7 @@ impl Group {
         requires commit { IsTrue (is_commit auth.now.content.content) }
         requires terms { RequiresBy terms.extensions terms.required }
         ensures kept { let o = outcome items.now self.old.tree.tree in
-            OnOk result (first_failing (outcome_rules (meaning checker.now)
+            OnOk result (first_failing (outcome_rules (C.meaning checker.now)
             (group_state self.old) terms.required committer path.now o) ≡ None) }
         ensures next { let o = outcome items.now self.old.tree.tree in
             let H = hash_of self.old.context.cipher_suite in
@@ -89,7 +89,7 @@ impl Group {
             (changed_tree H committer path.now o)
             ≡ Some (record { taken = taken; state = group_state self.new })) }
         ensures refused { let o = outcome items.now self.old.tree.tree in
-            IfErr result (Refuses (first_failing (outcome_rules (meaning checker.now)
+            IfErr result (Refuses (first_failing (outcome_rules (C.meaning checker.now)
             (group_state self.old) terms.required committer path.now o))) }
         ensures stays { OnErr result (group_state self.new ≡ group_state self.old) }
     {
@@ -124,10 +124,10 @@ impl Group {
 
     /// Takes a member's commit with these items, whose list keeps its rules: the terms after it are read, and the
     /// commit is applied.
-    fn take_items(
+    fn take_items<C: SignatureCheck>(
         &mut self,
         alloc: Global,
-        checker: &dyn SignatureCheck,
+        checker: &C,
         auth: &Authenticated,
         committer: u32,
         items: &[ListItem],
@@ -140,7 +140,7 @@ impl Group {
         requires commit { IsTrue (is_commit auth.now.content.content) }
         ensures kept { let o = outcome items.now self.old.tree.tree in
             let required = required_after self.old.required (brought items.now) in
-            OnOk result (first_failing (rules_under (meaning checker.now)
+            OnOk result (first_failing (rules_under (C.meaning checker.now)
             (group_state self.old) committer path.now o required) ≡ None) }
         ensures next { let o = outcome items.now self.old.tree.tree in
             let H = hash_of self.old.context.cipher_suite in
@@ -151,7 +151,7 @@ impl Group {
             ≡ Some (record { taken = taken; state = group_state self.new })) }
         ensures refused { let o = outcome items.now self.old.tree.tree in
             let required = required_after self.old.required (brought items.now) in
-            IfErr result (Refuses (first_failing (rules_under (meaning checker.now)
+            IfErr result (Refuses (first_failing (rules_under (C.meaning checker.now)
             (group_state self.old) committer path.now o required))) }
         ensures stays { OnErr result (group_state self.new ≡ group_state self.old) }
     {
@@ -161,10 +161,10 @@ impl Group {
 
     /// Takes a commit that a member has sent and signed.
     #[tactic(auto, unfolding(crate::specs::Rules::handshake_refusal, crate::specs::Rules::commit_refusal))]
-    fn take_commit(
+    fn take_commit<C: SignatureCheck>(
         &mut self,
         alloc: Global,
-        checker: &dyn SignatureCheck,
+        checker: &C,
         auth: &Authenticated,
         sender: u32,
         commit: &Commit,
@@ -172,13 +172,13 @@ impl Group {
         requires member { IsSome (leaf_at 0 self.old.tree.tree sender) }
         requires hashed { IsSome (confirmed_input auth.now) }
         requires commit { IsTrue (is_commit auth.now.content.content) }
-        ensures kept { OnOk result (handshake_refusal (meaning checker.now)
+        ensures kept { OnOk result (handshake_refusal (C.meaning checker.now)
             (group_state self.old) self.old.required
             auth.now sender (contents.Commit commit.now) ≡ None) }
         ensures next { IfOk result (λ taken. after_content (group_state self.old) auth.now sender
             (contents.Commit commit.now) ≡ Some
             (record { taken = taken; state = group_state self.new })) }
-        ensures refused { IfErr result (Refuses (handshake_refusal (meaning checker.now)
+        ensures refused { IfErr result (Refuses (handshake_refusal (C.meaning checker.now)
             (group_state self.old)
             self.old.required auth.now sender (contents.Commit commit.now))) }
         ensures stays { OnErr result (group_state self.new ≡ group_state self.old) }
@@ -192,21 +192,21 @@ impl Group {
     /// Takes a frame: it is accepted where it keeps every rule, and else refused for the first one that it
     /// fails, or for want of memory. A refused frame changes nothing: of what is made for it, the tree alone is
     /// changed in place, and then taken back.
-    fn take_frame(
+    fn take_frame<C: SignatureCheck>(
         &mut self,
         alloc: Global,
-        checker: &dyn SignatureCheck,
+        checker: &C,
         auth: &Authenticated,
     ) -> Result<Taken, Refusal>
         requires hashed { IsSome (confirmed_input auth.now) }
         requires referenced { IsSome (reference_of self.old.context auth.now) }
-        ensures kept { OnOk result (frame_refusal (meaning checker.now)
+        ensures kept { OnOk result (frame_refusal (C.meaning checker.now)
             (group_state self.old) self.old.required
             auth.now ≡ None) }
         ensures next { IfOk result (λ taken. after_sender
             (group_state self.old) auth.now auth.now.content.sender
             ≡ Some (record { taken = taken; state = group_state self.new })) }
-        ensures refused { IfErr result (Refuses (frame_refusal (meaning checker.now)
+        ensures refused { IfErr result (Refuses (frame_refusal (C.meaning checker.now)
             (group_state self.old)
             self.old.required auth.now)) }
         ensures stays { OnErr result (group_state self.new ≡ group_state self.old) }
@@ -222,15 +222,15 @@ impl Group {
     }
 
     /// Takes a message, where it was read from bytes.
-    pub(crate) fn take(
+    pub(crate) fn take<C: SignatureCheck>(
         &mut self,
         alloc: Global,
-        checker: &dyn SignatureCheck,
+        checker: &C,
         message: &Message,
     ) -> Result<Taken, Refusal>
         requires { IsInput message.now }
         ensures { (bytes : List ℕ) → Spells message.now bytes
-            → Takes (meaning checker.now) (group_state self.old) bytes result
+            → Takes (C.meaning checker.now) (group_state self.old) bytes result
             (group_state self.new) }
     {
         match message {

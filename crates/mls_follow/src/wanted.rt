@@ -6,7 +6,8 @@ ghost use Rattle.mls_tree.specs.Tree.{leaf_at};
 ghost use Rattle.mls_apply.specs.Items.{resolved};
 ghost use Rattle.mls_apply.specs.Outcome.{outcome, grown};
 ghost use Rattle.mls_follow.specs.Judging.{SpellNothing};
-ghost use Rattle.mls_follow.specs.Seen.{group_state, state_of};
+ghost use Rattle.mls_follow.specs.GroupSeen.{group_state};
+ghost use Rattle.mls_follow.specs.Seen.{state_of};
 ghost use Rattle.mls_follow.specs.Wanted.{asked_of_text, asked_of_leaf, asked_of_package, asked_of_frame, asked_of_info, asked_of_set_leaf, asked_of_tree, asked_of_item, asked_at};
 ghost use Rattle.mls_follow.specs.Wanted.{is_followed, asked_by_start, asked_by_proposal, asked_by_entry, asked_by_entries, replaced_leaves, asked_by_path, asked_by_outcome};
 ghost use Rattle.mls_follow.specs.Wanted.{asked_by_items, asked_by_content, asked_by_sender, asked_by, once, wanted_by_start, wanted_by, WantsThese};
@@ -16,7 +17,7 @@ use crate::frame::read_message;
 use crate::group::Group;
 use crate::refusal::Refusal;
 use mls_apply::{Applied, ApplyFault, ListItem, apply_list, resolve_list};
-use mls_check::{LEAF_NODE_TBS, OutOfMemory, sign_content};
+use mls_check::{LEAF_NODE_TBS, OutOfMemory, SignatureCheck, sign_content};
 use mls_hash::Suite;
 use mls_msgs::{
     Authenticated, CONTENT_LABEL, Commit, Content, GROUP_INFO_LABEL, GroupInfo, KEY_PACKAGE_LABEL,
@@ -703,7 +704,7 @@ fn wanted_by(
     wanted
 }
 
-impl Follower {
+impl<C: SignatureCheck> Follower<C> {
     /// The signatures that one message wants (RFC 9420, 6), none twice: the frame's, where it is of the group and its
     /// epoch and from a member; then of an Add the leaf's and the key package's, of an Update the leaf's; of a commit
     /// those of the proposals in it and of the leaves that it brings into the tree. Some may be told that no rule

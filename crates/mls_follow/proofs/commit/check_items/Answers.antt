@@ -6,7 +6,7 @@ use Rattle.mls_apply.specs.Items.{resolved}
 use Rattle.mls_apply.specs.ListRules.{list_refusal}
 use Rattle.mls_follow.specs.Rules.{refusal_of}
 use Rattle.mls_follow.specs.State.{last_epoch}
-use Rattle.mls_follow.specs.Seen.{group_state}
+use Rattle.mls_follow.specs.GroupSeen.{group_state}
 use Rattle.mls_follow.proofs.Committing.{list_failed}
 use Rattle.mls_follow.proofs.commit.check_items.Goals as goal
 
@@ -17,7 +17,7 @@ returns-in_err-check_list-clause-refused g c =
     let group = c.args.group.now in
     let later : nat_lt group.context.epoch last_epoch ≡ true = is_less group.context.epoch last_epoch (search rules) in
     rw (p.1, p.2) (λ not_memory. list_failed
-    ((goal.SignatureCheck-dyn g c.args.checker.now).meaning c.args.checker.now.1) (group_state group) group.required
+    (g.C.SignatureCheck.meaning c.args.checker.now) (group_state group) group.required
     c.args.committer c.args.commit.now later c.in_ok-items.items.items (ap (λ known. resolved c.args.committer known c.args.commit.now.proposals) (sym c.as_slice.ensures.value) ∙ c.in_ok-items.ensures.items) c.in_ok-check_inline.ensures.kept
     c.in_err-check_list.field-0.0
     ((λ i. list_refusal c.args.committer (sym c.as_slice-2.ensures.value i) (sym c.is_some.ensures i)) ∙ c.in_err-check_list.ensures.refused (λ e. not_memory (ap refusal_of e))))

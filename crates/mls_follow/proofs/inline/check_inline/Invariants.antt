@@ -5,7 +5,7 @@ use Rattle.mls_follow.proofs.inline.check_inline.Given as goal
 
 abbrev pub invariant-loop-entry : goal.invariant-loop-entry
 invariant-loop-entry g l =
-    let G = (goal.SignatureCheck-dyn g l.checker.now).meaning l.checker.now.1 in
+    let G = g.C.SignatureCheck.meaning l.checker in
     JudgedSoFar (adds_validly G l.group.context) (updates_validly G l.group.context l.group.tree.tree l.committer) (removes_validly l.group.tree.tree) extends_validly
     l.commit.proposals l.rest l.valid.adds l.valid.updates l.valid.removes l.valid.extensions
 

@@ -2,7 +2,7 @@ use Rattle.std.proofs.Common.{◌≡◌, ◌∙◌, true, ap, rules}
 use Rattle.std.specs.Prelude.{option_map}
 use Rattle.std.proofs.lemmas.Result.{err_from_is_err_and}
 use Rattle.mls_follow.specs.Rules.{refusal_of, is_new_proposal}
-use Rattle.mls_follow.specs.Seen.{group_state}
+use Rattle.mls_follow.specs.GroupSeen.{group_state}
 use Rattle.mls_follow.proofs.Committing.{offer_word}
 use Rattle.mls_follow.proofs.offer.check_offer.Goals as goal
 

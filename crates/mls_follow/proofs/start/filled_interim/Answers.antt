@@ -6,7 +6,7 @@ use Rattle.mls_follow.proofs.start.filled_interim.Goals as goal
 
 pub returns-clause-started : goal.returns-clause-started
 returns-clause-started g c =
-    let G = (goal.SignatureCheck-dyn g c.args.checker.now).meaning c.args.checker.now.1 in
+    let G = g.C.SignatureCheck.meaning c.args.checker.now in
     subst (λ (t : RatchetTree). IfOk c.judged_interim.result (λ interim. StartsWith G c.args.info.now t interim)) c.fill.ensures.plain c.judged_interim.ensures.started
 
 pub returns-clause-refused : goal.returns-clause-refused

@@ -1,7 +1,8 @@
-use Rattle.std.proofs.Common.{Some, refl, subst}
+use Rattle.std.proofs.Common.{Some, None, refl, sym, subst}
 use Rattle.std.specs.Prelude.{option_map}
 use Rattle.mls_tree.specs.KeptTree.{plain}
-use Rattle.mls_follow.specs.Start.{IsStart, IsStartFault, first_state}
+use Rattle.mls_follow.specs.Judged.{IsJudged}
+use Rattle.mls_follow.proofs.Judged.{start_judged}
 use Rattle.mls_follow.proofs.Starting.{version_followed, suite_followed, start_again}
 use Rattle.mls_follow.proofs.follower.Follower.start.Goals as goal
 
@@ -10,8 +11,7 @@ returns-in-Err-clause-refused g c = c.in-Err.ensures.refused _ (option_map plain
 
 pub returns-in-Err-judge-clause-refused : goal.returns-in-Err-judge-clause-refused
 returns-in-Err-judge-clause-refused g c =
-    let h = c.in-Err-judge.ensures.refused (Some (plain c.in-Some.tree)) refl in
-    rw c.in-Some.is (subst (λ d. IsStartFault ((goal.SignatureCheck-dyn g d).meaning d.1) c.args.info (Some (plain c.in-Some.tree)) c.in-Err-judge.fault) c.as_ref.ensures.1 h)
+    rw c.in-Some.is (c.in-Err-judge.ensures.refused (Some (plain c.in-Some.tree)) refl)
 
 pub returns-in-Err-clause-no_tree : goal.returns-in-Err-clause-no_tree
 returns-in-Err-clause-no_tree g c followed _ _ = absurd (c.in-Err.ensures.unfollowed followed)
@@ -27,6 +27,16 @@ returns-in-Err-judge-clause-unsupported_suite g c =
 pub returns-in-Ok-judge-clause-started : goal.returns-in-Ok-judge-clause-started
 returns-in-Ok-judge-clause-started g c =
     let h = c.in-Ok-judge.ensures.started (Some (plain c.in-Some.tree)) refl in
-    let again = start_again _ c.args.info (Some (plain c.in-Some.tree)) (plain c.in-Some.tree) (plain c.judge.new.tree) c.in-Ok-judge.judged.interim c.judge.ensures.tree h in
     rw (c.in-Some.is, c.first_group.ensures)
-    (subst (λ d. IsStart ((goal.SignatureCheck-dyn g d).meaning d.1) c.args.info (Some (plain c.in-Some.tree)) (first_state c.args.info (plain c.judge.new.tree) c.in-Ok-judge.judged.interim)) c.as_ref.ensures.1 again)
+    (start_again _ c.args.info (Some (plain c.in-Some.tree)) (plain c.in-Some.tree) (plain c.judge.new.tree) c.in-Ok-judge.judged.interim c.judge.ensures.tree h)
+
+-- the group's tree was judged
+pub invariant_of-result : goal.invariant_of-result
+invariant_of-result g c =
+    let h = c.in-Ok-judge.ensures.started (Some (plain c.in-Some.tree)) refl in
+    let again = start_again _ c.args.info (Some (plain c.in-Some.tree)) (plain c.in-Some.tree) (plain c.judge.new.tree) c.in-Ok-judge.judged.interim c.judge.ensures.tree h in
+    record { judged = subst (IsJudged (g.C.SignatureCheck.meaning c.args.checker)) (sym c.first_group.ensures) (start_judged _ c.args.info (Some (plain c.in-Some.tree)) _ again) }
+
+pub invariant_of-result-in-Ok-judge_own : goal.invariant_of-result-in-Ok-judge_own
+invariant_of-result-in-Ok-judge_own g c =
+    record { judged = subst (IsJudged (g.C.SignatureCheck.meaning c.args.checker)) (sym c.first_group-in-Ok-judge_own.ensures) (start_judged _ c.args.info None _ c.in-Ok-judge_own.ensures.started) }

@@ -3,7 +3,7 @@ use Rattle.mls_msgs.specs.Message.{message}
 use Rattle.mls_msgs.specs.declared.message.Message.TheVariants as messages
 use Rattle.mls_apply.proofs.Spellings.{put_back}
 use Rattle.mls_follow.specs.State.{IsInput}
-use Rattle.mls_follow.specs.Seen.{group_state}
+use Rattle.mls_follow.specs.GroupSeen.{group_state}
 use Rattle.mls_follow.proofs.Spelled.{confirmed_exists, reference_exists}
 use Rattle.mls_follow.proofs.Taking.{frame_taken}
 use Rattle.mls_follow.proofs.group.Group.take.Goals as goal

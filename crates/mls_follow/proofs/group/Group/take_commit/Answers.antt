@@ -7,14 +7,14 @@ use Rattle.mls_apply.specs.ListRules.{list_refusal}
 use Rattle.mls_apply.specs.Outcome.{outcome}
 use Rattle.mls_apply.specs.Rules.{first_failing}
 use Rattle.mls_follow.specs.Rules.{handshake_refusal, required_after, rules_under}
-use Rattle.mls_follow.specs.Seen.{group_state}
+use Rattle.mls_follow.specs.GroupSeen.{group_state}
 use Rattle.mls_follow.specs.State.{last_epoch}
 use Rattle.mls_follow.proofs.Committing.{of_commit, past_list}
 use Rattle.mls_follow.proofs.group.Group.take_commit.Goals as goal
 
 pub returns-clause-kept : goal.returns-clause-kept
 returns-clause-kept g c =
-    let G = (goal.SignatureCheck-dyn g c.args.checker.now).meaning c.args.checker.now.1 in
+    let G = g.C.SignatureCheck.meaning c.args.checker.now in
     let group = c.args.self.now in
     let commit = c.args.commit.now in
     let items = c.in_ok-items.ensures.items ∙ ap Some (sym c.as_slice.ensures.value) in
@@ -27,7 +27,7 @@ returns-clause-kept g c =
 
 pub returns-clause-refused : goal.returns-clause-refused
 returns-clause-refused g c =
-    let G = (goal.SignatureCheck-dyn g c.args.checker.now).meaning c.args.checker.now.1 in
+    let G = g.C.SignatureCheck.meaning c.args.checker.now in
     let group = c.args.self.now in
     let commit = c.args.commit.now in
     let items = c.in_ok-items.ensures.items ∙ ap Some (sym c.as_slice.ensures.value) in

@@ -1,0 +1,194 @@
+-- How an accepted message leads from a state to the next: it is known and changes nothing else, or a commit moves the tree.
+use Rattle.std.proofs.Common.{◌≡◌, ◌∙◌, ◌++◌, ℕ, List, true, Option, Some, None, Result, Ok, Err, is_some, refl, ap, subst, inl, inr}
+use Rattle.std.specs.Prelude.{◌⊎◌, option_map, option_and_then}
+use Rattle.std.proofs.lemmas.Option.{none-some, option_and_then_some}
+use Rattle.mls_nodes.specs.Requirements.{Requires, RequiresBy}
+use Rattle.mls_nodes.specs.declared.extension.Extension.{Extension}
+use Rattle.mls_nodes.specs.declared.leaf.LeafNode.{LeafNode}
+use Rattle.mls_nodes.specs.declared.required_capabilities.RequiredCapabilities.{RequiredCapabilities}
+use Rattle.mls_tree.specs.Tree.{Tree, leaf_at}
+use Rattle.mls_tree.specs.TreeHash.{tree_hash}
+use Rattle.mls_hash.specs.Hashing.{hash_of}
+use Rattle.mls_check.specs.Distinct.{has_distinct_keys}
+use Rattle.mls_check.specs.Members.{Members, member_fault}
+use Rattle.mls_check.specs.Signatures.{Meaning}
+use Rattle.mls_check.specs.declared.members.MemberFault.{MemberFault}
+use Rattle.mls_check.proofs.FirstFault.{members-faultless}
+use Rattle.mls_msgs.specs.declared.authenticated.AuthenticatedParts.{AuthenticatedParts}
+use Rattle.mls_msgs.specs.declared.commit.Commit.{Commit}
+use Rattle.mls_msgs.specs.declared.commit.UpdatePath.{UpdatePath}
+use Rattle.mls_msgs.specs.declared.frame.Content.{Content}
+use Rattle.mls_msgs.specs.declared.frame.Content.TheVariants as contents
+use Rattle.mls_msgs.specs.declared.frame.Sender.{Sender}
+use Rattle.mls_msgs.specs.declared.frame.Sender.TheVariants as senders
+use Rattle.mls_msgs.specs.declared.message.Message.{Message}
+use Rattle.mls_msgs.specs.declared.message.Message.TheVariants as messages
+use Rattle.mls_msgs.specs.declared.proposal.Proposal.{Proposal}
+use Rattle.mls_apply.specs.declared.item.ListItem.{ListItem}
+use Rattle.mls_apply.specs.Extensions.{brought, new_extensions}
+use Rattle.mls_apply.specs.Items.{resolved}
+use Rattle.mls_apply.specs.ListRules.{list_rules}
+use Rattle.mls_apply.specs.Outcome.{Grown, outcome}
+use Rattle.mls_apply.specs.Rules.{first_failing, renamed}
+use Rattle.mls_apply.proofs.Merging.{came_from}
+use Rattle.mls_apply.proofs.RuleLists.{AreKept, passed, passed_both, refused}
+use Rattle.mls_follow.specs.State.{State}
+use Rattle.mls_follow.specs.Transcript.{confirmed_hash, interim_hash}
+use Rattle.mls_follow.specs.Rules.{refusal_of, reference_of, inline_rules, member_rules, tree_rules, resulting, path_rules_of, outcome_rules, required_after, rules_under, items_rules, commit_rules, content_rules, leaf_rules, sender_rules, frame_rules, message_rules}
+use Rattle.mls_follow.specs.Next.{Step, after_proposal, committed, after_tree, commit_tree, extensions_after, with_extensions, after_commit, after_content, after_sender, next}
+use Rattle.mls_follow.specs.Judging.{IsAcceptable, IsNext}
+use Rattle.mls_follow.specs.Runs.{Takes}
+use Rattle.mls_follow.specs.declared.refusal.Refusal.{Refusal}
+use Rattle.mls_follow.specs.declared.taken.Taken.{Taken}
+use Rattle.mls_follow.proofs.Answering.{one_message}
+use Rattle.mls_follow.proofs.Requiring.{required_after-requires}
+
+-- the context and the tree stay
+pub record Stays (s t : State) : Type 0 where
+  pub context : t.context ≡ s.context
+  pub tree : t.tree ≡ s.tree
+
+-- a commit moves the tree: by a list and a path, and the tree after both keeps the rules under what is then required
+pub record Moves (G : Meaning) (s t : State) : Type 0 where
+  pub suite : t.context.cipher_suite ≡ s.context.cipher_suite
+  pub group_id : t.context.group_id ≡ s.context.group_id
+  pub required : RequiredCapabilities
+  pub requires : Requires t.context required
+  pub hashed : tree_hash (hash_of s.context.cipher_suite) 0 t.tree ≡ Some t.context.tree_hash
+  pub tree_kept : AreKept (tree_rules G s required (Some t.tree))
+  pub items : List ListItem
+  pub grown : Grown
+  pub made : outcome items s.tree ≡ Some grown
+  pub committer : ℕ
+  pub path : Option UpdatePath
+  pub path_kept : AreKept (path_rules_of (hash_of s.context.cipher_suite) grown committer path)
+  pub merged : resulting (hash_of s.context.cipher_suite) grown committer path ≡ Some t.tree
+
+module _ (G : Meaning) (s : State) (required : RequiredCapabilities) (requires : Requires s.context required) where
+  -- either of these
+  abbrev Leads : State → Type 0
+  Leads t = Stays s t ⊎ Moves G s t
+
+  module _ (a : AuthenticatedParts) (i : ℕ) (c : Commit) (step : Step) where
+    -- after a commit with a list that has an outcome, under what the next context requires
+    module _ (es : List Extension) (new : RequiredCapabilities) (by : RequiresBy es new) (items : List ListItem)
+        (g : Grown) (made : outcome items s.tree ≡ Some g) (kept : AreKept (outcome_rules G s new i c.path (Some g)))
+        (t : Tree) (merged : resulting (hash_of s.context.cipher_suite) g i c.path ≡ Some t) where
+      moved : (hash confirmed interim : List ℕ) → tree_hash (hash_of s.context.cipher_suite) 0 t ≡ Some hash
+          → Moves G s (committed (with_extensions s es) t hash confirmed interim).state
+      moved hash confirmed interim hashed =
+          let k = passed_both (path_rules_of (hash_of s.context.cipher_suite) g i c.path) (tree_rules G s new (resulting (hash_of s.context.cipher_suite) g i c.path)) kept in
+          record {
+            suite = refl;
+            group_id = refl;
+            required = new;
+            requires = by;
+            hashed = hashed;
+            tree_kept = subst (λ (o : Option Tree). AreKept (tree_rules G s new o)) merged k.1;
+            items = items;
+            grown = g;
+            made = made;
+            committer = i;
+            path = c.path;
+            path_kept = k.0;
+            merged = merged;
+          }
+
+      by_tree : after_tree (with_extensions s es) a t ≡ Some step → Leads step.state
+      by_tree e =
+          option_and_then_some (λ hash.
+          option_and_then (λ confirmed. option_map (committed (with_extensions s es) t hash confirmed) (interim_hash (hash_of s.context.cipher_suite) confirmed a.confirmation_tag))
+          (confirmed_hash (hash_of s.context.cipher_suite) s.interim a))
+          (tree_hash (hash_of s.context.cipher_suite) 0 t) step e
+          (λ hash f g.
+          option_and_then_some (λ confirmed. option_map (committed (with_extensions s es) t hash confirmed) (interim_hash (hash_of s.context.cipher_suite) confirmed a.confirmation_tag))
+          (confirmed_hash (hash_of s.context.cipher_suite) s.interim a) step g
+          (λ confirmed k l.
+          (let w = came_from (committed (with_extensions s es) t hash confirmed) (interim_hash (hash_of s.context.cipher_suite) confirmed a.confirmation_tag) step l in
+          subst (λ (u : Step). Leads u.state) w.2 (inr (moved hash confirmed w.0 f)))))
+
+    by_outcome : (es : List Extension) (new : RequiredCapabilities) → RequiresBy es new → (items : List ListItem)
+        → (o : Option Grown) → outcome items s.tree ≡ o → AreKept (outcome_rules G s new i c.path o) → (t : Tree)
+        → option_and_then (λ g. resulting (hash_of s.context.cipher_suite) g i c.path) o ≡ Some t
+        → after_tree (with_extensions s es) a t ≡ Some step → Leads step.state
+    by_outcome es new by items None is kept t e f = absurd (refused kept)
+    by_outcome es new by items (Some g) is kept t e f = by_tree es new by items g is kept t e f
+
+    by_terms : (items : List ListItem) (o : Option RequiredCapabilities) → required_after required (brought items) ≡ o
+        → AreKept (rules_under G s i c.path (outcome items s.tree) o) → (t : Tree)
+        → option_and_then (λ g. resulting (hash_of s.context.cipher_suite) g i c.path) (outcome items s.tree) ≡ Some t
+        → after_tree (with_extensions s (new_extensions s.context.extensions items)) a t ≡ Some step → Leads step.state
+    by_terms items None is kept t e f = absurd (refused kept)
+    by_terms items (Some new) is kept t e f =
+        by_outcome (new_extensions s.context.extensions items) new (required_after-requires s.context required items requires new is) items (outcome items s.tree) refl kept t e f
+
+    by_items : (o : Option (List ListItem)) → AreKept (items_rules G s required i c o) → (t : Tree)
+        → option_and_then (λ items. option_and_then (λ g. resulting (hash_of s.context.cipher_suite) g i c.path) (outcome items s.tree)) o ≡ Some t
+        → after_tree (with_extensions s (extensions_after s.context.extensions o)) a t ≡ Some step → Leads step.state
+    by_items None kept t e f = absurd (refused kept)
+    by_items (Some items) kept t e f =
+        let of_list = renamed refusal_of (list_rules i items (is_some c.path)) in
+        let under = rules_under G s i c.path (outcome items s.tree) (required_after required (brought items)) in
+        by_terms items (required_after required (brought items)) refl (passed_both of_list under (passed_both (inline_rules G s i c) (of_list ++ under) kept).1).1 t e f
+
+    by_commit : AreKept (commit_rules G s required i c) → after_commit s a i c ≡ Some step → Leads step.state
+    by_commit kept e =
+        option_and_then_some (after_tree (with_extensions s (extensions_after s.context.extensions (resolved i s.known c.proposals))) a) (commit_tree s i c) step e
+        (λ t f g. by_items (resolved i s.known c.proposals) (passed kept).1 t f g)
+
+  by_proposal : (i : ℕ) (p : Proposal) (o : Option (List ℕ)) (step : Step) → option_map (after_proposal s i p) o ≡ Some step → Leads step.state
+  by_proposal i p o step e =
+      let w = came_from (after_proposal s i p) o step e in
+      let still : Stays s (after_proposal s i p w.0).state = record { context = refl; tree = refl } in
+      subst (λ (u : Step). Leads u.state) w.2 (inl still)
+
+  module _ (a : AuthenticatedParts) (step : Step) where
+    by_content : (i : ℕ) (x : LeafNode) (content : Content) → AreKept (content_rules G s required a i x content) → after_content s a i content ≡ Some step → Leads step.state
+    by_content i x (contents.Application sent) kept e = absurd (refused kept)
+    by_content i x (contents.Proposal p) kept e = by_proposal i p (reference_of s.context a) step e
+    by_content i x (contents.Commit c) kept e = by_commit a i c step (passed kept).1 e
+
+    by_leaf : (i : ℕ) (o : Option LeafNode) → AreKept (leaf_rules G s required a i o) → after_content s a i a.content.content ≡ Some step → Leads step.state
+    by_leaf i None kept e = absurd (refused kept)
+    by_leaf i (Some x) kept e = by_content i x a.content.content kept e
+
+    by_sender : (sender : Sender) → AreKept (sender_rules G s required a sender) → after_sender s a sender ≡ Some step → Leads step.state
+    by_sender (senders.Member i) kept e = by_leaf i (leaf_at 0 s.tree i) kept e
+    by_sender (senders.External j) kept e = absurd (none-some step e)
+    by_sender senders.NewMemberProposal kept e = absurd (none-some step e)
+    by_sender senders.NewMemberCommit kept e = absurd (none-some step e)
+
+    by_frame : AreKept (frame_rules G s required a) → after_sender s a a.content.sender ≡ Some step → Leads step.state
+    by_frame kept e = by_sender a.content.sender (passed (passed kept).1).1 e
+
+  pub stays_or_moves : (m : Message) (step : Step) → first_failing (message_rules G s required m) ≡ None → next s m ≡ Some step
+      → Stays s step.state ⊎ Moves G s step.state
+  stays_or_moves (messages.Public p) step kept e = by_frame p.auth step (record { none = kept }) e
+  stays_or_moves (messages.Unread w b) step kept e = absurd (none-some step e)
+  stays_or_moves (messages.GroupInfo g) step kept e = absurd (none-some step e)
+  stays_or_moves (messages.KeyPackage k) step kept e = absurd (none-some step e)
+
+-- whatever is answered to some bytes
+pub taken : (G : Meaning) (s : State) (bytes : List ℕ) (answer : Result Taken Refusal) (new : State) → Takes G s bytes answer new → Stays s new ⊎ Moves G s new
+taken G s bytes (Ok t) new h =
+    let a : IsAcceptable G s bytes = h.0 in
+    let n : IsNext s bytes (record { taken = t; state = new }) = h.1 in
+    stays_or_moves G s a.required a.requires a.message (record { taken = t; state = new }) a.kept
+    (ap (next s) (one_message a.message n.message bytes a.spelled n.spelled) ∙ n.after)
+taken G s bytes (Err e) new h = inl (record { context = ap (λ (t : State). t.context) h.0; tree = ap (λ (t : State). t.tree) h.0 })
+
+-- ---- of the tree that a commit moved to
+
+no_fault : (o : Option MemberFault) → AreKept (member_rules o) → o ≡ None
+no_fault None h = refl
+no_fault (Some f) h = absurd (refused h)
+
+module _ (G : Meaning) (s t : State) (m : Moves G s t) where
+  pub moved_keys : has_distinct_keys t.tree ≡ true
+  moved_keys = (passed m.tree_kept).0
+
+  pub moved_members : Members G t.context.cipher_suite t.context.group_id m.required t.tree
+  moved_members =
+      rw (m.suite, m.group_id)
+      ((members-faultless G s.context.cipher_suite s.context.group_id m.required t.tree).1
+      (no_fault (member_fault G s.context.cipher_suite s.context.group_id m.required t.tree) (passed m.tree_kept).1))

@@ -11,7 +11,6 @@ use crate::files::Files;
 use crate::judge::{Judge, JudgeFault};
 use crate::order::{Checker, Order};
 use crate::read_judge::read_judge;
-use mls_check::SignatureCheck;
 use mls_report::{
     RunFault, ShowKind, Verdict, run_replay, run_show, run_unreadable_receipts, run_validate,
     run_validate_tree,
@@ -66,13 +65,14 @@ fn validate_tree<F: Files, K: Sink>(
     context: &FileName,
     tree: &FileName,
     files: &F,
-    checker: &dyn SignatureCheck,
+    judge: &Judge,
     out: &mut K,
 ) -> Result<Verdict, RunFault>
     requires { K.is_failed out.old ≡ false }
     ensures carried { CarriesValidateTree
         (opener (F.gives files.now) (F.lacks files.now) F.File.left F.File.is_failed)
-        (meaning checker.now) context.now tree.now (K.written out.old) (K.written out.new) result }
+        (judge_meaning judge.now) context.now tree.now
+        (K.written out.old) (K.written out.new) result }
     ensures write { (result ≡ Err RunFault.Write) ↔ (K.is_failed out.new ≡ true) }
 {
     let Some(mut context) = files.open(context.as_str()) else {
@@ -81,7 +81,7 @@ fn validate_tree<F: Files, K: Sink>(
     let Some(mut tree) = files.open(tree.as_str()) else {
         return Err(RunFault::Read);
     };
-    run_validate_tree(alloc, &mut context, &mut tree, checker, out)
+    run_validate_tree(alloc, &mut context, &mut tree, judge, out)
 }
 
 /// Opens a file that may have no name.
@@ -120,10 +120,7 @@ fn validate<F: Files, K: Sink>(
     let Some(mut tree) = open_named(tree, files) else {
         return Err(RunFault::Read);
     };
-    let Ok(checker) = Box::new(alloc, judge) else {
-        return Err(RunFault::Memory);
-    };
-    run_validate(alloc, &mut info, &mut tree, checker, out)
+    run_validate(alloc, &mut info, &mut tree, judge, out)
 }
 
 /// Follows a group from its info through a log of handshakes.
@@ -152,10 +149,7 @@ fn replay<F: Files, K: Sink>(
     let Some(mut log) = files.open(log.as_str()) else {
         return Err(RunFault::Read);
     };
-    let Ok(checker) = Box::new(alloc, judge) else {
-        return Err(RunFault::Memory);
-    };
-    run_replay(alloc, &mut info, &mut tree, &mut log, checker, out)
+    run_replay(alloc, &mut info, &mut tree, &mut log, judge, out)
 }
 
 /// Says why nobody judges signatures.

@@ -67,22 +67,23 @@ fn next_record<L: Source>(reader: &mut Records, log: &mut L) -> Result<LogStep, 
 
 /// Takes message n, and writes its line. It answers whether the message was accepted.
 #[tactic(auto, using(crate::proofs::Answered::answered))]
-fn tell_turn<K: Sink>(
+fn tell_turn<K: Sink, C: SignatureCheck>(
     alloc: Global,
     n: u32,
     body: &[u8],
-    follower: &mut Follower,
+    follower: &mut Follower<C>,
     out: &mut K,
 ) -> Result<bool, RunFault>
     requires { K.is_failed out.old ≡ false }
     ensures told { IfOk result
-        (TellsTurn (meaning (checker_of follower.old)) (state_of follower.old) n body.now
+        (TellsTurn (C.meaning (checker_of follower.old)) (state_of follower.old) n body.now
         (state_of follower.new) (K.written out.old) (K.written out.new)) }
     ensures part { IfErr result
-        (StopsAt (meaning (checker_of follower.old)) (state_of follower.old) n body.now
+        (StopsAt (C.meaning (checker_of follower.old)) (state_of follower.old) n body.now
         (K.written out.old) (K.written out.new)) }
     ensures write { (result ≡ Err RunFault.Write) ↔ (K.is_failed out.new ≡ true) }
-    ensures checker { meaning (checker_of follower.new) ≡ meaning (checker_of follower.old) }
+    ensures checker { C.meaning (checker_of follower.new)
+        ≡ C.meaning (checker_of follower.old) }
 {
     let answer = follower.take(body);
     if let Err(Refusal::OutOfMemory) = answer {
@@ -95,9 +96,9 @@ fn tell_turn<K: Sink>(
 
 /// Takes the messages of a log one by one, and writes the line of each before it reads on. It answers
 /// whether the log is broken.
-fn follow_log<L: Source, K: Sink>(
+fn follow_log<L: Source, K: Sink, C: SignatureCheck>(
     alloc: Global,
-    follower: &mut Follower,
+    follower: &mut Follower<C>,
     log: &mut L,
     tally: &mut Tally,
     out: &mut K,
@@ -106,11 +107,11 @@ fn follow_log<L: Source, K: Sink>(
     requires out { K.is_failed out.old ≡ false }
     requires none { (tally.old.accepted ≡ 0) × (tally.old.refused ≡ 0) }
     ensures followed { IfOk result
-        (FollowsLog (meaning (checker_of follower.old)) (state_of follower.old)
+        (FollowsLog (C.meaning (checker_of follower.old)) (state_of follower.old)
         (L.left log.old) (L.left log.new) (K.written out.old) (K.written out.new)
         (state_of follower.new) tally.new.accepted tally.new.refused) }
     ensures part { IfErr result
-        (TellsPart (meaning (checker_of follower.old)) (state_of follower.old)
+        (TellsPart (C.meaning (checker_of follower.old)) (state_of follower.old)
         (L.left log.old) (L.left log.new) (K.written out.old) (K.written out.new)) }
     ensures read { (result ≡ Err RunFault.Read) ↔ (L.is_failed log.new ≡ true) }
     ensures write { (result ≡ Err RunFault.Write) ↔ (K.is_failed out.new ≡ true) }
@@ -145,19 +146,19 @@ fn verdict_of(is_broken: bool, refused: u32) -> Verdict
 }
 
 /// Writes the report of a log, of which nothing was read.
-fn tell_log<L: Source, K: Sink>(
+fn tell_log<L: Source, K: Sink, C: SignatureCheck>(
     alloc: Global,
-    follower: &mut Follower,
+    follower: &mut Follower<C>,
     log: &mut L,
     out: &mut K,
 ) -> Result<Verdict, RunFault>
     requires log { L.is_failed log.old ≡ false }
     requires out { K.is_failed out.old ≡ false }
     ensures told { IfOk result
-        (TellsLog (meaning (checker_of follower.old)) (state_of follower.old)
+        (TellsLog (C.meaning (checker_of follower.old)) (state_of follower.old)
         (L.left log.old) (L.left log.new) (K.written out.old) (K.written out.new)) }
     ensures part { IfErr result
-        (TellsPart (meaning (checker_of follower.old)) (state_of follower.old)
+        (TellsPart (C.meaning (checker_of follower.old)) (state_of follower.old)
         (L.left log.old) (L.left log.new) (K.written out.old) (K.written out.new)) }
     ensures read { (result ≡ Err RunFault.Read) ↔ (L.is_failed log.new ≡ true) }
     ensures write { (result ≡ Err RunFault.Write) ↔ (K.is_failed out.new ≡ true) }
@@ -175,21 +176,21 @@ fn tell_log<L: Source, K: Sink>(
 }
 
 /// Starts a follower, and writes the report of a log.
-fn replay_from<L: Source, K: Sink>(
+fn replay_from<L: Source, K: Sink, C: SignatureCheck>(
     alloc: Global,
     info: GroupInfo,
     tree: Option<PublicTree>,
     log: &mut L,
-    checker: Box<dyn SignatureCheck>,
+    checker: C,
     out: &mut K,
 ) -> Result<Verdict, RunFault>
     requires log { L.is_failed log.old ≡ false }
     requires out { K.is_failed out.old ≡ false }
     ensures told { IfOk result
-        (ReplaysStart (meaning checker) info (option_map plain tree)
+        (ReplaysStart (C.meaning checker) info (option_map plain tree)
         (L.left log.old) (L.left log.new) (K.written out.old) (K.written out.new)) }
     ensures part { IfErr result
-        (ReplaysStartPart (meaning checker) info (option_map plain tree)
+        (ReplaysStartPart (C.meaning checker) info (option_map plain tree)
         (L.left log.old) (L.left log.new) (K.written out.old) (K.written out.new)) }
     ensures read { (result ≡ Err RunFault.Read) ↔ (L.is_failed log.new ≡ true) }
     ensures write { (result ≡ Err RunFault.Write) ↔ (K.is_failed out.new ≡ true) }
@@ -226,12 +227,12 @@ fn replay_from<L: Source, K: Sink>(
 /// `Read` comes where an input fails: then just the messages are told that were read whole. `Write` comes
 /// where the output does: then nothing was read behind the message in whose line it failed. `Memory` comes
 /// where there is not enough: then each message is told that was read, but the one at which it ran out.
-pub fn run_replay<I: Source, T: Source, L: Source, K: Sink>(
+pub fn run_replay<I: Source, T: Source, L: Source, K: Sink, C: SignatureCheck>(
     alloc: Global,
     info: &mut I,
     tree: &mut Option<T>,
     log: &mut L,
-    checker: Box<dyn SignatureCheck>,
+    checker: C,
     out: &mut K,
 ) -> Result<Verdict, RunFault>
     requires info { I.is_failed info.old ≡ false }
@@ -239,11 +240,11 @@ pub fn run_replay<I: Source, T: Source, L: Source, K: Sink>(
     requires log { L.is_failed log.old ≡ false }
     requires out { K.is_failed out.old ≡ false }
     ensures replayed { IfOk result
-        (Replays (meaning checker) (I.left info.old) (I.left info.new)
+        (Replays (C.meaning checker) (I.left info.old) (I.left info.new)
         (option_map T.left tree.old) (option_map T.left tree.new)
         (L.left log.old) (L.left log.new) (K.written out.old) (K.written out.new)) }
     ensures part { IfErr result
-        (ReplaysPart (meaning checker) (I.left info.old) (I.left info.new)
+        (ReplaysPart (C.meaning checker) (I.left info.old) (I.left info.new)
         (option_map T.left tree.old) (option_map T.left tree.new)
         (L.left log.old) (L.left log.new) (K.written out.old) (K.written out.new)) }
     ensures read { (result ≡ Err RunFault.Read)

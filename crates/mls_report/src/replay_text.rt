@@ -8,6 +8,7 @@ ghost use Rattle.mls_report.specs.Texts.{hex_text};
 
 use crate::fault_text::member_number;
 use crate::text::hex_of;
+use mls_check::SignatureCheck;
 use mls_follow::{Follower, Refusal, Taken};
 use mls_nodes::GroupContext;
 use mls_tree::HashValue;
@@ -60,10 +61,10 @@ fn commit_text(alloc: Global, epoch: u64, context: &GroupContext) -> Result<Stri
 }
 
 /// What is told of an answer.
-fn answer_text(
+fn answer_text<C: SignatureCheck>(
     alloc: Global,
     answer: &Result<Taken, Refusal>,
-    follower: &Follower,
+    follower: &Follower<C>,
 ) -> Result<String, AllocError>
     ensures { IfOk result
         (λ text. string_bytes text ≡ lines.answer_text answer.now (state_of follower.now)) }
@@ -76,11 +77,11 @@ fn answer_text(
 }
 
 /// The line of message n.
-pub(crate) fn turn_line(
+pub(crate) fn turn_line<C: SignatureCheck>(
     alloc: Global,
     n: u32,
     answer: &Result<Taken, Refusal>,
-    follower: &Follower,
+    follower: &Follower<C>,
 ) -> Result<String, AllocError>
     ensures { IfOk result
         (λ text. string_bytes text

@@ -16,7 +16,7 @@ use mls_wire::{Sink, Source};
 use std::alloc::Global;
 
 /// What is told of a follower that has just started.
-fn started(follower: &Follower) -> Started
+fn started<C: SignatureCheck>(follower: &Follower<C>) -> Started
     requires { length (state_of follower.now).context.tree_hash ≤ 64 }
     ensures { result ≡ started_of (state_of follower.now) }
 {
@@ -29,14 +29,14 @@ fn started(follower: &Follower) -> Started
 
 /// What is found of a group info and a tree that can be read.
 #[tactic(auto, using(crate::proofs::Hashes::length_started))]
-fn judge_inputs(
+fn judge_inputs<C: SignatureCheck>(
     alloc: Global,
     inputs: Inputs,
-    checker: Box<dyn SignatureCheck>,
+    checker: C,
 ) -> Result<Finding, RunFault>
     ensures found { (info_bytes : List ℕ) (tree_bytes : Option (List ℕ))
         → IsReadAs info_bytes tree_bytes inputs.info (option_map plain inputs.tree)
-        → IfOk result (IsStartFinding (meaning checker) info_bytes tree_bytes) }
+        → IfOk result (IsStartFinding (C.meaning checker) info_bytes tree_bytes) }
     ensures memory { IfErr result (λ e. e ≡ RunFault.Memory) }
 {
     match Follower::start(alloc, inputs.info, inputs.tree, checker) {
@@ -54,14 +54,14 @@ fn judge_inputs(
 }
 
 /// What is found of the bytes of a group info, and of a tree where one is handed in.
-fn judge_bytes(
+fn judge_bytes<C: SignatureCheck>(
     alloc: Global,
     info_bytes: Vec<u8>,
     tree_bytes: Option<Vec<u8>>,
-    checker: Box<dyn SignatureCheck>,
+    checker: C,
 ) -> Result<Finding, RunFault>
     ensures found { IfOk result
-        (IsStartFinding (meaning checker) info_bytes.items
+        (IsStartFinding (C.meaning checker) info_bytes.items
         (option_map (λ v. v.items) tree_bytes)) }
     ensures memory { IfErr result (λ e. e ≡ RunFault.Memory) }
 {
@@ -79,22 +79,22 @@ fn judge_bytes(
 ///
 /// `Read` comes where an input fails, and `Write` where the output does; then a prefix of the report may
 /// be written already. Want of memory comes before anything is written.
-pub fn run_validate<I: Source, T: Source, K: Sink>(
+pub fn run_validate<I: Source, T: Source, K: Sink, C: SignatureCheck>(
     alloc: Global,
     info: &mut I,
     tree: &mut Option<T>,
-    checker: Box<dyn SignatureCheck>,
+    checker: C,
     out: &mut K,
 ) -> Result<Verdict, RunFault>
     requires info { I.is_failed info.old ≡ false }
     requires tree { has_failed (option_map T.is_failed tree.old) ≡ false }
     requires out { K.is_failed out.old ≡ false }
     ensures validated { IfOk result
-        (Validates (meaning checker) (I.left info.old) (I.left info.new)
+        (Validates (C.meaning checker) (I.left info.old) (I.left info.new)
         (option_map T.left tree.old) (option_map T.left tree.new)
         (K.written out.old) (K.written out.new)) }
     ensures part { OnErr result
-        (ValidatesPart (meaning checker) (I.left info.old) (I.left info.new)
+        (ValidatesPart (C.meaning checker) (I.left info.old) (I.left info.new)
         (option_map T.left tree.old) (option_map T.left tree.new)
         (K.written out.old) (K.written out.new)) }
     ensures memory { result ≡ Err RunFault.Memory

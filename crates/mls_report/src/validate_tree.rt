@@ -19,17 +19,17 @@ use std::alloc::Global;
 
 /// What is found of a valid tree.
 #[tactic(auto, using(crate::proofs::Hashes::length_valid))]
-fn judge_members(
+fn judge_members<C: SignatureCheck>(
     alloc: Global,
     context: &GroupContext,
     required: &RequiredCapabilities,
     tree: &PublicTree,
-    checker: &dyn SignatureCheck,
+    checker: &C,
 ) -> Result<Finding, RunFault>
     requires { Valid (hash_of context.now.cipher_suite) context.now.tree_hash tree.now.tree }
     ensures found { (context_bytes tree_bytes : List ℕ)
         → HasValidTree context_bytes tree_bytes context.now (plain tree.now) required.now
-        → IfOk result (IsTreeFinding (meaning checker.now) context_bytes tree_bytes) }
+        → IfOk result (IsTreeFinding (C.meaning checker.now) context_bytes tree_bytes) }
     ensures memory { IfErr result (λ e. e ≡ RunFault.Memory) }
 {
     let suite = context.cipher_suite;
@@ -41,18 +41,18 @@ fn judge_members(
 }
 
 /// What is found of a tree, where the group's requirements can be read.
-fn judge_tree(
+fn judge_tree<C: SignatureCheck>(
     alloc: Global,
     suite: Suite,
     context: &GroupContext,
     required: &RequiredCapabilities,
     tree: &PublicTree,
-    checker: &dyn SignatureCheck,
+    checker: &C,
 ) -> Result<Finding, RunFault>
     requires { suite ≡ context.now.cipher_suite }
     ensures found { (context_bytes tree_bytes : List ℕ)
         → IsReadable context_bytes tree_bytes context.now (plain tree.now) required.now
-        → IfOk result (IsTreeFinding (meaning checker.now) context_bytes tree_bytes) }
+        → IfOk result (IsTreeFinding (C.meaning checker.now) context_bytes tree_bytes) }
     ensures memory { IfErr result (λ e. e ≡ RunFault.Memory) }
 {
     match validate_tree(alloc, suite, context, tree) {
@@ -63,17 +63,17 @@ fn judge_tree(
 }
 
 /// What is found of a context, where the tree can be read.
-fn judge_required(
+fn judge_required<C: SignatureCheck>(
     alloc: Global,
     suite: Suite,
     context: &GroupContext,
     tree: &PublicTree,
-    checker: &dyn SignatureCheck,
+    checker: &C,
 ) -> Result<Finding, RunFault>
     requires { suite ≡ context.now.cipher_suite }
     ensures found { (context_bytes tree_bytes : List ℕ)
         → HasTree context_bytes tree_bytes context.now (plain tree.now)
-        → IfOk result (IsTreeFinding (meaning checker.now) context_bytes tree_bytes) }
+        → IfOk result (IsTreeFinding (C.meaning checker.now) context_bytes tree_bytes) }
     ensures memory { IfErr result (λ e. e ≡ RunFault.Memory) }
 {
     match requirements(alloc, context) {
@@ -84,16 +84,16 @@ fn judge_required(
 }
 
 /// What is found of the bytes of a tree, for a context that is followed. They are dropped once the tree is read.
-fn judge_tree_bytes(
+fn judge_tree_bytes<C: SignatureCheck>(
     alloc: Global,
     suite: Suite,
     context: &GroupContext,
     tree_bytes: Vec<u8>,
-    checker: &dyn SignatureCheck,
+    checker: &C,
 ) -> Result<Finding, RunFault>
     requires { suite ≡ context.now.cipher_suite }
     ensures found { (context_bytes : List ℕ) → IsUsable context_bytes context.now
-        → IfOk result (IsTreeFinding (meaning checker.now) context_bytes tree_bytes.items) }
+        → IfOk result (IsTreeFinding (C.meaning checker.now) context_bytes tree_bytes.items) }
     ensures memory { IfErr result (λ e. e ≡ RunFault.Memory) }
 {
     let tree = PublicTree::decode(alloc, tree_bytes.as_slice());
@@ -106,14 +106,14 @@ fn judge_tree_bytes(
 }
 
 /// What is found of a context, and of the bytes of a tree.
-fn judge_context(
+fn judge_context<C: SignatureCheck>(
     alloc: Global,
     context: &GroupContext,
     tree_bytes: Vec<u8>,
-    checker: &dyn SignatureCheck,
+    checker: &C,
 ) -> Result<Finding, RunFault>
     ensures found { (context_bytes : List ℕ) → IsContext context_bytes context.now
-        → IfOk result (IsTreeFinding (meaning checker.now) context_bytes tree_bytes.items) }
+        → IfOk result (IsTreeFinding (C.meaning checker.now) context_bytes tree_bytes.items) }
     ensures memory { IfErr result (λ e. e ≡ RunFault.Memory) }
 {
     if context.version != 1 {
@@ -126,14 +126,14 @@ fn judge_context(
 }
 
 /// What is found of the bytes of a context and of a tree.
-fn judge_bytes(
+fn judge_bytes<C: SignatureCheck>(
     alloc: Global,
     context_bytes: &[u8],
     tree_bytes: Vec<u8>,
-    checker: &dyn SignatureCheck,
+    checker: &C,
 ) -> Result<Finding, RunFault>
     ensures found { IfOk result
-        (IsTreeFinding (meaning checker.now) context_bytes.now tree_bytes.items) }
+        (IsTreeFinding (C.meaning checker.now) context_bytes.now tree_bytes.items) }
     ensures memory { IfErr result (λ e. e ≡ RunFault.Memory) }
 {
     match decode_context(alloc, context_bytes) {
@@ -151,26 +151,26 @@ fn judge_bytes(
 ///
 /// `Read` comes where an input fails, and `Write` where the output does; then a prefix of the report may
 /// be written already. Want of memory comes before anything is written.
-pub fn run_validate_tree<C: Source, T: Source, K: Sink>(
+pub fn run_validate_tree<I: Source, T: Source, K: Sink, C: SignatureCheck>(
     alloc: Global,
-    context: &mut C,
+    context: &mut I,
     tree: &mut T,
-    checker: &dyn SignatureCheck,
+    checker: &C,
     out: &mut K,
 ) -> Result<Verdict, RunFault>
-    requires context { C.is_failed context.old ≡ false }
+    requires context { I.is_failed context.old ≡ false }
     requires tree { T.is_failed tree.old ≡ false }
     requires out { K.is_failed out.old ≡ false }
     ensures validated { IfOk result
-        (ValidatesTree (meaning checker.now) (C.left context.old) (C.left context.new)
+        (ValidatesTree (C.meaning checker.now) (I.left context.old) (I.left context.new)
         (T.left tree.old) (T.left tree.new) (K.written out.old) (K.written out.new)) }
     ensures part { OnErr result
-        (ValidatesTreePart (meaning checker.now) (C.left context.old) (C.left context.new)
+        (ValidatesTreePart (C.meaning checker.now) (I.left context.old) (I.left context.new)
         (T.left tree.old) (T.left tree.new) (K.written out.old) (K.written out.new)) }
     ensures memory { result ≡ Err RunFault.Memory
         → Appends (K.written out.old) (K.written out.new) [] }
     ensures read { (result ≡ Err RunFault.Read)
-        ↔ ((C.is_failed context.new ≡ true) ⊎ (T.is_failed tree.new ≡ true)) }
+        ↔ ((I.is_failed context.new ≡ true) ⊎ (T.is_failed tree.new ≡ true)) }
     ensures write { (result ≡ Err RunFault.Write) ↔ (K.is_failed out.new ≡ true) }
 {
     let context_bytes = read_all(alloc, context)?;

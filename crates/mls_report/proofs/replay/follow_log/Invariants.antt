@@ -1,5 +1,5 @@
 use Rattle.std.proofs.Common.{◌≡◌, ◌+◌, List, length, false}
-use Rattle.mls_follow.specs.Seen.{state_of}
+use Rattle.mls_follow.specs.Seen.{checker_of, state_of}
 use Rattle.mls_report.specs.Replay.{Turn, accepted_count, message_limit}
 use Rattle.mls_report.proofs.Replaying.{SoFar}
 use Rattle.mls_report.proofs.replay.follow_log.Given as goal
@@ -7,11 +7,9 @@ use Rattle.mls_report.proofs.replay.follow_log.Given as goal
 -- the messages so far were taken and told
 abbrev pub invariant-messages : goal.invariant-messages
 invariant-messages g l =
-    let old = l.fn.follower.checker in
-    let now = l.follower.checker in
-    let G = (goal.SignatureCheck-dyn g (old.vtable, old.value)).meaning old.value in
+    let G = g.C.SignatureCheck.meaning (checker_of l.fn.follower) in
     ((ts : List Turn)
     × SoFar G (state_of l.fn.follower) (g.L.Source.left l.fn.log) (g.L.Source.left l.log) (g.K.Sink.written l.fn.out) (g.K.Sink.written l.out) ts (state_of l.follower)
     × (l.n ≡ 1 + length ts) × (l.reader.most + length ts ≡ message_limit) × (l.tally.accepted ≡ accepted_count ts) × (l.tally.accepted + l.tally.refused ≡ length ts))
-    × ((goal.SignatureCheck-dyn g (now.vtable, now.value)).meaning now.value ≡ G)
+    × (g.C.SignatureCheck.meaning (checker_of l.follower) ≡ G)
     × (l.reader.is_over ≡ false) × (g.L.Source.is_failed l.log ≡ false) × (g.K.Sink.is_failed l.out ≡ false)

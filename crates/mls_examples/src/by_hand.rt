@@ -1,10 +1,9 @@
 //! What tests put together by hand from its parts, as hexadecimal text: commits and update paths (RFC 9420, 7.6 and
-//! 12.4), the group's infos and trees, and hashes, which SHA-256 itself makes and nothing of these libraries (7.8 and
-//! 7.9). The members and the group are those of `crate::support`.
+//! 12.4), the group's infos and trees, and hashes, which SHA-256 itself makes and nothing of these libraries. The members and the group are those of `crate::support`.
 
 use crate::follower::{Story, follow, sent};
 use crate::support::{
-    FIRST_HASH, GROUP_INFO, TREE, bytes, committed_leaf, key_package, list_text, text,
+    FIRST_HASH, GROUP_INFO, TREE, bytes, committed_leaf, key_package, leaf_with, list_text, text,
 };
 use mls_nodes::{Node, decode_ratchet_tree};
 use sha2::{Digest, Sha256};
@@ -41,6 +40,24 @@ pub(crate) fn commit_of(
 pub(crate) fn path_of(alloc: Global, leaf: &str, nodes: &str) -> Result<String, Fail> {
     let nodes = vector(alloc, nodes)?;
     Ok(format!(in alloc; "01{leaf}{nodes}")?)
+}
+
+/// The path of member 0's commit, if it has one: the first digit of its leaf's key, the leaf's source, and its nodes.
+pub(crate) type Path<'a> = Option<(&'a str, &'a str, &'a str)>;
+
+/// Member 0's commit of a list.
+pub(crate) fn member_commit(
+    alloc: Global,
+    epoch: u64,
+    list: &str,
+    path: Path,
+) -> Result<String, Fail> {
+    let Some((digit, source, nodes)) = path else {
+        return commit_of(alloc, epoch, 0, list, "00");
+    };
+    let leaf = leaf_with(alloc, 0, digit, source)?;
+    let path = path_of(alloc, leaf.as_str(), nodes)?;
+    commit_of(alloc, epoch, 0, list, path.as_str())
 }
 
 /// The Adds of these members, as a commit has them in its list.
@@ -167,33 +184,4 @@ pub(crate) fn end_of(alloc: Global, story: Story) -> Result<String, Fail> {
 pub(crate) fn hashed(alloc: Global, input: &str) -> Result<String, Fail> {
     let input = bytes(alloc, input)?;
     text(alloc, &Sha256::digest(input.as_slice()))
-}
-
-/// The tree hash of a leaf that is set.
-pub(crate) fn leaf_hash(alloc: Global, index: u32, leaf: &str) -> Result<String, Fail> {
-    let input = format!(in alloc; "01{index:08x}01{leaf}")?;
-    hashed(alloc, input.as_str())
-}
-
-/// The tree hash of a parent, by what is written of it, `00` for a blank one, and the tree hashes of its children.
-pub(crate) fn tree_hash_of(
-    alloc: Global,
-    parent: &str,
-    left: &str,
-    right: &str,
-) -> Result<String, Fail> {
-    let input = format!(in alloc; "02{parent}20{left}20{right}")?;
-    hashed(alloc, input.as_str())
-}
-
-/// The parent hash of a parent with a key of one byte, by its own parent hash as a vector and the tree hash of its
-/// child on the copath.
-pub(crate) fn parent_hash_of(
-    alloc: Global,
-    key: &str,
-    above: &str,
-    copath: &str,
-) -> Result<String, Fail> {
-    let input = format!(in alloc; "01{key}{above}20{copath}")?;
-    hashed(alloc, input.as_str())
 }

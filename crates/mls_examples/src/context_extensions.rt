@@ -7,7 +7,7 @@
 use crate::by_hand::{commit_of, path_of};
 use crate::follower::{Story, follow, last_answer, proposed};
 use crate::support::{
-    COMMIT, GROUP_INFO, PROPOSAL, bytes, expect_answers, expect_texts, text, tree_of, tree_text,
+    COMMIT, GROUP_INFO, PROPOSAL, bytes, expect_answer, expect_text, text, tree_of, tree_text,
 };
 use mls_apply::{Applied, ApplyFault, ListItem, apply_list, check_list, new_extensions};
 use mls_msgs::{decode_proposal, encode_proposal};
@@ -27,12 +27,6 @@ const REQUIRE_NOTHING: &str = "000700";
 
 /// The proposal of an extension of type 3 whose data spells no requirements.
 const UNREADABLE: &str = "00070400030100";
-
-/// The reference of [`REQUIRE_1`] as member 1's proposal in epoch 1.
-const REFERENCE_1: &str = "fa156cbcacd28d9650402827d6e6eb29adf305ab5b0ddf9205cfa62d54c57fab";
-
-/// The reference of [`REQUIRE_2`] as such.
-const REFERENCE_2: &str = "fe79ed84a8fd25ac3dda5551c97d33ea48c080362d4792d901df84b5f8258e2a";
 
 /// The leaf of member 0's commit beside member 1: its parent hash is that of node 1, with key `d1` and none above it,
 /// the SHA-256 of `01d10020` and the hash of member 1's leaf.
@@ -65,6 +59,7 @@ fn copied(alloc: Global, input: &[u8]) -> Result<Vec<u8>, CodecFault> {
 
 #[test]
 fn proposals_are_read_and_written(rt: HostRuntime) -> Result<(), Fail> {
+    let alloc = rt.alloc();
     const PROPOSALS: &[(&str, &str)] = &[
         (REQUIRE_1, REQUIRE_1),
         (REQUIRE_NOTHING, REQUIRE_NOTHING),
@@ -73,7 +68,12 @@ fn proposals_are_read_and_written(rt: HostRuntime) -> Result<(), Fail> {
         ("000703000301", "Truncated at 5"),
         ("00070000", "Trailing at 3"),
     ];
-    expect_answers(&rt, rt.alloc(), copied, PROPOSALS)
+    for (input, wanted) in PROPOSALS {
+        let input = bytes(alloc, input)?;
+        let answer = copied(alloc, input.as_slice());
+        expect_answer(&rt, alloc, answer, wanted)?;
+    }
+    Ok(())
 }
 
 /// What a list of extensions requires, written, or why that can't be read.
@@ -86,12 +86,18 @@ fn required_by(alloc: Global, input: &[u8]) -> Result<Vec<u8>, CodecFault> {
 
 #[test]
 fn extensions_require(rt: HostRuntime) -> Result<(), Fail> {
+    let alloc = rt.alloc();
     const EXTENSIONS: &[(&str, &str)] = &[
         ("00", "000000"),
         ("080003050000020001", "0000020001"),
         ("0400030100", "Truncated at 1"),
     ];
-    expect_answers(&rt, rt.alloc(), required_by, EXTENSIONS)
+    for (input, wanted) in EXTENSIONS {
+        let input = bytes(alloc, input)?;
+        let answer = required_by(alloc, input.as_slice());
+        expect_answer(&rt, alloc, answer, wanted)?;
+    }
+    Ok(())
 }
 
 /// The list of these proposals, as member 0's.
@@ -107,25 +113,10 @@ fn list_of(alloc: Global, proposals: &[&str]) -> Result<Vec<ListItem>, Fail> {
     Ok(list)
 }
 
-/// The extensions after a list, of a context that has the types 3 and 1.
-fn extensions_after(alloc: Global, proposals: &[&str]) -> Result<String, Fail> {
-    let context = bytes(
-        alloc,
-        "000100010147000000000000000701aa000b000303000000000102abcd",
-    )?;
-    let context = decode_context(alloc, context.as_slice())?;
-    let list = list_of(alloc, proposals)?;
-    let extensions = new_extensions(alloc, &context, list.as_slice());
-    drop(context);
-    drop(list);
-    let mut writer = Writer::new(alloc);
-    write_extensions(alloc, &extensions?, &mut writer)?;
-    text(alloc, writer.bytes())
-}
-
 /// Those of the first proposal that brings some, and else those that stand.
 #[test]
 fn extensions_are_brought(rt: HostRuntime) -> Result<(), Fail> {
+    let alloc = rt.alloc();
     const LISTS: &[(&[&str], &str)] = &[
         (&[], "0b000303000000000102abcd"),
         (&["000300000001"], "0b000303000000000102abcd"),
@@ -135,23 +126,29 @@ fn extensions_are_brought(rt: HostRuntime) -> Result<(), Fail> {
         ),
         (&[REQUIRE_NOTHING], "00"),
     ];
-    expect_texts(&rt, rt.alloc(), extensions_after, LISTS)
-}
-
-/// Why a list of member 0's commit is refused, with a path or without, or `none`.
-fn list_fault(alloc: Global, list: (&[&str], bool)) -> Result<String, Fail> {
-    let (proposals, has_path) = list;
-    let list = list_of(alloc, proposals)?;
-    let fault = check_list(alloc, 0, list.as_slice(), has_path).err();
-    drop(list);
-    match fault {
-        None => Ok(String::from_str(alloc, "none")?),
-        Some(fault) => Ok(format!(in alloc; "{fault:?}")?),
+    // The extensions after a list, of a context that has the types 3 and 1.
+    for (proposals, wanted) in LISTS {
+        let proposals = *proposals;
+        let context = bytes(
+            alloc,
+            "000100010147000000000000000701aa000b000303000000000102abcd",
+        )?;
+        let context = decode_context(alloc, context.as_slice())?;
+        let list = list_of(alloc, proposals)?;
+        let extensions = new_extensions(alloc, &context, list.as_slice());
+        drop(context);
+        drop(list);
+        let mut writer = Writer::new(alloc);
+        write_extensions(alloc, &extensions?, &mut writer)?;
+        let found = text(alloc, writer.bytes())?;
+        expect_text(&rt, found, wanted);
     }
+    Ok(())
 }
 
 #[test]
 fn lists_bring_extensions_once_and_with_a_path(rt: HostRuntime) -> Result<(), Fail> {
+    let alloc = rt.alloc();
     const LISTS: &[((&[&str], bool), &str)] = &[
         ((&[REQUIRE_1], true), "none"),
         ((&[REQUIRE_1], false), "PathMissing"),
@@ -168,78 +165,106 @@ fn lists_bring_extensions_once_and_with_a_path(rt: HostRuntime) -> Result<(), Fa
             "SameLeafTwice",
         ),
     ];
-    expect_texts(&rt, rt.alloc(), list_fault, LISTS)
-}
-
-/// The tree of members 0 and 1 after a list, as it is written, and the leaves that were added.
-fn tree_after(alloc: Global, proposals: &[&str]) -> Result<String, Fail> {
-    let tree = tree_of(alloc, 2, &[0, 1])?;
-    let list = list_of(alloc, proposals)?;
-    let answer: Result<Applied, ApplyFault> = apply_list(alloc, &tree, list.as_slice());
-    drop(tree);
-    drop(list);
-    let applied = answer?;
-    let found = tree_text(alloc, &applied.tree);
-    let added = applied.added.as_slice().len();
-    drop(applied);
-    Ok(format!(in alloc; "{} {added}", found?)?)
+    // Why a list of member 0's commit is refused, with a path or without, or `none`.
+    for (list, wanted) in LISTS {
+        let list = *list;
+        let (proposals, has_path) = list;
+        let list = list_of(alloc, proposals)?;
+        let fault = check_list(alloc, 0, list.as_slice(), has_path).err();
+        drop(list);
+        let found = match fault {
+            None => String::from_str(alloc, "none")?,
+            Some(fault) => format!(in alloc; "{fault:?}")?,
+        };
+        expect_text(&rt, found, wanted);
+    }
+    Ok(())
 }
 
 #[test]
 fn extensions_change_no_tree(rt: HostRuntime) -> Result<(), Fail> {
+    let alloc = rt.alloc();
     const SAME: &str =
         "4053010101a001b0000101400200010200010000020001010000000000000000ffffffffffffffff0001c000\
         010101a101b1000101410200010200010000020001010000000000000000ffffffffffffffff0001c1 0";
     const LISTS: &[(&[&str], &str)] = &[(&[], SAME), (&[REQUIRE_1], SAME)];
-    expect_texts(&rt, rt.alloc(), tree_after, LISTS)
+    // The tree of members 0 and 1 after a list, as it is written, and the leaves that were added.
+    for (proposals, wanted) in LISTS {
+        let proposals = *proposals;
+        let tree = tree_of(alloc, 2, &[0, 1])?;
+        let list = list_of(alloc, proposals)?;
+        let answer: Result<Applied, ApplyFault> = apply_list(alloc, &tree, list.as_slice());
+        drop(tree);
+        drop(list);
+        let applied = answer?;
+        let found = tree_text(alloc, &applied.tree);
+        let added = applied.added.as_slice().len();
+        drop(applied);
+        let found = format!(in alloc; "{} {added}", found?)?;
+        expect_text(&rt, found, wanted);
+    }
+    Ok(())
 }
 
 // ---- commits
 
-/// The answers to member 1's proposal and to member 0's commits of it, by its reference, without a path and with one;
-/// and the state after them.
-fn by_reference(alloc: Global, parts: (&str, &str)) -> Result<String, Fail> {
-    let (proposal, reference) = parts;
-    let proposal = proposed(alloc, 1, 1, proposal)?;
-    let list = format!(in alloc; "0220{reference}")?;
-    let pathless = commit_of(alloc, 1, 0, list.as_str(), "00")?;
-    let path = path_of(alloc, LEAF, NODE)?;
-    let commit = commit_of(alloc, 1, 0, list.as_str(), path.as_str())?;
-    let messages = [
-        PROPOSAL,
-        COMMIT,
-        proposal.as_str(),
-        pathless.as_str(),
-        commit.as_str(),
-    ];
-    let Story { answers, state, .. } = follow(alloc, None, GROUP_INFO, &messages)?;
-    Ok(format!(in alloc; "{answers}{state}")?)
-}
-
 /// What the members have is asked for, and taken; what they don't have is refused at the commit, which changes nothing.
 #[test]
 fn a_proposal_is_committed_by_its_reference(rt: HostRuntime) -> Result<(), Fail> {
-    const TAKEN: &str =
-        "proposal 419afc0a88fe171b793b00410d11c8121fb96fdfde7b5ced43d5912144a3a9f9; commit 1; \
+    let alloc = rt.alloc();
+    const ROWS: &[((&str, &str), &str)] = &[
+        // Taken.
+        // The reference of [`REQUIRE_1`] as member 1's proposal in epoch 1.
+        (
+            (
+                REQUIRE_1,
+                "fa156cbcacd28d9650402827d6e6eb29adf305ab5b0ddf9205cfa62d54c57fab",
+            ),
+            "proposal 419afc0a88fe171b793b00410d11c8121fb96fdfde7b5ced43d5912144a3a9f9; commit 1; \
         proposal fa156cbcacd28d9650402827d6e6eb29adf305ab5b0ddf9205cfa62d54c57fab; 17 PathMissing; commit 2; \
         00010001014700000000000000022015c2f791f8f44379601359b0a8c0eb8c9bb0e98c3e3ada46f6526c016b444c56207e0415\
         2eb48e0f1f0a8dc4667ad2849f4cdc0fbf5ba4f6249efd97293eb9fe7f080003050000020001 40690101018001b0000101400\
         20001020001000002000103207e534e72295b2ed4520a7628873779052cbc9788fb7a2927ad4234fd783969900001c0010201d\
         10000010101a101b1000101410200010200010000020001010000000000000000ffffffffffffffff0001c1 9aa61165fcbc42\
-        9d9d07110b2cbb92fd91ab104b49b44d6b518a5bd694c0fdbc -";
-    const REFUSED: &str =
-        "proposal 419afc0a88fe171b793b00410d11c8121fb96fdfde7b5ced43d5912144a3a9f9; commit 1; \
+        9d9d07110b2cbb92fd91ab104b49b44d6b518a5bd694c0fdbc -",
+        ),
+        // Refused.
+        // The reference of [`REQUIRE_2`] as such.
+        (
+            (
+                REQUIRE_2,
+                "fe79ed84a8fd25ac3dda5551c97d33ea48c080362d4792d901df84b5f8258e2a",
+            ),
+            "proposal 419afc0a88fe171b793b00410d11c8121fb96fdfde7b5ced43d5912144a3a9f9; commit 1; \
         proposal fe79ed84a8fd25ac3dda5551c97d33ea48c080362d4792d901df84b5f8258e2a; 17 PathMissing; \
         25 Member(RequirementUnmet(0)); 0001000101470000000000000001203dd545ada09b9e9be453de8b5c20702e810685ec\
         a3710882583a67d8a3eddd8b203b3fe4cf185f12883575d4bc9a402561feafe917dc05379ecd9f3f0abe6607e500 405301010\
         1a001b0000101400200010200010000020001010000000000000000ffffffffffffffff0001c000010101a101b100010141020\
         0010200010000020001010000000000000000ffffffffffffffff0001c1 b88836177897aa5df5354114a8055a4346e8832a90\
-        fb063a197226ffacae36cf fe79ed84a8fd25ac3dda5551c97d33ea48c080362d4792d901df84b5f8258e2a of 1;";
-    const ROWS: &[((&str, &str), &str)] = &[
-        ((REQUIRE_1, REFERENCE_1), TAKEN),
-        ((REQUIRE_2, REFERENCE_2), REFUSED),
+        fb063a197226ffacae36cf fe79ed84a8fd25ac3dda5551c97d33ea48c080362d4792d901df84b5f8258e2a of 1;",
+        ),
     ];
-    expect_texts(&rt, rt.alloc(), by_reference, ROWS)
+    // The answers to member 1's proposal and to member 0's commits of it, by its reference, without a path and with one;
+    // and the state after them.
+    for (parts, wanted) in ROWS {
+        let (proposal, reference) = *parts;
+        let proposal = proposed(alloc, 1, 1, proposal)?;
+        let list = format!(in alloc; "0220{reference}")?;
+        let pathless = commit_of(alloc, 1, 0, list.as_str(), "00")?;
+        let path = path_of(alloc, LEAF, NODE)?;
+        let commit = commit_of(alloc, 1, 0, list.as_str(), path.as_str())?;
+        let messages = [
+            PROPOSAL,
+            COMMIT,
+            proposal.as_str(),
+            pathless.as_str(),
+            commit.as_str(),
+        ];
+        let Story { answers, state, .. } = follow(alloc, None, GROUP_INFO, &messages)?;
+        let found = format!(in alloc; "{answers}{state}")?;
+        expect_text(&rt, found, wanted);
+    }
+    Ok(())
 }
 
 /// The answer to a message in the group of two members.
@@ -247,26 +272,15 @@ fn second_answer(alloc: Global, message: &str) -> Result<String, Fail> {
     last_answer(alloc, GROUP_INFO, &[PROPOSAL, COMMIT, message])
 }
 
-/// The answer to member 1's proposal.
-fn proposal_answer(alloc: Global, proposal: &str) -> Result<String, Fail> {
-    let message = proposed(alloc, 1, 1, proposal)?;
-    second_answer(alloc, message.as_str())
-}
-
-/// The answers to member 0's commit of a list without a path and with one.
-fn inline_answers(alloc: Global, list: &str) -> Result<String, Fail> {
-    let pathless = commit_of(alloc, 1, 0, list, "00")?;
-    let path = path_of(alloc, LEAF, NODE)?;
-    let message = commit_of(alloc, 1, 0, list, path.as_str())?;
-    let first = second_answer(alloc, pathless.as_str())?;
-    let second = second_answer(alloc, message.as_str())?;
-    Ok(format!(in alloc; "{first}; {second}")?)
-}
-
 #[test]
 fn extensions_have_to_be_readable(rt: HostRuntime) -> Result<(), Fail> {
-    const ROWS: &[(&str, &str)] = &[(UNREADABLE, "27 ContextExtensionsInvalid")];
-    expect_texts(&rt, rt.alloc(), proposal_answer, ROWS)
+    let alloc = rt.alloc();
+    // The answer to member 1's proposal.
+    let proposal = UNREADABLE;
+    let message = proposed(alloc, 1, 1, proposal)?;
+    let found = second_answer(alloc, message.as_str())?;
+    expect_text(&rt, found, "27 ContextExtensionsInvalid");
+    Ok(())
 }
 
 /// Extensions that can't be read, alone and beside an Add of another suite, on either side; beside an Update by the
@@ -274,22 +288,28 @@ fn extensions_have_to_be_readable(rt: HostRuntime) -> Result<(), Fail> {
 /// committer.
 #[test]
 fn rules_for_extensions_are_asked_in_order(rt: HostRuntime) -> Result<(), Fail> {
-    const BEFORE_AN_ADD: &str = "010007040003010001000100010002\
-        01f201a201b2000101420200010200010000020001010000000000000000ffffffffffffffff0001c20001c9";
-    const BEHIND_AN_ADD: &str = "01000100010002\
-        01f201a201b2000101420200010200010000020001010000000000000000ffffffffffffffff0001c20001c9\
-        0100070400030100";
-    const WITH_AN_UPDATE: &str =
-        "0100070400030100010002019001b0000101400200010200010000020001020001c0";
+    let alloc = rt.alloc();
     const ROWS: &[(&str, &str)] = &[
         (
             "0100070400030100",
             "27 ContextExtensionsInvalid; 27 ContextExtensionsInvalid",
         ),
-        (BEFORE_AN_ADD, "9 AddInvalid; 9 AddInvalid"),
-        (BEHIND_AN_ADD, "9 AddInvalid; 9 AddInvalid"),
+        // Before an add.
         (
-            WITH_AN_UPDATE,
+            "010007040003010001000100010002\
+        01f201a201b2000101420200010200010000020001010000000000000000ffffffffffffffff0001c20001c9",
+            "9 AddInvalid; 9 AddInvalid",
+        ),
+        // Behind an add.
+        (
+            "01000100010002\
+        01f201a201b2000101420200010200010000020001010000000000000000ffffffffffffffff0001c20001c9\
+        0100070400030100",
+            "9 AddInvalid; 9 AddInvalid",
+        ),
+        // With an update.
+        (
+            "0100070400030100010002019001b0000101400200010200010000020001020001c0",
             "27 ContextExtensionsInvalid; 27 ContextExtensionsInvalid",
         ),
         (
@@ -306,53 +326,53 @@ fn rules_for_extensions_are_asked_in_order(rt: HostRuntime) -> Result<(), Fail> 
         ),
         ("01000700", "17 PathMissing; commit 2"),
     ];
-    expect_texts(&rt, rt.alloc(), inline_answers, ROWS)
-}
-
-/// What member 0's commit of a list with a path makes of the group, by its leaf and nodes.
-fn story_of(alloc: Global, parts: (&str, &str, &str)) -> Result<String, Fail> {
-    let (list, leaf, nodes) = parts;
-    let path = path_of(alloc, leaf, nodes)?;
-    let message = commit_of(alloc, 1, 0, list, path.as_str())?;
-    let messages = [PROPOSAL, COMMIT, message.as_str()];
-    let Story { last, state, .. } = follow(alloc, None, GROUP_INFO, &messages)?;
-    Ok(format!(in alloc; "{last}; {state}")?)
+    // The answers to member 0's commit of a list without a path and with one.
+    for (list, wanted) in ROWS {
+        let list = *list;
+        let pathless = commit_of(alloc, 1, 0, list, "00")?;
+        let path = path_of(alloc, LEAF, NODE)?;
+        let message = commit_of(alloc, 1, 0, list, path.as_str())?;
+        let first = second_answer(alloc, pathless.as_str())?;
+        let second = second_answer(alloc, message.as_str())?;
+        let found = format!(in alloc; "{first}; {second}")?;
+        expect_text(&rt, found, wanted);
+    }
+    Ok(())
 }
 
 /// Extensions, a Remove of member 1, and an Add of member 2, who gets its leaf.
 #[test]
 fn extensions_beside_a_remove_and_an_add(rt: HostRuntime) -> Result<(), Fail> {
-    const LIST: &str = "010007080003050000020001010003000000010100010001000101\
+    let alloc = rt.alloc();
+    let list_text = "010007080003050000020001010003000000010100010001000101\
         f201a201b2000101420200010200010000020001010000000000000000ffffffffffffffff0001c20001c9";
-    const COMMITTED: &str = "018001b0000101400200010200010000020001\
+    let committed = "018001b0000101400200010200010000020001\
         0320723f8f6ee335c060a2819a83c55cdc5cffbea4a7429db61f31d1eb0bfe6a67bd0001c0";
-    const WANTED: &str =
+    let wanted =
         "commit 2; 000100010147000000000000000220077593eaf8043049f135c2fb4843a88cf5c3bbefd8dd3\
         487b6ad121d89998c43203349abc1cefe7624aaf9aea2baf046bd2187f3adf4ea27789240ce3e791c5c0408000305000002000\
         1 40690101018001b00001014002000102000100000200010320723f8f6ee335c060a2819a83c55cdc5cffbea4a7429db61f31\
         d1eb0bfe6a67bd0001c0010201d10000010101a201b2000101420200010200010000020001010000000000000000ffffffffff\
         ffffff0001c2 3890f1f61e9f23f86df77bae5bf960401806b2aeb9991cf04e0557802c15f148 -";
-    const ROWS: &[((&str, &str, &str), &str)] = &[((LIST, COMMITTED, "01d100"), WANTED)];
-    expect_texts(&rt, rt.alloc(), story_of, ROWS)
-}
-
-/// The answer to member 0's commit of a list with a path.
-fn path_answer(alloc: Global, parts: (&str, &str, &str)) -> Result<String, Fail> {
-    let (list, leaf, nodes) = parts;
+    // What member 0's commit of a list with a path makes of the group, by its leaf and nodes.
+    let (list, leaf, nodes) = (list_text, committed, "01d100");
     let path = path_of(alloc, leaf, nodes)?;
     let message = commit_of(alloc, 1, 0, list, path.as_str())?;
-    second_answer(alloc, message.as_str())
+    let messages = [PROPOSAL, COMMIT, message.as_str()];
+    let Story { last, state, .. } = follow(alloc, None, GROUP_INFO, &messages)?;
+    let found = format!(in alloc; "{last}; {state}")?;
+    expect_text(&rt, found, wanted);
+    Ok(())
 }
 
 /// Requirements that only the path's leaf fails, and that only an added leaf fails; and the same leaves where nothing is
 /// required, which are no members by another rule.
 #[test]
 fn new_leaves_are_judged_by_the_new_requirements(rt: HostRuntime) -> Result<(), Fail> {
+    let alloc = rt.alloc();
     const BESIDE_ADDED: &str = "018001b0000101400200010200010000020001\
         0320ebd04780a5cd2fab325db75983c89afcedd474e27b9f0edc722713a194bc6b980001c0";
     const NODES: &str = "01d10401aa01bb01d300";
-    const ADDED_UNDER_1: &str = "010007080003050000020001010001\
-        0001000101f201a201b200010142020001020001000000010000000000000000ffffffffffffffff0001c20001c9";
     const ROWS: &[((&str, &str, &str), &str)] = &[
         (
             ("010007080003050000020001", LEAF_WITHOUT_CREDENTIALS, NODE),
@@ -362,8 +382,14 @@ fn new_leaves_are_judged_by_the_new_requirements(rt: HostRuntime) -> Result<(), 
             ("01000700", LEAF_WITHOUT_CREDENTIALS, NODE),
             "25 Member(CredentialUnsupported(0))",
         ),
+        // Added under 1.
         (
-            (ADDED_UNDER_1, BESIDE_ADDED, NODES),
+            (
+                "010007080003050000020001010001\
+        0001000101f201a201b200010142020001020001000000010000000000000000ffffffffffffffff0001c20001c9",
+                BESIDE_ADDED,
+                NODES,
+            ),
             "25 Member(RequirementUnmet(2))",
         ),
         (
@@ -371,12 +397,35 @@ fn new_leaves_are_judged_by_the_new_requirements(rt: HostRuntime) -> Result<(), 
             "25 Member(CredentialUnsupported(2))",
         ),
     ];
-    expect_texts(&rt, rt.alloc(), path_answer, ROWS)
+    // The answer to member 0's commit of a list with a path.
+    for (parts, wanted) in ROWS {
+        let (list, leaf, nodes) = *parts;
+        let path = path_of(alloc, leaf, nodes)?;
+        let message = commit_of(alloc, 1, 0, list, path.as_str())?;
+        let found = second_answer(alloc, message.as_str())?;
+        expect_text(&rt, found, wanted);
+    }
+    Ok(())
 }
 
-/// The answers to member 0's commit of [`REQUIRE_1`], to its Add of member 2 without credential types, to member 1's
-/// commit of [`REQUIRE_NOTHING`], and to the same Add; and the state after them.
-fn later_answers(alloc: Global, leaf: &str) -> Result<String, Fail> {
+/// What is required stays so from epoch to epoch, until another commit changes it. The leaf of member 1's commit has the
+/// parent hash of node 1 with key `d2`: the SHA-256 of `01d20020` and the hash of member 0's leaf.
+#[test]
+fn requirements_hold_until_they_are_changed(rt: HostRuntime) -> Result<(), Fail> {
+    let alloc = rt.alloc();
+    let second = "018101b1000101410200010200010000020001\
+        032016d411408c5ddba5f039028dd7cf01e3d6607afb38cce3d306b411f07c88ff7b0001c1";
+    let wanted =
+        "proposal 419afc0a88fe171b793b00410d11c8121fb96fdfde7b5ced43d5912144a3a9f9; commit 1; commit 2; \
+        25 Member(RequirementUnmet(2)); commit 3; 25 Member(CredentialUnsupported(2)); \
+        0001000101470000000000000003206f71ca83fe1038621bf1977edd991463dedac95ba01dd9e5c7c2ec67e19c918f2002306d\
+        8fca58e70e71b9e98dd15d0ba58ef132155fbde82310859d23929cf6cc00 407a0101018001b00001014002000102000100000\
+        2000103207e534e72295b2ed4520a7628873779052cbc9788fb7a2927ad4234fd783969900001c0010201d200000101018101b\
+        1000101410200010200010000020001032016d411408c5ddba5f039028dd7cf01e3d6607afb38cce3d306b411f07c88ff7b000\
+        1c1 2b1049a1cfdb21bf3a68cdae8236a626460c0226b2cc30e69ac09285e7ddfb34 -";
+    // The answers to member 0's commit of [`REQUIRE_1`], to its Add of member 2 without credential types, to member 1's
+    // commit of [`REQUIRE_NOTHING`], and to the same Add; and the state after them.
+    let leaf = second;
     let path = path_of(alloc, LEAF, NODE)?;
     let required = commit_of(alloc, 1, 0, "010007080003050000020001", path.as_str())?;
     let added = commit_of(alloc, 2, 0, ADD_WITHOUT_CREDENTIALS, "00")?;
@@ -392,22 +441,7 @@ fn later_answers(alloc: Global, leaf: &str) -> Result<String, Fail> {
         later.as_str(),
     ];
     let Story { answers, state, .. } = follow(alloc, None, GROUP_INFO, &messages)?;
-    Ok(format!(in alloc; "{answers}{state}")?)
-}
-
-/// What is required stays so from epoch to epoch, until another commit changes it. The leaf of member 1's commit has the
-/// parent hash of node 1 with key `d2`: the SHA-256 of `01d20020` and the hash of member 0's leaf.
-#[test]
-fn requirements_hold_until_they_are_changed(rt: HostRuntime) -> Result<(), Fail> {
-    const SECOND: &str = "018101b1000101410200010200010000020001\
-        032016d411408c5ddba5f039028dd7cf01e3d6607afb38cce3d306b411f07c88ff7b0001c1";
-    const WANTED: &str =
-        "proposal 419afc0a88fe171b793b00410d11c8121fb96fdfde7b5ced43d5912144a3a9f9; commit 1; commit 2; \
-        25 Member(RequirementUnmet(2)); commit 3; 25 Member(CredentialUnsupported(2)); \
-        0001000101470000000000000003206f71ca83fe1038621bf1977edd991463dedac95ba01dd9e5c7c2ec67e19c918f2002306d\
-        8fca58e70e71b9e98dd15d0ba58ef132155fbde82310859d23929cf6cc00 407a0101018001b00001014002000102000100000\
-        2000103207e534e72295b2ed4520a7628873779052cbc9788fb7a2927ad4234fd783969900001c0010201d200000101018101b\
-        1000101410200010200010000020001032016d411408c5ddba5f039028dd7cf01e3d6607afb38cce3d306b411f07c88ff7b000\
-        1c1 2b1049a1cfdb21bf3a68cdae8236a626460c0226b2cc30e69ac09285e7ddfb34 -";
-    expect_texts(&rt, rt.alloc(), later_answers, &[(SECOND, WANTED)])
+    let found = format!(in alloc; "{answers}{state}")?;
+    expect_text(&rt, found, wanted);
+    Ok(())
 }

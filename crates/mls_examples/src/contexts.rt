@@ -1,6 +1,6 @@
 //! Group contexts (RFC 9420, 8.1), their extensions, and what they require of members (11.1).
 
-use crate::support::{CONTEXT, bytes, expect_answers, expect_texts, text};
+use crate::support::{CONTEXT, bytes, expect_answer, expect_text, text};
 use mls_nodes::{
     decode_context, encode_context, find_extension, read_context, read_extensions, requirements,
     write_context, write_extensions,
@@ -25,8 +25,14 @@ fn context_of(alloc: Global, input: &[u8]) -> Result<Vec<u8>, CodecFault> {
 
 #[test]
 fn contexts_are_read_and_written(rt: HostRuntime) -> Result<(), Fail> {
+    let alloc = rt.alloc();
     const CONTEXTS: &[(&str, &str)] = &[(CONTEXT, CONTEXT), (EPOCH_7, EPOCH_7)];
-    expect_answers(&rt, rt.alloc(), context_of, CONTEXTS)
+    for (input, wanted) in CONTEXTS {
+        let input = bytes(alloc, input)?;
+        let answer = context_of(alloc, input.as_slice());
+        expect_answer(&rt, alloc, answer, wanted)?;
+    }
+    Ok(())
 }
 
 /// The context at the front, and the extensions behind it, written.
@@ -44,26 +50,34 @@ fn front_of(alloc: Global, input: &[u8]) -> Result<Vec<u8>, CodecFault> {
 
 #[test]
 fn contexts_in_the_middle_of_a_format(rt: HostRuntime) -> Result<(), Fail> {
+    let alloc = rt.alloc();
     let both = "000100010147000000000000000701aa0005000102abcd0b000303000000000102abcd";
     let bare = "000100010147000000000000000020e32ab6a0a711ec8a732c3fad9263ed5fa61caf53fdf9b9690d\
         c57271d8f110d7000000";
-    expect_answers(&rt, rt.alloc(), front_of, &[(both, both), (bare, bare)])
-}
-
-/// The data of the first extension of a type among three, of which two are of the type 7.
-fn extension_of(alloc: Global, kind: u16) -> Result<String, Fail> {
-    let input = bytes(alloc, "0c000701aa000301bb000701cc")?;
-    let extensions = read_extensions(alloc, &mut Reader::new(input.as_slice()))?;
-    match find_extension(extensions.as_slice(), kind) {
-        Some(body) => text(alloc, body.as_slice()),
-        None => Ok(String::from_str(alloc, "-")?),
+    for (input, wanted) in &[(both, both), (bare, bare)] {
+        let input = bytes(alloc, input)?;
+        let answer = front_of(alloc, input.as_slice());
+        expect_answer(&rt, alloc, answer, wanted)?;
     }
+    Ok(())
 }
 
 #[test]
 fn extensions_by_their_types(rt: HostRuntime) -> Result<(), Fail> {
+    let alloc = rt.alloc();
     const KINDS: &[(u16, &str)] = &[(7, "aa"), (3, "bb"), (5, "-")];
-    expect_texts(&rt, rt.alloc(), extension_of, KINDS)
+    // The data of the first extension of a type among three, of which two are of the type 7.
+    for (kind, wanted) in KINDS {
+        let kind = *kind;
+        let input = bytes(alloc, "0c000701aa000301bb000701cc")?;
+        let extensions = read_extensions(alloc, &mut Reader::new(input.as_slice()))?;
+        let found = match find_extension(extensions.as_slice(), kind) {
+            Some(body) => text(alloc, body.as_slice())?,
+            None => String::from_str(alloc, "-")?,
+        };
+        expect_text(&rt, found, wanted);
+    }
+    Ok(())
 }
 
 /// What a context requires, copied and written, or why that can't be read.
@@ -80,6 +94,7 @@ fn required_of(alloc: Global, input: &[u8]) -> Result<Vec<u8>, CodecFault> {
 /// No extension of type 3, one of another type, one with a truncated body, one, and two of which the first counts.
 #[test]
 fn requirements_are_those_of_the_first_extension(rt: HostRuntime) -> Result<(), Fail> {
+    let alloc = rt.alloc();
     const CONTEXTS: &[(&str, &str)] = &[
         ("000100010147000000000000000701aa0000", "000000"),
         ("000100010147000000000000000701aa000400010100", "000000"),
@@ -96,5 +111,10 @@ fn requirements_are_those_of_the_first_extension(rt: HostRuntime) -> Result<(), 
             "0000020002",
         ),
     ];
-    expect_answers(&rt, rt.alloc(), required_of, CONTEXTS)
+    for (input, wanted) in CONTEXTS {
+        let input = bytes(alloc, input)?;
+        let answer = required_of(alloc, input.as_slice());
+        expect_answer(&rt, alloc, answer, wanted)?;
+    }
+    Ok(())
 }

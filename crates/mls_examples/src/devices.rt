@@ -1,7 +1,7 @@
 //! Sources and sinks over readers and writers of std that fail: any error, and a write that takes nothing, is a failure
 //! for good, even if the reader or writer would go on.
 
-use crate::support::{GROUP_INFO, bytes, expect_texts};
+use crate::support::{GROUP_INFO, bytes, expect_text};
 use mls_cli::{ShowKind, run_show};
 use mls_wire::{DeviceFault, MemorySink, MemorySource, Sink, Source, StdSink, StdSource};
 use std::alloc::Global;
@@ -81,6 +81,7 @@ fn pulled(alloc: Global, error: ErrorKind) -> Result<String, Fail> {
 
 #[test]
 fn sources_fail_at_any_error(rt: HostRuntime) -> Result<(), Fail> {
+    let alloc = rt.alloc();
     const WANTED: &str = "1 false, 1 false, fault true, fault true, fault true, ";
     const ERRORS: &[(ErrorKind, &str)] = &[
         (ErrorKind::Interrupted, WANTED),
@@ -88,7 +89,10 @@ fn sources_fail_at_any_error(rt: HostRuntime) -> Result<(), Fail> {
         (ErrorKind::UnexpectedEof, WANTED),
         (ErrorKind::OutOfMemory, WANTED),
     ];
-    expect_texts(&rt, rt.alloc(), pulled, ERRORS)
+    for (input, wanted) in ERRORS {
+        expect_text(&rt, pulled(alloc, *input)?, wanted);
+    }
+    Ok(())
 }
 
 /// What five calls of a sink answer, over a writer whose third one fails so, or takes nothing.
@@ -108,6 +112,7 @@ fn pushed(alloc: Global, error: Option<ErrorKind>) -> Result<String, Fail> {
 
 #[test]
 fn sinks_fail_at_any_error(rt: HostRuntime) -> Result<(), Fail> {
+    let alloc = rt.alloc();
     const WANTED: &str = "1 false, 1 false, fault true, fault true, fault true, ";
     const ERRORS: &[(Option<ErrorKind>, &str)] = &[
         (Some(ErrorKind::Interrupted), WANTED),
@@ -115,52 +120,33 @@ fn sinks_fail_at_any_error(rt: HostRuntime) -> Result<(), Fail> {
         (Some(ErrorKind::BrokenPipe), WANTED),
         (None, WANTED),
     ];
-    expect_texts(&rt, rt.alloc(), pushed, ERRORS)
-}
-
-/// What a sink answers to no bytes, over a writer that takes none.
-fn pushed_nothing(alloc: Global, bytes: &[u8]) -> Result<String, Fail> {
-    let mut sink = StdSink::new(Flaky {
-        good_calls: 0,
-        error: None,
-    });
-    let answered = sink.push(bytes);
-    answer(alloc, answered, sink.failed())
+    for (input, wanted) in ERRORS {
+        expect_text(&rt, pushed(alloc, *input)?, wanted);
+    }
+    Ok(())
 }
 
 #[test]
 fn nothing_of_nothing_is_taken(rt: HostRuntime) -> Result<(), Fail> {
+    let alloc = rt.alloc();
     const ROWS: &[(&[u8], &str)] = &[(b"", "0 false"), (b"m", "fault true")];
-    expect_texts(&rt, rt.alloc(), pushed_nothing, ROWS)
-}
-
-/// How a report ends over a reader and a writer that fail after so many calls.
-fn shown(alloc: Global, good_calls: (u32, u32)) -> Result<String, Fail> {
-    let (reads, writes) = good_calls;
-    let info = bytes(alloc, GROUP_INFO)?;
-    let outcome = if reads < 1_000 {
-        let mut source = StdSource::new(Flaky {
-            good_calls: reads,
-            error: Some(ErrorKind::Other),
-        });
-        let mut sink = MemorySink::new(alloc, 300, 300, None)?;
-        run_show(alloc, ShowKind::Info, &mut source, &mut sink)
-    } else {
-        let mut source = MemorySource::new(info.as_slice(), 7, None);
+    // What a sink answers to no bytes, over a writer that takes none.
+    for (bytes, wanted) in ROWS {
+        let bytes = *bytes;
         let mut sink = StdSink::new(Flaky {
-            good_calls: writes,
+            good_calls: 0,
             error: None,
         });
-        run_show(alloc, ShowKind::Info, &mut source, &mut sink)
-    };
-    match outcome {
-        Ok(_) => Ok(String::from_str(alloc, "written")?),
-        Err(fault) => Ok(format!(in alloc; "{fault}")?),
+        let answered = sink.push(bytes);
+        let found = answer(alloc, answered, sink.failed())?;
+        expect_text(&rt, found, wanted);
     }
+    Ok(())
 }
 
 #[test]
 fn reports_over_what_fails(rt: HostRuntime) -> Result<(), Fail> {
+    let alloc = rt.alloc();
     const CALLS: &[((u32, u32), &str)] = &[
         ((0, 1_000), "read"),
         ((20, 1_000), "read"),
@@ -168,5 +154,31 @@ fn reports_over_what_fails(rt: HostRuntime) -> Result<(), Fail> {
         ((1_000, 20), "write"),
         ((1_000, 999), "written"),
     ];
-    expect_texts(&rt, rt.alloc(), shown, CALLS)
+    // How a report ends over a reader and a writer that fail after so many calls.
+    for (good_calls, wanted) in CALLS {
+        let good_calls = *good_calls;
+        let (reads, writes) = good_calls;
+        let info = bytes(alloc, GROUP_INFO)?;
+        let outcome = if reads < 1_000 {
+            let mut source = StdSource::new(Flaky {
+                good_calls: reads,
+                error: Some(ErrorKind::Other),
+            });
+            let mut sink = MemorySink::new(alloc, 300, 300, None)?;
+            run_show(alloc, ShowKind::Info, &mut source, &mut sink)
+        } else {
+            let mut source = MemorySource::new(info.as_slice(), 7, None);
+            let mut sink = StdSink::new(Flaky {
+                good_calls: writes,
+                error: None,
+            });
+            run_show(alloc, ShowKind::Info, &mut source, &mut sink)
+        };
+        let found = match outcome {
+            Ok(_) => String::from_str(alloc, "written")?,
+            Err(fault) => format!(in alloc; "{fault}")?,
+        };
+        expect_text(&rt, found, wanted);
+    }
+    Ok(())
 }

@@ -6,7 +6,7 @@
 //! After each accepted message both validators have to say yes to the follower's tree, by the checker that it has.
 
 use crate::support::{
-    COMMIT, GROUP_INFO, KEY_PACKAGE, PROPOSAL, RECEIPT, bytes, expect_texts, text, tree_of,
+    COMMIT, GROUP_INFO, KEY_PACKAGE, PROPOSAL, RECEIPT, bytes, expect_text, text, tree_of,
     tree_text,
 };
 use mls_apply::KnownProposal;
@@ -41,7 +41,7 @@ fn info_of(alloc: Global, info: &str) -> Result<GroupInfo, Fail> {
 }
 
 /// The checker of a receipts file.
-fn listed(alloc: Global, receipts: &str) -> Result<Listed, Fail> {
+pub(crate) fn listed(alloc: Global, receipts: &str) -> Result<Listed, Fail> {
     Ok(Listed::read(alloc, receipts.as_bytes())?)
 }
 
@@ -60,7 +60,10 @@ fn known_text(alloc: Global, known: &[KnownProposal]) -> Result<String, Fail> {
 }
 
 /// A follower's state: context, tree, interim transcript hash and known proposals.
-pub(crate) fn state_text(alloc: Global, follower: &Follower) -> Result<String, Fail> {
+pub(crate) fn state_text<C: SignatureCheck>(
+    alloc: Global,
+    follower: &Follower<C>,
+) -> Result<String, Fail> {
     let context = text(alloc, encode_context(alloc, follower.context())?.as_slice())?;
     let tree = tree_text(alloc, follower.tree())?;
     let interim = text(alloc, follower.interim().as_slice())?;
@@ -90,10 +93,10 @@ fn refusal_text(alloc: Global, refusal: Refusal, same: bool) -> Result<String, F
 }
 
 /// Whether both validators say yes to a follower's tree, by this checker.
-fn is_valid(
+fn is_valid<C: SignatureCheck>(
     alloc: Global,
-    follower: &Follower,
-    checker: &dyn SignatureCheck,
+    follower: &Follower<C>,
+    checker: &C,
 ) -> Result<bool, Fail> {
     let context = follower.context();
     let tree = follower.tree();
@@ -125,10 +128,10 @@ fn accepted_text(alloc: Global, taken: Taken, valid: bool) -> Result<String, Fai
 
 /// The answer to a message by the follower after it, whose state was told before it. After an accepted one both
 /// validators are asked, with this checker.
-fn answer_text(
+fn answer_text<C: SignatureCheck>(
     alloc: Global,
-    follower: &Follower,
-    checker: &dyn SignatureCheck,
+    follower: &Follower<C>,
+    checker: &C,
     before: &str,
     answer: Result<Taken, Refusal>,
 ) -> Result<String, Fail> {
@@ -163,12 +166,12 @@ impl Story {
     }
 }
 
-/// A follower that starts from a group info and is told of good signatures by receipts; with none it takes each as good.
-pub(crate) fn started(alloc: Global, receipts: Option<&str>, info: &str) -> Result<Follower, Fail> {
-    let checker: Box<dyn SignatureCheck> = match receipts {
-        Some(receipts) => Box::new(alloc, listed(alloc, receipts)?)?,
-        None => Box::new(alloc, Trusting)?,
-    };
+/// A follower that starts from a group info, with this checker.
+pub(crate) fn started<C: SignatureCheck>(
+    alloc: Global,
+    checker: C,
+    info: &str,
+) -> Result<Follower<C>, Fail> {
     let info = info_of(alloc, info)?;
     match Follower::start(alloc, info, None, checker) {
         Ok(follower) => Ok(follower),
@@ -180,10 +183,10 @@ pub(crate) fn started(alloc: Global, receipts: Option<&str>, info: &str) -> Resu
 }
 
 /// What it answers to messages, judged by a checker like its own.
-fn story_of(
+fn story_of<C: SignatureCheck>(
     alloc: Global,
-    follower: &mut Follower,
-    checker: &dyn SignatureCheck,
+    follower: &mut Follower<C>,
+    checker: &C,
     messages: &[&str],
 ) -> Result<Story, Fail> {
     let mut story = Story {
@@ -201,32 +204,38 @@ fn story_of(
     Ok(story)
 }
 
-/// The same, where the checker takes each signature as good, or knows receipts.
-fn story_under(
+/// What a follower answers that starts with a checker, judged by another one like it.
+fn story_from<C: SignatureCheck>(
     alloc: Global,
-    follower: &mut Follower,
-    receipts: Option<&str>,
+    checkers: (C, &C),
+    info: &str,
     messages: &[&str],
 ) -> Result<Story, Fail> {
-    let Some(receipts) = receipts else {
-        return story_of(alloc, follower, &Trusting, messages);
-    };
-    let checker = listed(alloc, receipts)?;
-    let story = story_of(alloc, follower, &checker, messages);
-    drop(checker);
+    let (own, checker) = checkers;
+    let mut follower = started(alloc, own, info)?;
+    let story = story_of(alloc, &mut follower, checker, messages);
+    drop(follower);
     story
 }
 
-/// What a follower answers that starts so.
+/// What a follower answers that starts from a group info and is told of good signatures by receipts; with none it takes
+/// each as good.
 pub(crate) fn follow(
     alloc: Global,
     receipts: Option<&str>,
     info: &str,
     messages: &[&str],
 ) -> Result<Story, Fail> {
-    let mut follower = started(alloc, receipts, info)?;
-    let story = story_under(alloc, &mut follower, receipts, messages);
-    drop(follower);
+    let Some(receipts) = receipts else {
+        return story_from(alloc, (Trusting, &Trusting), info, messages);
+    };
+    let checker = listed(alloc, receipts)?;
+    let own = listed(alloc, receipts);
+    let story = match own {
+        Ok(own) => story_from(alloc, (own, &checker), info, messages),
+        Err(fail) => Err(fail),
+    };
+    drop(checker);
     story
 }
 
@@ -266,7 +275,10 @@ pub(crate) fn proposed(
 // ---- starts
 
 /// The first state of a start, or its fault by number and name.
-fn start_text(alloc: Global, answer: Result<Follower, StartRefused>) -> Result<String, Fail> {
+fn start_text<C: SignatureCheck>(
+    alloc: Global,
+    answer: Result<Follower<C>, StartRefused<C>>,
+) -> Result<String, Fail> {
     match answer {
         Ok(follower) => {
             let state = state_text(alloc, &follower);
@@ -283,9 +295,8 @@ fn start_text(alloc: Global, answer: Result<Follower, StartRefused>) -> Result<S
 
 /// What comes of a start from a group info, without a tree, that takes each signature as good.
 fn trusting_start(alloc: Global, info: &str) -> Result<String, Fail> {
-    let checker = Box::new(alloc, Trusting)?;
     let info = info_of(alloc, info)?;
-    start_text(alloc, Follower::start(alloc, info, None, checker))
+    start_text(alloc, Follower::start(alloc, info, None, Trusting))
 }
 
 /// A group info by its version, suite, hash, extensions of the context and of its own, and signer.
@@ -297,17 +308,9 @@ fn info_with(alloc: Global, parts: (&str, &str, &str, &str, &str, &str)) -> Resu
     Ok(format!(in alloc; "{start}{own}01e0{signer}01c4")?)
 }
 
-/// What comes of a start from such a group info.
-fn changed_start(
-    alloc: Global,
-    parts: (&str, &str, &str, &str, &str, &str),
-) -> Result<String, Fail> {
-    let info = info_with(alloc, parts)?;
-    trusting_start(alloc, info.as_str())
-}
-
 #[test]
 fn starts(rt: HostRuntime) -> Result<(), Fail> {
+    let alloc = rt.alloc();
     const HASH: &str = "e32ab6a0a711ec8a732c3fad9263ed5fa61caf53fdf9b9690dc57271d8f110d7";
     const OTHER: &str = "e32ab6a0a711ec8a732c3fad9263ed5fa61caf53fdf9b9690dc57271d8f110d6";
     const OWN: &str =
@@ -353,35 +356,28 @@ fn starts(rt: HostRuntime) -> Result<(), Fail> {
             "7 SignerNotMember",
         ),
     ];
-    expect_texts(
-        &rt,
-        rt.alloc(),
-        trusting_start,
-        &[(GROUP_INFO, FIRST_STATE)],
-    )?;
-    expect_texts(&rt, rt.alloc(), changed_start, FAULTS)
+    expect_text(&rt, trusting_start(alloc, GROUP_INFO)?, FIRST_STATE);
+    // What comes of a start from such a group info.
+    for (parts, wanted) in FAULTS {
+        let parts = *parts;
+        let info = info_with(alloc, parts)?;
+        let found = trusting_start(alloc, info.as_str())?;
+        expect_text(&rt, found, wanted);
+    }
+    Ok(())
 }
 
 /// What comes of a start with what a refused one handed back, behind its fault.
-fn again(alloc: Global, refused: StartRefused) -> Result<String, Fail> {
+fn again<C: SignatureCheck>(alloc: Global, refused: StartRefused<C>) -> Result<String, Fail> {
     let fault = refused.fault;
     let again = Follower::start(alloc, refused.info, refused.tree, refused.checker);
     let again = start_text(alloc, again)?;
     Ok(format!(in alloc; "{} {fault:?}, again {again}", fault.number())?)
 }
 
-/// What comes of a start under receipts, and of another one with what was handed back.
-fn listed_start(alloc: Global, receipts: &str) -> Result<String, Fail> {
-    let checker = Box::new(alloc, listed(alloc, receipts)?)?;
-    let info = info_of(alloc, GROUP_INFO)?;
-    match Follower::start(alloc, info, None, checker) {
-        Ok(follower) => start_text(alloc, Ok(follower)),
-        Err(refused) => again(alloc, refused),
-    }
-}
-
 #[test]
 fn starts_under_receipts(rt: HostRuntime) -> Result<(), Fail> {
+    let alloc = rt.alloc();
     const ROWS: &[(&str, &str)] = &[
         (
             "",
@@ -390,24 +386,36 @@ fn starts_under_receipts(rt: HostRuntime) -> Result<(), Fail> {
         (RECEIPT, "8 InfoSignature, again 8 InfoSignature"),
         (BOTH_RECEIPTS, FIRST_STATE),
     ];
-    expect_texts(&rt, rt.alloc(), listed_start, ROWS)
-}
-
-/// What comes of a start with a tree of these leaves that is handed in, beside the one in the info.
-fn handed_start(alloc: Global, leaves: (u32, &[u32])) -> Result<String, Fail> {
-    let checker = Box::new(alloc, Trusting)?;
-    let tree = tree_of(alloc, leaves.0, leaves.1)?;
-    let info = info_of(alloc, GROUP_INFO)?;
-    start_text(alloc, Follower::start(alloc, info, Some(tree), checker))
+    // What comes of a start under receipts, and of another one with what was handed back.
+    for (receipts, wanted) in ROWS {
+        let receipts = *receipts;
+        let checker = listed(alloc, receipts)?;
+        let info = info_of(alloc, GROUP_INFO)?;
+        let found = match Follower::start(alloc, info, None, checker) {
+            Ok(follower) => start_text(alloc, Ok(follower))?,
+            Err(refused) => again(alloc, refused)?,
+        };
+        expect_text(&rt, found, wanted);
+    }
+    Ok(())
 }
 
 #[test]
 fn starts_with_a_tree(rt: HostRuntime) -> Result<(), Fail> {
+    let alloc = rt.alloc();
     const ROWS: &[((u32, &[u32]), &str)] = &[
         ((1, &[0]), FIRST_STATE),
         ((2, &[0, 1]), "5 Tree(HashDiffers)"),
     ];
-    expect_texts(&rt, rt.alloc(), handed_start, ROWS)
+    // What comes of a start with a tree of these leaves that is handed in, beside the one in the info.
+    for (leaves, wanted) in ROWS {
+        let leaves = *leaves;
+        let tree = tree_of(alloc, leaves.0, leaves.1)?;
+        let info = info_of(alloc, GROUP_INFO)?;
+        let found = start_text(alloc, Follower::start(alloc, info, Some(tree), Trusting))?;
+        expect_text(&rt, found, wanted);
+    }
+    Ok(())
 }
 
 // ---- messages
@@ -420,58 +428,50 @@ fn told(alloc: Global, messages: &[&str]) -> Result<String, Fail> {
 
 #[test]
 fn a_proposal_and_its_commit(rt: HostRuntime) -> Result<(), Fail> {
-    const RETAGGED: &str =
+    let alloc = rt.alloc();
+    let retagged =
         "00010001014700000000000000000100000000000200010001000101f101a101b1000101410200010200010000\
         020001010000000000000000ffffffffffffffff0001c10001c901c801c6";
-    const WANTED: &str =
-        "proposal 419afc0a88fe171b793b00410d11c8121fb96fdfde7b5ced43d5912144a3a9f9; \
+    let wanted = "proposal 419afc0a88fe171b793b00410d11c8121fb96fdfde7b5ced43d5912144a3a9f9; \
         8 AlreadyKnown; 8 AlreadyKnown; commit 1; 4 WrongEpoch; \
         0001000101470000000000000001203dd545ada09b9e9be453de8b5c20702e810685eca3710882583a67d8a3ed\
         dd8b203b3fe4cf185f12883575d4bc9a402561feafe917dc05379ecd9f3f0abe6607e500 4053010101a001b000010140020\
         0010200010000020001010000000000000000ffffffffffffffff0001c000010101a101b1000101410200010200010000020\
         001010000000000000000ffffffffffffffff0001c1 b88836177897aa5df5354114a8055a4346e8832a90fb063a197226ff\
         acae36cf -";
-    const ROWS: &[(&[&str], &str)] = &[(&[PROPOSAL, PROPOSAL, RETAGGED, COMMIT, COMMIT], WANTED)];
-    expect_texts(&rt, rt.alloc(), told, ROWS)
-}
-
-/// The answers to the proposal, its commit and another message.
-fn answers_with(alloc: Global, message: &str) -> Result<String, Fail> {
-    answers(alloc, GROUP_INFO, &[PROPOSAL, COMMIT, message])
+    expect_text(
+        &rt,
+        told(alloc, &[PROPOSAL, PROPOSAL, retagged, COMMIT, COMMIT])?,
+        wanted,
+    );
+    Ok(())
 }
 
 #[test]
 fn a_reference_is_of_its_epoch(rt: HostRuntime) -> Result<(), Fail> {
-    const LATER: &str =
+    let alloc = rt.alloc();
+    let later =
         "000100010147000000000000000101000000000003220220419afc0a88fe171b793b00410d11c8121fb96fdfde\
         7b5ced43d5912144a3a9f90001c601e101c5";
-    const WANTED: &str =
+    let wanted =
         "proposal 419afc0a88fe171b793b00410d11c8121fb96fdfde7b5ced43d5912144a3a9f9; commit 1; \
         13 UnknownReference; ";
-    expect_texts(&rt, rt.alloc(), answers_with, &[(LATER, WANTED)])
-}
-
-/// The answer to a frame by what stands before its sender, its sender, and what follows its empty data.
-fn frame_answer(alloc: Global, parts: (&str, &str, &str)) -> Result<String, Fail> {
-    let (start, sender, content) = parts;
-    let message = format!(in alloc; "{start}{sender}00{content}")?;
-    first_answer(alloc, message.as_str())
+    // The answers to the proposal, its commit and another message.
+    let message = later;
+    let found = answers(alloc, GROUP_INFO, &[PROPOSAL, COMMIT, message])?;
+    expect_text(&rt, found, wanted);
+    Ok(())
 }
 
 #[test]
 fn frames(rt: HostRuntime) -> Result<(), Fail> {
+    let alloc = rt.alloc();
     const HERE: &str = "0001000101470000000000000000";
     const ADDED: &str =
         "0200010001000101f101a101b1000101410200010200010000020001010000000000000000ffffffffffffffff\
         0001c10001c901c8";
     const TAGGED: &str =
         "0200010001000101f101a101b1000101410200010200010000020001010000000000000000ffffffffffffffff\
-        0001c10001c901c801c7";
-    const SHORT: &str =
-        "0200010001000101f101a101b1000101410200010200010000020001010000000000000000ffffffffffffffff\
-        0001c10001c901c801";
-    const UNKNOWN: &str =
-        "0200040001000101f101a101b1000101410200010200010000020001010000000000000000ffffffffffffffff\
         0001c10001c901c801c7";
     const ROWS: &[((&str, &str, &str), &str)] = &[
         (
@@ -491,78 +491,110 @@ fn frames(rt: HostRuntime) -> Result<(), Fail> {
         ((HERE, "03", ADDED), "5 SenderNotMember"),
         ((HERE, "04", "03000001c601e1"), "5 SenderNotMember"),
         ((HERE, "0100000000", "0101aa01c801c7"), "6 NotHandshake"),
-        ((HERE, "0100000000", SHORT), "1 Malformed"),
-        ((HERE, "0100000000", UNKNOWN), "1 Malformed"),
+        // Short.
+        (
+            (
+                HERE,
+                "0100000000",
+                "0200010001000101f101a101b1000101410200010200010000020001010000000000000000ffffffffffffffff\
+        0001c10001c901c801",
+            ),
+            "1 Malformed",
+        ),
+        // Unknown.
+        (
+            (
+                HERE,
+                "0100000000",
+                "0200040001000101f101a101b1000101410200010200010000020001010000000000000000ffffffffffffffff\
+        0001c10001c901c801c7",
+            ),
+            "1 Malformed",
+        ),
         ((HERE, "0200000000", TAGGED), "1 Malformed"),
     ];
-    expect_texts(&rt, rt.alloc(), frame_answer, ROWS)
-}
-
-/// The answer to a proposal under receipts of the first leaf and the group info alone.
-fn unsigned_answer(alloc: Global, message: &str) -> Result<String, Fail> {
-    let Story { last, .. } = follow(alloc, Some(BOTH_RECEIPTS), GROUP_INFO, &[message])?;
-    Ok(last)
+    // The answer to a frame by what stands before its sender, its sender, and what follows its empty data.
+    for (parts, wanted) in ROWS {
+        let (start, sender, content) = *parts;
+        let message = format!(in alloc; "{start}{sender}00{content}")?;
+        let found = first_answer(alloc, message.as_str())?;
+        expect_text(&rt, found, wanted);
+    }
+    Ok(())
 }
 
 #[test]
 fn a_frame_without_a_receipt(rt: HostRuntime) -> Result<(), Fail> {
-    expect_texts(
-        &rt,
-        rt.alloc(),
-        unsigned_answer,
-        &[(PROPOSAL, "7 BadSignature")],
-    )
-}
-
-/// The answer to member 0's proposal in the first epoch.
-fn proposal_answer(alloc: Global, proposal: &str) -> Result<String, Fail> {
-    let message = proposed(alloc, 0, 0, proposal)?;
-    first_answer(alloc, message.as_str())
+    let alloc = rt.alloc();
+    // The answer to a proposal under receipts of the first leaf and the group info alone.
+    let message = PROPOSAL;
+    let Story { last, .. } = follow(alloc, Some(BOTH_RECEIPTS), GROUP_INFO, &[message])?;
+    expect_text(&rt, last, "7 BadSignature");
+    Ok(())
 }
 
 #[test]
 fn proposals(rt: HostRuntime) -> Result<(), Fail> {
-    const OTHER_SUITE: &str =
-        "00010001000201f101a101b1000101410200010200010000020001010000000000000000fffffffffffff\
-        fff0001c10001c9";
-    const ONE_KEY: &str =
-        "00010001000101a101a101b1000101410200010200010000020001010000000000000000fffffffffffff\
-        fff0001c10001c9";
-    const UPDATED: &str = "00010001000101f101a101b1000101410200010200010000020001020001c10001c9";
-    const SAME_KEY: &str = "000201a001b0000101400200010200010000020001020001c0";
-    const JOINED: &str =
-        "0002019001b0000101400200010200010000020001010000000000000000ffffffffffffffff0001c0";
+    let alloc = rt.alloc();
     const ROWS: &[(&str, &str)] = &[
-        (OTHER_SUITE, "9 AddInvalid"),
-        (ONE_KEY, "9 AddInvalid"),
-        (UPDATED, "9 AddInvalid"),
-        (SAME_KEY, "10 UpdateInvalid"),
-        (JOINED, "10 UpdateInvalid"),
+        // Other suite.
+        (
+            "00010001000201f101a101b1000101410200010200010000020001010000000000000000fffffffffffff\
+        fff0001c10001c9",
+            "9 AddInvalid",
+        ),
+        // One key.
+        (
+            "00010001000101a101a101b1000101410200010200010000020001010000000000000000fffffffffffff\
+        fff0001c10001c9",
+            "9 AddInvalid",
+        ),
+        // Updated.
+        (
+            "00010001000101f101a101b1000101410200010200010000020001020001c10001c9",
+            "9 AddInvalid",
+        ),
+        // Same key.
+        (
+            "000201a001b0000101400200010200010000020001020001c0",
+            "10 UpdateInvalid",
+        ),
+        // Joined.
+        (
+            "0002019001b0000101400200010200010000020001010000000000000000ffffffffffffffff0001c0",
+            "10 UpdateInvalid",
+        ),
         ("000300000005", "11 RemoveInvalid"),
     ];
-    expect_texts(&rt, rt.alloc(), proposal_answer, ROWS)
-}
-
-/// What becomes of a group in its last epoch: a proposal, a commit, and what is known then.
-fn last_epoch(alloc: Global, info: &str) -> Result<String, Fail> {
-    let proposal = format!(in alloc; "0001{KEY_PACKAGE}")?;
-    let proposal = proposed(alloc, 18446744073709551615, 0, proposal.as_str())?;
-    let commit = sent(alloc, 18446744073709551615, 0, "03000001c601e101c5")?;
-    answers(
-        alloc,
-        info,
-        &[proposal.as_str(), commit.as_str(), proposal.as_str()],
-    )
+    // The answer to member 0's proposal in the first epoch.
+    for (proposal, wanted) in ROWS {
+        let proposal = *proposal;
+        let message = proposed(alloc, 0, 0, proposal)?;
+        let found = first_answer(alloc, message.as_str())?;
+        expect_text(&rt, found, wanted);
+    }
+    Ok(())
 }
 
 #[test]
 fn the_last_epoch(rt: HostRuntime) -> Result<(), Fail> {
-    const INFO: &str =
+    let alloc = rt.alloc();
+    let info =
         "00010004000100010147ffffffffffffffff20e32ab6a0a711ec8a732c3fad9263ed5fa61caf53fdf9b96\
         90dc57271d8f110d700002d00022a29010101a001b0000101400200010200010000020001010000000000000000fffffffffff\
         fffff0001c001e00000000001c4";
-    const WANTED: &str =
+    let wanted =
         "proposal 6cb5d82cc4230209de188932fff1299aaaa0e6eba135817485cbd1564797032b; 12 LastEpoch; \
         8 AlreadyKnown; ";
-    expect_texts(&rt, rt.alloc(), last_epoch, &[(INFO, WANTED)])
+    // What becomes of a group in its last epoch: a proposal, a commit, and what is known then.
+    let proposal = format!(in alloc; "0001{KEY_PACKAGE}")?;
+    let proposal = proposed(alloc, 18446744073709551615, 0, proposal.as_str())?;
+    let commit = sent(alloc, 18446744073709551615, 0, "03000001c601e101c5")?;
+    let found = answers(
+        alloc,
+        info,
+        &[proposal.as_str(), commit.as_str(), proposal.as_str()],
+    )?;
+    expect_text(&rt, found, wanted);
+    Ok(())
 }

@@ -1,6 +1,6 @@
 //! The reports `validate` and `replay` on the example group.
 
-use crate::support::{GROUP_INFO, PROPOSAL, TREE, bytes, expect_text, expect_texts};
+use crate::support::{GROUP_INFO, PROPOSAL, TREE, bytes, expect_text};
 use mls_check::Trusting;
 use mls_cli::{RunFault, Verdict, run_replay, run_validate};
 use mls_wire::{MemorySink, MemorySource};
@@ -50,8 +50,7 @@ fn replayed(
     let mut tree: Option<MemorySource> = None;
     let mut log = MemorySource::new(log.as_slice(), piece, log_fails);
     let mut out = MemorySink::new(alloc, room, piece, None)?;
-    let checker = Box::new(alloc, Trusting)?;
-    let outcome = run_replay(alloc, &mut info, &mut tree, &mut log, checker, &mut out);
+    let outcome = run_replay(alloc, &mut info, &mut tree, &mut log, Trusting, &mut out);
     Ok((said(alloc, outcome, &out)?, log.left().len()))
 }
 
@@ -62,36 +61,9 @@ fn told(alloc: Global, log: (&str, usize)) -> Result<String, Fail> {
     Ok(found)
 }
 
-/// What it writes of the example log, where the log or the output fails.
-fn told_until(alloc: Global, ends: (usize, Option<usize>, usize)) -> Result<String, Fail> {
-    let (found, _) = replayed(alloc, LOG, ends)?;
-    Ok(found)
-}
-
-/// How many bytes of the example log are left then.
-fn left_after(alloc: Global, ends: (usize, Option<usize>, usize)) -> Result<String, Fail> {
-    let (_, left) = replayed(alloc, LOG, ends)?;
-    Ok(format!(in alloc; "{left}")?)
-}
-
-/// What `validate` writes of a group info, and of a tree where one is handed in.
-fn validated(alloc: Global, inputs: (&str, Option<&str>)) -> Result<String, Fail> {
-    let (info, tree) = inputs;
-    let info = bytes(alloc, info)?;
-    let mut info = MemorySource::new(info.as_slice(), 7, None);
-    let tree_bytes = bytes(alloc, tree.unwrap_or(""))?;
-    let mut tree = match tree {
-        Some(_) => Some(MemorySource::new(tree_bytes.as_slice(), 7, None)),
-        None => None,
-    };
-    let mut out = MemorySink::new(alloc, 1000, 7, None)?;
-    let checker = Box::new(alloc, Trusting)?;
-    let outcome = run_validate(alloc, &mut info, &mut tree, checker, &mut out);
-    said(alloc, outcome, &out)
-}
-
 #[test]
 fn a_group_is_validated(rt: HostRuntime) -> Result<(), Fail> {
+    let alloc = rt.alloc();
     const VALID: &str = "valid epoch 0 members 1 tree \
         e32ab6a0a711ec8a732c3fad9263ed5fa61caf53fdf9b9690dc57271d8f110d7\n";
     const INPUTS: &[((&str, Option<&str>), &str)] = &[
@@ -101,7 +73,22 @@ fn a_group_is_validated(rt: HostRuntime) -> Result<(), Fail> {
         ((PROPOSAL, None), "no: info unreadable NotGroupInfo\n"),
         (("00", Some("00")), "no: info unreadable Truncated 0\n"),
     ];
-    expect_texts(&rt, rt.alloc(), validated, INPUTS)
+    // What `validate` writes of a group info, and of a tree where one is handed in.
+    for (inputs, wanted) in INPUTS {
+        let (info, tree) = *inputs;
+        let info = bytes(alloc, info)?;
+        let mut info = MemorySource::new(info.as_slice(), 7, None);
+        let tree_bytes = bytes(alloc, tree.unwrap_or(""))?;
+        let mut tree = match tree {
+            Some(_) => Some(MemorySource::new(tree_bytes.as_slice(), 7, None)),
+            None => None,
+        };
+        let mut out = MemorySink::new(alloc, 1000, 7, None)?;
+        let outcome = run_validate(alloc, &mut info, &mut tree, Trusting, &mut out);
+        let found = said(alloc, outcome, &out)?;
+        expect_text(&rt, found, wanted);
+    }
+    Ok(())
 }
 
 #[test]
@@ -114,6 +101,7 @@ fn a_log_is_replayed_in_pieces_of_each_size(rt: HostRuntime) -> Result<(), Fail>
 
 #[test]
 fn short_logs_are_replayed(rt: HostRuntime) -> Result<(), Fail> {
+    let alloc = rt.alloc();
     const LOGS: &[((&str, usize), &str)] = &[
         (("", 40), "accepted 0 refused 0 broken 0 epoch 0\n"),
         (
@@ -125,13 +113,17 @@ fn short_logs_are_replayed(rt: HostRuntime) -> Result<(), Fail> {
             "no: 1 broken\naccepted 0 refused 0 broken 1 epoch 0\n",
         ),
     ];
-    expect_texts(&rt, rt.alloc(), told, LOGS)
+    for (input, wanted) in LOGS {
+        expect_text(&rt, told(alloc, *input)?, wanted);
+    }
+    Ok(())
 }
 
 /// The output fails in line 1: nothing is read behind message 1, which is 77 of the 151 bytes. The log fails inside
 /// message 2: line 1 is told.
 #[test]
 fn devices_of_replay_that_fail(rt: HostRuntime) -> Result<(), Fail> {
+    let alloc = rt.alloc();
     const ENDS: &[((usize, Option<usize>, usize), &str)] = &[
         ((10, None, 10), "1 accepted: write"),
         (
@@ -139,6 +131,16 @@ fn devices_of_replay_that_fail(rt: HostRuntime) -> Result<(), Fail> {
             "1 accepted proposal 419afc0a88fe171b793b00410d11c8121fb96fdfde7b5ced43d5912144a3a9f9\n: read",
         ),
     ];
-    expect_texts(&rt, rt.alloc(), told_until, ENDS)?;
-    expect_texts(&rt, rt.alloc(), left_after, &[((10, None, 10), "74")])
+    // What it writes of the example log, where the log or the output fails.
+    for (ends, wanted) in ENDS {
+        let ends = *ends;
+        let (found, _) = replayed(alloc, LOG, ends)?;
+        expect_text(&rt, found, wanted);
+    }
+    // How many bytes of the example log are left then.
+    let ends = (10, None, 10);
+    let (_, left) = replayed(alloc, LOG, ends)?;
+    let found = format!(in alloc; "{left}")?;
+    expect_text(&rt, found, "74");
+    Ok(())
 }

@@ -1,12 +1,13 @@
 //! Hostile bytes: inputs that are cut, messages of which one bit is changed, and lengths with nothing behind them. None
 //! is taken for what it isn't, and what is refused changes nothing.
 
-use crate::follower::{first_answer, started, state_text, taken_text};
+use crate::follower::{first_answer, listed, started, state_text, taken_text};
 use crate::real_group::{FIFTH_INFO, LATER, RECEIPTS};
 use crate::rules::{PROPOSAL_RECEIPTS, SIGNED_FRAMES};
 use crate::support::{
-    COMMIT, GROUP_INFO, LEAF, PROPOSAL, RECEIPT, REFERENCE, TREE, bytes, expect_texts,
+    COMMIT, GROUP_INFO, LEAF, PROPOSAL, RECEIPT, REFERENCE, TREE, bytes, expect_text,
 };
+use mls_check::Listed;
 use mls_follow::{Follower, Taken};
 use mls_msgs::decode_message;
 use mls_nodes::{NodeFault, decode_leaf, decode_ratchet_tree};
@@ -62,6 +63,7 @@ fn fronts(alloc: Global, input: (Kind, &str)) -> Result<String, Fail> {
 
 #[test]
 fn cut_inputs_are_not_read(rt: HostRuntime) -> Result<(), Fail> {
+    let alloc = rt.alloc();
     const INPUTS: &[((Kind, &str), &str)] = &[
         ((Kind::Tree, TREE), "42"),
         ((Kind::Leaf, LEAF), "39"),
@@ -69,7 +71,10 @@ fn cut_inputs_are_not_read(rt: HostRuntime) -> Result<(), Fail> {
         ((Kind::Message, PROPOSAL), "75"),
         ((Kind::Message, COMMIT), "63"),
     ];
-    expect_texts(&rt, rt.alloc(), fronts, INPUTS)
+    for (input, wanted) in INPUTS {
+        expect_text(&rt, fronts(alloc, *input)?, wanted);
+    }
+    Ok(())
 }
 
 /// How many fronts of a message there are, all of which a follower refuses as malformed.
@@ -87,10 +92,16 @@ fn malformed_fronts(alloc: Global, message: &str) -> Result<String, Fail> {
 /// Also a message of which only the length of the group id stands there.
 #[test]
 fn cut_messages_are_malformed(rt: HostRuntime) -> Result<(), Fail> {
+    let alloc = rt.alloc();
     let rows = [(PROPOSAL, "75"), (COMMIT, "63")];
-    expect_texts(&rt, rt.alloc(), malformed_fronts, &rows)?;
+    for (input, wanted) in &rows {
+        expect_text(&rt, malformed_fronts(alloc, *input)?, wanted);
+    }
     let rows = [("00010001bfffffff", "1 Malformed")];
-    expect_texts(&rt, rt.alloc(), first_answer, &rows)
+    for (input, wanted) in &rows {
+        expect_text(&rt, first_answer(alloc, *input)?, wanted);
+    }
+    Ok(())
 }
 
 // ---- messages of which a bit is changed
@@ -118,7 +129,7 @@ fn changed(alloc: Global, message: &str, bit: usize) -> Result<Vec<u8>, Fail> {
 /// each refusal the follower's state has to be the one before.
 fn taken_among(
     alloc: Global,
-    follower: &mut Follower,
+    follower: &mut Follower<Listed>,
     message: &str,
     bits: Range<usize>,
 ) -> Result<Option<(usize, Taken)>, Fail> {
@@ -139,7 +150,7 @@ fn taken_among(
 /// Hands a follower what comes before the message, and then the message with some bits changed, one at a time.
 fn taken_after(
     alloc: Global,
-    follower: &mut Follower,
+    follower: &mut Follower<Listed>,
     sent: Sent,
     bits: Range<usize>,
 ) -> Result<Option<(usize, Taken)>, Fail> {
@@ -158,7 +169,7 @@ fn first_taken(
     sent: Sent,
     bits: Range<usize>,
 ) -> Result<Option<(usize, Taken)>, Fail> {
-    let mut follower = started(alloc, Some(sent.receipts), sent.info)?;
+    let mut follower = started(alloc, listed(alloc, sent.receipts)?, sent.info)?;
     let taken = taken_after(alloc, &mut follower, sent, bits);
     drop(follower);
     taken

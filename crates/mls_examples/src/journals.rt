@@ -1,7 +1,7 @@
 //! Changes of a tree that a journal takes back (RFC 9420, 7.7 and 12.1): the tree is then the one before them, node by
 //! node.
 
-use crate::support::{bytes, expect_texts, grown_tree, key_package, tree_of, tree_text};
+use crate::support::{bytes, expect_text, grown_tree, key_package, list_text, tree_of, tree_text};
 use mls_apply::{ListItem, apply_list_in_place};
 use mls_msgs::decode_proposal;
 use mls_tree::{Journal, PublicTree};
@@ -83,6 +83,7 @@ fn back(alloc: Global, changes: &[Change]) -> Result<String, Fail> {
 
 #[test]
 fn changes_are_taken_back(rt: HostRuntime) -> Result<(), Fail> {
+    let alloc = rt.alloc();
     const CHANGES: &[(&[Change], &str)] = &[
         (&[Change::Leaf(1)], "4 true"),
         (&[Change::Path(0)], "4 true"),
@@ -120,7 +121,10 @@ fn changes_are_taken_back(rt: HostRuntime) -> Result<(), Fail> {
             "4 true",
         ),
     ];
-    expect_texts(&rt, rt.alloc(), back, CHANGES)
+    for (input, wanted) in CHANGES {
+        expect_text(&rt, back(alloc, *input)?, wanted);
+    }
+    Ok(())
 }
 
 /// A change that is kept stays when those after it are taken back.
@@ -138,11 +142,53 @@ fn kept(alloc: Global, changes: (Change, Change)) -> Result<String, Fail> {
 
 #[test]
 fn kept_changes_stay(rt: HostRuntime) -> Result<(), Fail> {
+    let alloc = rt.alloc();
     const CHANGES: &[((Change, Change), &str)] = &[
         ((Change::Growth, Change::Leaf(0)), "8 true"),
         ((Change::Leaf(1), Change::Growth), "4 true"),
     ];
-    expect_texts(&rt, rt.alloc(), kept, CHANGES)
+    for (input, wanted) in CHANGES {
+        expect_text(&rt, kept(alloc, *input)?, wanted);
+    }
+    Ok(())
+}
+
+/// The places that a journal tells of after changes of the tree of four leaves, one of which is unmerged.
+fn told(alloc: Global, changes: &[Change]) -> Result<String, Fail> {
+    let mut tree = grown_tree(alloc)?;
+    let mut journal = Journal::new(alloc);
+    for step in changes {
+        make_change(alloc, &mut tree, &mut journal, *step)?;
+    }
+    let places = journal.changed_places(alloc, &tree)?;
+    list_text(alloc, places.as_slice())
+}
+
+#[test]
+fn changed_places_are_told(rt: HostRuntime) -> Result<(), Fail> {
+    let alloc = rt.alloc();
+    const CHANGES: &[(&[Change], &str)] = &[
+        (&[], "[]"),
+        (&[Change::Leaf(1)], "[2]"),
+        (&[Change::Path(0)], "[1, 3]"),
+        (&[Change::Entry(2)], "[3]"),
+        (
+            &[Change::Leaf(1), Change::Growth],
+            "[7, 8, 9, 10, 11, 12, 13, 14, 2]",
+        ),
+        (
+            &[Change::Growth, Change::Halving],
+            "[7, 8, 9, 10, 11, 12, 13, 14, 7, 8, 9, 10, 11, 12, 13, 14]",
+        ),
+        (
+            &[Change::Leaf(3), Change::Leaf(2), Change::Halving],
+            "[3, 4, 5, 6, 4, 6]",
+        ),
+    ];
+    for (input, wanted) in CHANGES {
+        expect_text(&rt, told(alloc, *input)?, wanted);
+    }
+    Ok(())
 }
 
 /// A list of so many Adds by member 0.
@@ -160,29 +206,31 @@ fn adds(alloc: Global, count: u32) -> Result<Vec<ListItem>, Fail> {
     Ok(list)
 }
 
-/// How many leaves a tree of four has after so many Adds, and whether it is the one before them once they are taken
-/// back.
-fn added_and_back(alloc: Global, count: u32) -> Result<String, Fail> {
-    let list = adds(alloc, count)?;
-    let mut tree = tree_of(alloc, 4, &[0, 2])?;
-    let before = nodes_text(alloc, &tree)?;
-    let mut journal = Journal::new(alloc);
-    let added = apply_list_in_place(alloc, &mut tree, &mut journal, list.as_slice());
-    drop(list);
-    drop(added?);
-    let leaves = tree.leaf_count();
-    journal.take_back(&mut tree);
-    let after = nodes_text(alloc, &tree)?;
-    comparison(alloc, leaves, before.as_str(), after.as_str())
-}
-
 #[test]
 fn many_adds_are_taken_back(rt: HostRuntime) -> Result<(), Fail> {
+    let alloc = rt.alloc();
     const COUNTS: &[(u32, &str)] = &[
         (1, "4 true"),
         (2, "4 true"),
         (3, "8 true"),
         (1000, "1024 true"),
     ];
-    expect_texts(&rt, rt.alloc(), added_and_back, COUNTS)
+    // How many leaves a tree of four has after so many Adds, and whether it is the one before them once they are taken
+    // back.
+    for (count, wanted) in COUNTS {
+        let count = *count;
+        let list = adds(alloc, count)?;
+        let mut tree = tree_of(alloc, 4, &[0, 2])?;
+        let before = nodes_text(alloc, &tree)?;
+        let mut journal = Journal::new(alloc);
+        let added = apply_list_in_place(alloc, &mut tree, &mut journal, list.as_slice());
+        drop(list);
+        drop(added?);
+        let leaves = tree.leaf_count();
+        journal.take_back(&mut tree);
+        let after = nodes_text(alloc, &tree)?;
+        let found = comparison(alloc, leaves, before.as_str(), after.as_str())?;
+        expect_text(&rt, found, wanted);
+    }
+    Ok(())
 }

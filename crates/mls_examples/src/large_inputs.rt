@@ -1,7 +1,7 @@
 //! Inputs at the limit of 268,435,456 bytes and over it, which is this library's own, and arguments over the 1,073,741,823
 //! bytes of a vector's body (RFC 9420, 2.1.2).
 
-use crate::support::expect_texts;
+use crate::support::{bytes, expect_text};
 use mls_check::{Listed, Trusting, signed};
 use mls_cli::{CheckKind, ShowKind, run_check, run_show};
 use mls_msgs::{Message, decode_message};
@@ -41,29 +41,12 @@ fn message_of(alloc: Global, size: usize) -> Result<String, Fail> {
 
 #[test]
 fn messages_at_the_limit(rt: HostRuntime) -> Result<(), Fail> {
+    let alloc = rt.alloc();
     const SIZES: &[(usize, &str)] = &[(268435456, "2 268435452"), (268435457, "TooLong at 0")];
-    expect_texts(&rt, rt.alloc(), message_of, SIZES)
-}
-
-/// Why a context of such a size can't be read.
-fn context_of(alloc: Global, size: usize) -> Result<String, Fail> {
-    let input = private_message(alloc, size)?;
-    let fault = decode_context(alloc, input.as_slice()).err();
-    Ok(format!(in alloc; "{}", fault.ok_or("a fault")?)?)
-}
-
-/// Why a tree of such a size can't be read.
-fn tree_of(alloc: Global, size: usize) -> Result<String, Fail> {
-    let input = private_message(alloc, size)?;
-    let fault = decode_ratchet_tree(alloc, input.as_slice()).err();
-    Ok(format!(in alloc; "{}", fault.ok_or("a fault")?)?)
-}
-
-/// Why receipts of such a size can't be read.
-fn receipts_of(alloc: Global, size: usize) -> Result<String, Fail> {
-    let input = private_message(alloc, size)?;
-    let fault = Listed::read(alloc, input.as_slice()).err();
-    Ok(format!(in alloc; "{}", fault.ok_or("a fault")?)?)
+    for (input, wanted) in SIZES {
+        expect_text(&rt, message_of(alloc, *input)?, wanted);
+    }
+    Ok(())
 }
 
 #[test]
@@ -71,32 +54,53 @@ fn other_inputs_over_the_limit(rt: HostRuntime) -> Result<(), Fail> {
     let alloc = rt.alloc();
     let over = 268435457;
     let receipts = "the file has more than 268,435,456 bytes";
-    expect_texts(&rt, alloc, context_of, &[(over, "TooLong at 0")])?;
-    expect_texts(&rt, alloc, tree_of, &[(over, "TooLong at 0")])?;
-    expect_texts(&rt, alloc, receipts_of, &[(over, receipts)])
-}
-
-/// What `show message` writes of a message of such a size.
-fn shown(alloc: Global, size: usize) -> Result<String, Fail> {
+    // Why a context of such a size can't be read.
+    let size = over;
     let input = private_message(alloc, size)?;
-    let mut out = MemorySink::new(alloc, 100, 100, None)?;
-    let mut source = StdSource::new(input.as_slice());
-    run_show(alloc, ShowKind::Message, &mut source, &mut out)?;
-    Ok(String::from_utf8(Vec::from_slice(alloc, out.bytes())?)?)
+    let fault = decode_context(alloc, input.as_slice()).err();
+    let found = format!(in alloc; "{}", fault.ok_or("a fault")?)?;
+    expect_text(&rt, found, "TooLong at 0");
+    // Why a tree of such a size can't be read.
+    let size = over;
+    let input = private_message(alloc, size)?;
+    let fault = decode_ratchet_tree(alloc, input.as_slice()).err();
+    let found = format!(in alloc; "{}", fault.ok_or("a fault")?)?;
+    expect_text(&rt, found, "TooLong at 0");
+    // Why receipts of such a size can't be read.
+    let size = over;
+    let input = private_message(alloc, size)?;
+    let fault = Listed::read(alloc, input.as_slice()).err();
+    let found = format!(in alloc; "{}", fault.ok_or("a fault")?)?;
+    expect_text(&rt, found, receipts);
+    Ok(())
 }
 
 #[test]
 fn a_message_over_the_limit_is_told(rt: HostRuntime) -> Result<(), Fail> {
+    let alloc = rt.alloc();
     const SIZES: &[(usize, &str)] = &[
         (268435456, "private 268435452\n"),
         (268435457, "unreadable TooLong 0\n"),
     ];
-    expect_texts(&rt, rt.alloc(), shown, SIZES)
+    // What `show message` writes of a message of such a size.
+    for (size, wanted) in SIZES {
+        let size = *size;
+        let input = private_message(alloc, size)?;
+        let mut out = MemorySink::new(alloc, 100, 100, None)?;
+        let mut source = StdSource::new(input.as_slice());
+        run_show(alloc, ShowKind::Message, &mut source, &mut out)?;
+        let found = String::from_utf8(Vec::from_slice(alloc, out.bytes())?)?;
+        expect_text(&rt, found, wanted);
+    }
+    Ok(())
 }
 
-/// What a checker that trusts everyone answers of a content of so many zeros, what a copy of them answers, and what a
-/// writer does.
-fn over_a_vector(alloc: Global, size: usize) -> Result<String, Fail> {
+#[test]
+fn arguments_over_a_vector(rt: HostRuntime) -> Result<(), Fail> {
+    let alloc = rt.alloc();
+    // What a checker that trusts everyone answers of a content of so many zeros, what a copy of them answers, and what a
+    // writer does.
+    let size = 1073741824;
     let zeros = vec![in alloc; 0u8; size]?;
     let is_signed = signed(
         alloc,
@@ -111,29 +115,27 @@ fn over_a_vector(alloc: Global, size: usize) -> Result<String, Fail> {
     let mut writer = Writer::new(alloc);
     writer.write_u8(0)?;
     let written = writer.write_vec(zeros.as_slice()).err().ok_or("written")?;
-    Ok(format!(in alloc; "{is_signed}, {copied}, {written}")?)
-}
-
-#[test]
-fn arguments_over_a_vector(rt: HostRuntime) -> Result<(), Fail> {
-    const SIZES: &[(usize, &str)] = &[(1073741824, "false, TooLong at 0, TooLong at 1")];
-    expect_texts(&rt, rt.alloc(), over_a_vector, SIZES)
-}
-
-/// What `check` writes of no vectors with blanks behind them, so many bytes in all.
-fn checked(alloc: Global, size: usize) -> Result<String, Fail> {
-    let input = filled(alloc, b"[]", b' ', size)?;
-    let mut out = MemorySink::new(alloc, 100, 100, None)?;
-    let mut source = StdSource::new(input.as_slice());
-    run_check(alloc, CheckKind::TreeMath, &mut source, &mut out)?;
-    Ok(String::from_utf8(Vec::from_slice(alloc, out.bytes())?)?)
+    let found = format!(in alloc; "{is_signed}, {copied}, {written}")?;
+    expect_text(&rt, found, "false, TooLong at 0, TooLong at 1");
+    Ok(())
 }
 
 #[test]
 fn vectors_over_the_limit_are_told(rt: HostRuntime) -> Result<(), Fail> {
+    let alloc = rt.alloc();
     const SIZES: &[(usize, &str)] = &[
         (268435456, "passed 0 failed 0 skipped 0\n"),
         (268435457, "vectors unreadable\n"),
     ];
-    expect_texts(&rt, rt.alloc(), checked, SIZES)
+    // What `check` writes of no vectors with blanks behind them, so many bytes in all.
+    for (size, wanted) in SIZES {
+        let size = *size;
+        let input = filled(alloc, b"[]", b' ', size)?;
+        let mut out = MemorySink::new(alloc, 100, 100, None)?;
+        let mut source = StdSource::new(input.as_slice());
+        run_check(alloc, CheckKind::TreeMath, &mut source, &mut out)?;
+        let found = String::from_utf8(Vec::from_slice(alloc, out.bytes())?)?;
+        expect_text(&rt, found, wanted);
+    }
+    Ok(())
 }

@@ -1,6 +1,6 @@
 //! Logs, record by record.
 
-use crate::support::{bytes, expect_text, expect_texts, text};
+use crate::support::{bytes, expect_text, text};
 use mls_wire::{LogStep, MemorySource, RecordReader, Records};
 use std::alloc::Global;
 use std::test::Fail;
@@ -34,6 +34,7 @@ fn told(alloc: Global, log: (&str, u32)) -> Result<String, Fail> {
 
 #[test]
 fn records_of_logs(rt: HostRuntime) -> Result<(), Fail> {
+    let alloc = rt.alloc();
     const LOGS: &[((&str, u32), &str)] = &[
         (
             ("01ab00c0", 9),
@@ -64,24 +65,29 @@ fn records_of_logs(rt: HostRuntime) -> Result<(), Fail> {
             "record , 1 left. record , 0 left. end , 0 left. over , 0 left. ",
         ),
     ];
-    expect_texts(&rt, rt.alloc(), told, LOGS)
-}
-
-/// What two calls answer over a source that fails at one of its calls.
-fn failing(alloc: Global, fails_at: usize) -> Result<String, Fail> {
-    let log = [3, 0xab, 0xcd, 0xef];
-    let mut source = MemorySource::new(&log, 1, Some(fails_at));
-    let mut reader = Records::new(alloc, 9);
-    let first = reader.next(&mut source).map(name_of).unwrap_or("fault");
-    let second = reader.next(&mut source).map(name_of).unwrap_or("fault");
-    Ok(format!(in alloc; "{first}, {second}")?)
+    for (input, wanted) in LOGS {
+        expect_text(&rt, told(alloc, *input)?, wanted);
+    }
+    Ok(())
 }
 
 /// A source that fails at each of its calls inside a record: a fault, and then nothing more.
 #[test]
 fn logs_that_fail(rt: HostRuntime) -> Result<(), Fail> {
+    let alloc = rt.alloc();
     const CALLS: &[(usize, &str)] = &[(1, "fault, over"), (2, "fault, over"), (3, "fault, over")];
-    expect_texts(&rt, rt.alloc(), failing, CALLS)
+    // What two calls answer over a source that fails at one of its calls.
+    for (fails_at, wanted) in CALLS {
+        let fails_at = *fails_at;
+        let log = [3, 0xab, 0xcd, 0xef];
+        let mut source = MemorySource::new(&log, 1, Some(fails_at));
+        let mut reader = Records::new(alloc, 9);
+        let first = reader.next(&mut source).map(name_of).unwrap_or("fault");
+        let second = reader.next(&mut source).map(name_of).unwrap_or("fault");
+        let found = format!(in alloc; "{first}, {second}")?;
+        expect_text(&rt, found, wanted);
+    }
+    Ok(())
 }
 
 /// What four calls of a reader that holds its source tell of a log of at most two records, and how many bytes are left.

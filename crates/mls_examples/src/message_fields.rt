@@ -2,7 +2,7 @@
 //! type that stand side by side have different values.
 
 use crate::node_fields::{put_bytes, put_context, put_extensions, put_leaf_fields, put_number};
-use crate::support::{bytes, expect_texts};
+use crate::support::{bytes, expect_text};
 use mls_msgs::{
     Authenticated, Commit, Content, FramedContent, GroupInfo, KeyPackage, Message, PathNode,
     Proposal, ProposalOrRef, PublicMessage, Sender, UpdatePath, decode_authenticated,
@@ -149,20 +149,12 @@ fn message_fields(alloc: Global, message: &str) -> Result<String, Fail> {
     Ok(out)
 }
 
-/// The fields of an authenticated content.
-fn authenticated_fields(alloc: Global, auth: &str) -> Result<String, Fail> {
-    let input = bytes(alloc, auth)?;
-    let auth = decode_authenticated(alloc, input.as_slice())?;
-    let mut out = String::new(alloc);
-    let put = put_authenticated(alloc, &mut out, &auth);
-    drop(auth);
-    put?;
-    Ok(out)
-}
-
-/// Application data and an Update of a member, a Remove of an external sender, and the Add of a new member.
+/// Application data and an Update of a member, a Remove of an external sender, and the Add of a new member; the commits of
+/// a member, with a proposal and a reference, and of a new member, with a path of two nodes; then a PrivateMessage, a
+/// Welcome, a GroupInfo and a KeyPackage.
 #[test]
-fn fields_of_data_and_proposals(rt: HostRuntime) -> Result<(), Fail> {
+fn fields_of_messages(rt: HostRuntime) -> Result<(), Fail> {
+    let alloc = rt.alloc();
     const MESSAGES: &[(&str, &str)] = &[
         (
             "0001000101470000000000000005010000000301440102b4b501c601c5",
@@ -188,14 +180,6 @@ fn fields_of_data_and_proposals(rt: HostRuntime) -> Result<(), Fail> {
              extensions [3]; proposals [4]; credentials [5]; not before 6; not after 7; \
              signature c9; extension 8; data 81; signature ca; signature c6; ",
         ),
-    ];
-    expect_texts(&rt, rt.alloc(), message_fields, MESSAGES)
-}
-
-/// A member's, with a proposal and a reference, and a new member's, with a path of two nodes.
-#[test]
-fn fields_of_commits(rt: HostRuntime) -> Result<(), Fail> {
-    const MESSAGES: &[(&str, &str)] = &[
         (
             "000100010147000000000000000501000000030144030b0100030000000902024e4f0001c601e101c5",
             "format 1; group 47; epoch 5; member 3; data 44; remove 9; reference 4e4f; no path; \
@@ -210,14 +194,6 @@ fn fields_of_commits(rt: HostRuntime) -> Result<(), Fail> {
              node d3; kem ac; ciphertext bd; kem ae; ciphertext bf; signature c6; \
              confirmation e1; ",
         ),
-    ];
-    expect_texts(&rt, rt.alloc(), message_fields, MESSAGES)
-}
-
-/// A PrivateMessage, a Welcome, a GroupInfo and a KeyPackage.
-#[test]
-fn fields_of_other_messages(rt: HostRuntime) -> Result<(), Fail> {
-    const MESSAGES: &[(&str, &str)] = &[
         ("00010002abcd", "unread 2; body abcd; "),
         ("00010003abcd", "unread 3; body abcd; "),
         (
@@ -233,11 +209,15 @@ fn fields_of_other_messages(rt: HostRuntime) -> Result<(), Fail> {
              not after 7; signature c9; extension 8; data 81; signature ca; ",
         ),
     ];
-    expect_texts(&rt, rt.alloc(), message_fields, MESSAGES)
+    for (input, wanted) in MESSAGES {
+        expect_text(&rt, message_fields(alloc, *input)?, wanted);
+    }
+    Ok(())
 }
 
 #[test]
 fn fields_of_authenticated_contents(rt: HostRuntime) -> Result<(), Fail> {
+    let alloc = rt.alloc();
     const CONTENTS: &[(&str, &str)] = &[
         (
             "000201470000000000000005010000000301440200030000000901c6",
@@ -249,5 +229,16 @@ fn fields_of_authenticated_contents(rt: HostRuntime) -> Result<(), Fail> {
              signature c6; confirmation e1; ",
         ),
     ];
-    expect_texts(&rt, rt.alloc(), authenticated_fields, CONTENTS)
+    // The fields of an authenticated content.
+    for (auth, wanted) in CONTENTS {
+        let auth = *auth;
+        let input = bytes(alloc, auth)?;
+        let auth = decode_authenticated(alloc, input.as_slice())?;
+        let mut out = String::new(alloc);
+        let put = put_authenticated(alloc, &mut out, &auth);
+        drop(auth);
+        put?;
+        expect_text(&rt, out, wanted);
+    }
+    Ok(())
 }

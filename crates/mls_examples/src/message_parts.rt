@@ -1,6 +1,6 @@
 //! Messages made of their parts, and parts that don't fit together (RFC 9420, 6, 6.1 and 6.2).
 
-use crate::support::{PROPOSAL, PROPOSED, bytes, expect_answers, expect_texts};
+use crate::support::{PROPOSAL, PROPOSED, bytes, expect_answer, expect_text};
 use mls_msgs::{
     Authenticated, AuthenticatedParts, FramedContent, Message, PublicMessage, PublicParts,
     encode_message,
@@ -59,7 +59,10 @@ fn made_of(alloc: Global, input: &[u8]) -> Result<Vec<u8>, CodecFault> {
 
 #[test]
 fn messages_are_made_of_parts(rt: HostRuntime) -> Result<(), Fail> {
-    expect_answers(&rt, rt.alloc(), made_of, &[(PROPOSED, PROPOSAL)])
+    let alloc = rt.alloc();
+    let input = bytes(alloc, PROPOSED)?;
+    expect_answer(&rt, alloc, made_of(alloc, input.as_slice()), PROPOSAL)?;
+    Ok(())
 }
 
 /// Which parts fit together: `public` where they make a public message, `content` where they make a content alone, and
@@ -96,26 +99,10 @@ fn tag_if(alloc: Global, is_wanted: bool) -> Result<Option<Opaque>, Fail> {
     }
 }
 
-/// Which parts fit together, of a wire format, a framed content, a confirmation tag and a membership tag.
-fn parts_that_fit(alloc: Global, parts: (u16, &str, bool, bool)) -> Result<String, Fail> {
-    let (wire_format, content, is_confirmed, is_tagged) = parts;
-    let input = bytes(alloc, content)?;
-    let signature = Opaque::copy(alloc, &[0xc6])?;
-    let membership_tag = tag_if(alloc, is_tagged)?;
-    let confirmation_tag = tag_if(alloc, is_confirmed)?;
-    let content: FramedContent = read_all_of(alloc, input.as_slice())?;
-    let auth = Authenticated::new(AuthenticatedParts {
-        wire_format,
-        content,
-        signature,
-        confirmation_tag,
-    });
-    Ok(String::from_str(alloc, fitting(auth, membership_tag))?)
-}
-
 /// A member's proposal, a Remove of an external sender, and the commits of a member and of a new one.
 #[test]
 fn tags_of_parts(rt: HostRuntime) -> Result<(), Fail> {
+    let alloc = rt.alloc();
     const EXTERNAL: &str = "014700000000000000050200000102014402000300000009";
     const COMMITTED: &str = "0147000000000000000501000000030144030000";
     const JOINED: &str = "01470000000000000005040144030000";
@@ -133,5 +120,22 @@ fn tags_of_parts(rt: HostRuntime) -> Result<(), Fail> {
         ((1, JOINED, true, false), "public"),
         ((1, JOINED, true, true), "content"),
     ];
-    expect_texts(&rt, rt.alloc(), parts_that_fit, PARTS)
+    // Which parts fit together, of a wire format, a framed content, a confirmation tag and a membership tag.
+    for (parts, wanted) in PARTS {
+        let (wire_format, content, is_confirmed, is_tagged) = *parts;
+        let input = bytes(alloc, content)?;
+        let signature = Opaque::copy(alloc, &[0xc6])?;
+        let membership_tag = tag_if(alloc, is_tagged)?;
+        let confirmation_tag = tag_if(alloc, is_confirmed)?;
+        let content: FramedContent = read_all_of(alloc, input.as_slice())?;
+        let auth = Authenticated::new(AuthenticatedParts {
+            wire_format,
+            content,
+            signature,
+            confirmation_tag,
+        });
+        let found = String::from_str(alloc, fitting(auth, membership_tag))?;
+        expect_text(&rt, found, wanted);
+    }
+    Ok(())
 }

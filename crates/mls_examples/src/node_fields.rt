@@ -1,7 +1,7 @@
 //! The fields of leaf nodes, parent nodes and group contexts by their names, as literal bytes have them (RFC 9420, 5.3, 7.1,
 //! 7.2, 8.1 and 11.1). Fields of one type that stand side by side have different values.
 
-use crate::support::{bytes, expect_texts, text};
+use crate::support::{bytes, expect_text, text};
 use mls_nodes::{
     Capabilities, Credential, Extensions, GroupContext, LeafNode, LeafSource, ParentNode,
     RequiredCapabilities, decode_context, decode_leaf,
@@ -92,20 +92,10 @@ pub(crate) fn put_leaf_fields(
     put_bytes(alloc, out, "signature", leaf.signature.as_slice())
 }
 
-/// The fields of a leaf node.
-fn leaf_fields(alloc: Global, leaf: &str) -> Result<String, Fail> {
-    let input = bytes(alloc, leaf)?;
-    let leaf = decode_leaf(alloc, input.as_slice())?;
-    let mut out = String::new(alloc);
-    let put = put_leaf_fields(alloc, &mut out, &leaf);
-    drop(leaf);
-    put?;
-    Ok(out)
-}
-
 /// A leaf of each source; the second has certificates in place of an identity.
 #[test]
 fn fields_of_leaves(rt: HostRuntime) -> Result<(), Fail> {
+    let alloc = rt.alloc();
     const LEAVES: &[(&str, &str)] = &[
         (
             "01a101b2000101430200010200020200030200040200050100000000000000060000000000000007\
@@ -128,7 +118,18 @@ fn fields_of_leaves(rt: HostRuntime) -> Result<(), Fail> {
              proposals [4, 7]; credentials [5]; parent hash d4e5; signature c9; ",
         ),
     ];
-    expect_texts(&rt, rt.alloc(), leaf_fields, LEAVES)
+    // The fields of a leaf node.
+    for (leaf, wanted) in LEAVES {
+        let leaf = *leaf;
+        let input = bytes(alloc, leaf)?;
+        let leaf = decode_leaf(alloc, input.as_slice())?;
+        let mut out = String::new(alloc);
+        let put = put_leaf_fields(alloc, &mut out, &leaf);
+        drop(leaf);
+        put?;
+        expect_text(&rt, out, wanted);
+    }
+    Ok(())
 }
 
 /// Adds the fields of a parent node.
@@ -138,22 +139,20 @@ fn put_parent_fields(alloc: Global, out: &mut String, parent: &ParentNode) -> Re
     Ok(write!(out, "unmerged {:?}", parent.unmerged.as_slice())?)
 }
 
-/// The fields of a parent node.
-fn parent_fields(alloc: Global, parent: &str) -> Result<String, Fail> {
+#[test]
+fn fields_of_parents(rt: HostRuntime) -> Result<(), Fail> {
+    let alloc = rt.alloc();
+    let fields_text = "encryption d1; parent hash e2; unmerged [3, 5]";
+    // The fields of a parent node.
+    let parent = "01d101e2080000000300000005";
     let input = bytes(alloc, parent)?;
     let parent: ParentNode = read_all_of(alloc, input.as_slice())?;
     let mut out = String::new(alloc);
     let put = put_parent_fields(alloc, &mut out, &parent);
     drop(parent);
     put?;
-    Ok(out)
-}
-
-#[test]
-fn fields_of_parents(rt: HostRuntime) -> Result<(), Fail> {
-    const FIELDS: &str = "encryption d1; parent hash e2; unmerged [3, 5]";
-    const PARENTS: &[(&str, &str)] = &[("01d101e2080000000300000005", FIELDS)];
-    expect_texts(&rt, rt.alloc(), parent_fields, PARENTS)
+    expect_text(&rt, out, fields_text);
+    Ok(())
 }
 
 /// Adds the fields of a group context.
@@ -171,25 +170,24 @@ pub(crate) fn put_context(
     put_extensions(alloc, out, &context.extensions)
 }
 
-/// The fields of a group context.
-fn context_fields(alloc: Global, context: &str) -> Result<String, Fail> {
+#[test]
+fn fields_of_contexts(rt: HostRuntime) -> Result<(), Fail> {
+    let alloc = rt.alloc();
+    // The fields of a group context.
+    let context = "0001000201470000000000000003015401c5080006018600070187";
     let input = bytes(alloc, context)?;
     let context = decode_context(alloc, input.as_slice())?;
     let mut out = String::new(alloc);
     let put = put_context(alloc, &mut out, &context);
     drop(context);
     put?;
-    Ok(out)
-}
-
-#[test]
-fn fields_of_contexts(rt: HostRuntime) -> Result<(), Fail> {
-    const CONTEXTS: &[(&str, &str)] = &[(
-        "0001000201470000000000000003015401c5080006018600070187",
+    expect_text(
+        &rt,
+        out,
         "version 1; suite 2; group 47; epoch 3; tree 54; confirmed c5; \
          extension 6; data 86; extension 7; data 87; ",
-    )];
-    expect_texts(&rt, rt.alloc(), context_fields, CONTEXTS)
+    );
+    Ok(())
 }
 
 /// Adds the fields of required capabilities.
@@ -199,20 +197,18 @@ fn put_required(out: &mut String, required: &RequiredCapabilities) -> Result<(),
     put_codes(out, "credentials", required.credentials.as_slice())
 }
 
-/// The fields of required capabilities.
-fn required_fields(alloc: Global, required: &str) -> Result<String, Fail> {
+#[test]
+fn fields_of_requirements(rt: HostRuntime) -> Result<(), Fail> {
+    let alloc = rt.alloc();
+    let fields_text = "extensions [9, 1]; proposals [8]; credentials [2]; ";
+    // The fields of required capabilities.
+    let required = "0400090001020008020002";
     let input = bytes(alloc, required)?;
     let required: RequiredCapabilities = read_all_of(alloc, input.as_slice())?;
     let mut out = String::new(alloc);
     let put = put_required(&mut out, &required);
     drop(required);
     put?;
-    Ok(out)
-}
-
-#[test]
-fn fields_of_requirements(rt: HostRuntime) -> Result<(), Fail> {
-    const FIELDS: &str = "extensions [9, 1]; proposals [8]; credentials [2]; ";
-    const REQUIRED: &[(&str, &str)] = &[("0400090001020008020002", FIELDS)];
-    expect_texts(&rt, rt.alloc(), required_fields, REQUIRED)
+    expect_text(&rt, out, fields_text);
+    Ok(())
 }

@@ -1,6 +1,6 @@
 //! The orders of the command line, what is said where there is none, and how a run ends.
 
-use crate::support::expect_texts;
+use crate::support::expect_text;
 use mls_cli::{
     CheckKind, Checker, FileName, Order, OrderFault, RunFault, ShowKind, Verdict, order_of,
     status_of,
@@ -99,6 +99,7 @@ fn answer(alloc: Global, line: &str) -> Result<String, Fail> {
 
 #[test]
 fn orders_are_read(rt: HostRuntime) -> Result<(), Fail> {
+    let alloc = rt.alloc();
     const LINES: &[(&str, &str)] = &[
         ("show tree x", "show tree x"),
         ("show info x", "show info x"),
@@ -140,22 +141,16 @@ fn orders_are_read(rt: HostRuntime) -> Result<(), Fail> {
             "2 usage: KIND is tree-math, tree-validation, tree-operations or transcript\n",
         ),
     ];
-    expect_texts(&rt, rt.alloc(), answer, LINES)
-}
-
-/// The status of a line whose text has a part, else the text.
-fn status_with(alloc: Global, line: (&str, &str)) -> Result<String, Fail> {
-    let (line, part) = line;
-    let found = answer(alloc, line)?;
-    match found.split_once(' ') {
-        Some((status, text)) if text.contains(part) => Ok(String::from_str(alloc, status)?),
-        _ => Ok(found),
+    for (input, wanted) in LINES {
+        expect_text(&rt, answer(alloc, *input)?, wanted);
     }
+    Ok(())
 }
 
 /// Help, with status 0, and the usage texts that name what is missing or not known.
 #[test]
 fn usage_and_help(rt: HostRuntime) -> Result<(), Fail> {
+    let alloc = rt.alloc();
     const LINES: &[((&str, &str), &str)] = &[
         (("--help", "Usage: mlscheck"), "0"),
         (("show --help", "Usage: mlscheck"), "0"),
@@ -171,7 +166,18 @@ fn usage_and_help(rt: HostRuntime) -> Result<(), Fail> {
         (("check transcript", "<FILE>"), "2"),
         (("", "requires a subcommand"), "2"),
     ];
-    expect_texts(&rt, rt.alloc(), status_with, LINES)
+    // The status of a line whose text has a part, else the text.
+    for (line, wanted) in LINES {
+        let line = *line;
+        let (line, part) = line;
+        let found = answer(alloc, line)?;
+        let found = match found.split_once(' ') {
+            Some((status, text)) if text.contains(part) => String::from_str(alloc, status)?,
+            _ => found,
+        };
+        expect_text(&rt, found, wanted);
+    }
+    Ok(())
 }
 
 #[test]

@@ -1,6 +1,6 @@
 //! The program over files in memory: what it prints, and its exit status.
 
-use crate::support::{CONTEXT, GROUP_INFO, PROPOSAL, RECEIPT, TREE, bytes, expect_texts};
+use crate::support::{CONTEXT, GROUP_INFO, PROPOSAL, RECEIPT, TREE, bytes, expect_text};
 use mls_cli::{Files, run_program};
 use mls_wire::{MemorySink, MemorySource};
 use std::alloc::Global;
@@ -85,15 +85,11 @@ fn run_over(
     Ok(format!(in alloc; "{status} {out}| {notes}")?)
 }
 
-/// What a line gives with the receipt of the leaf's signature.
-fn answer(alloc: Global, line: &str) -> Result<String, Fail> {
-    run(alloc, line, RECEIPT, None)
-}
-
 /// Each status, and each file at its place. The receipts begin with the letter `b`, which as the first byte of a vector
 /// begins a length in two bytes, of more bytes than there are.
 #[test]
 fn orders_are_carried_out(rt: HostRuntime) -> Result<(), Fail> {
+    let alloc = rt.alloc();
     const ROWS: &[(&str, &str)] = &[
         (
             "show tree tree",
@@ -177,37 +173,40 @@ fn orders_are_carried_out(rt: HostRuntime) -> Result<(), Fail> {
             "3 | fault: read\n",
         ),
     ];
-    expect_texts(&rt, rt.alloc(), answer, ROWS)
-}
-
-/// What `validate-tree` gives by a file of receipts, where the tree's file is missing.
-fn judged(alloc: Global, row: (&str, &str)) -> Result<String, Fail> {
-    let (tree, receipts) = row;
-    let line = format!(in alloc;
-        "validate-tree --context context --tree {tree} --receipts receipts"
-    )?;
-    run(alloc, line.as_str(), receipts, None)
+    // What a line gives with the receipt of the leaf's signature.
+    for (line, wanted) in ROWS {
+        let line = *line;
+        let found = run(alloc, line, RECEIPT, None)?;
+        expect_text(&rt, found, wanted);
+    }
+    Ok(())
 }
 
 /// No receipt of the leaf; bad receipts, which are told before any other file is opened.
 #[test]
 fn receipts_are_read_first(rt: HostRuntime) -> Result<(), Fail> {
+    let alloc = rt.alloc();
     const ROWS: &[((&str, &str), &str)] = &[
         (("tree", ""), "1 members refused 5 LeafSignature 0\n| "),
         (("tree", "receipt"), "1 receipts unreadable 1\n| "),
         (("other", "receipt"), "1 receipts unreadable 1\n| "),
     ];
-    expect_texts(&rt, rt.alloc(), judged, ROWS)
-}
-
-/// What a line gives where the output fails at its second call.
-fn failing(alloc: Global, line: &str) -> Result<String, Fail> {
-    run(alloc, line, "", Some(2))
+    // What `validate-tree` gives by a file of receipts, where the tree's file is missing.
+    for (row, wanted) in ROWS {
+        let (tree, receipts) = *row;
+        let line = format!(in alloc;
+            "validate-tree --context context --tree {tree} --receipts receipts"
+        )?;
+        let found = run(alloc, line.as_str(), receipts, None)?;
+        expect_text(&rt, found, wanted);
+    }
+    Ok(())
 }
 
 /// A report and a help of which the first 30 bytes are taken.
 #[test]
 fn outputs_fail(rt: HostRuntime) -> Result<(), Fail> {
+    let alloc = rt.alloc();
     const ROWS: &[(&str, &str)] = &[
         (
             "show tree tree",
@@ -215,5 +214,11 @@ fn outputs_fail(rt: HostRuntime) -> Result<(), Fail> {
         ),
         ("--help", "3 Checks the public state of MLS| fault: write\n"),
     ];
-    expect_texts(&rt, rt.alloc(), failing, ROWS)
+    // What a line gives where the output fails at its second call.
+    for (line, wanted) in ROWS {
+        let line = *line;
+        let found = run(alloc, line, "", Some(2))?;
+        expect_text(&rt, found, wanted);
+    }
+    Ok(())
 }

@@ -1,9 +1,7 @@
 //! The list of proposals that a commit applies, and the tree after it (RFC 9420, 12.2 to 12.4). A proposal is hexadecimal
 //! text, with the leaf of its sender before it.
 
-use crate::support::{
-    bytes, expect_text, expect_texts, joined_leaf, put_leaf, put_parent, tree_of, tree_text,
-};
+use crate::support::{bytes, expect_text, joined_leaf, put_leaf, put_parent, tree_of, tree_text};
 use mls_apply::{Applied, Leaves, ListItem, apply_list, check_list};
 use mls_msgs::decode_proposal;
 use mls_tree::PublicTree;
@@ -40,20 +38,9 @@ fn list_of(alloc: Global, entries: &[(u32, &str)]) -> Result<Vec<ListItem>, Fail
     Ok(list)
 }
 
-/// Why a list of member 0's commit is refused, with a path or without, or `none`.
-fn fault_of(alloc: Global, list: (&[(u32, &str)], bool)) -> Result<String, Fail> {
-    let (entries, has_path) = list;
-    let list = list_of(alloc, entries)?;
-    let fault = check_list(alloc, 0, list.as_slice(), has_path).err();
-    drop(list);
-    match fault {
-        None => Ok(String::from_str(alloc, "none")?),
-        Some(fault) => Ok(format!(in alloc; "{fault:?}")?),
-    }
-}
-
 #[test]
 fn lists_that_are_refused(rt: HostRuntime) -> Result<(), Fail> {
+    let alloc = rt.alloc();
     const LISTS: &[((&[(u32, &str)], bool), &str)] = &[
         ((&[], false), "PathMissing"),
         ((&[], true), "none"),
@@ -71,21 +58,20 @@ fn lists_that_are_refused(rt: HostRuntime) -> Result<(), Fail> {
             "SameLeafTwice",
         ),
     ];
-    expect_texts(&rt, rt.alloc(), fault_of, LISTS)
-}
-
-/// The leaves of a tree after a list and those that it added, or why there is no such tree.
-fn outcome(alloc: Global, change: (u32, &[u32], &[(u32, &str)])) -> Result<String, Fail> {
-    let (leaves, set, entries) = change;
-    let list = list_of(alloc, entries)?;
-    let tree = tree_of(alloc, leaves, set)?;
-    let answer = apply_list(alloc, &tree, list.as_slice());
-    drop(tree);
-    drop(list);
-    match answer {
-        Ok(applied) => applied_text(alloc, &applied),
-        Err(fault) => Ok(format!(in alloc; "{fault}")?),
+    // Why a list of member 0's commit is refused, with a path or without, or `none`.
+    for (list, wanted) in LISTS {
+        let list = *list;
+        let (entries, has_path) = list;
+        let list = list_of(alloc, entries)?;
+        let fault = check_list(alloc, 0, list.as_slice(), has_path).err();
+        drop(list);
+        let found = match fault {
+            None => String::from_str(alloc, "none")?,
+            Some(fault) => format!(in alloc; "{fault:?}")?,
+        };
+        expect_text(&rt, found, wanted);
     }
+    Ok(())
 }
 
 /// How many leaves there are after a list, and which it added.
@@ -98,6 +84,7 @@ fn applied_text(alloc: Global, applied: &Applied) -> Result<String, Fail> {
 /// Removes shrink the tree as often as they can, Adds come last and grow a full one, and Updates come first.
 #[test]
 fn leaves_after_a_list(rt: HostRuntime) -> Result<(), Fail> {
+    let alloc = rt.alloc();
     const LISTS: &[((u32, &[u32], &[(u32, &str)]), &str)] = &[
         ((8, &[0, 1, 2, 4], &[(0, REMOVE_4)]), "4 []"),
         ((8, &[0, 1, 4], &[(0, REMOVE_4)]), "2 []"),
@@ -121,7 +108,21 @@ fn leaves_after_a_list(rt: HostRuntime) -> Result<(), Fail> {
         ((4, &[0, 2], &[(1, UPDATE_1)]), "a leaf is not set"),
         ((4, &[0, 2], &[(0, REMOVE_4)]), "a leaf is not set"),
     ];
-    expect_texts(&rt, rt.alloc(), outcome, LISTS)
+    // The leaves of a tree after a list and those that it added, or why there is no such tree.
+    for (change, wanted) in LISTS {
+        let (leaves, set, entries) = *change;
+        let list = list_of(alloc, entries)?;
+        let tree = tree_of(alloc, leaves, set)?;
+        let answer = apply_list(alloc, &tree, list.as_slice());
+        drop(tree);
+        drop(list);
+        let found = match answer {
+            Ok(applied) => applied_text(alloc, &applied)?,
+            Err(fault) => format!(in alloc; "{fault}")?,
+        };
+        expect_text(&rt, found, wanted);
+    }
+    Ok(())
 }
 
 /// The tree after a list, as it is written.

@@ -1,6 +1,6 @@
 //! Ratchet trees as bytes (RFC 9420, 12.4.3.3): filled up when read, trimmed when written.
 
-use crate::support::{TREE, bytes, expect_text, expect_texts, parent_node, text, tree_text};
+use crate::support::{TREE, bytes, expect_text, parent_node, text, tree_text};
 use mls_nodes::{decode_ratchet_tree, write_parent};
 use mls_tree::PublicTree;
 use mls_wire::Writer;
@@ -38,6 +38,7 @@ fn counts_of(alloc: Global, tree: &str) -> Result<String, Fail> {
 
 #[test]
 fn trees_are_filled_up_or_refused(rt: HostRuntime) -> Result<(), Fail> {
+    let alloc = rt.alloc();
     const TREES: &[(&str, &str)] = &[
         (TREE, "1 1"),
         (TWO, "3 2"),
@@ -60,7 +61,10 @@ fn trees_are_filled_up_or_refused(rt: HostRuntime) -> Result<(), Fail> {
             "Trailing at 42",
         ),
     ];
-    expect_texts(&rt, rt.alloc(), counts_of, TREES)
+    for (input, wanted) in TREES {
+        expect_text(&rt, counts_of(alloc, *input)?, wanted);
+    }
+    Ok(())
 }
 
 /// A tree, copied and written.
@@ -77,8 +81,12 @@ fn tree_again(alloc: Global, tree: &str) -> Result<String, Fail> {
 
 #[test]
 fn trees_are_copied_and_trimmed(rt: HostRuntime) -> Result<(), Fail> {
+    let alloc = rt.alloc();
     const TREES: &[(&str, &str)] = &[(TREE, TREE), (TWO, TWO), (THREE, THREE), (WHOLE, WHOLE)];
-    expect_texts(&rt, rt.alloc(), tree_again, TREES)
+    for (input, wanted) in TREES {
+        expect_text(&rt, tree_again(alloc, *input)?, wanted);
+    }
+    Ok(())
 }
 
 /// Why so many blanks are no tree.
@@ -97,11 +105,15 @@ fn fault_of_blanks(alloc: Global, count: u32) -> Result<String, Fail> {
 
 #[test]
 fn trees_of_too_many_entries(rt: HostRuntime) -> Result<(), Fail> {
+    let alloc = rt.alloc();
     const COUNTS: &[(u32, &str)] = &[
         (2097151, "no entry is set"),
         (2097152, "a tree has at most 2,097,151 nodes"),
     ];
-    expect_texts(&rt, rt.alloc(), fault_of_blanks, COUNTS)
+    for (input, wanted) in COUNTS {
+        expect_text(&rt, fault_of_blanks(alloc, *input)?, wanted);
+    }
+    Ok(())
 }
 
 /// A parent as it is written, behind how many bytes it takes.

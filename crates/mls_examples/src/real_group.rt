@@ -226,12 +226,11 @@ pub(crate) fn replayed(
     let info = bytes(alloc, info)?;
     let log = bytes(alloc, log)?;
     let listed = Listed::read(alloc, receipts.as_bytes())?;
-    let checker = Box::new(alloc, listed)?;
     let mut info = MemorySource::new(info.as_slice(), 1000, None);
     let mut tree: Option<MemorySource> = None;
     let mut log = MemorySource::new(log.as_slice(), 100, None);
     let mut out = MemorySink::new(alloc, 4000, 1000, None)?;
-    run_replay(alloc, &mut info, &mut tree, &mut log, checker, &mut out)?;
+    run_replay(alloc, &mut info, &mut tree, &mut log, listed, &mut out)?;
     Ok(String::from_utf8(Vec::from_slice(alloc, out.bytes())?)?)
 }
 

@@ -3,7 +3,7 @@
 //! 5.2, 6.1, 8.2 and 10).
 
 use crate::real_trees::FOURTH_CONTEXT;
-use crate::support::{bytes, expect_text, expect_texts, suite, text};
+use crate::support::{bytes, expect_text, suite, text};
 use mls_check::{Listed, signed};
 use mls_hash::{hash, ref_hash};
 use mls_msgs::{
@@ -53,35 +53,37 @@ fn is_signed(
     Ok(format!(in alloc; "{good}")?)
 }
 
-/// Whether leaf 0 signed the commit in a context.
-fn commit_signed(alloc: Global, context: &str) -> Result<String, Fail> {
-    let key = bytes(
-        alloc,
-        "6634f895f115a3eb0dada46b8cc065ed4f87d251da7a30af00fcfa3dbb08c1c1",
-    )?;
-    let input = bytes(alloc, context)?;
-    let context = decode_context(alloc, input.as_slice())?;
-    let input = bytes(alloc, COMMITTED)?;
-    let auth = decode_authenticated(alloc, input.as_slice())?;
-    let tbs = content_tbs(alloc, &auth, Some(&context));
-    drop(context);
-    let signature = Vec::from_slice(alloc, auth.signature().as_slice());
-    drop(auth);
-    let (tbs, signature) = (tbs?, signature?);
-    is_signed(
-        alloc,
-        key.as_slice(),
-        CONTENT_LABEL,
-        tbs.as_slice(),
-        signature.as_slice(),
-    )
-}
-
 /// In the context of its epoch, and not in the next one's.
 #[test]
 fn a_real_commit_is_signed(rt: HostRuntime) -> Result<(), Fail> {
+    let alloc = rt.alloc();
     const CONTEXTS: &[(&str, &str)] = &[(THIRD_CONTEXT, "true"), (FOURTH_CONTEXT, "false")];
-    expect_texts(&rt, rt.alloc(), commit_signed, CONTEXTS)
+    // Whether leaf 0 signed the commit in a context.
+    for (context, wanted) in CONTEXTS {
+        let context = *context;
+        let key = bytes(
+            alloc,
+            "6634f895f115a3eb0dada46b8cc065ed4f87d251da7a30af00fcfa3dbb08c1c1",
+        )?;
+        let input = bytes(alloc, context)?;
+        let context = decode_context(alloc, input.as_slice())?;
+        let input = bytes(alloc, COMMITTED)?;
+        let auth = decode_authenticated(alloc, input.as_slice())?;
+        let tbs = content_tbs(alloc, &auth, Some(&context));
+        drop(context);
+        let signature = Vec::from_slice(alloc, auth.signature().as_slice());
+        drop(auth);
+        let (tbs, signature) = (tbs?, signature?);
+        let found = is_signed(
+            alloc,
+            key.as_slice(),
+            CONTENT_LABEL,
+            tbs.as_slice(),
+            signature.as_slice(),
+        )?;
+        expect_text(&rt, found, wanted);
+    }
+    Ok(())
 }
 
 /// The key package that a commit adds.
@@ -122,8 +124,12 @@ fn package_signed(alloc: Global, label: &str) -> Result<String, Fail> {
 
 #[test]
 fn a_real_key_package_is_signed(rt: HostRuntime) -> Result<(), Fail> {
+    let alloc = rt.alloc();
     const LABELS: &[(&str, &str)] = &[(KEY_PACKAGE_LABEL, "true"), (CONTENT_LABEL, "false")];
-    expect_texts(&rt, rt.alloc(), package_signed, LABELS)
+    for (input, wanted) in LABELS {
+        expect_text(&rt, package_signed(alloc, *input)?, wanted);
+    }
+    Ok(())
 }
 
 /// The confirmed transcript hash after the commit, by the one before it and the confirmation tag of epoch 3.

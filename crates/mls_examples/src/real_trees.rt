@@ -1,7 +1,7 @@
 //! Ratchet trees of a real group, made by another program: set parents, an unmerged leaf, chains of parent hashes from
 //! either half, and true signatures. Each is found valid, and refused once a part of it is another (RFC 9420, 7.3 and 7.9.2).
 
-use crate::support::expect_texts;
+use crate::support::expect_text;
 use crate::tree_reports::{hash_of, report};
 use mls_check::Listed;
 use std::alloc::Global;
@@ -48,34 +48,44 @@ const FIFTH: &str = "4285010120bbb5d957ea7e260d7eb8f703bbb6163f00358a005cd12600c
     00101000000006b038b29000000006ce4bea90040401c011adf74fe658929249bc06592f91d06d5ce12b26c41c8a424\
     099f5830ef4063134605d5578a45fdd177771f4a9f8992a36707462041c2fa791804bc17f20d";
 
-/// The receipts of the signatures of their leaves: of the three of epoch 4, and of leaves 0 and 2 of epoch 5.
-const RECEIPTS: &str = "b40a52100e89b1203a0233827fa448d936b86ae6595100cb17c4d13eae83d911\n\
-    8239c971a66ee6989ee6a8ffaf768892fed4277ff04ff50e4ee1c334f97b4e98\n\
-    311cfcb5ad153bf384e21a8270fb64eb1a7b0e20c5ad58397f8d6e2d2b7ac710\n\
-    3fc35b216247cb527e9bfac28e712beeae3064de2a1c99fb421a784989c80693\n\
-    4546bbc415c527243bd9852642a05e9985f8f360add94b3347e58f5b07e10870";
-
 /// What `validate-tree` writes of a context and a tree by these receipts.
 fn validated(alloc: Global, inputs: (&str, &str)) -> Result<String, Fail> {
     let (context, tree) = inputs;
-    let listed = Listed::read(alloc, RECEIPTS.as_bytes())?;
+    // The receipts of the signatures of their leaves: of the three of epoch 4, and of leaves 0 and 2 of epoch 5.
+    let listed = Listed::read(
+        alloc,
+        "b40a52100e89b1203a0233827fa448d936b86ae6595100cb17c4d13eae83d911\n\
+    8239c971a66ee6989ee6a8ffaf768892fed4277ff04ff50e4ee1c334f97b4e98\n\
+    311cfcb5ad153bf384e21a8270fb64eb1a7b0e20c5ad58397f8d6e2d2b7ac710\n\
+    3fc35b216247cb527e9bfac28e712beeae3064de2a1c99fb421a784989c80693\n\
+    4546bbc415c527243bd9852642a05e9985f8f360add94b3347e58f5b07e10870"
+            .as_bytes(),
+    )?;
     report(alloc, context, tree, &listed, [None; 3])
 }
 
 /// The trees in the contexts of their epochs, and each in the other's.
 #[test]
 fn trees_of_a_real_group(rt: HostRuntime) -> Result<(), Fail> {
-    const FOURTH_VALID: &str =
-        "valid 4fe78e4b3fd686b3f67a904322536dbf92a30c182dda97393dee01fb136ee1d5\n";
-    const FIFTH_VALID: &str =
-        "valid f3170d1cf1138ed0cccccde0f897e25c4e1bc4fa0dff3966b2e91cd619736df6\n";
+    let alloc = rt.alloc();
     const INPUTS: &[((&str, &str), &str)] = &[
-        ((FOURTH_CONTEXT, FOURTH), FOURTH_VALID),
-        ((FIFTH_CONTEXT, FIFTH), FIFTH_VALID),
+        // Fourth valid.
+        (
+            (FOURTH_CONTEXT, FOURTH),
+            "valid 4fe78e4b3fd686b3f67a904322536dbf92a30c182dda97393dee01fb136ee1d5\n",
+        ),
+        // Fifth valid.
+        (
+            (FIFTH_CONTEXT, FIFTH),
+            "valid f3170d1cf1138ed0cccccde0f897e25c4e1bc4fa0dff3966b2e91cd619736df6\n",
+        ),
         ((FOURTH_CONTEXT, FIFTH), "no: tree refused 1 HashDiffers\n"),
         ((FIFTH_CONTEXT, FOURTH), "no: tree refused 1 HashDiffers\n"),
     ];
-    expect_texts(&rt, rt.alloc(), validated, INPUTS)
+    for (input, wanted) in INPUTS {
+        expect_text(&rt, validated(alloc, *input)?, wanted);
+    }
+    Ok(())
 }
 
 /// What `validate-tree` writes of a tree in which one text stands in place of another, in a context that has its hash in
@@ -106,10 +116,13 @@ fn changed_fourth(alloc: Global, change: (&str, &str)) -> Result<String, Fail> {
 }
 
 /// Of leaf 0, which the parent hash covers, its key and its lifetime; of node 3 its key and its list; the parent hash that
-/// leaf 2 carries.
+/// leaf 2 carries. Of leaf 1, which is unmerged, its key; of leaf 2, which has committed, its key, its identity, its
+/// signature, and the credential type that it lists. Then keys that are those of others.
 #[test]
-fn real_trees_whose_chain_breaks(rt: HostRuntime) -> Result<(), Fail> {
+fn changed_real_trees(rt: HostRuntime) -> Result<(), Fail> {
+    let alloc = rt.alloc();
     const BROKEN: &str = "no: tree refused 5 ParentHashInvalid 3\n";
+    const SECOND: &str = "no: members refused 5 LeafSignature 2\n";
     const CHANGES: &[((&str, &str), &str)] = &[
         (("a471df5e", "a471df5e"), "valid"),
         (("a471df5e", "a471df5f"), BROKEN),
@@ -122,16 +135,6 @@ fn real_trees_whose_chain_breaks(rt: HostRuntime) -> Result<(), Fail> {
             "no: tree refused 3 UnmergedUnsound 3\n",
         ),
         (("05a80439", "05a80438"), BROKEN),
-    ];
-    expect_texts(&rt, rt.alloc(), changed_fourth, CHANGES)
-}
-
-/// Of leaf 1, which is unmerged, its key; of leaf 2, which has committed, its key, its identity, its signature, and the
-/// credential type that it lists.
-#[test]
-fn real_leaves_that_were_not_signed(rt: HostRuntime) -> Result<(), Fail> {
-    const SECOND: &str = "no: members refused 5 LeafSignature 2\n";
-    const CHANGES: &[((&str, &str), &str)] = &[
         (
             ("5f1f5a8d", "5f1f5a8c"),
             "no: members refused 5 LeafSignature 1\n",
@@ -143,14 +146,6 @@ fn real_leaves_that_were_not_signed(rt: HostRuntime) -> Result<(), Fail> {
             ("020001032005a8", "020002032005a8"),
             "no: members refused 3 CredentialUnsupported 2\n",
         ),
-    ];
-    expect_texts(&rt, rt.alloc(), changed_fourth, CHANGES)
-}
-
-/// Leaf 2 with both keys of leaf 0, and node 3 with the key of leaf 1.
-#[test]
-fn real_keys_that_are_repeated(rt: HostRuntime) -> Result<(), Fail> {
-    const CHANGES: &[((&str, &str), &str)] = &[
         (
             (
                 "7096a92019f80b028f64e08cd2ac5ee37c619062e748e39f564fdc37c9019350",
@@ -173,36 +168,39 @@ fn real_keys_that_are_repeated(rt: HostRuntime) -> Result<(), Fail> {
             "no: members refused 4 SignatureKeyRepeated 0\n",
         ),
     ];
-    expect_texts(&rt, rt.alloc(), changed_fourth, CHANGES)
-}
-
-/// The tree of epoch 4 in a group whose id begins so.
-fn in_group(alloc: Global, id: &str) -> Result<String, Fail> {
-    let context = FOURTH_CONTEXT.replace(alloc, "2465531c", id)?;
-    validated(alloc, (context.as_str(), FOURTH))
+    for (input, wanted) in CHANGES {
+        expect_text(&rt, changed_fourth(alloc, *input)?, wanted);
+    }
+    Ok(())
 }
 
 /// What leaf 2 signed has the group's id.
 #[test]
 fn real_leaves_in_another_group(rt: HostRuntime) -> Result<(), Fail> {
-    const VALID: &str = "valid 4fe78e4b3fd686b3f67a904322536dbf92a30c182dda97393dee01fb136ee1d5\n";
+    let alloc = rt.alloc();
     const GROUPS: &[(&str, &str)] = &[
-        ("2465531c", VALID),
+        // Valid.
+        (
+            "2465531c",
+            "valid 4fe78e4b3fd686b3f67a904322536dbf92a30c182dda97393dee01fb136ee1d5\n",
+        ),
         ("2465531d", "no: members refused 5 LeafSignature 2\n"),
     ];
-    expect_texts(&rt, rt.alloc(), in_group, GROUPS)
-}
-
-/// The tree of epoch 5 with a change.
-fn changed_fifth(alloc: Global, change: (&str, &str)) -> Result<String, Fail> {
-    let hash = "f3170d1cf1138ed0cccccde0f897e25c4e1bc4fa0dff3966b2e91cd619736df6";
-    changed(alloc, FIFTH_CONTEXT, hash, FIFTH, change)
+    // The tree of epoch 4 in a group whose id begins so.
+    for (id, wanted) in GROUPS {
+        let id = *id;
+        let context = FOURTH_CONTEXT.replace(alloc, "2465531c", id)?;
+        let found = validated(alloc, (context.as_str(), FOURTH))?;
+        expect_text(&rt, found, wanted);
+    }
+    Ok(())
 }
 
 /// The parent hashes that leaf 0 and node 1 carry, the keys of node 1, of leaf 1 under it, and of the nodes 3 and 4; then
 /// the key of leaf 0, which no parent hash covers.
 #[test]
 fn real_chains_of_two_parents(rt: HostRuntime) -> Result<(), Fail> {
+    let alloc = rt.alloc();
     const LOWER: &str = "no: tree refused 5 ParentHashInvalid 1\n";
     const UPPER: &str = "no: tree refused 5 ParentHashInvalid 3\n";
     const CHANGES: &[((&str, &str), &str)] = &[
@@ -217,5 +215,12 @@ fn real_chains_of_two_parents(rt: HostRuntime) -> Result<(), Fail> {
             "no: members refused 5 LeafSignature 0\n",
         ),
     ];
-    expect_texts(&rt, rt.alloc(), changed_fifth, CHANGES)
+    // The tree of epoch 5 with a change.
+    for (change, wanted) in CHANGES {
+        let change = *change;
+        let hash = "f3170d1cf1138ed0cccccde0f897e25c4e1bc4fa0dff3966b2e91cd619736df6";
+        let found = changed(alloc, FIFTH_CONTEXT, hash, FIFTH, change)?;
+        expect_text(&rt, found, wanted);
+    }
+    Ok(())
 }

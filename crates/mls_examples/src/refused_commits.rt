@@ -2,11 +2,12 @@
 //! and the tree hash of each subtree are those of a tree that is made anew of the nodes before, and the next commit finds
 //! the group as if the refused one had never come.
 
-use crate::by_hand::{adds_of, commit_of, path_of};
+use crate::by_hand::{Path, adds_of, member_commit};
 use crate::follower::{started, taken_text};
 use crate::support::{
-    COMMIT, GROUP_INFO, LOWER, PROPOSAL, bytes, expect_texts, leaf_with, suite, text, tree_text,
+    COMMIT, GROUP_INFO, LOWER, PROPOSAL, bytes, expect_text, suite, text, tree_text,
 };
+use mls_check::Trusting;
 use mls_follow::Follower;
 use mls_hash::tree_hash;
 use mls_nodes::encode_ratchet_tree;
@@ -32,7 +33,7 @@ fn anew(alloc: Global, tree: &PublicTree) -> Result<String, Fail> {
 }
 
 /// Takes a message that has to be accepted.
-fn accept(alloc: Global, follower: &mut Follower, message: &str) -> Result<String, Fail> {
+fn accept(alloc: Global, follower: &mut Follower<Trusting>, message: &str) -> Result<String, Fail> {
     let message = bytes(alloc, message)?;
     match follower.take(message.as_slice()) {
         Ok(taken) => taken_text(alloc, taken),
@@ -41,7 +42,7 @@ fn accept(alloc: Global, follower: &mut Follower, message: &str) -> Result<Strin
 }
 
 /// The refusal of a message, after which the tree is the one before.
-fn refuse(alloc: Global, follower: &mut Follower, message: &str) -> Result<String, Fail> {
+fn refuse(alloc: Global, follower: &mut Follower<Trusting>, message: &str) -> Result<String, Fail> {
     let before = anew(alloc, follower.tree())?;
     let message = bytes(alloc, message)?;
     let Err(refusal) = follower.take(message.as_slice()) else {
@@ -54,19 +55,7 @@ fn refuse(alloc: Global, follower: &mut Follower, message: &str) -> Result<Strin
 }
 
 /// A commit of member 0 in epoch 1: its list, and the first digit of its path's leaf, its source and its nodes.
-type Parts<'a> = (&'a str, Option<(&'a str, &'a str, &'a str)>);
-
-/// The message of a commit.
-fn message_of(alloc: Global, parts: Parts) -> Result<String, Fail> {
-    match parts {
-        (list, Some((digit, source, nodes))) => {
-            let leaf = leaf_with(alloc, 0, digit, source)?;
-            let path = path_of(alloc, leaf.as_str(), nodes)?;
-            commit_of(alloc, 1, 0, list, path.as_str())
-        }
-        (list, None) => commit_of(alloc, 1, 0, list, "00"),
-    }
-}
+type Parts<'a> = (&'a str, Path<'a>);
 
 /// A path of member 0 in the group of two members.
 const PATH: (&str, &str, &str) = (
@@ -76,19 +65,19 @@ const PATH: (&str, &str, &str) = (
 );
 
 /// What a follower answers to a commit in the group of two members, and to the commit of this path after it.
-fn answers(alloc: Global, follower: &mut Follower, parts: Parts) -> Result<String, Fail> {
+fn answers(alloc: Global, follower: &mut Follower<Trusting>, parts: Parts) -> Result<String, Fail> {
     accept(alloc, follower, PROPOSAL)?;
     accept(alloc, follower, COMMIT)?;
-    let message = message_of(alloc, parts)?;
+    let message = member_commit(alloc, 1, parts.0, parts.1)?;
     let refusal = refuse(alloc, follower, message.as_str())?;
-    let next = message_of(alloc, ("", Some(PATH)))?;
+    let next = member_commit(alloc, 1, "", Some(PATH))?;
     let accepted = accept(alloc, follower, next.as_str())?;
     Ok(format!(in alloc; "{refusal}, {accepted}")?)
 }
 
 /// The same of a follower that is started for it.
 fn answers_after(alloc: Global, parts: Parts) -> Result<String, Fail> {
-    let mut follower = started(alloc, None, GROUP_INFO)?;
+    let mut follower = started(alloc, Trusting, GROUP_INFO)?;
     let said = answers(alloc, &mut follower, parts);
     drop(follower);
     said
@@ -98,11 +87,12 @@ fn answers_after(alloc: Global, parts: Parts) -> Result<String, Fail> {
 /// then rules of the tree after an Add.
 #[test]
 fn refused_commits_leave_the_tree(rt: HostRuntime) -> Result<(), Fail> {
-    const REMOVE: &str = "01000300000001";
-    const KEY_A0: &str = "01000100010001\
+    let alloc = rt.alloc();
+    let remove = "01000300000001";
+    let key_a0 = "01000100010001\
         01f201a001b200010142020001020001000002000101\
         0000000000000000ffffffffffffffff0001c20001c9";
-    const NO_CREDENTIALS: &str = "01000100010001\
+    let no_credentials = "01000100010001\
         01f201a201b200010142020001020001000000010000000000000000ffffffffffffffff0001c20001c9";
     let (digit, source, nodes) = PATH;
     let add = adds_of(rt.alloc(), &[2])?;
@@ -125,7 +115,7 @@ fn refused_commits_leave_the_tree(rt: HostRuntime) -> Result<(), Fail> {
             "PathParentHash, commit 2",
         ),
         (
-            (REMOVE, Some((digit, "0301ff", ""))),
+            (remove, Some((digit, "0301ff", ""))),
             "PathParentHash, commit 2",
         ),
         (
@@ -136,11 +126,14 @@ fn refused_commits_leave_the_tree(rt: HostRuntime) -> Result<(), Fail> {
             (add, Some((digit, source, "01d10401aa01bb01d300"))),
             "PathParentHash, commit 2",
         ),
-        ((KEY_A0, None), "KeyRepeated, commit 2"),
+        ((key_a0, None), "KeyRepeated, commit 2"),
         (
-            (NO_CREDENTIALS, None),
+            (no_credentials, None),
             "Member(CredentialUnsupported(2)), commit 2",
         ),
     ];
-    expect_texts(&rt, rt.alloc(), answers_after, &rows)
+    for (input, wanted) in &rows {
+        expect_text(&rt, answers_after(alloc, *input)?, wanted);
+    }
+    Ok(())
 }

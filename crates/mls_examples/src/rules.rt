@@ -2,12 +2,11 @@
 //! that a commit has in itself, and pairs of rules of which both fail. Stories begin in the group of member 0
 //! alone, or in that of members 0 and 1 after its first commit.
 
-use crate::by_hand::{commit_of, info_at, path_of};
+use crate::by_hand::{Path, commit_of, info_at, member_commit};
+use crate::commits::{OTHER_SOURCE, SOURCE};
 use crate::follower::{Story, first_answer, follow, last_answer};
-use crate::support::{
-    COMMIT, GROUP_INFO, KEY_PACKAGE, LOWER, PROPOSAL, RECEIPT, REFERENCE, expect_text,
-    expect_texts, leaf_with,
-};
+use crate::paths::LOWER_COMMIT;
+use crate::support::{COMMIT, GROUP_INFO, KEY_PACKAGE, PROPOSAL, RECEIPT, REFERENCE, expect_text};
 use std::alloc::Global;
 use std::test::Fail;
 
@@ -19,22 +18,10 @@ const ADD: &str = "01000100010001\
 const ADD_OF_SUITE_2: &str = "01000100010002\
     01f101a101b1000101410200010200010000020001010000000000000000ffffffffffffffff0001c10001c9";
 
-const ADD_OF_VERSION_2: &str = "01000100020001\
-    01f101a101b1000101410200010200010000020001010000000000000000ffffffffffffffff0001c10001c9";
-
-const ADD_WITH_ONE_KEY: &str = "01000100010001\
-    01a101a101b1000101410200010200010000020001010000000000000000ffffffffffffffff0001c10001c9";
-
-const ADD_OF_AN_UPDATE: &str =
-    "0100010001000101f101a101b1000101410200010200010000020001020001c10001c9";
-
 /// The Update of member 0 in a commit's list, and the same with its present key, and of a leaf from a key package.
 const UPDATE: &str = "010002019001b0000101400200010200010000020001020001c0";
 
 const UPDATE_WITH_OLD_KEY: &str = "01000201a001b0000101400200010200010000020001020001c0";
-
-const UPDATE_OF_A_JOINED_LEAF: &str =
-    "010002019001b0000101400200010200010000020001010000000000000000ffffffffffffffff0001c0";
 
 /// Removes of leaves 0 and 1, and of one that isn't set.
 const REMOVE_0: &str = "01000300000000";
@@ -45,26 +32,42 @@ const REMOVE_5: &str = "01000300000005";
 
 // ---- proposals that a commit has in itself
 
-/// The answer to the only member's commit of a list, without a path.
-fn inline_answer(alloc: Global, list: &str) -> Result<String, Fail> {
-    let message = commit_of(alloc, 0, 0, list, "00")?;
-    first_answer(alloc, message.as_str())
-}
-
 #[test]
 fn proposals_in_a_commit_are_judged(rt: HostRuntime) -> Result<(), Fail> {
+    let alloc = rt.alloc();
     let rows = [
         (ADD, "commit 1"),
         (ADD_OF_SUITE_2, "9 AddInvalid"),
-        (ADD_OF_VERSION_2, "9 AddInvalid"),
-        (ADD_WITH_ONE_KEY, "9 AddInvalid"),
-        (ADD_OF_AN_UPDATE, "9 AddInvalid"),
+        (
+            "01000100020001\
+    01f101a101b1000101410200010200010000020001010000000000000000ffffffffffffffff0001c10001c9",
+            "9 AddInvalid",
+        ),
+        (
+            "01000100010001\
+    01a101a101b1000101410200010200010000020001010000000000000000ffffffffffffffff0001c10001c9",
+            "9 AddInvalid",
+        ),
+        (
+            "0100010001000101f101a101b1000101410200010200010000020001020001c10001c9",
+            "9 AddInvalid",
+        ),
         (UPDATE_WITH_OLD_KEY, "10 UpdateInvalid"),
-        (UPDATE_OF_A_JOINED_LEAF, "10 UpdateInvalid"),
+        (
+            "010002019001b0000101400200010200010000020001010000000000000000ffffffffffffffff0001c0",
+            "10 UpdateInvalid",
+        ),
         (UPDATE, "14 UpdateByCommitter"),
         (REMOVE_5, "11 RemoveInvalid"),
     ];
-    expect_texts(&rt, rt.alloc(), inline_answer, &rows)
+    // The answer to the only member's commit of a list, without a path.
+    for (list, wanted) in &rows {
+        let list = *list;
+        let message = commit_of(alloc, 0, 0, list, "00")?;
+        let found = first_answer(alloc, message.as_str())?;
+        expect_text(&rt, found, wanted);
+    }
+    Ok(())
 }
 
 /// The receipts of the group info, and of the frames of the commits that add member 1 and that update member 0: of
@@ -74,19 +77,10 @@ pub(crate) const SIGNED_FRAMES: &str =
     0939527601c7577dc86330ea0053695d9489265abf7217188f12db7d2f1e6adf\n\
     0f3f2213880c1262945499153b75b1909b9f5d69f5954a76e5448c30260090fc";
 
-/// The answer to the only member's commit of a list under receipts of its frame and leaf, and further ones.
-fn signed_answer(alloc: Global, parts: (&str, &str)) -> Result<String, Fail> {
-    let (list, receipts) = parts;
-    let receipts = format!(in alloc; "{RECEIPT}\n{SIGNED_FRAMES}\n{receipts}")?;
-    let message = commit_of(alloc, 0, 0, list, "00")?;
-    let messages = [message.as_str()];
-    let Story { last, .. } = follow(alloc, Some(receipts.as_str()), GROUP_INFO, &messages)?;
-    Ok(last)
-}
-
 /// The receipts are of member 1's leaf and of its key package, and of member 0's update as leaf 0 of the group.
 #[test]
 fn proposals_in_a_commit_are_signed(rt: HostRuntime) -> Result<(), Fail> {
+    let alloc = rt.alloc();
     let both = "e60b8f3c0a227ffc5e084212caecf78d7e2b38f53addb2f55387762615d6872a\n\
         47c350198b187b8db3ec7885f5f8de0799a2ebdd4d7c97610b7b94d2af36410e";
     let leaf = "e60b8f3c0a227ffc5e084212caecf78d7e2b38f53addb2f55387762615d6872a";
@@ -100,23 +94,25 @@ fn proposals_in_a_commit_are_signed(rt: HostRuntime) -> Result<(), Fail> {
         ((UPDATE, update), "14 UpdateByCommitter"),
         ((UPDATE, ""), "10 UpdateInvalid"),
     ];
-    expect_texts(&rt, rt.alloc(), signed_answer, &rows)
+    // The answer to the only member's commit of a list under receipts of its frame and leaf, and further ones.
+    for (parts, wanted) in &rows {
+        let (list, receipts) = *parts;
+        let receipts = format!(in alloc; "{RECEIPT}\n{SIGNED_FRAMES}\n{receipts}")?;
+        let message = commit_of(alloc, 0, 0, list, "00")?;
+        let messages = [message.as_str()];
+        let Story { last, .. } = follow(alloc, Some(receipts.as_str()), GROUP_INFO, &messages)?;
+        expect_text(&rt, last, wanted);
+    }
+    Ok(())
 }
 
 // ---- frames
-
-/// The answer to a message in the first epoch, under receipts of the first leaf and the group info, and none of its
-/// own.
-fn unsigned_answer(alloc: Global, message: &str) -> Result<String, Fail> {
-    let receipts = format!(in alloc; "{RECEIPT}\n{SIGNED_FRAMES}\n")?;
-    let Story { last, .. } = follow(alloc, Some(receipts.as_str()), GROUP_INFO, &[message])?;
-    Ok(last)
-}
 
 /// In the first six messages, one rule after the other is kept, and all further ones fail: another wire format,
 /// group, epoch, sender, content, signature. Then pairs of these.
 #[test]
 fn rules_for_frames_are_asked_in_order(rt: HostRuntime) -> Result<(), Fail> {
+    let alloc = rt.alloc();
     let rows = [
         (
             "00010002014800000000000000090100000007000101aa01c801c7",
@@ -155,7 +151,15 @@ fn rules_for_frames_are_asked_in_order(rt: HostRuntime) -> Result<(), Fail> {
             "5 SenderNotMember",
         ),
     ];
-    expect_texts(&rt, rt.alloc(), unsigned_answer, &rows)
+    // The answer to a message in the first epoch, under receipts of the first leaf and the group info, and none of its
+    // own.
+    for (message, wanted) in &rows {
+        let message = *message;
+        let receipts = format!(in alloc; "{RECEIPT}\n{SIGNED_FRAMES}\n")?;
+        let Story { last, .. } = follow(alloc, Some(receipts.as_str()), GROUP_INFO, &[message])?;
+        expect_text(&rt, last, wanted);
+    }
+    Ok(())
 }
 
 /// The receipts of member 1's leaf and key package, and of the frame of member 0's proposal of it.
@@ -182,20 +186,11 @@ fn a_known_proposal_under_another_signature(rt: HostRuntime) -> Result<(), Fail>
 
 // ---- lists
 
-/// The answer to member 0's commit of some proposals, one after the other, in the group of two members.
-fn list_answer(alloc: Global, proposals: &[&str]) -> Result<String, Fail> {
-    let mut list = String::new(alloc);
-    for proposal in proposals {
-        list.push_str(proposal)?;
-    }
-    let message = commit_of(alloc, 1, 0, list.as_str(), "00")?;
-    last_answer(alloc, GROUP_INFO, &[PROPOSAL, COMMIT, message.as_str()])
-}
-
 /// A reference that isn't known, before or behind an Add that isn't valid; proposals of which the last is the first
 /// to be judged; and lists that fail several rules.
 #[test]
 fn rules_for_lists_are_asked_in_order(rt: HostRuntime) -> Result<(), Fail> {
+    let alloc = rt.alloc();
     let rows = [
         (["0201aa", ADD_OF_SUITE_2].as_slice(), "13 UnknownReference"),
         (&[ADD_OF_SUITE_2, "0201aa"], "13 UnknownReference"),
@@ -212,102 +207,129 @@ fn rules_for_lists_are_asked_in_order(rt: HostRuntime) -> Result<(), Fail> {
         (&[REMOVE_1, REMOVE_1, REMOVE_0], "15 RemovesCommitter"),
         (&[REMOVE_1, REMOVE_1], "16 SameLeafTwice"),
     ];
-    expect_texts(&rt, rt.alloc(), list_answer, &rows)
-}
-
-/// The answer to a commit of a list in the last epoch.
-fn last_epoch_answer(alloc: Global, list: &str) -> Result<String, Fail> {
-    let info = info_at(alloc, u64::MAX)?;
-    let message = commit_of(alloc, u64::MAX, 0, list, "00")?;
-    last_answer(alloc, info.as_str(), &[message.as_str()])
+    for (proposals, wanted) in &rows {
+        let mut list = String::new(alloc);
+        for proposal in *proposals {
+            list.push_str(proposal)?;
+        }
+        let message = commit_of(alloc, 1, 0, list.as_str(), "00")?;
+        let found = last_answer(alloc, GROUP_INFO, &[PROPOSAL, COMMIT, message.as_str()])?;
+        expect_text(&rt, found, wanted);
+    }
+    Ok(())
 }
 
 #[test]
 fn the_last_epoch_is_asked_first(rt: HostRuntime) -> Result<(), Fail> {
+    let alloc = rt.alloc();
     let rows = [
         ("0201aa", "12 LastEpoch"),
         (ADD_OF_SUITE_2, "12 LastEpoch"),
         ("", "12 LastEpoch"),
     ];
-    expect_texts(&rt, rt.alloc(), last_epoch_answer, &rows)
+    // The answer to a commit of a list in the last epoch.
+    for (list, wanted) in &rows {
+        let list = *list;
+        let info = info_at(alloc, u64::MAX)?;
+        let message = commit_of(alloc, u64::MAX, 0, list, "00")?;
+        let found = last_answer(alloc, info.as_str(), &[message.as_str()])?;
+        expect_text(&rt, found, wanted);
+    }
+    Ok(())
 }
 
 // ---- paths
 
-/// The answer to member 0's commit of a list in the group of two members, with a path by its leaf's first digit and
-/// source, and its nodes.
-fn path_answer(alloc: Global, parts: (&str, &str, &str, &str)) -> Result<String, Fail> {
-    let (list, digit, source, nodes) = parts;
-    let leaf = leaf_with(alloc, 0, digit, source)?;
-    let path = path_of(alloc, leaf.as_str(), nodes)?;
-    let message = commit_of(alloc, 1, 0, list, path.as_str())?;
-    last_answer(alloc, GROUP_INFO, &[PROPOSAL, COMMIT, message.as_str()])
-}
-
 /// Two nodes in place of one, a leaf from an update, the key of the present leaf, two ciphertexts in place of one,
-/// another parent hash, and lists that fail a rule before and behind these.
+/// another parent hash, and lists that fail a rule before and behind these. Then the Add of a member with the encryption
+/// key of member 0 or 1, and without a credential type that it supports; with a path, whose leaf has another parent hash
+/// than the tree with that member makes, and without one.
 #[test]
-fn rules_for_paths_are_asked_in_order(rt: HostRuntime) -> Result<(), Fail> {
-    let right = "03207e534e72295b2ed4520a7628873779052cbc9788fb7a2927ad4234fd78396990";
-    let wrong = "03207e534e72295b2ed4520a7628873779052cbc9788fb7a2927ad4234fd78396991";
-    let removes = "0100030000000101000300000001";
-    let one = "01d10401aa01bb";
-    let two = "01d10801aa01bb01aa01bb";
-    let more = "01d10801aa01bb01aa01bb01a100";
-    let rows = [
-        ((removes, "a", "02", more), "16 SameLeafTwice"),
-        (("", "a", "02", more), "19 PathLength"),
-        (("", "8", "02", "01d10401aa01bb01d300"), "19 PathLength"),
-        (("", "a", "02", two), "20 PathSource"),
-        (("", "a", "02", one), "20 PathSource"),
-        (("", "8", "02", two), "20 PathSource"),
-        (("", "a", wrong, two), "21 PathKeyUsed"),
-        (("", "a", right, two), "21 PathKeyUsed"),
-        (("", "a", wrong, one), "21 PathKeyUsed"),
-        (("", "8", wrong, two), "22 CiphertextCount"),
-        (("", "8", wrong, one), "23 PathParentHash"),
-        (("", "8", right, one), "commit 2"),
-    ];
-    expect_texts(&rt, rt.alloc(), path_answer, &rows)
-}
-
-/// The Add of a member with the encryption key of member 0 or 1, and without a credential type that it supports.
-const ADD_WITH_KEY_A0: &str = "01000100010001\
-    01f201a001b200010142020001020001000000010000000000000000ffffffffffffffff0001c20001c9";
-
-const ADD_WITH_KEY_A1: &str = "01000100010001\
+fn rules_for_paths_and_trees_are_asked_in_order(rt: HostRuntime) -> Result<(), Fail> {
+    let alloc = rt.alloc();
+    const WITH_KEY_A1: &str = "01000100010001\
     01f201a101b200010142020001020001000000010000000000000000ffffffffffffffff0001c20001c9";
-
-/// With a path, whose leaf has another parent hash than the tree with that member makes, and without one.
-#[test]
-fn the_tree_is_judged_last(rt: HostRuntime) -> Result<(), Fail> {
-    let source = format!(in rt.alloc(); "0320{LOWER}")?;
-    let nodes = "01d10401aa01bb01d300";
-    let rows = [(
-        (ADD_WITH_KEY_A1, "8", source.as_str(), nodes),
-        "23 PathParentHash",
-    )];
-    expect_texts(&rt, rt.alloc(), path_answer, &rows)?;
-    let rows = [
-        ([ADD_WITH_KEY_A0].as_slice(), "24 KeyRepeated"),
-        (&[ADD_WITH_KEY_A1], "24 KeyRepeated"),
+    const ROWS: &[(&str, Path, &str)] = &[
+        (
+            "0100030000000101000300000001",
+            Some(("a", "02", "01d10801aa01bb01aa01bb01a100")),
+            "16 SameLeafTwice",
+        ),
+        (
+            "",
+            Some(("a", "02", "01d10801aa01bb01aa01bb01a100")),
+            "19 PathLength",
+        ),
+        (
+            "",
+            Some(("8", "02", "01d10401aa01bb01d300")),
+            "19 PathLength",
+        ),
+        (
+            "",
+            Some(("a", "02", "01d10801aa01bb01aa01bb")),
+            "20 PathSource",
+        ),
+        ("", Some(("a", "02", "01d10401aa01bb")), "20 PathSource"),
+        (
+            "",
+            Some(("8", "02", "01d10801aa01bb01aa01bb")),
+            "20 PathSource",
+        ),
+        (
+            "",
+            Some(("a", OTHER_SOURCE, "01d10801aa01bb01aa01bb")),
+            "21 PathKeyUsed",
+        ),
+        (
+            "",
+            Some(("a", SOURCE, "01d10801aa01bb01aa01bb")),
+            "21 PathKeyUsed",
+        ),
+        (
+            "",
+            Some(("a", OTHER_SOURCE, "01d10401aa01bb")),
+            "21 PathKeyUsed",
+        ),
+        (
+            "",
+            Some(("8", OTHER_SOURCE, "01d10801aa01bb01aa01bb")),
+            "22 CiphertextCount",
+        ),
+        (
+            "",
+            Some(("8", OTHER_SOURCE, "01d10401aa01bb")),
+            "23 PathParentHash",
+        ),
+        ("", Some(("8", SOURCE, "01d10401aa01bb")), "commit 2"),
+        (
+            WITH_KEY_A1,
+            Some(("8", LOWER_COMMIT, "01d10401aa01bb01d300")),
+            "23 PathParentHash",
+        ),
+        (
+            "01000100010001\
+    01f201a001b200010142020001020001000000010000000000000000ffffffffffffffff0001c20001c9",
+            None,
+            "24 KeyRepeated",
+        ),
+        (WITH_KEY_A1, None, "24 KeyRepeated"),
     ];
-    expect_texts(&rt, rt.alloc(), list_answer, &rows)
+    for (list, path, wanted) in ROWS {
+        let message = member_commit(alloc, 1, list, *path)?;
+        let found = last_answer(alloc, GROUP_INFO, &[PROPOSAL, COMMIT, message.as_str()])?;
+        expect_text(&rt, found, wanted);
+    }
+    Ok(())
 }
 
 // ---- other messages
-
-/// The answer to a message of a wire format by its four digits, with this body.
-fn message_answer(alloc: Global, parts: (&str, &str)) -> Result<String, Fail> {
-    let (wire_format, body) = parts;
-    let message = format!(in alloc; "0001{wire_format}{body}")?;
-    first_answer(alloc, message.as_str())
-}
 
 /// A private message, a Welcome, whose bodies aren't read, a group info and a key package, whose bodies are; and a
 /// wire format that there isn't.
 #[test]
 fn other_messages_are_not_public(rt: HostRuntime) -> Result<(), Fail> {
+    let alloc = rt.alloc();
     let info = GROUP_INFO.get(8..).ok_or("a group info")?;
     let longer = format!(in rt.alloc(); "{KEY_PACKAGE}00")?;
     let rows = [
@@ -319,5 +341,12 @@ fn other_messages_are_not_public(rt: HostRuntime) -> Result<(), Fail> {
         (("0005", longer.as_str()), "1 Malformed"),
         (("0006", "abcd"), "1 Malformed"),
     ];
-    expect_texts(&rt, rt.alloc(), message_answer, &rows)
+    // The answer to a message of a wire format by its four digits, with this body.
+    for (parts, wanted) in &rows {
+        let (wire_format, body) = *parts;
+        let message = format!(in alloc; "0001{wire_format}{body}")?;
+        let found = first_answer(alloc, message.as_str())?;
+        expect_text(&rt, found, wanted);
+    }
+    Ok(())
 }

@@ -2,7 +2,7 @@
 //! references. A hash of 64 bytes stands behind the length `4040` in another's input, and one of 48 bytes behind `30`.
 
 use crate::support::{
-    PROPOSED_AUTH, TWO_LEAVES_HASH, bytes, expect_text, expect_texts, path_tree, text, tree_of,
+    PROPOSED_AUTH, TWO_LEAVES_HASH, bytes, expect_text, path_tree, text, tree_of,
 };
 use crate::tree_reports::report;
 use mls_check::Trusting;
@@ -10,103 +10,102 @@ use mls_hash::{Side, SubtreeHashes, Suite, fill_hashes, hash, parent_hash, ref_h
 use std::alloc::Global;
 use std::test::Fail;
 
-/// The SHA-512 of member 0's leaf.
-const LONG_0: &str = "52c9b528399a4e9c989319f2814323a5595ab53626b4c3f290c7549c657ffba53ec39f\
-        ade136a4432f96d13545c0b036a1d892d917d66b4feb4b2a172c4dbe36";
-
-/// That of member 1's leaf.
-const LONG_2: &str = "54d8ad229a80773ad871f12967ecafcb8fe9e3a9499f87b19d61ace16e77da0dc30589\
-        1429f001ddcd437629475bceb4fcfc6bdec2de3ba192099a6b33078905";
-
 /// That of `02004040`, the first of these, `4040` and the second.
 const LONG_ROOT: &str = "1e1db873b4faac7d7014b9786112b266718fb0615bde2fd3715e83d75a3877547a6e62\
         6867002333444137858d02de09dafb7d6991e556fc612be0dc2d40cae2";
-
-/// The SHA-384 of member 0's leaf.
-const MIDDLE_0: &str = "a50a7202de04a8b72dd8d0460549961454c107780f1c2310a28bfd77023b196fe478e0\
-        80b84de883468b053dbd36b436";
-
-/// That of member 1's leaf.
-const MIDDLE_2: &str = "233d66d1eb829a51b150c8577a62c16d8cdf05c308acc1830f46795be6bfb9863d0c20\
-        94e326edb210e040d9fe56cfaa";
 
 /// That of `020030`, the first of these, `30` and the second.
 const MIDDLE_ROOT: &str = "d37a2bcacca3a77f993562bc222ab9764463662aec6c3fecf5167ee7978a8136711076\
         0c8147e2bb333176ddd518f8c9";
 
-/// The hash of a text by a suite.
-fn hash_of_text(alloc: Global, input: (u16, &str)) -> Result<String, Fail> {
-    let (number, message) = input;
-    let suite = Suite::from_u16(number)?;
-    text(alloc, hash(suite, message.as_bytes(), b"").as_slice())
-}
-
 #[test]
 fn hashes_of_a_text(rt: HostRuntime) -> Result<(), Fail> {
+    let alloc = rt.alloc();
     const LONG_ABC: &str = "ddaf35a193617abacc417349ae20413112e6fa4e89a97ea20a9eeee64b55d39a219299\
             2a274fc1a836ba3c23a3feebbd454d4423643ce80e2a9ac94fa54ca49f";
-    const MIDDLE_ABC: &str =
-        "cb00753f45a35e8bb5a03d699ac65007272c32ab0eded1631a8b605a43ff5bed808607\
-            2ba1e7cc2358baeca134c825a7";
     const TEXTS: &[((u16, &str), &str)] = &[
         ((4, "abc"), LONG_ABC),
         ((5, "abc"), LONG_ABC),
         ((6, "abc"), LONG_ABC),
-        ((7, "abc"), MIDDLE_ABC),
+        // Middle abc.
+        (
+            (7, "abc"),
+            "cb00753f45a35e8bb5a03d699ac65007272c32ab0eded1631a8b605a43ff5bed808607\
+            2ba1e7cc2358baeca134c825a7",
+        ),
     ];
-    expect_texts(&rt, rt.alloc(), hash_of_text, TEXTS)
-}
-
-/// The hash at a place of a tree of two set leaves, by a suite.
-fn hash_of_two(alloc: Global, subtree: (u16, u32)) -> Result<String, Fail> {
-    let (number, place) = subtree;
-    let suite = Suite::from_u16(number)?;
-    let tree = tree_of(alloc, 2, &[0, 1])?;
-    let hash = tree_hash(alloc, suite, &tree, place);
-    drop(tree);
-    text(alloc, hash?.as_slice())
-}
-
-/// The same, of all hashes at once.
-fn kept_of_two(alloc: Global, subtree: (u16, u32)) -> Result<String, Fail> {
-    let (number, place) = subtree;
-    let suite = Suite::from_u16(number)?;
-    let tree = tree_of(alloc, 2, &[0, 1])?;
-    let kept = SubtreeHashes::new(alloc, suite, &tree);
-    drop(tree);
-    match kept?.get(place) {
-        Some(hash) => text(alloc, hash.as_slice()),
-        None => Ok(String::from_str(alloc, "-")?),
+    // The hash of a text by a suite.
+    for (input, wanted) in TEXTS {
+        let (number, message) = *input;
+        let suite = Suite::from_u16(number)?;
+        let found = text(alloc, hash(suite, message.as_bytes(), b"").as_slice())?;
+        expect_text(&rt, found, wanted);
     }
+    Ok(())
 }
 
 #[test]
 fn hashes_of_two_leaves(rt: HostRuntime) -> Result<(), Fail> {
+    let alloc = rt.alloc();
     const PLACES: &[((u16, u32), &str)] = &[
-        ((4, 0), LONG_0),
-        ((4, 2), LONG_2),
+        // The SHA-512 of member 0's leaf.
+        (
+            (4, 0),
+            "52c9b528399a4e9c989319f2814323a5595ab53626b4c3f290c7549c657ffba53ec39f\
+        ade136a4432f96d13545c0b036a1d892d917d66b4feb4b2a172c4dbe36",
+        ),
+        // That of member 1's leaf.
+        (
+            (4, 2),
+            "54d8ad229a80773ad871f12967ecafcb8fe9e3a9499f87b19d61ace16e77da0dc30589\
+        1429f001ddcd437629475bceb4fcfc6bdec2de3ba192099a6b33078905",
+        ),
         ((5, 1), LONG_ROOT),
         ((6, 1), LONG_ROOT),
-        ((7, 0), MIDDLE_0),
-        ((7, 2), MIDDLE_2),
+        // The SHA-384 of member 0's leaf.
+        (
+            (7, 0),
+            "a50a7202de04a8b72dd8d0460549961454c107780f1c2310a28bfd77023b196fe478e0\
+        80b84de883468b053dbd36b436",
+        ),
+        // That of member 1's leaf.
+        (
+            (7, 2),
+            "233d66d1eb829a51b150c8577a62c16d8cdf05c308acc1830f46795be6bfb9863d0c20\
+        94e326edb210e040d9fe56cfaa",
+        ),
         ((7, 1), MIDDLE_ROOT),
     ];
-    expect_texts(&rt, rt.alloc(), hash_of_two, PLACES)?;
-    expect_texts(&rt, rt.alloc(), kept_of_two, PLACES)
-}
-
-/// The parent hash of node 3 over node 5 after a path, by a suite.
-fn parent_hash_by(alloc: Global, number: u16) -> Result<String, Fail> {
-    let suite = Suite::from_u16(number)?;
-    let tree = path_tree(alloc)?;
-    let hash = parent_hash(alloc, suite, &tree, 3, Side::Right);
-    drop(tree);
-    text(alloc, hash?.as_slice())
+    // The hash at a place of a tree of two set leaves, by a suite.
+    for (subtree, wanted) in PLACES {
+        let (number, place) = *subtree;
+        let suite = Suite::from_u16(number)?;
+        let tree = tree_of(alloc, 2, &[0, 1])?;
+        let hash = tree_hash(alloc, suite, &tree, place);
+        drop(tree);
+        let found = text(alloc, hash?.as_slice())?;
+        expect_text(&rt, found, wanted);
+    }
+    // The same, of all hashes at once.
+    for (subtree, wanted) in PLACES {
+        let (number, place) = *subtree;
+        let suite = Suite::from_u16(number)?;
+        let tree = tree_of(alloc, 2, &[0, 1])?;
+        let kept = SubtreeHashes::new(alloc, suite, &tree);
+        drop(tree);
+        let found = match kept?.get(place) {
+            Some(hash) => text(alloc, hash.as_slice())?,
+            None => String::from_str(alloc, "-")?,
+        };
+        expect_text(&rt, found, wanted);
+    }
+    Ok(())
 }
 
 /// Of `01d300`, `4040` or `30`, and the hash of node 5.
 #[test]
 fn parent_hashes(rt: HostRuntime) -> Result<(), Fail> {
+    let alloc = rt.alloc();
     const HASHES: &[(u16, &str)] = &[
         (
             5,
@@ -119,19 +118,22 @@ fn parent_hashes(rt: HostRuntime) -> Result<(), Fail> {
                 998abc0708d75f5452fa0e1c51",
         ),
     ];
-    expect_texts(&rt, rt.alloc(), parent_hash_by, HASHES)
-}
-
-/// The reference of a proposal, by a suite.
-fn reference_by(alloc: Global, number: u16) -> Result<String, Fail> {
-    let suite = Suite::from_u16(number)?;
-    let auth = bytes(alloc, PROPOSED_AUTH)?;
-    let reference = ref_hash(suite, "MLS 1.0 Proposal Reference", auth.as_slice())?;
-    text(alloc, reference.as_slice())
+    // The parent hash of node 3 over node 5 after a path, by a suite.
+    for (number, wanted) in HASHES {
+        let number = *number;
+        let suite = Suite::from_u16(number)?;
+        let tree = path_tree(alloc)?;
+        let hash = parent_hash(alloc, suite, &tree, 3, Side::Right);
+        drop(tree);
+        let found = text(alloc, hash?.as_slice())?;
+        expect_text(&rt, found, wanted);
+    }
+    Ok(())
 }
 
 #[test]
 fn references(rt: HostRuntime) -> Result<(), Fail> {
+    let alloc = rt.alloc();
     const REFERENCES: &[(u16, &str)] = &[
         (
             6,
@@ -144,7 +146,16 @@ fn references(rt: HostRuntime) -> Result<(), Fail> {
                 7a55f8e5c5fe5c18e77c6f4a02",
         ),
     ];
-    expect_texts(&rt, rt.alloc(), reference_by, REFERENCES)
+    // The reference of a proposal, by a suite.
+    for (number, wanted) in REFERENCES {
+        let number = *number;
+        let suite = Suite::from_u16(number)?;
+        let auth = bytes(alloc, PROPOSED_AUTH)?;
+        let reference = ref_hash(suite, "MLS 1.0 Proposal Reference", auth.as_slice())?;
+        let found = text(alloc, reference.as_slice())?;
+        expect_text(&rt, found, wanted);
+    }
+    Ok(())
 }
 
 /// How many hashes of a tree of two set leaves are filled by a suite, and then by another one, and the hash of the whole tree that is
@@ -175,16 +186,11 @@ fn hashes_of_a_kind_are_kept(rt: HostRuntime) -> Result<(), Fail> {
     Ok(())
 }
 
-/// What `validate-tree` writes of a context and a tree, where every signature is good.
-fn validated(alloc: Global, inputs: (&str, &str)) -> Result<String, Fail> {
-    let (context, tree) = inputs;
-    report(alloc, context, tree, &Trusting, [None; 3])
-}
-
 /// A group of suite 7 after a commit of member 0, whose leaf has the parent hash of node 1, of `01d10030` and the hash of member 1's leaf
 /// (`examples/suite-7.tree`); and the same with one bit of this parent hash changed, with the hash that the tree then has.
 #[test]
 fn trees_are_validated(rt: HostRuntime) -> Result<(), Fail> {
+    let alloc = rt.alloc();
     const INPUTS: &[((&str, &str), &str)] = &[
         (
             (
@@ -221,5 +227,11 @@ fn trees_are_validated(rt: HostRuntime) -> Result<(), Fail> {
             "no: tree refused 5 ParentHashInvalid 1\n",
         ),
     ];
-    expect_texts(&rt, rt.alloc(), validated, INPUTS)
+    // What `validate-tree` writes of a context and a tree, where every signature is good.
+    for (inputs, wanted) in INPUTS {
+        let (context, tree) = *inputs;
+        let found = report(alloc, context, tree, &Trusting, [None; 3])?;
+        expect_text(&rt, found, wanted);
+    }
+    Ok(())
 }

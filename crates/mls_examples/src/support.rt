@@ -5,10 +5,10 @@
 //! (`90 + i` after an update, `80 + i` after a commit), `b0 + i` signs, `40 + i` is the identity, `c0 + i` the
 //! signature. A value is hexadecimal text here; the builders at the end make trees of values.
 //!
-//! A test is a table and a call: [`expect_texts`] and [`expect_answers`] go through the table and are proved once, so a
-//! test costs the proof of its call and little more. A table is a `const`, and so one step of the proof, whatever its
-//! length: as a local it would be written out row by row. In a call hand a value of many fields to `drop` before the
-//! next `?`, or make it in one function and ask it in another: what ends there by itself is written out in full.
+//! A test is a table and a loop, and as few functions as can be, since each function and each constant is proved for
+//! itself. A table is a `const`, and so one step of the proof, whatever its length: as a local it would be written out
+//! row by row. In a call hand a value of many fields to `drop` before the next `?`, or make it in one function and ask
+//! it in another: what ends there by itself is written out in full.
 
 use mls_hash::Suite;
 use mls_nodes::{LeafNode, ParentNode, Unmerged, decode_leaf, encode_ratchet_tree};
@@ -98,36 +98,14 @@ pub(crate) fn expect_text(rt: &impl Abort, found: String, wanted: &str) {
     assert_eq!(rt; found.as_str(), wanted);
 }
 
-/// Asserts what a call gives for each input of a table.
-pub(crate) fn expect_texts<T: Copy + Drop, F: FnMut(Global, T) -> Result<String, Fail> + Drop>(
+/// Asserts which bytes a call gave, as hexadecimal text, or its fault in words.
+pub(crate) fn expect_answer(
     rt: &impl Abort,
     alloc: Global,
-    mut call: F,
-    rows: &[(T, &str)],
-) -> Result<(), Fail>
-    requires { F.IsAlwaysCallable call }
-{
-    for (input, wanted) in rows {
-        expect_text(rt, call(alloc, *input)?, wanted);
-    }
-    Ok(())
-}
-
-/// Asserts which bytes a call gives for the bytes of each row of a table, both as hexadecimal text, or its fault in
-/// words.
-pub(crate) fn expect_answers<F: FnMut(Global, &[u8]) -> Result<Vec<u8>, CodecFault> + Drop>(
-    rt: &impl Abort,
-    alloc: Global,
-    mut call: F,
-    rows: &[(&str, &str)],
-) -> Result<(), Fail>
-    requires { F.IsAlwaysCallable call }
-{
-    for (input, wanted) in rows {
-        let input = bytes(alloc, input)?;
-        let found = answer_text(alloc, call(alloc, input.as_slice()))?;
-        expect_text(rt, found, wanted);
-    }
+    answer: Result<Vec<u8>, CodecFault>,
+    wanted: &str,
+) -> Result<(), Fail> {
+    expect_text(rt, answer_text(alloc, answer)?, wanted);
     Ok(())
 }
 

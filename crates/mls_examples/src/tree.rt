@@ -1,10 +1,8 @@
 //! The arithmetic of places, and what is asked of a tree and changed in it (RFC 9420, 4.1, 7.7 and Appendix C).
 
-use crate::support::{
-    expect_text, expect_texts, list_text, path_tree, put_parent, tree_of, tree_text,
-};
+use crate::support::{expect_text, list_text, path_tree, put_parent, tree_of, tree_text};
 use mls_nodes::encode_ratchet_tree;
-use mls_tree::{PublicTree, TreeError, left, level, parent, right, root, sibling};
+use mls_tree::{PublicTree, left, level, parent, right, root, sibling};
 use std::alloc::Global;
 use std::test::Fail;
 
@@ -29,82 +27,55 @@ fn places(rt: HostRuntime) {
     }
 }
 
-/// A list, or why there is none.
-fn answer_text(alloc: Global, answer: Result<Vec<u32>, TreeError>) -> Result<String, Fail> {
+/// A list of places.
+enum Asked {
+    DirectPath,
+    Copath,
+    FilteredPath,
+    Resolution,
+}
+
+/// A list of a tree, of a leaf or a place, or why there is none.
+fn list_of(alloc: Global, asked: &Asked, tree: &PublicTree, index: u32) -> Result<String, Fail> {
+    let answer = match asked {
+        Asked::DirectPath => tree.direct_path(alloc, index),
+        Asked::Copath => tree.copath(alloc, index),
+        Asked::FilteredPath => tree.filtered_direct_path(alloc, index),
+        Asked::Resolution => tree.resolution(alloc, index),
+    };
     match answer {
         Ok(list) => list_text(alloc, list.as_slice()),
         Err(error) => Ok(format!(in alloc; "{error}")?),
     }
 }
 
-/// The direct path of a leaf of a tree with so many leaves.
-fn direct_path(alloc: Global, leaf: (u32, u32)) -> Result<String, Fail> {
-    let (leaves, index) = leaf;
-    let tree = PublicTree::blank(alloc, leaves)?;
-    answer_text(alloc, tree.direct_path(alloc, index))
-}
-
-/// The copath of it.
-fn copath(alloc: Global, leaf: (u32, u32)) -> Result<String, Fail> {
-    let (leaves, index) = leaf;
-    let tree = PublicTree::blank(alloc, leaves)?;
-    answer_text(alloc, tree.copath(alloc, index))
-}
-
+/// Of blank trees; of four leaves, of which the second is blank, under a parent at place 5 with unmerged leaves. An entry
+/// that is the index of no leaf gives no place; the others keep the order of the list.
 #[test]
-fn paths(rt: HostRuntime) -> Result<(), Fail> {
-    const PATHS: &[((u32, u32), &str)] = &[
-        ((4, 1), "[1, 3]"),
-        ((1, 0), "[]"),
-        ((4, 4), "the tree has no such node"),
+fn paths_and_resolutions(rt: HostRuntime) -> Result<(), Fail> {
+    let alloc = rt.alloc();
+    const ROWS: &[(Asked, u32, &[u32], u32, &str)] = &[
+        (Asked::DirectPath, 4, &[], 1, "[1, 3]"),
+        (Asked::DirectPath, 1, &[], 0, "[]"),
+        (Asked::DirectPath, 4, &[], 4, "the tree has no such node"),
+        (Asked::Copath, 4, &[], 1, "[0, 5]"),
+        (Asked::Copath, 1, &[], 0, "[]"),
+        (Asked::Resolution, 4, &[3], 3, "[0, 5, 6]"),
+        (Asked::Resolution, 4, &[3], 2, "[]"),
+        (Asked::FilteredPath, 4, &[3], 0, "[3]"),
+        (Asked::FilteredPath, 4, &[3], 2, "[5, 3]"),
+        (Asked::Resolution, 4, &[3, 4], 3, "[0, 5, 6]"),
+        (Asked::Resolution, 4, &[4294967295, 3, 2], 3, "[0, 5, 6, 4]"),
     ];
-    expect_texts(&rt, rt.alloc(), direct_path, PATHS)?;
-    expect_texts(
-        &rt,
-        rt.alloc(),
-        copath,
-        &[((4, 1), "[0, 5]"), ((1, 0), "[]")],
-    )
-}
-
-/// Four leaves, of which the second is blank, under a parent at place 5 that has leaf 3 unmerged.
-fn gappy_tree(alloc: Global) -> Result<PublicTree, Fail> {
-    let mut tree = tree_of(alloc, 4, &[0, 2, 3])?;
-    put_parent(alloc, &mut tree, 5, 0xd5, "", &[3])?;
-    Ok(tree)
-}
-
-/// The resolution of a place of it.
-fn resolution(alloc: Global, place: u32) -> Result<String, Fail> {
-    answer_text(alloc, gappy_tree(alloc)?.resolution(alloc, place))
-}
-
-/// The filtered direct path of a leaf of it.
-fn filtered_path(alloc: Global, leaf: u32) -> Result<String, Fail> {
-    answer_text(alloc, gappy_tree(alloc)?.filtered_direct_path(alloc, leaf))
-}
-
-#[test]
-fn resolutions(rt: HostRuntime) -> Result<(), Fail> {
-    expect_texts(&rt, rt.alloc(), resolution, &[(3, "[0, 5, 6]"), (2, "[]")])?;
-    expect_texts(&rt, rt.alloc(), filtered_path, &[(0, "[3]"), (2, "[5, 3]")])
-}
-
-/// Four leaves, all set but the second, under a parent at place 5 with entries of which one is the index of no leaf.
-fn overlisted(alloc: Global, unmerged: &[u32]) -> Result<String, Fail> {
-    let mut tree = tree_of(alloc, 4, &[0, 2, 3])?;
-    put_parent(alloc, &mut tree, 5, 0xd5, "", unmerged)?;
-    answer_text(alloc, tree.resolution(alloc, 3))
-}
-
-/// Such an entry gives no place; the others keep the order of the list.
-#[test]
-fn entries_beyond_the_leaves(rt: HostRuntime) -> Result<(), Fail> {
-    const LISTS: &[(&[u32], &str)] = &[
-        (&[3, 4], "[0, 5, 6]"),
-        (&[4294967295, 3, 2], "[0, 5, 6, 4]"),
-    ];
-    expect_texts(&rt, rt.alloc(), overlisted, LISTS)
+    for (asked, leaves, unmerged, index, wanted) in ROWS {
+        let mut tree = PublicTree::blank(alloc, *leaves)?;
+        if !unmerged.is_empty() {
+            tree = tree_of(alloc, *leaves, &[0, 2, 3])?;
+            put_parent(alloc, &mut tree, 5, 0xd5, "", unmerged)?;
+        }
+        expect_text(&rt, list_of(alloc, asked, &tree, *index)?, wanted);
+    }
+    Ok(())
 }
 
 /// Four leaves under three set parents, once the path of a leaf is blanked.
@@ -124,28 +95,34 @@ fn without_path(alloc: Global, leaf: u32) -> Result<String, Fail> {
 /// The places that stay set: the leaves 0, 1 and 2, and the parent that isn't above the leaf.
 #[test]
 fn blank_paths(rt: HostRuntime) -> Result<(), Fail> {
+    let alloc = rt.alloc();
     const PLACES: &[(u32, &str)] = &[
         (0, "0 2 4 5 "),
         (1, "0 2 4 5 "),
         (2, "0 1 2 4 "),
         (3, "0 1 2 4 "),
     ];
-    expect_texts(&rt, rt.alloc(), without_path, PLACES)
-}
-
-/// How many leaves a tree of eight has once leaf 4 is removed.
-fn leaves_without_4(alloc: Global, set: &[u32]) -> Result<String, Fail> {
-    let mut tree = tree_of(alloc, 8, set)?;
-    tree.set_leaf(4, None)?;
-    tree.blank_path(4)?;
-    tree.truncate();
-    Ok(format!(in alloc; "{}", tree.leaf_count())?)
+    for (input, wanted) in PLACES {
+        expect_text(&rt, without_path(alloc, *input)?, wanted);
+    }
+    Ok(())
 }
 
 #[test]
 fn a_removed_leaf_shrinks_the_tree(rt: HostRuntime) -> Result<(), Fail> {
+    let alloc = rt.alloc();
     const SETS: &[(&[u32], &str)] = &[(&[0, 1, 2, 4], "4"), (&[0, 1, 4], "2"), (&[0, 4], "1")];
-    expect_texts(&rt, rt.alloc(), leaves_without_4, SETS)
+    // How many leaves a tree of eight has once leaf 4 is removed.
+    for (set, wanted) in SETS {
+        let set = *set;
+        let mut tree = tree_of(alloc, 8, set)?;
+        tree.set_leaf(4, None)?;
+        tree.blank_path(4)?;
+        tree.truncate();
+        let found = format!(in alloc; "{}", tree.leaf_count())?;
+        expect_text(&rt, found, wanted);
+    }
+    Ok(())
 }
 
 /// The first blank leaf of a tree of four leaves, of which some are set; once it has grown, how many leaves it has, the
@@ -164,28 +141,31 @@ fn grown(alloc: Global, set: &[u32]) -> Result<String, Fail> {
 /// A full tree of 4 leaves grows to 8, of which leaf 4 is the first blank one.
 #[test]
 fn a_full_tree_grows(rt: HostRuntime) -> Result<(), Fail> {
-    const SETS: &[(&[u32], &str)] = &[(&[0, 1, 2, 3], "None, 8 Some(4) Some(5)")];
-    expect_texts(&rt, rt.alloc(), grown, SETS)
-}
-
-/// Why a tree of so many blank leaves can't be made or can't grow.
-fn fault_of_size(alloc: Global, leaves: u32) -> Result<String, Fail> {
-    let fault = match PublicTree::blank(alloc, leaves) {
-        Ok(mut tree) => tree.extend().err().ok_or("a fault")?,
-        Err(error) => error,
-    };
-    Ok(format!(in alloc; "{fault}")?)
+    let alloc = rt.alloc();
+    expect_text(&rt, grown(alloc, &[0, 1, 2, 3])?, "None, 8 Some(4) Some(5)");
+    Ok(())
 }
 
 #[test]
 fn other_sizes_are_refused(rt: HostRuntime) -> Result<(), Fail> {
+    let alloc = rt.alloc();
     const SIZES: &[(u32, &str)] = &[
         (0, "the nodes form no tree"),
         (3, "the nodes form no tree"),
         (1048576, "a tree has at most 1,048,576 leaves"),
         (2097152, "a tree has at most 1,048,576 leaves"),
     ];
-    expect_texts(&rt, rt.alloc(), fault_of_size, SIZES)
+    // Why a tree of so many blank leaves can't be made or can't grow.
+    for (leaves, wanted) in SIZES {
+        let leaves = *leaves;
+        let fault = match PublicTree::blank(alloc, leaves) {
+            Ok(mut tree) => tree.extend().err().ok_or("a fault")?,
+            Err(error) => error,
+        };
+        let found = format!(in alloc; "{fault}")?;
+        expect_text(&rt, found, wanted);
+    }
+    Ok(())
 }
 
 /// Eight leaves, of which the last is set, under parents that have leaves unmerged; then a leaf is added to the lists.
@@ -206,8 +186,12 @@ fn an_added_leaf_is_unmerged_above(rt: HostRuntime) -> Result<(), Fail> {
     Ok(())
 }
 
-/// How many places the copy of a tree of so many blank leaves has, and why it can't be written.
-fn copied(alloc: Global, leaves: u32) -> Result<String, Fail> {
+/// No node of the copy is set.
+#[test]
+fn blank_trees_are_copied(rt: HostRuntime) -> Result<(), Fail> {
+    let alloc = rt.alloc();
+    // How many places the copy of a tree of so many blank leaves has, and why it can't be written.
+    let leaves = 4;
     let blank = PublicTree::blank(alloc, leaves)?;
     let copy = blank.try_clone(alloc);
     drop(blank);
@@ -215,11 +199,7 @@ fn copied(alloc: Global, leaves: u32) -> Result<String, Fail> {
     let places = copy.nodes().len();
     let fault = encode_ratchet_tree(alloc, copy.nodes()).err();
     drop(copy);
-    Ok(format!(in alloc; "{places} {fault:?}")?)
-}
-
-/// No node of the copy is set.
-#[test]
-fn blank_trees_are_copied(rt: HostRuntime) -> Result<(), Fail> {
-    expect_texts(&rt, rt.alloc(), copied, &[(4, "7 Some(EmptyTree)")])
+    let found = format!(in alloc; "{places} {fault:?}")?;
+    expect_text(&rt, found, "7 Some(EmptyTree)");
+    Ok(())
 }

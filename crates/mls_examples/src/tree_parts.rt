@@ -1,7 +1,7 @@
 //! What stands at the places of a tree, and which nodes form one (RFC 9420, 4.1.1 and Appendix C).
 
 use crate::ratchet_trees::TWO;
-use crate::support::{bytes, expect_texts, put_parent, text, tree_of};
+use crate::support::{bytes, expect_text, put_parent, text, tree_of};
 use mls_nodes::{LeafNode, Node, ParentNode, decode_ratchet_tree};
 use mls_tree::{Part, PublicTree, split_leaves};
 use std::alloc::Global;
@@ -52,13 +52,9 @@ fn part_of(alloc: Global, tree: &PublicTree, place: u32) -> Result<String, Fail>
     }
 }
 
-/// What stands at a place of the example.
-fn part_at(alloc: Global, place: u32) -> Result<String, Fail> {
-    part_of(alloc, &example_tree(alloc)?, place)
-}
-
 #[test]
 fn parts(rt: HostRuntime) -> Result<(), Fail> {
+    let alloc = rt.alloc();
     const PLACES: &[(u32, &str)] = &[
         (0, "leaf 0 a0"),
         (1, "parent - over 0 2 from 1"),
@@ -68,7 +64,13 @@ fn parts(rt: HostRuntime) -> Result<(), Fail> {
         (6, "leaf 3 a3"),
         (7, "nothing"),
     ];
-    expect_texts(&rt, rt.alloc(), part_at, PLACES)
+    // What stands at a place of the example.
+    for (place, wanted) in PLACES {
+        let place = *place;
+        let found = part_of(alloc, &example_tree(alloc)?, place)?;
+        expect_text(&rt, found, wanted);
+    }
+    Ok(())
 }
 
 /// The key of a node, `-` where there is none.
@@ -87,13 +89,9 @@ fn keys_of(alloc: Global, tree: &PublicTree, place: u32) -> Result<String, Fail>
     Ok(format!(in alloc; "{any} {parent}")?)
 }
 
-/// The same in the example.
-fn node_at(alloc: Global, place: u32) -> Result<String, Fail> {
-    keys_of(alloc, &example_tree(alloc)?, place)
-}
-
 #[test]
 fn nodes(rt: HostRuntime) -> Result<(), Fail> {
+    let alloc = rt.alloc();
     const PLACES: &[(u32, &str)] = &[
         (0, "a0 -"),
         (2, "- -"),
@@ -102,18 +100,26 @@ fn nodes(rt: HostRuntime) -> Result<(), Fail> {
         (5, "d5 d5"),
         (7, "- -"),
     ];
-    expect_texts(&rt, rt.alloc(), node_at, PLACES)
-}
-
-/// The key of a leaf by its index.
-fn leaf_at(alloc: Global, index: u32) -> Result<String, Fail> {
-    leaf_key(alloc, example_tree(alloc)?.leaf(index))
+    // The same in the example.
+    for (place, wanted) in PLACES {
+        let place = *place;
+        let found = keys_of(alloc, &example_tree(alloc)?, place)?;
+        expect_text(&rt, found, wanted);
+    }
+    Ok(())
 }
 
 #[test]
 fn leaves(rt: HostRuntime) -> Result<(), Fail> {
+    let alloc = rt.alloc();
     const INDICES: &[(u32, &str)] = &[(0, "a0"), (1, "-"), (2, "a2"), (3, "a3"), (4, "-")];
-    expect_texts(&rt, rt.alloc(), leaf_at, INDICES)
+    // The key of a leaf by its index.
+    for (index, wanted) in INDICES {
+        let index = *index;
+        let found = leaf_key(alloc, example_tree(alloc)?.leaf(index))?;
+        expect_text(&rt, found, wanted);
+    }
+    Ok(())
 }
 
 /// How many leaves the tree of nodes has, the first of which are two leaves and a blank between them, or why there is none.
@@ -132,6 +138,7 @@ fn tree_of_nodes(alloc: Global, count: usize) -> Result<String, Fail> {
 
 #[test]
 fn nodes_that_form_a_tree(rt: HostRuntime) -> Result<(), Fail> {
+    let alloc = rt.alloc();
     const COUNTS: &[(usize, &str)] = &[
         (1, "1 1"),
         (3, "2 2"),
@@ -142,7 +149,10 @@ fn nodes_that_form_a_tree(rt: HostRuntime) -> Result<(), Fail> {
         (5, "the nodes form no tree"),
         (4194303, "a tree has at most 1,048,576 leaves"),
     ];
-    expect_texts(&rt, rt.alloc(), tree_of_nodes, COUNTS)
+    for (input, wanted) in COUNTS {
+        expect_text(&rt, tree_of_nodes(alloc, *input)?, wanted);
+    }
+    Ok(())
 }
 
 /// Indices that rise, those below 3 before the others.

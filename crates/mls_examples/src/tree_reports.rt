@@ -1,6 +1,6 @@
 //! The reports of `validate-tree`, and the line of a file of receipts that can't be read.
 
-use crate::support::{CONTEXT, RECEIPT, TREE, bytes, expect_texts, suite, text};
+use crate::support::{CONTEXT, RECEIPT, TREE, bytes, expect_text, suite, text};
 use mls_check::{Listed, ReceiptsFault, SignatureCheck, Trusting};
 use mls_cli::{RunFault, Verdict, run_unreadable_receipts, run_validate_tree};
 use mls_hash::tree_hash;
@@ -27,11 +27,11 @@ fn said(
 }
 
 /// What `validate-tree` writes of the bytes of a context and a tree, where each and the output fail at a call.
-pub(crate) fn report(
+pub(crate) fn report<C: SignatureCheck>(
     alloc: Global,
     context: &str,
     tree: &str,
-    checker: &dyn SignatureCheck,
+    checker: &C,
     fails_at: [Option<usize>; 3],
 ) -> Result<String, Fail> {
     let [context_fails, tree_fails, out_fails] = fails_at;
@@ -44,29 +44,31 @@ pub(crate) fn report(
     said(alloc, outcome, &out)
 }
 
-/// What it writes of a context and a tree, where every signature is good.
-fn validated(alloc: Global, inputs: (&str, &str)) -> Result<String, Fail> {
-    let (context, tree) = inputs;
-    report(alloc, context, tree, &Trusting, [None; 3])
-}
-
 /// The example group's; one bit of the tree's hash changed; other trees, and contexts that are judged before.
 #[test]
 fn trees_are_validated(rt: HostRuntime) -> Result<(), Fail> {
-    const OTHER_HASH: &str =
-        "000100010147000000000000000020e22ab6a0a711ec8a732c3fad9263ed5fa61caf53\
-        fdf9b9690dc57271d8f110d70000";
-    const WITHOUT_EXTENSIONS: &str =
-        "000100010147000000000000000020e32ab6a0a711ec8a732c3fad9263ed5fa6\
-        1caf53fdf9b9690dc57271d8f110d700";
+    let alloc = rt.alloc();
     const INPUTS: &[((&str, &str), &str)] = &[
         ((CONTEXT, TREE), VALID),
-        ((OTHER_HASH, TREE), "no: tree refused 1 HashDiffers\n"),
+        // Other hash.
+        (
+            (
+                "000100010147000000000000000020e22ab6a0a711ec8a732c3fad9263ed5fa61caf53\
+        fdf9b9690dc57271d8f110d70000",
+                TREE,
+            ),
+            "no: tree refused 1 HashDiffers\n",
+        ),
         ((CONTEXT, "00"), "no: tree unreadable EmptyTree\n"),
         ((CONTEXT, "0102"), "no: tree unreadable BadOptional 1\n"),
         (("", "00"), "no: context unreadable Truncated 0\n"),
+        // Without extensions.
         (
-            (WITHOUT_EXTENSIONS, "00"),
+            (
+                "000100010147000000000000000020e32ab6a0a711ec8a732c3fad9263ed5fa6\
+        1caf53fdf9b9690dc57271d8f110d700",
+                "00",
+            ),
             "no: context unreadable Truncated 48\n",
         ),
         (
@@ -78,19 +80,19 @@ fn trees_are_validated(rt: HostRuntime) -> Result<(), Fail> {
             "no: context refused UnsupportedSuite\n",
         ),
     ];
-    expect_texts(&rt, rt.alloc(), validated, INPUTS)
-}
-
-/// What it writes of the example group's context with other extensions.
-fn with_extensions(alloc: Global, extensions: &str) -> Result<String, Fail> {
-    let before = CONTEXT.strip_suffix("00").ok_or("a context")?;
-    let context = format!(in alloc; "{before}{extensions}")?;
-    report(alloc, context.as_str(), TREE, &Trusting, [None; 3])
+    // What it writes of a context and a tree, where every signature is good.
+    for (inputs, wanted) in INPUTS {
+        let (context, tree) = *inputs;
+        let found = report(alloc, context, tree, &Trusting, [None; 3])?;
+        expect_text(&rt, found, wanted);
+    }
+    Ok(())
 }
 
 /// Of requirements, which have the type 3: a truncated body; none; the extension type 10; the credential type 1.
 #[test]
 fn requirements_are_judged(rt: HostRuntime) -> Result<(), Fail> {
+    let alloc = rt.alloc();
     const EXTENSIONS: &[(&str, &str)] = &[
         ("0400030100", "no: context refused RequirementsUnreadable\n"),
         ("06000303000000", VALID),
@@ -100,7 +102,15 @@ fn requirements_are_judged(rt: HostRuntime) -> Result<(), Fail> {
         ),
         ("080003050000020001", VALID),
     ];
-    expect_texts(&rt, rt.alloc(), with_extensions, EXTENSIONS)
+    // What it writes of the example group's context with other extensions.
+    for (extensions, wanted) in EXTENSIONS {
+        let extensions = *extensions;
+        let before = CONTEXT.strip_suffix("00").ok_or("a context")?;
+        let context = format!(in alloc; "{before}{extensions}")?;
+        let found = report(alloc, context.as_str(), TREE, &Trusting, [None; 3])?;
+        expect_text(&rt, found, wanted);
+    }
+    Ok(())
 }
 
 /// The hash of a tree.
@@ -113,59 +123,69 @@ pub(crate) fn hash_of(alloc: Global, tree: &str) -> Result<String, Fail> {
     text(alloc, hash?.as_slice())
 }
 
-/// What it writes of a tree in the example group's context with the hash of this tree.
-fn with_own_hash(alloc: Global, tree: &str) -> Result<String, Fail> {
-    let hash = hash_of(alloc, tree)?;
-    let context = format!(in alloc; "000100010147000000000000000020{hash}0000")?;
-    report(alloc, context.as_str(), tree, &Trusting, [None; 3])
-}
-
 /// Two leaves under a root that lists leaf 1 twice, and two of which the second has an extension that it doesn't list.
 #[test]
 fn trees_are_refused(rt: HostRuntime) -> Result<(), Fail> {
-    const UNSORTED: &str =
-        "4060010101a001b0000101400200010200010000020001010000000000000000ffffffffffffffff0001c0\
-        010201d100080000000100000001010101a101b10001014102000102000100000200010100000000000000\
-        00ffffffffffffffff0001c1";
-    const UNLISTED: &str =
-        "4056010101a001b0000101400200010200010000020001010000000000000000ffffffffffffffff0001c0\
-        00010101a101b1000101410200010200010000020001010000000000000000ffffffffffffffff03000900\
-        01c1";
+    let alloc = rt.alloc();
     const TREES: &[(&str, &str)] = &[
-        (UNSORTED, "no: tree refused 2 UnmergedUnsorted 1\n"),
-        (UNLISTED, "no: members refused 1 ExtensionUnlisted 1\n"),
+        // Unsorted.
+        (
+            "4060010101a001b0000101400200010200010000020001010000000000000000ffffffffffffffff0001c0\
+        010201d100080000000100000001010101a101b10001014102000102000100000200010100000000000000\
+        00ffffffffffffffff0001c1",
+            "no: tree refused 2 UnmergedUnsorted 1\n",
+        ),
+        // Unlisted.
+        (
+            "4056010101a001b0000101400200010200010000020001010000000000000000ffffffffffffffff0001c0\
+        00010101a101b1000101410200010200010000020001010000000000000000ffffffffffffffff03000900\
+        01c1",
+            "no: members refused 1 ExtensionUnlisted 1\n",
+        ),
     ];
-    expect_texts(&rt, rt.alloc(), with_own_hash, TREES)
-}
-
-/// What it writes where a file of receipts judges signatures.
-fn by_receipts(alloc: Global, receipts: &str) -> Result<String, Fail> {
-    let listed = Listed::read(alloc, receipts.as_bytes())?;
-    report(alloc, CONTEXT, TREE, &listed, [None; 3])
+    // What it writes of a tree in the example group's context with the hash of this tree.
+    for (tree, wanted) in TREES {
+        let tree = *tree;
+        let hash = hash_of(alloc, tree)?;
+        let context = format!(in alloc; "000100010147000000000000000020{hash}0000")?;
+        let found = report(alloc, context.as_str(), tree, &Trusting, [None; 3])?;
+        expect_text(&rt, found, wanted);
+    }
+    Ok(())
 }
 
 #[test]
 fn signatures_need_receipts(rt: HostRuntime) -> Result<(), Fail> {
+    let alloc = rt.alloc();
     const FILES: &[(&str, &str)] = &[
         (RECEIPT, VALID),
         ("", "no: members refused 5 LeafSignature 0\n"),
     ];
-    expect_texts(&rt, rt.alloc(), by_receipts, FILES)
-}
-
-/// What it writes where devices fail.
-fn until(alloc: Global, fails_at: [Option<usize>; 3]) -> Result<String, Fail> {
-    report(alloc, CONTEXT, TREE, &Trusting, fails_at)
+    // What it writes where a file of receipts judges signatures.
+    for (receipts, wanted) in FILES {
+        let receipts = *receipts;
+        let listed = Listed::read(alloc, receipts.as_bytes())?;
+        let found = report(alloc, CONTEXT, TREE, &listed, [None; 3])?;
+        expect_text(&rt, found, wanted);
+    }
+    Ok(())
 }
 
 #[test]
 fn devices_of_validate_tree_that_fail(rt: HostRuntime) -> Result<(), Fail> {
+    let alloc = rt.alloc();
     const ENDS: &[([Option<usize>; 3], &str)] = &[
         ([Some(2), None, None], ": read"),
         ([None, Some(1), None], ": read"),
         ([None, None, Some(3)], "valid e32ab6: write"),
     ];
-    expect_texts(&rt, rt.alloc(), until, ENDS)
+    // What it writes where devices fail.
+    for (fails_at, wanted) in ENDS {
+        let fails_at = *fails_at;
+        let found = report(alloc, CONTEXT, TREE, &Trusting, fails_at)?;
+        expect_text(&rt, found, wanted);
+    }
+    Ok(())
 }
 
 /// What is told of receipts that can't be read, where there is room for so many bytes.
@@ -178,6 +198,7 @@ fn told(alloc: Global, receipts: (ReceiptsFault, usize)) -> Result<String, Fail>
 
 #[test]
 fn unreadable_receipts_are_told(rt: HostRuntime) -> Result<(), Fail> {
+    let alloc = rt.alloc();
     const FAULTS: &[((ReceiptsFault, usize), &str)] = &[
         (
             (ReceiptsFault::BadLine(12), 100),
@@ -190,5 +211,8 @@ fn unreadable_receipts_are_told(rt: HostRuntime) -> Result<(), Fail> {
         ((ReceiptsFault::TooLong, 8), "receipts: write"),
         ((ReceiptsFault::OutOfMemory, 100), ": memory"),
     ];
-    expect_texts(&rt, rt.alloc(), told, FAULTS)
+    for (input, wanted) in FAULTS {
+        expect_text(&rt, told(alloc, *input)?, wanted);
+    }
+    Ok(())
 }

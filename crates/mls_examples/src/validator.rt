@@ -1,8 +1,8 @@
 //! Whether a tree is valid (RFC 9420, 7.9.2 and 12.4.3.1), and the first fault of one that isn't.
 
 use crate::support::{
-    FIRST_HASH, LEAF, SECOND_LEAF, UPPER, bytes, committed_leaf, expect_text, expect_texts,
-    grown_tree, put_leaf, put_parent, suite, text, tree_of,
+    FIRST_HASH, LEAF, SECOND_LEAF, UPPER, bytes, committed_leaf, expect_text, grown_tree, put_leaf,
+    put_parent, suite, text, tree_of,
 };
 use mls_check::{TreeFault, validate_tree};
 use mls_hash::{fill_hashes, tree_hash};
@@ -54,14 +54,10 @@ pub(crate) fn judged(alloc: Global, tree: &PublicTree) -> Result<String, Fail> {
     judged_with(alloc, tree, hash.as_str())
 }
 
-/// What is found of the tree of one leaf in a context with a hash.
-fn one_leaf(alloc: Global, hash: &str) -> Result<String, Fail> {
-    judged_with(alloc, &tree_of(alloc, 1, &[0])?, hash)
-}
-
 /// The hash of the tree, and the same with one bit changed.
 #[test]
 fn the_hash_is_the_contexts(rt: HostRuntime) -> Result<(), Fail> {
+    let alloc = rt.alloc();
     const HASHES: &[(&str, &str)] = &[
         (FIRST_HASH, "valid"),
         (
@@ -69,7 +65,13 @@ fn the_hash_is_the_contexts(rt: HostRuntime) -> Result<(), Fail> {
             "HashDiffers",
         ),
     ];
-    expect_texts(&rt, rt.alloc(), one_leaf, HASHES)
+    // What is found of the tree of one leaf in a context with a hash.
+    for (hash, wanted) in HASHES {
+        let hash = *hash;
+        let found = judged_with(alloc, &tree_of(alloc, 1, &[0])?, hash)?;
+        expect_text(&rt, found, wanted);
+    }
+    Ok(())
 }
 
 /// What is found of a tree that grew by a leaf after a path.
@@ -87,6 +89,7 @@ fn changed(alloc: Global, parent: (u32, u8, &str, &[u32])) -> Result<String, Fai
 
 #[test]
 fn a_tree_that_grew_after_a_path(rt: HostRuntime) -> Result<(), Fail> {
+    let alloc = rt.alloc();
     expect_text(&rt, grown(rt.alloc())?, "valid");
     const PARENTS: &[((u32, u8, &str, &[u32]), &str)] = &[
         ((3, 0xd3, "", &[]), "ParentHashInvalid(3)"),
@@ -101,7 +104,10 @@ fn a_tree_that_grew_after_a_path(rt: HostRuntime) -> Result<(), Fail> {
         ((3, 0x80, "", &[3]), "KeyRepeated(0)"),
         ((3, 0xd1, "", &[3]), "KeyRepeated(1)"),
     ];
-    expect_texts(&rt, rt.alloc(), changed, PARENTS)
+    for (input, wanted) in PARENTS {
+        expect_text(&rt, changed(alloc, *input)?, wanted);
+    }
+    Ok(())
 }
 
 /// What is found of eight leaves, of which the last is blank, under four parents with unmerged leaves, of which the one
@@ -124,6 +130,7 @@ fn listing(alloc: Global, list: (u32, &[u32])) -> Result<String, Fail> {
 /// Where all lists are sound, no chain leads to the first parent.
 #[test]
 fn entries_in_the_lists_between(rt: HostRuntime) -> Result<(), Fail> {
+    let alloc = rt.alloc();
     const LISTS: &[((u32, &[u32]), &str)] = &[
         ((3, &[1, 2]), "ParentHashInvalid(3)"),
         ((3, &[1]), "UnmergedUnsound(7)"),
@@ -135,7 +142,10 @@ fn entries_in_the_lists_between(rt: HostRuntime) -> Result<(), Fail> {
         ((11, &[]), "UnmergedUnsound(7)"),
         ((11, &[6, 7]), "UnmergedUnsound(11)"),
     ];
-    expect_texts(&rt, rt.alloc(), listing, LISTS)
+    for (input, wanted) in LISTS {
+        expect_text(&rt, listing(alloc, *input)?, wanted);
+    }
+    Ok(())
 }
 
 #[test]

@@ -3,7 +3,7 @@
 //! after each accepted message.
 
 use crate::by_hand::{Step, end_of, follow_all, step_messages};
-use crate::support::expect_texts;
+use crate::support::expect_text;
 use std::alloc::Global;
 use std::test::Fail;
 
@@ -69,17 +69,10 @@ const STEPS: [Step<'static>; 6] = [
     },
 ];
 
-/// The answer to the last of so many of the commits, and the tree then.
-fn after_steps(alloc: Global, count: usize) -> Result<String, Fail> {
-    let steps = STEPS.as_slice().get(..count).ok_or("steps")?;
-    let messages = step_messages(alloc, steps)?;
-    let story = follow_all(alloc, messages.as_slice())?;
-    end_of(alloc, story)
-}
-
 /// The tree hashes are worked out by RFC 9420, 7.8.
 #[test]
 fn from_one_member_to_sixteen(rt: HostRuntime) -> Result<(), Fail> {
+    let alloc = rt.alloc();
     let rows = [
         (
             1,
@@ -112,5 +105,14 @@ fn from_one_member_to_sixteen(rt: HostRuntime) -> Result<(), Fail> {
             80 d9 81 da[3] 82 - a3 - a4 - a5 - a6 - a7 - a8 - a9 - aa - ab - ac - ad - ae - af",
         ),
     ];
-    expect_texts(&rt, rt.alloc(), after_steps, &rows)
+    // The answer to the last of so many of the commits, and the tree then.
+    for (count, wanted) in &rows {
+        let count = *count;
+        let steps = STEPS.as_slice().get(..count).ok_or("steps")?;
+        let messages = step_messages(alloc, steps)?;
+        let story = follow_all(alloc, messages.as_slice())?;
+        let found = end_of(alloc, story)?;
+        expect_text(&rt, found, wanted);
+    }
+    Ok(())
 }

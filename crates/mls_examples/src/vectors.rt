@@ -2,7 +2,7 @@
 //! are hashes of (RFC 9420, 7.8, 7.9 and 8.2), by SHA-256 itself and nothing of these libraries.
 
 use crate::by_hand::hashed;
-use crate::support::{expect_text, expect_texts};
+use crate::support::expect_text;
 use mls_cli::{CheckKind, RunFault, Verdict, run_check};
 use mls_wire::{MemorySink, MemorySource};
 use std::alloc::Global;
@@ -24,13 +24,6 @@ const FOUR_LEAVES: &str =
     "\"n_leaves\":4,\"n_nodes\":7,\"root\":3,\"left\":[null,0,null,1,null,4,null],\"right\":[nu\
     ll,2,null,5,null,6,null],\"parent\":[1,3,1,null,5,3,5],\"sibling\":[2,5,0,null,6,1,4]";
 
-/// The places of eight leaves and the parents above them.
-const EIGHT_LEAVES: &str =
-    "\"n_leaves\":8,\"n_nodes\":15,\"root\":7,\"left\":[null,0,null,1,null,4,null,3,null,8,null\
-    ,9,null,12,null],\"right\":[null,2,null,5,null,6,null,11,null,10,null,13,null,14,null],\"pa\
-    rent\":[1,3,1,7,5,3,5,null,9,11,9,7,13,11,13],\"sibling\":[2,5,0,11,6,1,4,null,10,13,8,3,14\
-    ,9,12]";
-
 /// The tree of member 0's leaf alone.
 const LEAF_TREE: &str =
     "\"cipher_suite\":1,\"tree\":\"29010101a001b00001014002000102000100000200010100000000000000\
@@ -46,35 +39,6 @@ const TWO_TREE: &str =
     a3710882583a67d8a3eddd8b\",\"297fdbd84d384e7f442716ec084b1b962e1bbe495658d63ef6b31106e00542\
     6e\"]";
 
-/// Four leaves, of which 0, 1 and 2 are set, after a commit of member 0 with a path of the nodes 1 and 3.
-const PATH_TREE: &str =
-    "\"cipher_suite\":1,\"tree\":\"40b80101018001b0000101400200010200010000020001032093665b0424\
-    5cc070b1bdf028955a30b2dc700e38eb40845f274e3075f50535910001c0010201d1206a02415c428629f3da614\
-    5086a76a2675a238d2c57ad21584dba9d231107a0f700010101a101b10001014102000102000100000200010100\
-    00000000000000ffffffffffffffff0001c1010201d30000010101a201b20001014202000102000100000200010\
-    10000000000000000ffffffffffffffff0001c2\",\"resolutions\":[[0],[1],[2],[3],[4],[4],[]],\"tr\
-    ee_hashes\":[\"7d1241e2f4a62a90044c5ae3a5054ec6331877cfb2c84bfb17ae5ab2a74a8860\",\"3417bfc\
-    dcfb2829b32268baddb7b99e627c546f07d46957ec83162d06df86f86\",\"297fdbd84d384e7f442716ec084b1\
-    b962e1bbe495658d63ef6b31106e005426e\",\"01fca42e2e9594b5e27dc046ce618ac5b6d06d3fd7c145b8387\
-    ce547c6f36219\",\"7bbec19ab2ef99bde9685a7057788ffc22f23f5cfc9b7d9c37e23145009914e8\",\"9ffa\
-    de945d8bb96b777de4c9aade3d6f63a30ca106d6f0e0e9a127f4be6a3d6a\",\"caf009ad02a57a48feb8d64d05\
-    5509e9a81edba8d325e442cfe75e006a520006\"]";
-
-/// The same after member 3 was added, which node 3 lists as unmerged.
-const GROWN_TREE: &str =
-    "\"cipher_suite\":1,\"tree\":\"40e60101018001b0000101400200010200010000020001032093665b0424\
-    5cc070b1bdf028955a30b2dc700e38eb40845f274e3075f50535910001c0010201d1206a02415c428629f3da614\
-    5086a76a2675a238d2c57ad21584dba9d231107a0f700010101a101b10001014102000102000100000200010100\
-    00000000000000ffffffffffffffff0001c1010201d3000400000003010101a201b200010142020001020001000\
-    0020001010000000000000000ffffffffffffffff0001c200010101a301b3000101430200010200010000020001\
-    010000000000000000ffffffffffffffff0001c3\",\"resolutions\":[[0],[1],[2],[3,6],[4],[4,6],[6]\
-    ],\"tree_hashes\":[\"7d1241e2f4a62a90044c5ae3a5054ec6331877cfb2c84bfb17ae5ab2a74a8860\",\"3\
-    417bfcdcfb2829b32268baddb7b99e627c546f07d46957ec83162d06df86f86\",\"297fdbd84d384e7f442716e\
-    c084b1b962e1bbe495658d63ef6b31106e005426e\",\"5c8af4eac028a0c3f6cd02a3cf4fc167fd6042cb16866\
-    eecb73dd0da4aca3f09\",\"7bbec19ab2ef99bde9685a7057788ffc22f23f5cfc9b7d9c37e23145009914e8\",\
-    \"9d9b830d7cd760c1270c014a7eb8be1f4bc5c5c3fa49238a7b436d51f6ce185a\",\"3ed1462146ccde17d7e1\
-    eee2d3d9a32675c506b06c9d57a9951cf7344111aeb2\"]";
-
 /// Member 0 adds member 1.
 const ADDED: &str =
     "\"cipher_suite\":1,\"tree_before\":\"29010101a001b0000101400200010200010000020001010000000\
@@ -84,14 +48,6 @@ const ADDED: &str =
     ter\":\"4053010101a001b0000101400200010200010000020001010000000000000000ffffffffffffffff000\
     1c000010101a101b1000101410200010200010000020001010000000000000000ffffffffffffffff0001c1\",\
     \"tree_hash_after\":\"3dd545ada09b9e9be453de8b5c20702e810685eca3710882583a67d8a3eddd8b\"";
-
-/// Member 0 brings an extension to the context, which leaves the tree.
-const EXTENDED: &str =
-    "\"cipher_suite\":1,\"tree_before\":\"29010101a001b0000101400200010200010000020001010000000\
-    000000000ffffffffffffffff0001c0\",\"proposal\":\"0007080003050000020001\",\"proposal_sender\":\
-    0,\"tree_hash_before\":\"e32ab6a0a711ec8a732c3fad9263ed5fa61caf53fdf9b9690dc57271d8f110d7\",\
-    \"tree_after\":\"29010101a001b0000101400200010200010000020001010000000000000000ffffffffffffffff0001\
-    c0\",\"tree_hash_after\":\"e32ab6a0a711ec8a732c3fad9263ed5fa61caf53fdf9b9690dc57271d8f110d7\"";
 
 /// Member 0 removes member 1.
 const REMOVED: &str =
@@ -112,31 +68,6 @@ const UPDATED: &str =
     10000000000000000ffffffffffffffff0001c0000101019101b1000101410200010200010000020001020001c1\
     \",\"tree_hash_after\":\"75c9358944b881f6f2503b80766a557da008f33233bde9881fb1ad463060dd6c\"";
 
-/// Member 1 adds member 3 under a parent, which lists it as unmerged.
-const ADDED_BELOW: &str =
-    "\"cipher_suite\":1,\"tree_before\":\"40b80101018001b00001014002000102000100000200010320936\
-    65b04245cc070b1bdf028955a30b2dc700e38eb40845f274e3075f50535910001c0010201d1206a02415c428629\
-    f3da6145086a76a2675a238d2c57ad21584dba9d231107a0f700010101a101b1000101410200010200010000020\
-    001010000000000000000ffffffffffffffff0001c1010201d30000010101a201b2000101420200010200010000\
-    020001010000000000000000ffffffffffffffff0001c2\",\"proposal\":\"00010001000101f301a301b3000\
-    101430200010200010000020001010000000000000000ffffffffffffffff0001c30001c9\",\"proposal_send\
-    er\":1,\"tree_hash_before\":\"01fca42e2e9594b5e27dc046ce618ac5b6d06d3fd7c145b8387ce547c6f36\
-    219\",\"tree_after\":\"40e60101018001b0000101400200010200010000020001032093665b04245cc070b1\
-    bdf028955a30b2dc700e38eb40845f274e3075f50535910001c0010201d1206a02415c428629f3da6145086a76a\
-    2675a238d2c57ad21584dba9d231107a0f700010101a101b1000101410200010200010000020001010000000000\
-    000000ffffffffffffffff0001c1010201d3000400000003010101a201b20001014202000102000100000200010\
-    10000000000000000ffffffffffffffff0001c200010101a301b300010143020001020001000002000101000000\
-    0000000000ffffffffffffffff0001c3\",\"tree_hash_after\":\"5c8af4eac028a0c3f6cd02a3cf4fc167fd\
-    6042cb16866eecb73dd0da4aca3f09\"";
-
-/// The only member removes itself.
-const REMOVED_LAST: &str =
-    "\"cipher_suite\":1,\"tree_before\":\"29010101a001b0000101400200010200010000020001010000000\
-    000000000ffffffffffffffff0001c0\",\"proposal\":\"000300000000\",\"proposal_sender\":0,\"tre\
-    e_hash_before\":\"e32ab6a0a711ec8a732c3fad9263ed5fa61caf53fdf9b9690dc57271d8f110d7\",\"tree\
-    _after\":\"\",\"tree_hash_after\":\"36c159d76b52e03e496363607c5940227f62f4e048df344b050159b\
-    c97bba3d7\"";
-
 /// The commit of the proposal to add member 1, after the epoch that no commit began.
 const COMMITTED_BY: &str =
     "\"cipher_suite\":1,\"authenticated_content\":\"0001014700000000000000000100000000000322022\
@@ -145,23 +76,6 @@ const COMMITTED_BY: &str =
     \"confirmed_transcript_hash_after\":\"3b3fe4cf185f12883575d4bc9a402561feafe917dc05379ecd9f3\
     f0abe6607e5\",\"interim_transcript_hash_after\":\"b88836177897aa5df5354114a8055a4346e8832a9\
     0fb063a197226ffacae36cf\"";
-
-/// The same commit in a private message.
-const COMMITTED_APART: &str =
-    "\"cipher_suite\":1,\"authenticated_content\":\"0002014700000000000000000100000000000322022\
-    0419afc0a88fe171b793b00410d11c8121fb96fdfde7b5ced43d5912144a3a9f90001c601e1\",\"interim_tra\
-    nscript_hash_before\":\"50996999ff63a9a1a07da880af8f8c745a7fe72cec8ba33615464813b41b14b3\",\
-    \"confirmed_transcript_hash_after\":\"8eb964dc61fc6667b6ecf8a7300eacb1cbbf6bc15e38e8a292c96\
-    c184838aa1c\",\"interim_transcript_hash_after\":\"f01075a611daeefaa1fb601b97efdc3f63118610f\
-    cfb8bb919703c4b8af827fe\"";
-
-/// The same commit, by an interim transcript hash without bytes.
-const COMMITTED_FIRST: &str =
-    "\"cipher_suite\":1,\"authenticated_content\":\"0001014700000000000000000100000000000322022\
-    0419afc0a88fe171b793b00410d11c8121fb96fdfde7b5ced43d5912144a3a9f90001c601e1\",\"interim_tra\
-    nscript_hash_before\":\"\",\"confirmed_transcript_hash_after\":\"306a71bf2a1917d458fb65704b\
-    b10420c3a2ca5de1f3b1a215def1330e57a3dc\",\"interim_transcript_hash_after\":\"0f1241b9402103\
-    eed96401d05242cbc172b10d2833094f46f2c9d9ffc935b60f\"";
 
 /// The report of a vector that passes.
 const PASS: &str = "1 pass\npassed 1 failed 0 skipped 0\n";
@@ -221,7 +135,17 @@ fn tree_math_vectors_are_checked(rt: HostRuntime) -> Result<(), Fail> {
         ((ONE_LEAF, ""), PASS),
         ((TWO_LEAVES, ""), PASS),
         ((FOUR_LEAVES, ""), PASS),
-        ((EIGHT_LEAVES, ""), PASS),
+        // The places of eight leaves and the parents above them.
+        (
+            (
+                "\"n_leaves\":8,\"n_nodes\":15,\"root\":7,\"left\":[null,0,null,1,null,4,null,3,null,8,null\
+    ,9,null,12,null],\"right\":[null,2,null,5,null,6,null,11,null,10,null,13,null,14,null],\"pa\
+    rent\":[1,3,1,7,5,3,5,null,9,11,9,7,13,11,13],\"sibling\":[2,5,0,11,6,1,4,null,10,13,8,3,14\
+    ,9,12]",
+                "",
+            ),
+            PASS,
+        ),
         ((TWO_LEAVES, "\"cipher_suite\":9"), PASS),
         ((TWO_LEAVES, "\"n_leaves\":3,\"n_leaves\":2"), PASS),
         (
@@ -302,8 +226,43 @@ fn tree_validation_vectors_are_checked(rt: HostRuntime) -> Result<(), Fail> {
     const ROWS: &[((&str, &str), &str)] = &[
         ((LEAF_TREE, ""), PASS),
         ((TWO_TREE, "\"cipher_suite\":3"), PASS),
-        ((PATH_TREE, "\"cipher_suite\":2"), PASS),
-        ((GROWN_TREE, ""), PASS),
+        // Four leaves, of which 0, 1 and 2 are set, after a commit of member 0 with a path of the nodes 1 and 3.
+        (
+            (
+                "\"cipher_suite\":1,\"tree\":\"40b80101018001b0000101400200010200010000020001032093665b0424\
+    5cc070b1bdf028955a30b2dc700e38eb40845f274e3075f50535910001c0010201d1206a02415c428629f3da614\
+    5086a76a2675a238d2c57ad21584dba9d231107a0f700010101a101b10001014102000102000100000200010100\
+    00000000000000ffffffffffffffff0001c1010201d30000010101a201b20001014202000102000100000200010\
+    10000000000000000ffffffffffffffff0001c2\",\"resolutions\":[[0],[1],[2],[3],[4],[4],[]],\"tr\
+    ee_hashes\":[\"7d1241e2f4a62a90044c5ae3a5054ec6331877cfb2c84bfb17ae5ab2a74a8860\",\"3417bfc\
+    dcfb2829b32268baddb7b99e627c546f07d46957ec83162d06df86f86\",\"297fdbd84d384e7f442716ec084b1\
+    b962e1bbe495658d63ef6b31106e005426e\",\"01fca42e2e9594b5e27dc046ce618ac5b6d06d3fd7c145b8387\
+    ce547c6f36219\",\"7bbec19ab2ef99bde9685a7057788ffc22f23f5cfc9b7d9c37e23145009914e8\",\"9ffa\
+    de945d8bb96b777de4c9aade3d6f63a30ca106d6f0e0e9a127f4be6a3d6a\",\"caf009ad02a57a48feb8d64d05\
+    5509e9a81edba8d325e442cfe75e006a520006\"]",
+                "\"cipher_suite\":2",
+            ),
+            PASS,
+        ),
+        // The same after member 3 was added, which node 3 lists as unmerged.
+        (
+            (
+                "\"cipher_suite\":1,\"tree\":\"40e60101018001b0000101400200010200010000020001032093665b0424\
+    5cc070b1bdf028955a30b2dc700e38eb40845f274e3075f50535910001c0010201d1206a02415c428629f3da614\
+    5086a76a2675a238d2c57ad21584dba9d231107a0f700010101a101b10001014102000102000100000200010100\
+    00000000000000ffffffffffffffff0001c1010201d3000400000003010101a201b200010142020001020001000\
+    0020001010000000000000000ffffffffffffffff0001c200010101a301b3000101430200010200010000020001\
+    010000000000000000ffffffffffffffff0001c3\",\"resolutions\":[[0],[1],[2],[3,6],[4],[4,6],[6]\
+    ],\"tree_hashes\":[\"7d1241e2f4a62a90044c5ae3a5054ec6331877cfb2c84bfb17ae5ab2a74a8860\",\"3\
+    417bfcdcfb2829b32268baddb7b99e627c546f07d46957ec83162d06df86f86\",\"297fdbd84d384e7f442716e\
+    c084b1b962e1bbe495658d63ef6b31106e005426e\",\"5c8af4eac028a0c3f6cd02a3cf4fc167fd6042cb16866\
+    eecb73dd0da4aca3f09\",\"7bbec19ab2ef99bde9685a7057788ffc22f23f5cfc9b7d9c37e23145009914e8\",\
+    \"9d9b830d7cd760c1270c014a7eb8be1f4bc5c5c3fa49238a7b436d51f6ce185a\",\"3ed1462146ccde17d7e1\
+    eee2d3d9a32675c506b06c9d57a9951cf7344111aeb2\"]",
+                "",
+            ),
+            PASS,
+        ),
         (
             (
                 LEAF_TREE,
@@ -386,8 +345,39 @@ fn tree_operations_vectors_are_checked(rt: HostRuntime) -> Result<(), Fail> {
         ((ADDED, ""), PASS),
         ((REMOVED, ""), PASS),
         ((UPDATED, "\"cipher_suite\":3"), PASS),
-        ((ADDED_BELOW, ""), PASS),
-        ((EXTENDED, ""), PASS),
+        // Member 1 adds member 3 under a parent, which lists it as unmerged.
+        (
+            (
+                "\"cipher_suite\":1,\"tree_before\":\"40b80101018001b00001014002000102000100000200010320936\
+    65b04245cc070b1bdf028955a30b2dc700e38eb40845f274e3075f50535910001c0010201d1206a02415c428629\
+    f3da6145086a76a2675a238d2c57ad21584dba9d231107a0f700010101a101b1000101410200010200010000020\
+    001010000000000000000ffffffffffffffff0001c1010201d30000010101a201b2000101420200010200010000\
+    020001010000000000000000ffffffffffffffff0001c2\",\"proposal\":\"00010001000101f301a301b3000\
+    101430200010200010000020001010000000000000000ffffffffffffffff0001c30001c9\",\"proposal_send\
+    er\":1,\"tree_hash_before\":\"01fca42e2e9594b5e27dc046ce618ac5b6d06d3fd7c145b8387ce547c6f36\
+    219\",\"tree_after\":\"40e60101018001b0000101400200010200010000020001032093665b04245cc070b1\
+    bdf028955a30b2dc700e38eb40845f274e3075f50535910001c0010201d1206a02415c428629f3da6145086a76a\
+    2675a238d2c57ad21584dba9d231107a0f700010101a101b1000101410200010200010000020001010000000000\
+    000000ffffffffffffffff0001c1010201d3000400000003010101a201b20001014202000102000100000200010\
+    10000000000000000ffffffffffffffff0001c200010101a301b300010143020001020001000002000101000000\
+    0000000000ffffffffffffffff0001c3\",\"tree_hash_after\":\"5c8af4eac028a0c3f6cd02a3cf4fc167fd\
+    6042cb16866eecb73dd0da4aca3f09\"",
+                "",
+            ),
+            PASS,
+        ),
+        // Member 0 brings an extension to the context, which leaves the tree.
+        (
+            (
+                "\"cipher_suite\":1,\"tree_before\":\"29010101a001b0000101400200010200010000020001010000000\
+    000000000ffffffffffffffff0001c0\",\"proposal\":\"0007080003050000020001\",\"proposal_sender\":\
+    0,\"tree_hash_before\":\"e32ab6a0a711ec8a732c3fad9263ed5fa61caf53fdf9b9690dc57271d8f110d7\",\
+    \"tree_after\":\"29010101a001b0000101400200010200010000020001010000000000000000ffffffffffffffff0001\
+    c0\",\"tree_hash_after\":\"e32ab6a0a711ec8a732c3fad9263ed5fa61caf53fdf9b9690dc57271d8f110d7\"",
+                "",
+            ),
+            PASS,
+        ),
         ((ADDED, "\"cipher_suite\":9"), SKIP),
         (
             (ADDED, "\"cipher_suite\":null"),
@@ -425,8 +415,16 @@ fn tree_operations_vectors_are_checked(rt: HostRuntime) -> Result<(), Fail> {
             (UPDATED, "\"proposal_sender\":2"),
             "no: 1 fail apply\npassed 0 failed 1 skipped 0\n",
         ),
+        // The only member removes itself.
         (
-            (REMOVED_LAST, ""),
+            (
+                "\"cipher_suite\":1,\"tree_before\":\"29010101a001b0000101400200010200010000020001010000000\
+    000000000ffffffffffffffff0001c0\",\"proposal\":\"000300000000\",\"proposal_sender\":0,\"tre\
+    e_hash_before\":\"e32ab6a0a711ec8a732c3fad9263ed5fa61caf53fdf9b9690dc57271d8f110d7\",\"tree\
+    _after\":\"\",\"tree_hash_after\":\"36c159d76b52e03e496363607c5940227f62f4e048df344b050159b\
+    c97bba3d7\"",
+                "",
+            ),
             "no: 1 fail tree_after\npassed 0 failed 1 skipped 0\n",
         ),
         (
@@ -458,8 +456,31 @@ fn tree_operations_vectors_are_checked(rt: HostRuntime) -> Result<(), Fail> {
 fn transcript_vectors_are_checked(rt: HostRuntime) -> Result<(), Fail> {
     const ROWS: &[((&str, &str), &str)] = &[
         ((COMMITTED_BY, ""), PASS),
-        ((COMMITTED_APART, "\"cipher_suite\":2"), PASS),
-        ((COMMITTED_FIRST, ""), PASS),
+        // The same commit in a private message.
+        (
+            (
+                "\"cipher_suite\":1,\"authenticated_content\":\"0002014700000000000000000100000000000322022\
+    0419afc0a88fe171b793b00410d11c8121fb96fdfde7b5ced43d5912144a3a9f90001c601e1\",\"interim_tra\
+    nscript_hash_before\":\"50996999ff63a9a1a07da880af8f8c745a7fe72cec8ba33615464813b41b14b3\",\
+    \"confirmed_transcript_hash_after\":\"8eb964dc61fc6667b6ecf8a7300eacb1cbbf6bc15e38e8a292c96\
+    c184838aa1c\",\"interim_transcript_hash_after\":\"f01075a611daeefaa1fb601b97efdc3f63118610f\
+    cfb8bb919703c4b8af827fe\"",
+                "\"cipher_suite\":2",
+            ),
+            PASS,
+        ),
+        // The same commit, by an interim transcript hash without bytes.
+        (
+            (
+                "\"cipher_suite\":1,\"authenticated_content\":\"0001014700000000000000000100000000000322022\
+    0419afc0a88fe171b793b00410d11c8121fb96fdfde7b5ced43d5912144a3a9f90001c601e1\",\"interim_tra\
+    nscript_hash_before\":\"\",\"confirmed_transcript_hash_after\":\"306a71bf2a1917d458fb65704b\
+    b10420c3a2ca5de1f3b1a215def1330e57a3dc\",\"interim_transcript_hash_after\":\"0f1241b9402103\
+    eed96401d05242cbc172b10d2833094f46f2c9d9ffc935b60f\"",
+                "",
+            ),
+            PASS,
+        ),
         ((COMMITTED_BY, "\"cipher_suite\":9"), SKIP),
         (
             (COMMITTED_BY, "\"cipher_suite\":[]"),
@@ -525,6 +546,7 @@ fn transcript_vectors_are_checked(rt: HostRuntime) -> Result<(), Fail> {
 /// Suites 1, 2 and 3 hash with SHA-256.
 #[test]
 fn hashes_of_vectors_are_joined(rt: HostRuntime) -> Result<(), Fail> {
+    let alloc = rt.alloc();
     const ROWS: &[(&str, &str)] = &[
         // The leaves of members 0 and 1, and both under a blank root.
         (
@@ -675,7 +697,10 @@ fn hashes_of_vectors_are_joined(rt: HostRuntime) -> Result<(), Fail> {
             "7e1d8ed7339104a6195d10fc6e2cd8f145ed3295f81ecdaf1a5cb5227b31d5d1",
         ),
     ];
-    expect_texts(&rt, rt.alloc(), hashed, ROWS)
+    for (input, wanted) in ROWS {
+        expect_text(&rt, hashed(alloc, *input)?, wanted);
+    }
+    Ok(())
 }
 
 /// What it writes of a text.
@@ -692,13 +717,6 @@ fn opened(alloc: Global, count: u32) -> Result<String, Fail> {
     told(alloc, file.as_str())
 }
 
-/// What it writes of a vector with so many arrays in one another.
-fn nested(alloc: Global, depth: usize) -> Result<String, Fail> {
-    let (open, close) = ("[".repeat(alloc, depth)?, "]".repeat(alloc, depth)?);
-    let file = format!(in alloc; "[{{\"n_leaves\":0,\"other\":{open}{close}}}]")?;
-    told(alloc, file.as_str())
-}
-
 /// What it writes of three vectors, of which the second has no members.
 fn three(alloc: Global, members: (&str, &str)) -> Result<String, Fail> {
     let (first, third) = members;
@@ -710,6 +728,7 @@ fn three(alloc: Global, members: (&str, &str)) -> Result<String, Fail> {
 /// large, but not past all floats.
 #[test]
 fn files_are_read(rt: HostRuntime) -> Result<(), Fail> {
+    let alloc = rt.alloc();
     const UNREADABLE: &str = "no: vectors unreadable\n";
     const FAILED: &str = "no: 1 fail n_leaves\npassed 0 failed 1 skipped 0\n";
     const FILES: &[(&str, &str)] = &[
@@ -725,25 +744,28 @@ fn files_are_read(rt: HostRuntime) -> Result<(), Fail> {
         ("[{\"a\":123456789012345678901234567890}]", FAILED),
         ("[]", "passed 0 failed 0 skipped 0\n"),
     ];
-    const THREE: &[((&str, &str), &str)] = &[(
-        (ONE_LEAF, TWO_LEAVES),
+    for (input, wanted) in FILES {
+        expect_text(&rt, told(alloc, *input)?, wanted);
+    }
+    expect_text(&rt, opened(alloc, 100_000)?, UNREADABLE);
+    // What it writes of a vector with so many arrays in one another.
+    let depth = 125;
+    let (open, close) = ("[".repeat(alloc, depth)?, "]".repeat(alloc, depth)?);
+    let file = format!(in alloc; "[{{\"n_leaves\":0,\"other\":{open}{close}}}]")?;
+    let found = told(alloc, file.as_str())?;
+    expect_text(&rt, found, FAILED);
+    expect_text(
+        &rt,
+        three(alloc, (ONE_LEAF, TWO_LEAVES))?,
         "no: 1 pass\n2 fail n_leaves\n3 pass\npassed 2 failed 1 skipped 0\n",
-    )];
-    expect_texts(&rt, rt.alloc(), told, FILES)?;
-    expect_texts(&rt, rt.alloc(), opened, &[(100_000, UNREADABLE)])?;
-    expect_texts(&rt, rt.alloc(), nested, &[(125, FAILED)])?;
-    expect_texts(&rt, rt.alloc(), three, THREE)
-}
-
-/// What it writes of bytes, where the input and the output fail at these calls.
-fn ended(alloc: Global, input: (&[u8], [Option<usize>; 2])) -> Result<String, Fail> {
-    let (file, fails_at) = input;
-    report(alloc, CheckKind::TreeMath, file, fails_at)
+    );
+    Ok(())
 }
 
 /// Bytes that are no text; and an input and an output that fail.
 #[test]
 fn other_ends_are_told(rt: HostRuntime) -> Result<(), Fail> {
+    let alloc = rt.alloc();
     const ROWS: &[((&[u8], [Option<usize>; 2]), &str)] = &[
         (
             (&[0x5b, 0x22, 0xff, 0x22, 0x5d], [None, None]),
@@ -753,5 +775,11 @@ fn other_ends_are_told(rt: HostRuntime) -> Result<(), Fail> {
         ((b"[]", [None, Some(2)]), "passed 0 failed 0 sk: write"),
         ((b"[]", [None, None]), "passed 0 failed 0 skipped 0\n"),
     ];
-    expect_texts(&rt, rt.alloc(), ended, ROWS)
+    // What it writes of bytes, where the input and the output fail at these calls.
+    for (input, wanted) in ROWS {
+        let (file, fails_at) = *input;
+        let found = report(alloc, CheckKind::TreeMath, file, fails_at)?;
+        expect_text(&rt, found, wanted);
+    }
+    Ok(())
 }

@@ -1,6 +1,6 @@
 //! The presentation language (RFC 9420, 2.1): lengths, integers, vectors, optional values and lists.
 
-use crate::support::{bytes, expect_answers, expect_texts, text};
+use crate::support::{bytes, expect_answer, expect_text, text};
 use mls_wire::{
     CodecFault, Encode, Items, Opaque, Reader, Sequence, TryClone, Writer, bytes_of, laws,
     read_all_of, read_input, read_value,
@@ -8,17 +8,9 @@ use mls_wire::{
 use std::alloc::Global;
 use std::test::Fail;
 
-/// How a length is written, or why it isn't.
-fn written_length(alloc: Global, length: usize) -> Result<String, Fail> {
-    let mut writer = Writer::new(alloc);
-    match writer.write_len(length) {
-        Ok(()) => text(alloc, writer.bytes()),
-        Err(fault) => Ok(format!(in alloc; "{fault}")?),
-    }
-}
-
 #[test]
 fn lengths_are_written(rt: HostRuntime) -> Result<(), Fail> {
+    let alloc = rt.alloc();
     const FORMS: &[(usize, &str)] = &[
         (0, "00"),
         (63, "3f"),
@@ -28,21 +20,22 @@ fn lengths_are_written(rt: HostRuntime) -> Result<(), Fail> {
         (1073741823, "bfffffff"),
         (1073741824, "TooLong at 0"),
     ];
-    expect_texts(&rt, rt.alloc(), written_length, FORMS)
-}
-
-/// The length that is read, or why none is, and the offset then.
-fn read_length(alloc: Global, form: &str) -> Result<String, Fail> {
-    let input = bytes(alloc, form)?;
-    let mut reader = Reader::new(input.as_slice());
-    match reader.read_len() {
-        Ok(length) => Ok(format!(in alloc; "{length}")?),
-        Err(fault) => Ok(format!(in alloc; "{fault}, still {}", reader.offset())?),
+    // How a length is written, or why it isn't.
+    for (length, wanted) in FORMS {
+        let length = *length;
+        let mut writer = Writer::new(alloc);
+        let found = match writer.write_len(length) {
+            Ok(()) => text(alloc, writer.bytes())?,
+            Err(fault) => format!(in alloc; "{fault}")?,
+        };
+        expect_text(&rt, found, wanted);
     }
+    Ok(())
 }
 
 #[test]
 fn lengths_are_read(rt: HostRuntime) -> Result<(), Fail> {
+    let alloc = rt.alloc();
     const LENGTHS: &[(&str, &str)] = &[
         ("00", "0"),
         ("3f", "63"),
@@ -56,7 +49,18 @@ fn lengths_are_read(rt: HostRuntime) -> Result<(), Fail> {
         ("40", "Truncated at 0, still 0"),
         ("", "Truncated at 0, still 0"),
     ];
-    expect_texts(&rt, rt.alloc(), read_length, LENGTHS)
+    // The length that is read, or why none is, and the offset then.
+    for (form, wanted) in LENGTHS {
+        let form = *form;
+        let input = bytes(alloc, form)?;
+        let mut reader = Reader::new(input.as_slice());
+        let found = match reader.read_len() {
+            Ok(length) => format!(in alloc; "{length}")?,
+            Err(fault) => format!(in alloc; "{fault}, still {}", reader.offset())?,
+        };
+        expect_text(&rt, found, wanted);
+    }
+    Ok(())
 }
 
 /// A list of codes, written, or why there is none.
@@ -67,6 +71,7 @@ fn codes_of(alloc: Global, input: &[u8]) -> Result<Vec<u8>, CodecFault> {
 
 #[test]
 fn vectors_are_judged_in_order(rt: HostRuntime) -> Result<(), Fail> {
+    let alloc = rt.alloc();
     const LISTS: &[(&str, &str)] = &[
         ("0400010002", "0400010002"),
         ("", "Truncated at 0"),
@@ -76,7 +81,12 @@ fn vectors_are_judged_in_order(rt: HostRuntime) -> Result<(), Fail> {
         ("0301", "Truncated at 0"),
         ("03010203", "OddLength at 0"),
     ];
-    expect_answers(&rt, rt.alloc(), codes_of, LISTS)
+    for (input, wanted) in LISTS {
+        let input = bytes(alloc, input)?;
+        let answer = codes_of(alloc, input.as_slice());
+        expect_answer(&rt, alloc, answer, wanted)?;
+    }
+    Ok(())
 }
 
 /// A list of bodies, copied and written, or why there is none.
@@ -88,13 +98,19 @@ fn bodies_of(alloc: Global, input: &[u8]) -> Result<Vec<u8>, CodecFault> {
 /// The second body of the last list runs past the list's.
 #[test]
 fn bodies_are_read_for_themselves(rt: HostRuntime) -> Result<(), Fail> {
+    let alloc = rt.alloc();
     laws::one_value::<Items<Opaque>>();
     const LISTS: &[(&str, &str)] = &[
         ("00", "00"),
         ("0501aa02bbcc", "0501aa02bbcc"),
         ("0401aa404000000000", "Truncated at 3"),
     ];
-    expect_answers(&rt, rt.alloc(), bodies_of, LISTS)
+    for (input, wanted) in LISTS {
+        let input = bytes(alloc, input)?;
+        let answer = bodies_of(alloc, input.as_slice());
+        expect_answer(&rt, alloc, answer, wanted)?;
+    }
+    Ok(())
 }
 
 /// An optional list of numbers and a number behind it, read and written, or why they can't be read.
@@ -111,6 +127,7 @@ fn values_of(alloc: Global, input: &[u8]) -> Result<Vec<u8>, CodecFault> {
 
 #[test]
 fn optional_values_and_ends(rt: HostRuntime) -> Result<(), Fail> {
+    let alloc = rt.alloc();
     const VALUES: &[(&str, &str)] = &[
         ("000000000000000007", "000000000000000007"),
         (
@@ -122,29 +139,17 @@ fn optional_values_and_ends(rt: HostRuntime) -> Result<(), Fail> {
         ("010500000002ff", "OddLength at 1"),
         ("00000000000000000700", "Trailing at 9"),
     ];
-    expect_answers(&rt, rt.alloc(), values_of, VALUES)
-}
-
-/// The fields of a `uint8`, a `uint16`, a `uint32`, a `uint64`, a vector, the byte before an optional value, and a vector
-/// that is read for itself; and what is left.
-fn fields_of(alloc: Global, input: &str) -> Result<String, Fail> {
-    let input = bytes(alloc, input)?;
-    let mut reader = Reader::new(input.as_slice());
-    let (byte, short) = (reader.read_u8()?, reader.read_u16()?);
-    let (word, long) = (reader.read_u32()?, reader.read_u64()?);
-    let body = text(alloc, reader.read_vec()?)?;
-    let is_present = reader.read_optional()?;
-    let mut inner = reader.read_sub()?;
-    let first = inner.read_u8()?;
-    let (at, is_whole) = (inner.offset(), inner.at_end());
-    let (end, is_end) = (reader.offset(), reader.at_end());
-    Ok(format!(in alloc;
-        "{byte} {short} {word} {long} {body} {is_present}, {first} {at} {is_whole}, {end} {is_end}"
-    )?)
+    for (input, wanted) in VALUES {
+        let input = bytes(alloc, input)?;
+        let answer = values_of(alloc, input.as_slice());
+        expect_answer(&rt, alloc, answer, wanted)?;
+    }
+    Ok(())
 }
 
 #[test]
 fn fields_are_read(rt: HostRuntime) -> Result<(), Fail> {
+    let alloc = rt.alloc();
     const FIELDS: &[(&str, &str)] = &[
         (
             "0102030405060708090a0b0c0d0e0f02616201020809",
@@ -155,7 +160,26 @@ fn fields_are_read(rt: HostRuntime) -> Result<(), Fail> {
             "255 255 255 255  false, 8 19 true, 19 false",
         ),
     ];
-    expect_texts(&rt, rt.alloc(), fields_of, FIELDS)
+    // The fields of a `uint8`, a `uint16`, a `uint32`, a `uint64`, a vector, the byte before an optional value, and a vector
+    // that is read for itself; and what is left.
+    for (input, wanted) in FIELDS {
+        let input = *input;
+        let input = bytes(alloc, input)?;
+        let mut reader = Reader::new(input.as_slice());
+        let (byte, short) = (reader.read_u8()?, reader.read_u16()?);
+        let (word, long) = (reader.read_u32()?, reader.read_u64()?);
+        let body = text(alloc, reader.read_vec()?)?;
+        let is_present = reader.read_optional()?;
+        let mut inner = reader.read_sub()?;
+        let first = inner.read_u8()?;
+        let (at, is_whole) = (inner.offset(), inner.at_end());
+        let (end, is_end) = (reader.offset(), reader.at_end());
+        let found = format!(in alloc;
+            "{byte} {short} {word} {long} {body} {is_present}, {first} {at} {is_whole}, {end} {is_end}"
+        )?;
+        expect_text(&rt, found, wanted);
+    }
+    Ok(())
 }
 
 /// A `uint8`, a `uint16`, a `uint32`, a vector with this body and the byte before an optional value.
@@ -172,8 +196,15 @@ fn fields_with(alloc: Global, body: &[u8]) -> Result<Vec<u8>, CodecFault> {
 
 #[test]
 fn fields_are_written(rt: HostRuntime) -> Result<(), Fail> {
-    const FIELDS: &[(&str, &str)] = &[("6162", "0102030405060702616201")];
-    expect_answers(&rt, rt.alloc(), fields_with, FIELDS)
+    let alloc = rt.alloc();
+    let input = bytes(alloc, "6162")?;
+    expect_answer(
+        &rt,
+        alloc,
+        fields_with(alloc, input.as_slice()),
+        "0102030405060702616201",
+    )?;
+    Ok(())
 }
 
 /// How many bytes an optional list of numbers takes.
@@ -186,11 +217,17 @@ fn size_of_numbers(alloc: Global, input: &[u8]) -> Result<Vec<u8>, CodecFault> {
 
 #[test]
 fn sizes_of_optional_lists(rt: HostRuntime) -> Result<(), Fail> {
+    let alloc = rt.alloc();
     const LISTS: &[(&str, &str)] = &[
         ("00", "0000000000000001"),
         ("0100", "0000000000000002"),
         ("010400000002", "0000000000000006"),
         ("01080000000200000003", "000000000000000a"),
     ];
-    expect_answers(&rt, rt.alloc(), size_of_numbers, LISTS)
+    for (input, wanted) in LISTS {
+        let input = bytes(alloc, input)?;
+        let answer = size_of_numbers(alloc, input.as_slice());
+        expect_answer(&rt, alloc, answer, wanted)?;
+    }
+    Ok(())
 }

@@ -1,0 +1,212 @@
+//! Inputs that are changed by chance, and what the libraries answer to them. Which changes are made is determined by
+//! the number of the input, so that a run can be made again.
+
+use crate::followers::{bytes_of_all, follow};
+use crate::group::{
+    ADD_COMMIT, COMMIT, EXTENSIONS_COMMIT, GROUP_INFO, OPERATIONS, PATH_COMMIT, PROPOSAL,
+    TRANSCRIPT, TREE, TREE_CONTEXT, VALIDATION, VECTORS,
+};
+use crate::told::{Stop, have};
+use mls_check::{TreeFault, validate_tree};
+use mls_hash::{Suite, tree_hash};
+use mls_msgs::{Message, decode_message, encode_message};
+use mls_nodes::{GroupContext, NodeFault, decode_context};
+use mls_report::Verdict;
+use mls_tree::{PublicTree, root};
+use mls_vectors::{CheckKind, run_check};
+use mls_wire::{CodecFault, MemorySink, MemorySource, Opaque};
+use std::alloc::Global;
+
+// ---- changes
+
+/// Numbers that look like chance, each made from the one before (the generator `splitmix64`).
+#[derive(Drop)]
+struct Chance {
+    state: u64,
+}
+
+impl Chance {
+    /// The next number below a bound, or 0.
+    fn below(&mut self, bound: usize) -> usize {
+        self.state = self.state.wrapping_add(0x9e37_79b9_7f4a_7c15);
+        let mut mixed = self.state;
+        mixed = (mixed ^ (mixed >> 30)).wrapping_mul(0xbf58_476d_1ce4_e5b9);
+        mixed = (mixed ^ (mixed >> 27)).wrapping_mul(0x94d0_49bb_1331_11eb);
+        mixed ^= mixed >> 31;
+        (mixed % (bound as u64).max(1)) as usize
+    }
+}
+
+/// Some bytes with one change: a byte is another one, the bytes are cut, a part of them stands there twice, or a byte
+/// is enlarged, as in a length.
+fn change(alloc: Global, chance: &mut Chance, bytes: &[u8]) -> Result<Vec<u8>, Stop> {
+    let at = chance.below(bytes.len()).min(bytes.len());
+    let (front, rest) = bytes.split_at(at);
+    let mut changed = have(Vec::from_slice(alloc, front))?;
+    match (chance.below(4), rest.first()) {
+        (0, _) | (_, None) => {}
+        (1, _) => {
+            let size = chance
+                .below(rest.len().min(64))
+                .saturating_add(1)
+                .min(rest.len());
+            have(changed.extend_from_slice(&rest[..size]))?;
+            have(changed.extend_from_slice(rest))?;
+        }
+        (kind, Some(byte)) => {
+            have(changed.extend_from_slice(rest))?;
+            let more = chance.below(255).min(255) as u8;
+            if let Some(place) = changed.get_mut(at) {
+                *place = if kind == 2 {
+                    byte.wrapping_add(more).wrapping_add(1)
+                } else {
+                    byte | (0x40 << (more % 2))
+                };
+            }
+        }
+    }
+    Ok(changed)
+}
+
+/// Some bytes with one to three changes.
+fn change_often(alloc: Global, chance: &mut Chance, bytes: &[u8]) -> Result<Vec<u8>, Stop> {
+    let mut changed = have(Vec::from_slice(alloc, bytes))?;
+    for _ in 0..chance.below(3).saturating_add(1) {
+        changed = change(alloc, chance, changed.as_slice())?;
+    }
+    Ok(changed)
+}
+
+// ---- calls
+
+/// Whether a message is read. Then it is written as it was.
+fn is_read(alloc: Global, input: &[u8]) -> Result<bool, Stop> {
+    match decode_message(alloc, input) {
+        Ok(message) => {
+            let bytes = encode_message(alloc, &message);
+            drop(message);
+            if have(bytes)?.as_slice() != input {
+                return Err(Stop::OtherBytes);
+            }
+            Ok(true)
+        }
+        Err(CodecFault::OutOfMemory) => Err(Stop::Memory),
+        Err(_) => Ok(false),
+    }
+}
+
+/// Whether the last word of a text is a hash of 32 bytes.
+fn ends_in_hash(text: &str) -> bool {
+    match text.rsplit_once(' ') {
+        Some((_, last)) => last.len() == 64,
+        None => text.len() == 64,
+    }
+}
+
+/// Whether a follower that has just been started takes a message behind others. Where it doesn't, its state is the one
+/// before. The answer to a message ends in a hash where it is taken, and is a number where it isn't.
+fn is_taken(alloc: Global, before: &[&str], message: Vec<u8>) -> Result<bool, Stop> {
+    let mut messages = bytes_of_all(alloc, before)?;
+    have(messages.push(message))?;
+    let told = follow(alloc, messages.as_slice())?;
+    if told.was_refused {
+        return Err(Stop::Memory);
+    }
+    Ok(ends_in_hash(told.text.as_str()))
+}
+
+/// Whether a tree is valid in a context that has its hash.
+fn is_valid(alloc: Global, mut context: GroupContext, tree: &PublicTree) -> Result<bool, Stop> {
+    let Ok(suite) = Suite::from_u16(1) else {
+        return Err(Stop::OtherSuite);
+    };
+    let top = root(tree.leaf_count()).unwrap_or(0);
+    let hash = have(tree_hash(alloc, suite, tree, top))?;
+    context.tree_hash = have(Opaque::copy(alloc, hash.as_slice()))?;
+    context.cipher_suite = suite.number();
+    let answer = validate_tree(alloc, suite, &context, tree);
+    drop(context);
+    match answer {
+        Ok(()) => Ok(true),
+        Err(TreeFault::OutOfMemory) => Err(Stop::Memory),
+        Err(_) => Ok(false),
+    }
+}
+
+/// Whether bytes are read as a tree that is valid in a context with its hash.
+fn is_valid_tree(alloc: Global, input: &[u8]) -> Result<bool, Stop> {
+    let context = have(hex::decode(alloc, TREE_CONTEXT))?;
+    match PublicTree::decode(alloc, input) {
+        Ok(tree) => is_valid(
+            alloc,
+            have(decode_context(alloc, context.as_slice()))?,
+            &tree,
+        ),
+        Err(NodeFault::OutOfMemory) => Err(Stop::Memory),
+        Err(_) => Ok(false),
+    }
+}
+
+/// Whether test vectors pass, all of them.
+fn is_passed(alloc: Global, kind: CheckKind, input: &[u8]) -> Result<bool, Stop> {
+    let Ok(mut out) = MemorySink::new(alloc, 10_000, 40, None) else {
+        return Err(Stop::Memory);
+    };
+    let mut source = MemorySource::new(input, 40, None);
+    match have(run_check(alloc, kind, &mut source, &mut out))? {
+        Verdict::Yes => Ok(true),
+        Verdict::No => Ok(false),
+    }
+}
+
+/// What is done with an input.
+#[derive(Clone, Copy)]
+enum Use {
+    Read(&'static str),
+    Take(&'static [&'static str], &'static str),
+    Validate(&'static str),
+    Check(CheckKind, &'static str),
+}
+
+/// What is done in turn, each with a changed input.
+const USES: [Use; 20] = [
+    Use::Read(GROUP_INFO),
+    Use::Take(&[], PROPOSAL),
+    Use::Validate(TREE),
+    Use::Check(CheckKind::TreeMath, VECTORS),
+    Use::Read(PROPOSAL),
+    Use::Take(&[PROPOSAL], COMMIT),
+    Use::Validate(TREE),
+    Use::Check(CheckKind::TreeValidation, VALIDATION),
+    Use::Read(COMMIT),
+    Use::Take(&[PROPOSAL, COMMIT], PATH_COMMIT),
+    Use::Validate(TREE),
+    Use::Check(CheckKind::TreeOperations, OPERATIONS),
+    Use::Read(ADD_COMMIT),
+    Use::Take(&[PROPOSAL, COMMIT], ADD_COMMIT),
+    Use::Validate(TREE),
+    Use::Check(CheckKind::Transcript, TRANSCRIPT),
+    Use::Read(EXTENSIONS_COMMIT),
+    Use::Take(&[PROPOSAL, COMMIT], EXTENSIONS_COMMIT),
+    Use::Validate(TREE),
+    Use::Check(CheckKind::TreeMath, VECTORS),
+];
+
+/// Whether the input of this number is read, taken, valid or passed.
+pub(crate) fn try_input(alloc: Global, number: u64) -> Result<bool, Stop> {
+    let mut chance = Chance { state: number };
+    let first = USES[(number % 20) as usize];
+    let input = match first {
+        Use::Read(text) | Use::Take(_, text) | Use::Validate(text) => {
+            have(hex::decode(alloc, text))?
+        }
+        Use::Check(_, text) => have(Vec::from_slice(alloc, text.as_bytes()))?,
+    };
+    let input = change_often(alloc, &mut chance, input.as_slice())?;
+    match first {
+        Use::Read(_) => is_read(alloc, input.as_slice()),
+        Use::Take(before, _) => is_taken(alloc, before, input),
+        Use::Validate(_) => is_valid_tree(alloc, input.as_slice()),
+        Use::Check(kind, _) => is_passed(alloc, kind, input.as_slice()),
+    }
+}

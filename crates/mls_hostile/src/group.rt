@@ -1,0 +1,132 @@
+//! The example group that the calls are made on, as hexadecimal text, and what they have to answer. The values are
+//! worked out by hand from RFC 9420, and the hashes are SHA-256 of what is written beside them there.
+//!
+//! The group has the id `47` and cipher suite 1. Member `i` has keys of one byte: `a0 + i` encrypts (`80 + i` after a
+//! commit), `b0 + i` signs, and its signatures are `c0 + i`.
+
+/// The leaves of the key packages of members 0 and 1.
+pub(crate) const LEAVES: [&str; 2] = [
+    "01a001b0000101400200010200010000020001010000000000000000ffffffffffffffff0001c0",
+    "01a101b1000101410200010200010000020001010000000000000000ffffffffffffffff0001c1",
+];
+
+/// The receipts of the signatures of these leaves: the SHA-256 of suite 1, the key, what is signed, and the signature.
+pub(crate) const RECEIPTS: &str =
+    "bd6f8df8dcd01852d1c0a3e53b39dcb3bb86dda462a62c39b9582a3907fe4c36\n\
+    e60b8f3c0a227ffc5e084212caecf78d7e2b38f53addb2f55387762615d6872a";
+
+/// What is signed of a leaf begins so: the label `MLS 1.0 LeafNodeTBS` and the length of what is signed, 37 bytes.
+pub(crate) const SIGNED_START: &str = "134d4c5320312e30204c6561664e6f646554425325";
+
+/// The info of the group of member 0 alone.
+pub(crate) const GROUP_INFO: &str = "00010004000100010147000000000000000020e32ab6a0a711ec8a732c3fad\
+    9263ed5fa61caf53fdf9b9690dc57271d8f110d700002d00022a29010101a001b000010140020001020001000002000\
+    1010000000000000000ffffffffffffffff0001c001e00000000001c4";
+
+/// Member 0's proposal to add member 1.
+pub(crate) const PROPOSAL: &str = "00010001014700000000000000000100000000000200010001000101f101a101\
+    b1000101410200010200010000020001010000000000000000ffffffffffffffff0001c10001c901c801c7";
+
+/// Member 0's commit of this proposal, by its reference and without a path.
+pub(crate) const COMMIT: &str = "000100010147000000000000000001000000000003220220419afc0a88fe171b79\
+    3b00410d11c8121fb96fdfde7b5ced43d5912144a3a9f90001c601e101c5";
+
+/// Member 0's next commit, of no proposals and with a path of one node.
+pub(crate) const PATH_COMMIT: &str = "0001000101470000000000000001010000000000030001018001b00001014\
+    0020001020001000002000103207e534e72295b2ed4520a7628873779052cbc9788fb7a2927ad4234fd783969900001\
+    c00701d10401aa01bb01c601e101c5";
+
+/// Member 0's next commit, in its place, which adds member 2 and has a path of two nodes.
+pub(crate) const ADD_COMMIT: &str = "000100010147000000000000000101000000000003330100010001000101f2\
+    01a201b2000101420200010200010000020001010000000000000000ffffffffffffffff0001c20001c901018001b00\
+    00101400200010200010000020001032093665b04245cc070b1bdf028955a30b2dc700e38eb40845f274e3075f50535\
+    910001c00a01d10401aa01bb01d30001c601e101c5";
+
+/// Member 0's next commit, in its place, which has the same path and sets the context's extensions: members have to be
+/// capable of basic credentials.
+pub(crate) const EXTENSIONS_COMMIT: &str =
+    "0001000101470000000000000001010000000000030c010007080003\
+    05000002000101018001b0000101400200010200010000020001032\
+    07e534e72295b2ed4520a7628873779052cbc9788fb7a2927ad4234fd783969900001c00701d10401aa01bb01c601e\
+    101c5";
+
+/// A tree of four members, after a path of member 0 with the nodes 1 and 3, and after member 3 was added.
+pub(crate) const TREE: &str = "40e60101018001b0000101400200010200010000020001032093665b04245cc070b1\
+    bdf028955a30b2dc700e38eb40845f274e3075f50535910001c0010201d1206a02415c428629f3da6145086a76a2675\
+    a238d2c57ad21584dba9d231107a0f700010101a101b1000101410200010200010000020001010000000000000000ff\
+    ffffffffffffff0001c1010201d3000400000003010101a201b20001014202000102000100000200010100000000000\
+    00000ffffffffffffffff0001c200010101a301b3000101430200010200010000020001010000000000000000ffffff\
+    ffffffffff0001c3";
+
+/// A context with the hash of this tree.
+pub(crate) const TREE_CONTEXT: &str = "0001000101470000000000000000205c8af4eac028a0c3f6cd02a3cf4fc1\
+    67fd6042cb16866eecb73dd0da4aca3f090000";
+
+/// A log: the proposal, its commit, a private message, and a record that the log ends in.
+pub(crate) const LOG: &str = "404b00010001014700000000000000000100000000000200010001000101f101a101b\
+    1000101410200010200010000020001010000000000000000ffffffffffffffff0001c10001c901c801c73f00010001\
+    0147000000000000000001000000000003220220419afc0a88fe171b793b00410d11c8121fb96fdfde7b5ced43d5912\
+    144a3a9f90001c601e101c50600010002abcd050001";
+
+/// What is answered to the proposal and its commit, and then to the path: the reference, and of each commit the epoch,
+/// the tree hash and the confirmed transcript hash.
+pub(crate) const PATH_ANSWERS: &str = "proposal 419afc0a88fe171b793b00410d11c8121fb96fdfde7b5ced43d\
+    5912144a3a9f9; commit 1 3dd545ada09b9e9be453de8b5c20702e810685eca3710882583a67d8a3eddd8b 3b3fe4\
+    cf185f12883575d4bc9a402561feafe917dc05379ecd9f3f0abe6607e5; commit 2 15c2f791f8f44379601359b0a8\
+    c0eb8c9bb0e98c3e3ada46f6526c016b444c56 2bd33e10d5cdf5a3f1f12c942e68dba501b002342990fe895593eda8\
+    b2227429";
+
+/// What is answered where the next commit adds member 2.
+pub(crate) const ADD_ANSWERS: &str = "proposal 419afc0a88fe171b793b00410d11c8121fb96fdfde7b5ced43d5\
+    912144a3a9f9; commit 1 3dd545ada09b9e9be453de8b5c20702e810685eca3710882583a67d8a3eddd8b 3b3fe4c\
+    f185f12883575d4bc9a402561feafe917dc05379ecd9f3f0abe6607e5; commit 2 01fca42e2e9594b5e27dc046ce6\
+    18ac5b6d06d3fd7c145b8387ce547c6f36219 5be7438d55c9dc61ba6c8508d01874da81f701a73e3dc8bfb7c6df020\
+    03bade0";
+
+/// What is answered where the next commit sets the context's extensions.
+pub(crate) const EXTENSIONS_ANSWERS: &str = "proposal 419afc0a88fe171b793b00410d11c8121fb96fdfde7b5\
+    ced43d5912144a3a9f9; commit 1 3dd545ada09b9e9be453de8b5c20702e810685eca3710882583a67d8a3eddd8b \
+    3b3fe4cf185f12883575d4bc9a402561feafe917dc05379ecd9f3f0abe6607e5; commit 2 15c2f791f8f44379601\
+    359b0a8c0eb8c9bb0e98c3e3ada46f6526c016b444c56 4c3d6554398e05cd693c7980f777f7181f5b3bd3f47d7ec5\
+    b0e656b52eb646d3";
+
+/// The report of the log.
+pub(crate) const REPLAYED: &str = "1 accepted proposal \
+    419afc0a88fe171b793b00410d11c8121fb96fdfde7b5ced43d5912144a3a9f9\n\
+    2 accepted commit 1 3dd545ada09b9e9be453de8b5c20702e810685eca3710882583a67d8a3eddd8b \
+    3b3fe4cf185f12883575d4bc9a402561feafe917dc05379ecd9f3f0abe6607e5\n\
+    3 refused 2\n4 broken\naccepted 2 refused 1 broken 1 epoch 1\n";
+
+/// A test vector of the arithmetic of a tree of two leaves.
+pub(crate) const VECTORS: &str = "[{\"n_leaves\":2,\"n_nodes\":3,\"root\":1,\
+    \"left\":[null,0,null],\"right\":[null,2,null],\
+    \"parent\":[1,null,1],\"sibling\":[2,null,0]}]";
+
+/// The report of it.
+pub(crate) const CHECKED: &str = "1 pass\npassed 1 failed 0 skipped 0\n";
+
+/// A test vector of a tree that is valid.
+pub(crate) const VALIDATION: &str = "[{\"cipher_suite\":3,\"tree\":\"4053010101a001b000010140020001\
+    0200010000020001010000000000000000ffffffffffffffff0001c000010101a101b1000101410200010200010000\
+    020001010000000000000000ffffffffffffffff0001c1\",\"resolutions\":[[0],[0,2],[2]],\"tree_hashes\
+    \":[\"e32ab6a0a711ec8a732c3fad9263ed5fa61caf53fdf9b9690dc57271d8f110d7\",\"3dd545ada09b9e9be45\
+    3de8b5c20702e810685eca3710882583a67d8a3eddd8b\",\"297fdbd84d384e7f442716ec084b1b962e1bbe495658\
+    d63ef6b31106e005426e\"]}]";
+
+/// A test vector of a proposal that is applied.
+pub(crate) const OPERATIONS: &str = "[{\"cipher_suite\":1,\"tree_before\":\"29010101a001b0000101400\
+    200010200010000020001010000000000000000ffffffffffffffff0001c0\",\"proposal\":\"00010001000101f\
+    101a101b1000101410200010200010000020001010000000000000000ffffffffffffffff0001c10001c9\",\"prop\
+    osal_sender\":0,\"tree_hash_before\":\"e32ab6a0a711ec8a732c3fad9263ed5fa61caf53fdf9b9690dc5727\
+    1d8f110d7\",\"tree_after\":\"4053010101a001b0000101400200010200010000020001010000000000000000f\
+    fffffffffffffff0001c000010101a101b1000101410200010200010000020001010000000000000000fffffffffff\
+    fffff0001c1\",\"tree_hash_after\":\"3dd545ada09b9e9be453de8b5c20702e810685eca3710882583a67d8a3\
+    eddd8b\"}]";
+
+/// A test vector of the transcript hashes of a commit.
+pub(crate) const TRANSCRIPT: &str = "[{\"cipher_suite\":1,\"authenticated_content\":\"0001014700000\
+    0000000000001000000000003220220419afc0a88fe171b793b00410d11c8121fb96fdfde7b5ced43d5912144a3a9f\
+    90001c601e1\",\"interim_transcript_hash_before\":\"50996999ff63a9a1a07da880af8f8c745a7fe72cec8\
+    ba33615464813b41b14b3\",\"confirmed_transcript_hash_after\":\"3b3fe4cf185f12883575d4bc9a402561\
+    feafe917dc05379ecd9f3f0abe6607e5\",\"interim_transcript_hash_after\":\"b88836177897aa5df535411\
+    4a8055a4346e8832a90fb063a197226ffacae36cf\"}]";

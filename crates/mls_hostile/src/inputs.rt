@@ -1,0 +1,73 @@
+//! Calls that read: they are handed bytes, which they can't change.
+
+use crate::group::{LEAVES, RECEIPTS, SIGNED_START};
+use crate::told::{Stop, Told, have};
+use mls_check::{Listed, ReceiptsFault, SignatureCheck};
+use mls_msgs::{Message, decode_message, encode_message};
+use mls_wire::CodecFault;
+use std::alloc::Global;
+
+/// A message as it is written.
+fn written(
+    alloc: Global,
+    was_refused: bool,
+    answer: Result<Message, CodecFault>,
+) -> Result<Told, Stop> {
+    let Ok(message) = answer else {
+        return Err(Stop::NotRead);
+    };
+    let bytes = encode_message(alloc, &message);
+    drop(message);
+    let bytes = have(bytes)?;
+    let text = have(hex::encode(alloc, bytes.as_slice()))?;
+    Ok(Told { was_refused, text })
+}
+
+/// Reads a message. What is told is how it is written.
+pub(crate) fn read_message(alloc: Global, message: &str) -> Result<Told, Stop> {
+    let input = have(hex::decode(alloc, message))?;
+    match decode_message(alloc, input.as_slice()) {
+        Err(CodecFault::OutOfMemory) => {
+            let again = decode_message(alloc, input.as_slice());
+            written(alloc, true, again)
+        }
+        answer => written(alloc, false, answer),
+    }
+}
+
+/// Whether a leaf's signature is good.
+fn is_good(alloc: Global, listed: &Listed, leaf: &str, member: u8) -> Result<bool, Stop> {
+    let tbs = leaf.get(..74).unwrap_or(leaf);
+    let content = have(format!(in alloc; "{SIGNED_START}{tbs}"))?;
+    let content = have(hex::decode(alloc, content.as_str()))?;
+    let key = [0xb0u8.wrapping_add(member)];
+    let signature = [0xc0u8.wrapping_add(member)];
+    Ok(listed.good(1, &key, content.as_slice(), &signature))
+}
+
+/// Which signatures are good by what was read: those of the two leaves, and that of one under the other's key.
+fn listed_text(
+    alloc: Global,
+    was_refused: bool,
+    answer: Result<Listed, ReceiptsFault>,
+) -> Result<Told, Stop> {
+    let Ok(listed) = answer else {
+        return Err(Stop::NotRead);
+    };
+    let first = is_good(alloc, &listed, LEAVES[0], 0)?;
+    let second = is_good(alloc, &listed, LEAVES[1], 1)?;
+    let other = is_good(alloc, &listed, LEAVES[0], 1)?;
+    let text = have(format!(in alloc; "{first} {second} {other}"))?;
+    Ok(Told { was_refused, text })
+}
+
+/// Reads a receipts file of two lines.
+pub(crate) fn read_receipts(alloc: Global) -> Result<Told, Stop> {
+    match Listed::read(alloc, RECEIPTS.as_bytes()) {
+        Err(ReceiptsFault::OutOfMemory) => {
+            let again = Listed::read(alloc, RECEIPTS.as_bytes());
+            listed_text(alloc, true, again)
+        }
+        answer => listed_text(alloc, false, answer),
+    }
+}

@@ -8,7 +8,7 @@ use crate::fault::CodecFault;
 use crate::items::Items;
 use crate::opaque::Opaque;
 use crate::sequence::Sequence;
-use std::alloc::Global;
+use std::alloc::{AllocError, Global};
 
 /// A type whose values can be copied where there is memory for a second one.
 pub trait TryClone: Drop {
@@ -42,6 +42,17 @@ impl<T: TryClone> TryClone for Option<T> {
             None => Ok(None),
             Some(value) => Ok(Some(value.try_clone(alloc)?)),
         }
+    }
+}
+
+/// A second value, equal to this one. A copy can be refused for want of memory alone, and so this is its only fault.
+pub fn copy_of<T: TryClone>(alloc: Global, value: &T) -> Result<T, AllocError>
+    ensures { IfOk result (λ copy. copy ≡ value.now) }
+{
+    match value.try_clone(alloc) {
+        Ok(copy) => Ok(copy),
+        Err(CodecFault::OutOfMemory) => Err(AllocError),
+        Err(CodecFault::Wire(_)) => unreachable!(),
     }
 }
 

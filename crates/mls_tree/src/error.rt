@@ -10,7 +10,8 @@ pub enum TreeError {
     /// The tree has no such leaf or place, or a parent was asked for at the place of a leaf.
     #[error("the tree has no such node")]
     NoSuchNode,
-    /// The tree would get more than 1,048,576 leaves, or a parent's list of unmerged leaves as many entries.
+    /// The tree would get more than 1,048,576 leaves, or a parent's list of unmerged leaves more than 1,048,576 entries: one that doesn't
+    /// have the leaf's index has as many already.
     #[error("a tree has at most 1,048,576 leaves")]
     TooManyLeaves,
     /// A number of leaves is no power of two, a number of nodes is not `2 * n - 1` for one, or a node is of the wrong kind for its place.

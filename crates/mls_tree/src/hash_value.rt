@@ -1,6 +1,8 @@
 //! Values of a hash function.
-ghost use Rattle.std.specs.Prelude.{◌≡◌, ◌↔◌, ◌≤◌, ◌<◌, length, IsNone, IfSome};
+ghost use Rattle.std.specs.Prelude.{◌≡◌, ◌↔◌, ◌≤◌, ◌<◌, length, IsNone, IfOk, IfSome};
 
+use mls_wire::{CodecFault, Opaque};
+use std::alloc::{AllocError, Global};
 use std::marker::Model;
 
 /// The most bytes that a hash value has.
@@ -53,5 +55,16 @@ impl HashValue {
         ensures limit { length self.now ≤ 64 }
     {
         &self.bytes[..self.len as usize]
+    }
+
+    /// The bytes as the body of a vector, by which values hold a hash.
+    pub fn to_opaque(&self, alloc: Global) -> Result<Opaque, AllocError>
+        ensures { IfOk result (λ body. body ≡ self.now) }
+    {
+        match Opaque::copy(alloc, self.as_slice()) {
+            Ok(body) => Ok(body),
+            Err(CodecFault::OutOfMemory) => Err(AllocError),
+            Err(CodecFault::Wire(_)) => unreachable!(),
+        }
     }
 }

@@ -78,7 +78,8 @@ impl Journal {
         }
     }
 
-    /// Replaces a leaf of the tree, by a blank one for None. For want of memory the tree stays.
+    /// Replaces a leaf of the tree, by a blank one for None: `put_leaf` in the definitions. For want of memory the tree
+    /// stays.
     pub fn set_leaf(
         &mut self,
         tree: &mut PublicTree,
@@ -122,8 +123,8 @@ impl Journal {
         Ok(())
     }
 
-    /// Makes the parents above a leaf of the tree blank (RFC 9420, 12.1.2 and 12.1.3). The leaf stays. Where memory
-    /// runs out, some of the parents are blank.
+    /// Makes the parents above a leaf of the tree blank (RFC 9420, 12.1.2 and 12.1.3): `clear_path` in the definitions.
+    /// The leaf stays. Where memory runs out, some of the parents are blank.
     pub fn blank_path(
         &mut self,
         alloc: Global,
@@ -168,9 +169,9 @@ impl Journal {
     }
 
     /// Puts a leaf's index into the list of unmerged leaves of each set parent above it, before the first entry that
-    /// is not less (RFC 9420, 12.1.1), in place. A list that has the index stays. `TooManyLeaves` where a list
-    /// without the index has 1,048,576 entries, which is judged before any memory is taken. Where memory runs out,
-    /// some of the lists have the index.
+    /// is not less (RFC 9420, 12.1.1), in place: `enter_unmerged` in the definitions. A list that has the index stays.
+    /// `TooManyLeaves` where a list without the index has 1,048,576 entries, which is judged before any memory is taken.
+    /// Where memory runs out, some of the lists have the index.
     pub fn add_unmerged(
         &mut self,
         alloc: Global,
@@ -199,9 +200,9 @@ impl Journal {
         Ok(())
     }
 
-    /// Doubles the tree, which becomes the left half of one whose other nodes are blank (RFC 9420, 7.7).
-    /// `TooManyLeaves` where the tree has 1,048,576 leaves, which is judged before any memory is taken. A refusal
-    /// leaves the tree.
+    /// Doubles the tree, which becomes the left half of one whose other nodes are blank (RFC 9420, 7.7): `grow` in the
+    /// definitions. `TooManyLeaves` where the tree has 1,048,576 leaves, which is judged before any memory is taken. A
+    /// refusal leaves the tree.
     pub fn extend(&mut self, tree: &mut PublicTree) -> Result<(), TreeError>
         ensures ok { OnOk result (tree.new.tree ≡ grow tree.old.tree) }
         ensures stays { OnErr result (tree.new ≡ tree.old) }
@@ -223,8 +224,8 @@ impl Journal {
     }
 
     /// Takes the left half of the tree for as long as there is one and the right half has no set leaf (RFC 9420,
-    /// 7.7). The right halves are kept, with the parents above. Where memory runs out, the tree has been halved some
-    /// of these times.
+    /// 7.7): `shrink` in the definitions. The right halves are kept, with the parents above. Where memory runs out, the
+    /// tree has been halved some of these times.
     pub fn truncate(&mut self, alloc: Global, tree: &mut PublicTree) -> Result<(), AllocError>
         ensures shrunk { OnOk result (tree.new.tree ≡ shrink tree.old.tree) }
         ensures before { before self.new tree.new.tree ≡ before self.old tree.old.tree }

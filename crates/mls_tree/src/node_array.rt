@@ -287,12 +287,11 @@ impl NodeArray {
     }
 
     /// A tree with the same nodes.
-    pub(crate) fn try_clone(&self, alloc: Global) -> Result<NodeArray, TreeError>
-        ensures same { IfOk result (λ t. t ≡ self.now) }
-        ensures memory { IfErr result (λ e. e ≡ TreeError.OutOfMemory) }
+    pub(crate) fn try_clone(&self, alloc: Global) -> Result<NodeArray, AllocError>
+        ensures { IfOk result (λ t. t ≡ self.now) }
     {
         let Ok(nodes) = clone_entries(alloc, self.nodes.as_slice()) else {
-            return Err(TreeError::OutOfMemory);
+            return Err(AllocError);
         };
         Ok(NodeArray {
             nodes,

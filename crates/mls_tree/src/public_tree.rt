@@ -284,9 +284,8 @@ impl PublicTree {
     }
 
     /// A tree with the same nodes.
-    pub fn try_clone(&self, alloc: Global) -> Result<PublicTree, TreeError>
-        ensures same { IfOk result (λ t. t ≡ self.now) }
-        ensures memory { IfErr result (λ e. e ≡ TreeError.OutOfMemory) }
+    pub fn try_clone(&self, alloc: Global) -> Result<PublicTree, AllocError>
+        ensures { IfOk result (λ t. t ≡ self.now) }
     {
         let tree = self.tree.try_clone(alloc)?;
         let cells = clone_cells(alloc, &self.cells)?;
@@ -298,8 +297,8 @@ impl PublicTree {
         })
     }
 
-    /// Replaces a leaf, by a blank one for None. `NoSuchNode` where the tree has no such leaf; the leaf handed in then comes back.
-    /// The cells of the leaf and of the parents above it are emptied.
+    /// Replaces a leaf, by a blank one for None: `put_leaf` in the definitions. `NoSuchNode` where the tree has no such leaf; the leaf
+    /// handed in then comes back. The cells of the leaf and of the parents above it are emptied.
     pub fn set_leaf(
         &mut self,
         index: u32,
@@ -386,8 +385,8 @@ impl PublicTree {
         former
     }
 
-    /// Makes the parents above a leaf blank (RFC 9420, 12.1.2 and 12.1.3). The leaf stays. `NoSuchNode` where the tree has no such leaf.
-    /// The cells of these parents are emptied.
+    /// Makes the parents above a leaf blank (RFC 9420, 12.1.2 and 12.1.3): `clear_path` in the definitions. The leaf stays. `NoSuchNode`
+    /// where the tree has no such leaf. The cells of these parents are emptied.
     pub fn blank_path(&mut self, index: u32) -> Result<(), TreeError>
         ensures ok { OnOk result (self.new.tree ≡ clear_path self.old.tree index) }
         ensures err { OnErr result (self.new ≡ self.old) }
@@ -406,9 +405,9 @@ impl PublicTree {
     }
 
     /// Puts a leaf's index into the list of unmerged leaves of each set parent above it, before the first entry that is not less (RFC 9420,
-    /// 12.1.1). A list that has the index stays. `NoSuchNode` where the tree has no such leaf, else `TooManyLeaves` where a list without
-    /// the index has 1,048,576 entries: both are judged before any memory is taken. All new lists are made before one is put in place.
-    /// The cells of all parents above the leaf are emptied.
+    /// 12.1.1): `enter_unmerged` in the definitions. A list that has the index stays. `NoSuchNode` where the tree has no such leaf, else
+    /// `TooManyLeaves` where a list without the index has 1,048,576 entries: both are judged before any memory is taken. All new lists
+    /// are made before one is put in place. The cells of all parents above the leaf are emptied.
     pub fn add_unmerged(&mut self, alloc: Global, index: u32) -> Result<(), TreeError>
         ensures ok { OnOk result (self.new.tree ≡ enter_unmerged self.old.tree index) }
         ensures err { OnErr result (self.new ≡ self.old) }
@@ -502,8 +501,8 @@ impl PublicTree {
         self.tree.can_be_halved(counts_in(&self.counts))
     }
 
-    /// Takes the left half of the tree for as long as there is one and the right half has no set leaf (RFC 9420, 7.7). Takes no memory.
-    /// The cells of the places that remain stay as they are.
+    /// Takes the left half of the tree for as long as there is one and the right half has no set leaf (RFC 9420, 7.7, which calls it
+    /// truncating): `shrink` in the definitions. Takes no memory. The cells of the places that remain stay as they are.
     pub fn truncate(&mut self)
         ensures tree { self.new.tree ≡ shrink self.old.tree }
         ensures kind { self.new.kind ≡ self.old.kind }
@@ -553,8 +552,9 @@ impl PublicTree {
         self.counts = count_in_place(counts, &self.tree);
     }
 
-    /// Doubles the tree, which becomes the left half of one whose other nodes are blank (RFC 9420, 7.7). `TooManyLeaves` where the tree has
-    /// 1,048,576 leaves. The cells stay, and the new places get empty ones, where there are cells.
+    /// Doubles the tree, which becomes the left half of one whose other nodes are blank (RFC 9420, 7.7, which calls it extending): `grow` in
+    /// the definitions. `TooManyLeaves` where the tree has 1,048,576 leaves. The cells stay, and the new places get empty ones, where there
+    /// are cells.
     pub fn extend(&mut self) -> Result<(), TreeError>
         ensures ok { OnOk result (self.new.tree ≡ grow self.old.tree) }
         ensures err { OnErr result (self.new ≡ self.old) }

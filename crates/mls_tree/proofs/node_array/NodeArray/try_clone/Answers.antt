@@ -8,7 +8,7 @@ pub invariant_of-result-2 : goal.invariant_of-result-2
 invariant_of-result-2 c =
     IsArrayOf-seen c.in-Ok.nodes.items c.self.inside.nodes.items (c.in-Ok.ensures.same ∙ ap (λ v. map entry_value v) c.as_slice.ensures.value) c.self.inside.height c.self.invariant
 
-pub returns-clause-same : goal.returns-clause-same
-returns-clause-same c =
+pub returns : goal.returns
+returns c =
     RatchetTree-same _ _
     (tree_in-seen c.in-Ok.nodes.items c.self.inside.nodes.items (c.in-Ok.ensures.same ∙ ap (λ v. map entry_value v) c.as_slice.ensures.value) c.self.inside.height 0 ∙ ap (λ r. r.tree) c.self.view_is)

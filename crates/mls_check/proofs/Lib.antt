@@ -4,6 +4,7 @@ pub mod Lookups
 pub mod Leaves
 pub mod Used
 pub mod Differing
+pub mod Neighbours
 pub mod Keys
 pub mod Rules
 pub mod Judged

@@ -20,8 +20,11 @@ mod sorted;
 mod support;
 mod valid;
 
+pub use beginnings::beginning;
 pub use distinct::has_distinct_keys;
 pub use members::{LEAF_NODE_TBS, MemberFault, is_leaf_signed, validate_members};
 pub use receipts::{Listed, ReceiptsFault, receipt};
+pub use requirements::RisingRequirements;
 pub use signatures::{OutOfMemory, SignatureCheck, Trusting, sign_content, signed};
+pub use support::{supports_own_extensions, supports_required};
 pub use valid::{TreeFault, validate_tree};

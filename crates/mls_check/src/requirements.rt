@@ -7,9 +7,11 @@ use crate::signatures::OutOfMemory;
 use mls_nodes::RequiredCapabilities;
 use std::alloc::Global;
 
-/// What a group requires, each list in rising order and without repeats, so that a leaf which lists few codes is asked for few.
+/// What a group requires of its members (RFC 9420, 11.1): types of extensions, proposals and credentials, each list in
+/// rising order and without repeats. Made once for many leaves, by [`supports_required`](crate::supports_required) each
+/// of which is asked for it.
 #[derive(Debug, Drop)]
-pub(crate) struct RisingRequirements {
+pub struct RisingRequirements {
     /// Types of extensions.
     pub(crate) extensions: Vec<u16>,
     /// Types of proposals.
@@ -25,8 +27,9 @@ impl RisingRequirements {
     ghost use Rattle.std.specs.Prelude.{IfOk};
     ghost use Rattle.mls_check.specs.Requirements.{RequireSame, requirements_of};
 
-    /// The same requirements in rising order.
-    pub(crate) fn new(
+    /// What a leaf has to support for these is what it has to support for the requirements that are passed: their
+    /// lists, copied and sorted. The error comes where there is no memory for the copies.
+    pub fn new(
         alloc: Global,
         requirements: &RequiredCapabilities,
     ) -> Result<RisingRequirements, OutOfMemory>

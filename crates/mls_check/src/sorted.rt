@@ -12,12 +12,7 @@ use mls_tree::PublicTree;
 fn is_strictly_increasing(numbers: &[u32]) -> bool
     ensures { IsTrue result ↔ IsStrictlyIncreasing numbers.now }
 {
-    for index in 1..numbers.len() {
-        if numbers[index - 1] >= numbers[index] {
-            return false;
-        }
-    }
-    true
+    numbers.is_sorted_by(|lower, upper| *lower < *upper)
 }
 
 /// Whether the set parent at a place, if there is one, has a sorted list.

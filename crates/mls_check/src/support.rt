@@ -37,10 +37,11 @@ pub(crate) fn supports_credential(leaf: &LeafNode, kind: u16) -> bool
     leaf.capabilities.credentials.as_slice().contains(&kind)
 }
 
-/// Whether a leaf supports the types of its own extensions. Most leaves have none, which is told
-/// before the list of what is supported is sorted.
+/// Whether a leaf supports the types of its own extensions (RFC 9420, 7.2): its capabilities list each, or it is one of
+/// the types 1 to 5, which need not be listed. Most leaves have no extensions, and want no memory; for one that has
+/// some the listed types are copied and sorted, and the error comes where there is no memory for that.
 #[tactic(auto, unfolding(crate::specs::Members::supports_own_extensions))]
-pub(crate) fn supports_own_extensions(alloc: Global, leaf: &LeafNode) -> Result<bool, OutOfMemory>
+pub fn supports_own_extensions(alloc: Global, leaf: &LeafNode) -> Result<bool, OutOfMemory>
     ensures { IfOk result (λ all. all ≡ supports_own_extensions leaf.now) }
 {
     if leaf.extensions.as_slice().is_empty() {
@@ -88,9 +89,12 @@ fn supports_credentials(alloc: Global, leaf: &LeafNode, kinds: &[u16]) -> Result
     Ok(kinds.iter().all(|&kind| has_code(listed, kind)))
 }
 
-/// Whether a leaf supports what the group requires (RFC 9420, 11.1).
+/// Whether a leaf supports what the group requires (RFC 9420, 11.1): its capabilities list each type of extension, of
+/// proposal and of credential, but for extensions of the types 1 to 5 and proposals of the types 1 to 7, which need not
+/// be listed. Of each kind of which something is required, the leaf's list is copied and sorted, and the error comes
+/// where there is no memory for that.
 #[tactic(auto, unfolding(crate::specs::Members::supports_required))]
-pub(crate) fn supports_required(
+pub fn supports_required(
     alloc: Global,
     leaf: &LeafNode,
     requirements: &RisingRequirements,

@@ -1,5 +1,5 @@
 -- What the nodes that changed say of the whole tree.
-use Rattle.std.proofs.Common.{◌≡◌, ◌≢◌, ◌∙◌, ℕ, ◌*◌, List, Bool, true, false, not, ◌||◌, Some, eqb, inl, inr, refl, sym, ap, arith}
+use Rattle.std.proofs.Common.{◌≡◌, ◌≢◌, ◌↔◌, ◌∙◌, ℕ, ◌*◌, List, Bool, true, false, not, ◌||◌, Option, Some, None, eqb, inl, inr, refl, sym, ap, arith}
 use Rattle.std.specs.Str.{bytes_eq}
 use Rattle.std.proofs.lemmas.Bool.{cases_Bool, false≢true}
 use Rattle.std.proofs.lemmas.Bool.Decides.{nat_tests}
@@ -8,13 +8,13 @@ use Rattle.mls_nodes.specs.declared.leaf.LeafNode.{LeafNode}
 use Rattle.mls_nodes.specs.declared.required_capabilities.RequiredCapabilities.{RequiredCapabilities}
 use Rattle.mls_tree.specs.Tree.{Tree, leaf_at}
 use Rattle.mls_tree.specs.ChangedPlaces.{HaveSameNodesBut}
-use Rattle.mls_check.specs.Distinct.{HasOwnKeyAt, IsDistinct}
-use Rattle.mls_check.specs.Members.{all_leaves, member_rule, supports_own_extensions, supports_required, has_own_signature_key, is_leaf_signed, Members}
+use Rattle.mls_check.specs.Distinct.{key_at, encryption_key, HaveOneKey, HasOwnKeyAt, IsDistinct}
+use Rattle.mls_check.specs.Members.{all_leaves, member_rule, supports_own_extensions, supports_required, supports_used_credentials, has_own_signature_key, is_leaf_signed, Members}
 use Rattle.mls_check.specs.Signatures.{Meaning}
 use Rattle.mls_check.proofs.Leaves.{all_leaves-from, all_leaves-at}
 use Rattle.mls_check.proofs.Rules.{extensions_hold, requirements_hold, credentials_hold, keys_hold, signatures_hold}
-use Rattle.mls_index.specs.Changed.{lists_place, AreOwnKeys, ChangedNodesSuffice, SupportCredentials, AreNewMembers, ChangedMembersSuffice}
-use Rattle.mls_index.specs.Keyed.{IsOwnKey, node_key}
+use Rattle.mls_index.specs.Changed.{lists_place, AreOwnKeys, ChangedNodesSuffice, KeepsOwnRules, KeepRules, SupportCredentials, AreNewMembers, ChangedMembersSuffice}
+use Rattle.mls_index.specs.Keyed.{IsOwnKey, keyed, node_key}
 use Rattle.mls_index.specs.declared.keyed.KeyKind.TheVariants.{Encryption, Signature}
 use Rattle.mls_index.proofs.Standing.{same_leaf, leaf-keyed, signer}
 

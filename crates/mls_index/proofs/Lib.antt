@@ -1,2 +1,11 @@
 pub mod Standing
 pub mod Changed
+pub mod Entries
+pub mod Meeting
+pub mod Tables
+pub mod Lookups
+pub mod Indexes
+pub mod Fitting
+pub mod Classes
+pub mod Supporting
+pub mod Counting

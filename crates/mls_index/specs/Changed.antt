@@ -6,8 +6,8 @@ use Rattle.mls_nodes.specs.declared.leaf.LeafNode.{LeafNode}
 use Rattle.mls_nodes.specs.declared.required_capabilities.RequiredCapabilities.{RequiredCapabilities}
 use Rattle.mls_tree.specs.Tree.{Tree, leaf_at}
 use Rattle.mls_tree.specs.ChangedPlaces.{HaveSameNodesBut}
-use Rattle.mls_check.specs.Distinct.{IsDistinct}
-use Rattle.mls_check.specs.Members.{all_leaves, supports_own_extensions, supports_required, supports_used_credentials, is_leaf_signed, Members}
+use Rattle.mls_check.specs.Distinct.{HasOwnKeyAt, IsDistinct}
+use Rattle.mls_check.specs.Members.{all_leaves, supports_own_extensions, supports_required, supports_used_credentials, has_own_signature_key, is_leaf_signed, Members}
 use Rattle.mls_check.specs.Signatures.{Meaning}
 use Rattle.mls_index.specs.Keyed.{IsOwnKey}
 use Rattle.mls_index.specs.declared.keyed.KeyKind.{KeyKind}
@@ -33,6 +33,10 @@ pub record KeepsOwnRules (G : Meaning) (suite : ℕ) (group_id : List ℕ) (requ
   pub extensions : supports_own_extensions x ≡ true
   pub requirements : supports_required required x ≡ true
   pub signed : is_leaf_signed G suite group_id i x ≡ true
+
+-- the leaf at place p does, if there is a set one
+abbrev pub KeepRulesAt : Meaning → ℕ → List ℕ → RequiredCapabilities → ℕ → Tree → Type 0
+KeepRulesAt G suite group_id required p t = (i : ℕ) (x : LeafNode) → p ≡ 2 * i → leaf_at 0 t i ≡ Some x → KeepsOwnRules G suite group_id required i x
 
 -- each set leaf at one of these places does
 abbrev pub KeepRules : Meaning → ℕ → List ℕ → RequiredCapabilities → List ℕ → Tree → Type 0

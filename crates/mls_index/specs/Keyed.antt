@@ -2,6 +2,7 @@
 use Rattle.std.specs.Prelude.{◌≡◌, ◌≢◌, ℕ, List, Option, Some, None, option_map}
 use Rattle.mls_nodes.specs.Value.{NodeValue, leaf_node, parent_node}
 use Rattle.mls_tree.specs.Tree.{Tree, node_at}
+use Rattle.mls_check.specs.Beginnings.{beginning}
 use Rattle.mls_check.specs.Distinct.{encryption_key}
 use Rattle.mls_index.specs.declared.keyed.KeyKind.{KeyKind}
 use Rattle.mls_index.specs.declared.keyed.KeyKind.TheVariants.{Encryption, Signature}
@@ -20,6 +21,14 @@ node_key Signature node = signature_key node
 -- the key of a kind that a tree has at a place
 abbrev pub keyed : KeyKind → Tree → ℕ → Option (List ℕ)
 keyed kind t p = node_key kind (node_at t p)
+
+-- its beginning
+abbrev pub begun : KeyKind → Tree → ℕ → Option ℕ
+begun kind t p = option_map beginning (keyed kind t p)
+
+-- some node of a tree has this key
+abbrev pub HasKey : KeyKind → Tree → List ℕ → Type 0
+HasKey kind t key = (p : ℕ) × (keyed kind t p ≡ Some key)
 
 -- no other node of a tree has the key of the node at a place
 abbrev pub IsOwnKey : KeyKind → Tree → ℕ → Type 0

@@ -1,0 +1,216 @@
+-- Entries of a beginning and a place, in sets and in lists.
+use Rattle.std.proofs.Common.{◌≡◌, ◌≢◌, ◌∙◌, ◌⊎◌, ℕ, ◌≤◌, List, [], ◌∷◌, ◌++◌, Bool, true, false, cond, Option, Some, None, Ordering, eqb, inl, inr, refl, sym, ap, subst, arith, BTreeSet}
+use Rattle.std.specs.Prelude.{◌||◌, ◌&&◌}
+use Rattle.std.specs.List.{list_any, filter}
+use Rattle.std.specs.BTreeSet.{contains, Updates, IsUnchanged, keys_between}
+use Rattle.std.specs.BTreeMap.{is_at}
+use Rattle.std.specs.BTreeMap.Range.{range_contains}
+use Rattle.std.specs.declared.ops.Bound.{Bound}
+use Rattle.std.specs.declared.ops.Bound.TheVariants.{Included}
+use Rattle.std.specs.Ordering.{nat_cmp, ordering_then, is_eq, is_gt}
+use Rattle.std.proofs.lemmas.Bool.{cases_Bool, cases_eq, false≢true, and_parts}
+use Rattle.std.proofs.lemmas.Bool.Decides.{nat_tests}
+use Rattle.std.proofs.lemmas.List.Folds.{list_any-append}
+use Rattle.mls_index.specs.Changed.{lists_place}
+use Rattle.mls_index.specs.KeyTable.{entry_cmp, has_entry, lists_entry}
+
+-- ---- one entry
+
+pub same_entry : (b p c q : ℕ) → is_at (entry_cmp (b, p)) (c, q) ≡ true → (b ≡ c) × (p ≡ q)
+same_entry b p c q e =
+    elim (cases_eq b c) [
+      | inl same ↦ elim (cases_eq p q) [
+        | inl same' ↦ (same, same')
+        | inr other ↦ absurd (grind (arith, nat_tests, e, same, other))
+      ]
+      | inr other ↦ absurd (grind (arith, nat_tests, e, other))
+    ]
+
+-- the entries after one more
+pub record WithEntry (s n : BTreeSet (ℕ × ℕ)) (b p : ℕ) : Type 0 where
+  pub here : has_entry n b p ≡ true
+  pub kept : (c q : ℕ) → has_entry s c q ≡ true → has_entry n c q ≡ true
+  pub only : (c q : ℕ) → has_entry n c q ≡ true → (has_entry s c q ≡ true) ⊎ ((b ≡ c) × (p ≡ q))
+
+-- the entries after one less
+pub record WithoutEntry (s n : BTreeSet (ℕ × ℕ)) (b p : ℕ) : Type 0 where
+  pub gone : has_entry n b p ≡ false
+  pub only : (c q : ℕ) → has_entry n c q ≡ true → has_entry s c q ≡ true
+  pub kept : (c q : ℕ) → has_entry s c q ≡ true → (has_entry n c q ≡ true) ⊎ ((b ≡ c) × (p ≡ q))
+
+pub entered : (s n : BTreeSet (ℕ × ℕ)) (b p : ℕ) → Updates entry_cmp s n (b, p) true → WithEntry s n b p
+unfolding has_entry
+entered s n b p u = record {
+  here = u.1;
+  kept = λ c q had. elim (cases_Bool (is_at (entry_cmp (b, p)) (c, q))) [
+    | inl at ↦ u.0 (c, q) ∙ rw at refl
+    | inr off ↦ u.2 (c, q) off ∙ had
+  ];
+  only = λ c q has. elim (cases_Bool (is_at (entry_cmp (b, p)) (c, q))) [
+    | inl at ↦ inr (same_entry b p c q at)
+    | inr off ↦ inl (sym (u.2 (c, q) off) ∙ has)
+  ];
+}
+
+pub removed : (s n : BTreeSet (ℕ × ℕ)) (b p : ℕ) → Updates entry_cmp s n (b, p) false → WithoutEntry s n b p
+unfolding has_entry
+removed s n b p u = record {
+  gone = u.1;
+  only = λ c q has. elim (cases_Bool (is_at (entry_cmp (b, p)) (c, q))) [
+    | inl at ↦ absurd (false≢true (sym (u.0 (c, q) ∙ rw at refl) ∙ has))
+    | inr off ↦ sym (u.2 (c, q) off) ∙ has
+  ];
+  kept = λ c q had. elim (cases_Bool (is_at (entry_cmp (b, p)) (c, q))) [
+    | inl at ↦ inr (same_entry b p c q at)
+    | inr off ↦ inl (u.2 (c, q) off ∙ had)
+  ];
+}
+
+pub unchanged : (s n : BTreeSet (ℕ × ℕ)) → IsUnchanged s n → (c q : ℕ) → has_entry n c q ≡ has_entry s c q
+unfolding has_entry
+unchanged s n e c q = ap (list_any (is_at (entry_cmp (c, q)))) e
+
+pub no_entries : (s : BTreeSet (ℕ × ℕ)) → s.keys ≡ [] → (c q : ℕ) → has_entry s c q ≡ true → ⊥
+unfolding has_entry
+no_entries s e c q has = false≢true (sym (ap (list_any (is_at (entry_cmp (c, q)))) e) ∙ has)
+
+pub contained : (s : BTreeSet (ℕ × ℕ)) (b p : ℕ) (v : Bool) → contains entry_cmp s (b, p) ≡ v → has_entry s b p ≡ v
+unfolding has_entry
+contained s b p v e = e
+
+-- ---- lists of entries
+
+or_right : (a : Bool) → (a || true) ≡ true
+or_right true = refl
+or_right false = refl
+
+pub or_cases : (a b : Bool) → (a || b) ≡ true → (a ≡ true) ⊎ (b ≡ true)
+or_cases true b e = inl refl
+or_cases false b e = inr e
+
+or_left : (a b : Bool) → a ≡ true → (a || b) ≡ true
+or_left a b e = rw e refl
+
+and_both : (a b : Bool) → a ≡ true → b ≡ true → (a && b) ≡ true
+and_both a b e f = rw (e, f) refl
+
+own : (p : ℕ) → eqb p p ≡ true
+own p = grind (arith, nat_tests)
+
+equal : (p q : ℕ) → eqb p q ≡ true → p ≡ q
+equal p q e = grind (arith, nat_tests)
+
+abbrev is_entry : ℕ → ℕ → ℕ × ℕ → Bool
+is_entry b p e = eqb e.0 b && eqb e.1 p
+
+is_entry-same : (b p : ℕ) (e : ℕ × ℕ) → is_entry b p e ≡ true → (e.0 ≡ b) × (e.1 ≡ p)
+is_entry-same b p e h = let parts = and_parts (eqb e.0 b) (eqb e.1 p) h in (equal e.0 b parts.0, equal e.1 p parts.1)
+
+is_entry-own : (b p : ℕ) → is_entry b p (b, p) ≡ true
+is_entry-own b p = and_both (eqb b b) (eqb p p) (own b) (own p)
+
+pub lists-nil : (es : List (ℕ × ℕ)) → es ≡ [] → (b p : ℕ) → lists_entry es b p ≡ true → ⊥
+unfolding lists_entry
+lists-nil es e b p h = false≢true (sym (ap (list_any (is_entry b p)) e) ∙ h)
+
+pub lists-kept : (es fs : List (ℕ × ℕ)) (b p : ℕ) → lists_entry es b p ≡ true → lists_entry (es ++ fs) b p ≡ true
+unfolding lists_entry
+lists-kept es fs b p h = list_any-append (is_entry b p) es fs ∙ or_left (list_any (is_entry b p) es) (list_any (is_entry b p) fs) h
+
+pub lists-last : (es : List (ℕ × ℕ)) (b p : ℕ) → lists_entry (es ++ (b, p) ∷ []) b p ≡ true
+unfolding lists_entry
+lists-last es b p =
+    list_any-append (is_entry b p) es ((b, p) ∷ []) ∙ (let h : list_any (is_entry b p) ((b, p) ∷ []) ≡ true = or_left (is_entry b p (b, p)) false (is_entry-own b p) in
+    ap (λ v. list_any (is_entry b p) es || v) h ∙ or_right (list_any (is_entry b p) es))
+
+pub lists-added : (es : List (ℕ × ℕ)) (b p c q : ℕ) → lists_entry (es ++ (b, p) ∷ []) c q ≡ true → (lists_entry es c q ≡ true) ⊎ ((b ≡ c) × (p ≡ q))
+unfolding lists_entry
+lists-added es b p c q h =
+    elim (or_cases (list_any (is_entry c q) es) (list_any (is_entry c q) ((b, p) ∷ [])) (sym (list_any-append (is_entry c q) es ((b, p) ∷ [])) ∙ h)) [
+      | inl old ↦ inl old
+      | inr new ↦ elim (or_cases (is_entry c q (b, p)) false new) [
+        | inl at ↦ inr (is_entry-same c q (b, p) at)
+        | inr never ↦ absurd (false≢true never)
+      ]
+    ]
+
+-- the first of a list, or one of the others
+pub lists-first : (e : ℕ × ℕ) (es : List (ℕ × ℕ)) (b p : ℕ) → lists_entry (e ∷ es) b p ≡ true → (e.1 ≡ p) ⊎ (lists_entry es b p ≡ true)
+unfolding lists_entry
+lists-first e es b p h =
+    elim (or_cases (is_entry b p e) (list_any (is_entry b p) es) h) [
+      | inl at ↦ inl (is_entry-same b p e at).1
+      | inr more ↦ inr more
+    ]
+
+-- ---- places of a list
+
+pub listed-here : (r : ℕ) (rest : List ℕ) → lists_place (r ∷ rest) r ≡ true
+listed-here r rest = ap (λ (b : Bool). b || lists_place rest r) (own r)
+
+pub listed-other : (r p : ℕ) (rest : List ℕ) → p ≢ r → lists_place (r ∷ rest) p ≡ lists_place rest p
+listed-other r p rest other = let t : eqb r p ≡ false = grind (arith, nat_tests) in ap (λ (b : Bool). b || lists_place rest p) t
+
+pub listed-more : (r p : ℕ) (rest : List ℕ) → lists_place rest p ≡ true → lists_place (r ∷ rest) p ≡ true
+listed-more r p rest e = ap (λ b. eqb r p || b) e ∙ or_right (eqb r p)
+
+-- ---- entries of one beginning
+
+filtered : (test : ℕ × ℕ → Bool) (b q : ℕ) → test (b, q) ≡ true → (es : List (ℕ × ℕ)) → list_any (is_at (entry_cmp (b, q))) es ≡ true
+    → list_any (is_entry b q) (filter test es) ≡ true
+filtered test b q passes [] h = absurd (false≢true h)
+filtered test b q passes (e ∷ es) h =
+    elim (or_cases (is_at (entry_cmp (b, q)) e) (list_any (is_at (entry_cmp (b, q))) es) h) [
+      | inl at ↦
+          (let is = same_entry b q e.0 e.1 at in
+          let passes' : test e ≡ true = subst (λ c. test (c, e.1) ≡ true) is.0 (subst (λ r. test (b, r) ≡ true) is.1 passes) in
+          let own' : is_entry b q e ≡ true = subst (λ c. is_entry b q (c, e.1) ≡ true) is.0 (subst (λ r. is_entry b q (b, r) ≡ true) is.1 (is_entry-own b q)) in
+          ap (λ v. list_any (is_entry b q) (cond v (e ∷ filter test es) (filter test es))) passes' ∙ or_left (is_entry b q e) (list_any (is_entry b q) (filter test es)) own')
+      | inr more ↦
+          (let rest = filtered test b q passes es more in
+          elim (cases_Bool (test e)) [
+            | inl passed ↦
+                ap (λ v. list_any (is_entry b q) (cond v (e ∷ filter test es) (filter test es))) passed
+                ∙ (ap (λ v. is_entry b q e || v) rest ∙ or_right (is_entry b q e))
+            | inr failed ↦ ap (λ v. list_any (is_entry b q) (cond v (e ∷ filter test es) (filter test es))) failed ∙ rest
+          ])
+    ]
+
+passes_range : (b q : ℕ) → q ≤ 4294967295 → range_contains entry_cmp (Included (b, 0)) (Included (b, 4294967295)) (b, q) ≡ true
+passes_range b q low = grind (arith, nat_tests)
+
+-- what the range of a beginning shows: an entry of each place
+pub in_range : (s : BTreeSet (ℕ × ℕ)) (b : ℕ) (lo hi : Bound (ℕ × ℕ)) (r : List (ℕ × ℕ)) → r ≡ keys_between entry_cmp lo hi s
+    → lo ≡ Included (b, 0) → hi ≡ Included (b, 4294967295) → (q : ℕ) → q ≤ 4294967295 → has_entry s b q ≡ true → lists_entry r b q ≡ true
+unfolding has_entry lists_entry
+in_range s b lo hi r is from to q low has =
+    ap (list_any (is_entry b q)) (is ∙ (ap (λ l. keys_between entry_cmp l hi s) from ∙ ap (λ h. keys_between entry_cmp (Included (b, 0)) h s) to))
+    ∙ filtered (range_contains entry_cmp (Included (b, 0)) (Included (b, 4294967295))) b q (passes_range b q low) s.keys has
+
+-- ---- a search among them
+
+-- of each place with an entry of a beginning something holds, or its entry is still to come
+pub record IsSought (P : ℕ → Type 0) (s : BTreeSet (ℕ × ℕ)) (b : ℕ) (rest : List (ℕ × ℕ)) : Type 0 where
+  pub at : (q : ℕ) → q ≤ 4294967295 → has_entry s b q ≡ true → (P q) ⊎ (lists_entry rest b q ≡ true)
+
+module _ (P : ℕ → Type 0) (s : BTreeSet (ℕ × ℕ)) (b : ℕ) where
+  pub sought-first : (lo hi : Bound (ℕ × ℕ)) (r : List (ℕ × ℕ)) → r ≡ keys_between entry_cmp lo hi s
+      → lo ≡ Included (b, 0) → hi ≡ Included (b, 4294967295) → IsSought P s b r
+  sought-first lo hi r is from to = record { at = λ q low has. inr (in_range s b lo hi r is from to q low has) }
+
+  pub sought-more : (e : ℕ × ℕ) (all rest : List (ℕ × ℕ)) → all ≡ e ∷ rest → P e.1 → IsSought P s b all → IsSought P s b rest
+  sought-more e all rest cut here h = record {
+    at = λ q low has. elim (h.at q low has) [
+      | inl met ↦ inl met
+      | inr left ↦ elim (lists-first e rest b q (ap (λ es. lists_entry es b q) (sym cut) ∙ left)) [
+        | inl same ↦ inl (subst P same here)
+        | inr more ↦ inr more
+      ]
+    ];
+  }
+
+  pub sought-all : (rest : List (ℕ × ℕ)) → rest ≡ [] → IsSought P s b rest → (q : ℕ) → q ≤ 4294967295 → has_entry s b q ≡ true → P q
+  sought-all rest none h q low has = elim (h.at q low has) [
+    | inl met ↦ met
+    | inr left ↦ absurd (lists-nil rest none b q left)
+  ]

@@ -1,0 +1,5 @@
+use Rattle.mls_index.specs.CredentialCounts.{IsFilled}
+use Rattle.mls_index.proofs.credential_counts.CredentialCounts.fill.Given as goal
+
+abbrev pub invariant-loop-index : goal.invariant-loop-index
+invariant-loop-index l = IsFilled l.tree.tree l.index l.self

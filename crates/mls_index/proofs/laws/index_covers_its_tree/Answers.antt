@@ -1,0 +1,5 @@
+use Rattle.mls_index.proofs.Indexes.{index_between, index_covers}
+use Rattle.mls_index.proofs.laws.index_covers_its_tree.Goals as goal
+
+pub returns : goal.returns
+returns c = record { between = index_between; covers = index_covers }

@@ -1,0 +1,14 @@
+use Rattle.mls_index.specs.Keyed.{begun}
+use Rattle.mls_index.specs.declared.keyed.KeyKind.TheVariants.{Encryption, Signature}
+use Rattle.mls_index.proofs.Indexes.{same_begun}
+use Rattle.mls_index.proofs.tree_index.TreeIndex.accept.Goals as goal
+
+pub returns : goal.returns
+returns c = λ t h covers same.
+    let new = c.args.tree.now.tree in
+    let places = c.args.places.now in
+    record {
+      encryption = c.accept.ensures (begun Encryption t) h.encryption covers.encryption (same_begun Encryption places t new same);
+      signature = c.accept-2.ensures (begun Signature t) h.signature covers.signature (same_begun Signature places t new same);
+      credentials = c.accept-3.ensures new covers.credentials;
+    }

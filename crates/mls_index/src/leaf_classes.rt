@@ -1,0 +1,154 @@
+//! What the leaves of a tree say of types of credentials (RFC 9420, 5.3 and 7.2), with counts.
+
+ghost use Rattle.std.specs.Prelude.{◌≡◌, ◌+◌, ◌<◌, ◌≤◌, ◌^◌, ◌++◌, ◌∷◌, [], Some, OnOk, OnErr, cond, length, slice_set, slice_index_or, count_by};
+ghost use Rattle.mls_tree.specs.Tree.{leaf_at};
+ghost use Rattle.mls_index.specs.LeafClasses.{LeafClass, class_of, blank_class, support_each_other};
+
+use mls_nodes::{Credential, LeafNode};
+use mls_tree::PublicTree;
+use std::alloc::{AllocError, Global};
+
+/// The code of basic credentials.
+const BASIC: u16 = 1;
+
+/// The code of x509 credentials.
+const X509: u16 = 2;
+
+/// What a leaf says of types of credentials: which one it has, and which it doesn't support.
+#[derive(Clone, Copy, Debug)]
+pub(crate) struct LeafClass {
+    has_basic: bool,
+    has_x509: bool,
+    lacks_basic: bool,
+    lacks_x509: bool,
+}
+
+impl LeafClass {
+    /// What a blank leaf says.
+    pub(crate) fn blank() -> LeafClass
+        ensures { result ≡ blank_class }
+    {
+        LeafClass {
+            has_basic: false,
+            has_x509: false,
+            lacks_basic: false,
+            lacks_x509: false,
+        }
+    }
+
+    /// What a set leaf says.
+    fn of(leaf: &LeafNode) -> LeafClass
+        ensures { result ≡ class_of (Some leaf.now) }
+    {
+        let supported = leaf.capabilities.credentials.as_slice();
+        let lacks_basic = !supported.contains(&BASIC);
+        let lacks_x509 = !supported.contains(&X509);
+        match leaf.credential {
+            Credential::Basic(_) => LeafClass {
+                has_basic: true,
+                has_x509: false,
+                lacks_basic,
+                lacks_x509,
+            },
+            Credential::X509(_) => LeafClass {
+                has_basic: false,
+                has_x509: true,
+                lacks_basic,
+                lacks_x509,
+            },
+        }
+    }
+
+    /// What a leaf of a tree says, be it blank or set.
+    pub(crate) fn at(tree: &PublicTree, index: u32) -> LeafClass
+        ensures { result ≡ class_of (leaf_at 0 tree.now.tree index) }
+    {
+        match tree.leaf(index) {
+            Some(leaf) => LeafClass::of(leaf),
+            None => LeafClass::blank(),
+        }
+    }
+}
+
+/// A count of leaves after one of them was replaced, from whether the old one and the new one are counted.
+fn recounted(count: usize, was: bool, is: bool) -> usize
+    requires counted { cond was 1 0 ≤ count }
+    requires fits { count + 1 < 2 ^ 64 }
+    ensures { result + cond was 1 0 ≡ count + cond is 1 0 }
+{
+    count - usize::from(was) + usize::from(is)
+}
+
+/// The classes of leaves, and how many leaves have each type of credential and how many lack it.
+#[derive(Drop)]
+pub(crate) struct CountedClasses {
+    /// By leaf index.
+    pub(crate) list: Vec<LeafClass>,
+    with_basic: usize,
+    with_x509: usize,
+    without_basic: usize,
+    without_x509: usize,
+    ghost with_basic_counted: { with_basic ≡ count_by (λ (c : LeafClass). c.has_basic) list.items },
+    ghost with_x509_counted: { with_x509 ≡ count_by (λ (c : LeafClass). c.has_x509) list.items },
+    ghost without_basic_counted: { without_basic ≡ count_by (λ (c : LeafClass). c.lacks_basic) list.items },
+    ghost without_x509_counted: { without_x509 ≡ count_by (λ (c : LeafClass). c.lacks_x509) list.items },
+}
+
+impl CountedClasses {
+    /// No classes. Takes no memory.
+    pub(crate) fn new(alloc: Global) -> CountedClasses
+        ensures { result.list.items ≡ [] }
+    {
+        CountedClasses {
+            list: Vec::new(alloc),
+            with_basic: 0,
+            with_x509: 0,
+            without_basic: 0,
+            without_x509: 0,
+        }
+    }
+
+    /// How many classes there are.
+    pub(crate) fn len(&self) -> usize
+        ensures { result ≡ length self.now.list.items }
+    {
+        self.list.len()
+    }
+
+    /// Adds the class of the next leaf.
+    pub(crate) fn push(&mut self, class: LeafClass) -> Result<(), AllocError>
+        ensures pushed { OnOk result
+            (self.new.list.items ≡ self.old.list.items ++ class ∷ []) }
+        ensures same { OnErr result (self.new.list.items ≡ self.old.list.items) }
+    {
+        self.list.push(class)?;
+        self.with_basic += usize::from(class.has_basic);
+        self.with_x509 += usize::from(class.has_x509);
+        self.without_basic += usize::from(class.lacks_basic);
+        self.without_x509 += usize::from(class.lacks_x509);
+        Ok(())
+    }
+
+    /// Replaces the class of a leaf, and gives the one before.
+    pub(crate) fn replace(&mut self, index: usize, class: LeafClass) -> LeafClass
+        requires { index < length self.old.list.items }
+        ensures replaced { self.new.list.items ≡ slice_set self.old.list.items index class }
+        ensures before { result ≡ slice_index_or self.old.list.items index blank_class }
+    {
+        let was = self.list[index];
+        self.list[index] = class;
+        self.with_basic = recounted(self.with_basic, was.has_basic, class.has_basic);
+        self.with_x509 = recounted(self.with_x509, was.has_x509, class.has_x509);
+        self.without_basic = recounted(self.without_basic, was.lacks_basic, class.lacks_basic);
+        self.without_x509 = recounted(self.without_x509, was.lacks_x509, class.lacks_x509);
+        was
+    }
+
+    /// Whether no leaf lacks a type of credential that some leaf has.
+    pub(crate) fn support_each_other(&self) -> bool
+        ensures { result ≡ support_each_other self.now.list.items }
+    {
+        (self.with_basic == 0 || self.without_basic == 0)
+            && (self.with_x509 == 0 || self.without_x509 == 0)
+    }
+}

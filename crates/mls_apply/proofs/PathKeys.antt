@@ -1,5 +1,6 @@
 -- The keys of a path as a set, and the keys of a tree's nodes.
-use Rattle.std.proofs.Common.{◌≡◌, ℕ, ◌+◌, ◌-◌, ◌<◌, ◌≤◌, Bool, true, false, not, ◌||◌, ◌&&◌, cond, List, [], ◌∷◌, ◌++◌, map, take, drop, length, get_or, Option, Some, None, Bor, Ordering, refl, sym, ap, ◌∙◌, subst, inl, inr, append_assoc, arith}
+use Rattle.std.proofs.Common.{◌≡◌, ◌↔◌, ℕ, zero, suc, ◌+◌, ◌-◌, ◌<◌, ◌≤◌, Bool, true, false, not, ◌||◌, ◌&&◌, cond, List, [], ◌∷◌, ◌++◌, map, take, drop, length, get_or, Option, Some, None, IsTrue, Bor, Ordering, refl, sym, ap, ◌∙◌, subst, inl, inr, append_assoc, arith}
+use Rattle.std.specs.Prelude.{option_map, slice_get, unwrap_or}
 use Rattle.std.specs.List.{list_any}
 use Rattle.std.specs.Str.{bytes_eq}
 use Rattle.std.specs.Ordering.{nat_cmp}
@@ -9,6 +10,7 @@ use Rattle.std.specs.BTreeSet.{BTreeSet, contains, IsEmpty}
 use Rattle.std.proofs.lemmas.Bool.{cases_Bool, false≢true}
 use Rattle.std.proofs.lemmas.List.{drop_more, drop_all, take-append-drop, map-append}
 use Rattle.std.proofs.lemmas.Map.Text.{is_eq-slice_cmp}
+use Rattle.std.proofs.lemmas.Option.{none-some, same_Some}
 use Rattle.std.proofs.lemmas.Slice.Eq.{bytes_eq-Decides}
 use Rattle.mls_nodes.specs.declared.leaf.LeafNode.{LeafNode}
 use Rattle.mls_nodes.specs.declared.parent.ParentNode.{ParentNode}
@@ -16,15 +18,21 @@ use Rattle.mls_nodes.specs.Value.{NodeValue}
 use Rattle.mls_msgs.specs.declared.commit.PathNode.{PathNode}
 use Rattle.mls_msgs.specs.declared.commit.UpdatePath.{UpdatePath}
 use Rattle.mls_tree.specs.Tree.{Tree, leaf, branch, leaf_entry, parent_entry, listing}
+use Rattle.mls_tree.proofs.Positions.{node_at-listing}
+use Rattle.mls_index.specs.Keyed.{HasKey}
+use Rattle.mls_index.specs.declared.keyed.KeyKind.TheVariants.{Encryption}
 use Rattle.mls_check.specs.Distinct.{are_distinct, encryption_key, has_key, leaf_keys, parent_keys, tree_keys}
 use Rattle.mls_apply.specs.PathRules.{has_new_keys, path_keys}
-use Rattle.mls_apply.specs.Seen.{holds_key, IsKeySet}
 
 -- ---- sets of keys
 
 -- the order of keys
 abbrev pub by_bytes : Bor (List ℕ) → Bor (List ℕ) → Ordering
 by_bytes a b = slice_cmp nat_cmp a.now b.now
+
+-- a set of keys has this one
+abbrev pub holds_key : BTreeSet (Bor (List ℕ)) → List ℕ → Bool
+holds_key keys key = contains by_bytes keys (record { ref_ptr = (0, 0); now = key })
 
 -- the set has these keys, none of which stands twice
 pub record HoldsKeys (keys : List (List ℕ)) (s : BTreeSet (Bor (List ℕ))) : Type 0 where
@@ -34,6 +42,10 @@ pub record HoldsKeys (keys : List (List ℕ)) (s : BTreeSet (Bor (List ℕ))) : 
 pub held-none : (s : BTreeSet (Bor (List ℕ))) → IsEmpty s → HoldsKeys [] s
 unfolding are_distinct
 held-none s empty = record { distinct = refl; holds = λ key. ap (λ (ks : List (Bor (List ℕ))). list_any (is_at (by_bytes (record { ref_ptr = (0, 0); now = key }))) ks) empty }
+
+or_true : (b : Bool) → (b || true) ≡ true
+or_true true = refl
+or_true false = refl
 
 or_cond : (a b : Bool) → cond a true b ≡ (a || b)
 or_cond true b = refl
@@ -141,52 +153,54 @@ tree_keys-listing (branch l p r) =
     (λ i. tree_keys-listing l i ++ (parent_keys-entry p i ++ tree_keys-listing r i))
     ∙ sym (keys_in-append (listing l) (parent_entry p ∷ listing r))
 
--- ---- keys in common
+-- ---- a key that stands in a tree
 
-bytes_eq-turned : (a b : List ℕ) → bytes_eq a b ≡ bytes_eq b a
-bytes_eq-turned a b =
-    elim (cases_Bool (bytes_eq a b)) [
-      | inl e ↦ e ∙ sym ((bytes_eq-Decides b a).1 (sym ((bytes_eq-Decides a b).0 e)))
-      | inr e ↦
-          elim (cases_Bool (bytes_eq b a)) [
-            | inl f ↦ absurd (false≢true (sym e ∙ (bytes_eq-Decides a b).1 (sym ((bytes_eq-Decides b a).0 f))))
-            | inr f ↦ e ∙ sym f
-          ]
-    ]
+module _ (key : List ℕ) where
+  -- where a listing has it
+  place_in : (xs : List (Option NodeValue)) → has_key (keys_in xs) key ≡ true → (p : ℕ) × (option_map encryption_key (unwrap_or (slice_get xs p) None) ≡ Some key)
+  place_in [] e = absurd (false≢true e)
+  place_in (None ∷ xs) e = let h = place_in xs e in (suc h.0, h.1)
+  place_in (Some n ∷ xs) e =
+      elim (cases_Bool (bytes_eq (encryption_key n) key)) [
+        | inl equal ↦ (zero, ap Some ((bytes_eq-Decides (encryption_key n) key).0 equal))
+        | inr differs ↦ (let h = place_in xs (ap (λ (b : Bool). b || has_key (keys_in xs) key) (sym differs) ∙ e) in (suc h.0, h.1))
+      ]
 
-any_same : {X : Type 0} (p q : X → Bool) → ((x : X) → p x ≡ q x) → (xs : List X) → list_any p xs ≡ list_any q xs
-any_same p q h [] = refl
-any_same p q h (x ∷ xs) = λ i. h x i || any_same p q h xs i
+  listed : (xs : List (Option NodeValue)) (p : ℕ) → option_map encryption_key (unwrap_or (slice_get xs p) None) ≡ Some key → has_key (keys_in xs) key ≡ true
+  listed [] p e = absurd (none-some key e)
+  listed (None ∷ xs) zero e = absurd (none-some key e)
+  listed (None ∷ xs) (suc p) e = listed xs p e
+  listed (Some n ∷ xs) zero e =
+      ap (λ (b : Bool). b || has_key (keys_in xs) key) ((bytes_eq-Decides (encryption_key n) key).1 (same_Some (encryption_key n) key e))
+  listed (Some n ∷ xs) (suc p) e =
+      ap (λ (b : Bool). bytes_eq (encryption_key n) key || b) (listed xs p e) ∙ or_true (bytes_eq (encryption_key n) key)
 
-any_no : (xs : List (List ℕ)) → list_any (λ _. false) xs ≡ false
-any_no [] = refl
-any_no (x ∷ xs) = any_no xs
+  module _ (t : Tree) where
+    has_place : has_key (tree_keys t) key ≡ true → HasKey Encryption t key
+    has_place e =
+        let h = place_in (listing t) (ap (λ keys. has_key keys key) (sym (tree_keys-listing t)) ∙ e) in
+        (h.0, ap (option_map encryption_key) (node_at-listing t h.0) ∙ h.1)
 
-or_crossed : (a b c d : Bool) → ((a || b) || (c || d)) ≡ ((a || c) || (b || d))
-or_crossed true b c d = refl
-or_crossed false true true d = refl
-or_crossed false true false d = refl
-or_crossed false false c d = refl
+    of_place : HasKey Encryption t key → has_key (tree_keys t) key ≡ true
+    of_place h =
+        ap (λ keys. has_key keys key) (tree_keys-listing t)
+        ∙ listed (listing t) h.0 (ap (option_map encryption_key) (sym (node_at-listing t h.0)) ∙ h.1)
 
-any_either : (p q : List ℕ → Bool) (xs : List (List ℕ)) → list_any (λ x. p x || q x) xs ≡ (list_any p xs || list_any q xs)
-any_either p q [] = refl
-any_either p q (x ∷ xs) = ap (λ b. (p x || q x) || b) (any_either p q xs) ∙ or_crossed (p x) (q x) (list_any p xs) (list_any q xs)
+    -- whether some node has it
+    pub stands : (b : Bool) → IsTrue b ↔ HasKey Encryption t key → b ≡ has_key (tree_keys t) key
+    stands true h = sym (of_place (h.0 refl))
+    stands false h =
+        elim (cases_Bool (has_key (tree_keys t) key)) [
+          | inl e ↦ h.1 (has_place e) ∙ sym e
+          | inr e ↦ sym e
+        ]
 
--- two lists have a key in common, or not, from either side
-pub in_common : (a b : List (List ℕ)) → list_any (has_key a) b ≡ list_any (has_key b) a
-in_common a [] = sym (any_no a)
-in_common a (k ∷ ks) =
-    (λ i. has_key a k || in_common a ks i)
-    ∙ ap (λ v. v || list_any (has_key ks) a) (any_same (λ x. bytes_eq x k) (λ x. bytes_eq k x) (λ x. bytes_eq-turned x k) a)
-    ∙ sym (any_either (λ x. bytes_eq k x) (has_key ks) a)
+-- ---- whether the keys of a path are new
 
--- whether the keys of a path are new, by the set of them
-pub new_keys : (path : UpdatePath) (t : Tree) (s : BTreeSet (Bor (List ℕ))) → IsKeySet path (Some s) → not (list_any (holds_key s) (tree_keys t)) ≡ has_new_keys path t
+pub new_keys : (path : UpdatePath) (t : Tree) (b : Bool) → b ≡ list_any (has_key (tree_keys t)) (path_keys path) → true ≡ are_distinct (path_keys path) → not b ≡ has_new_keys path t
 unfolding has_new_keys
-new_keys path t s held =
-    ap not (any_same (holds_key s) (has_key (path_keys path)) held.1 (tree_keys t) ∙ in_common (path_keys path) (tree_keys t))
-    ∙ ap (λ b. b && not (list_any (has_key (tree_keys t)) (path_keys path))) (sym held.0)
+new_keys path t b used distinct = (λ i. distinct i && not (used i))
 
-pub no_new_keys : (path : UpdatePath) (t : Tree) → IsKeySet path None → false ≡ has_new_keys path t
+pub no_new_keys : (path : UpdatePath) (t : Tree) → false ≡ are_distinct (path_keys path) → false ≡ has_new_keys path t
 unfolding has_new_keys
-no_new_keys path t twice = ap (λ b. b && not (list_any (has_key (tree_keys t)) (path_keys path))) (sym twice)
+no_new_keys path t twice = ap (λ b. b && not (list_any (has_key (tree_keys t)) (path_keys path))) twice

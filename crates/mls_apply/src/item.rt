@@ -6,7 +6,7 @@ ghost use Rattle.mls_apply.specs.Items.{find_known, entry_item, resolved};
 use crate::fault::ApplyFault;
 use mls_msgs::{Commit, Proposal, ProposalOrRef};
 use mls_tree::HashValue;
-use mls_wire::{CodecFault, TryClone};
+use mls_wire::copy_of;
 use std::alloc::Global;
 
 /// A proposal of a commit's list.
@@ -39,18 +39,6 @@ pub fn find_known<'a>(known: &'a [KnownProposal], reference: &[u8]) -> Option<&'
         }
     }
     None
-}
-
-/// A second proposal, equal to this one.
-fn copy_of(alloc: Global, proposal: &Proposal) -> Result<Proposal, ApplyFault>
-    ensures same { IfOk result (λ p. p ≡ proposal.now) }
-    ensures memory { IfErr result (λ e. e ≡ ApplyFault.OutOfMemory) }
-{
-    match proposal.try_clone(alloc) {
-        Ok(copy) => Ok(copy),
-        Err(CodecFault::OutOfMemory) => Err(ApplyFault::OutOfMemory),
-        Err(CodecFault::Wire(_)) => unreachable!(),
-    }
 }
 
 /// The item that an entry of a commit's list stands for.

@@ -11,11 +11,11 @@ ghost use Rattle.mls_apply.specs.Merge.{path_parent};
 ghost use Rattle.mls_apply.specs.Route.{away_at, changed, path_hash_at, route};
 ghost use Rattle.mls_apply.specs.Seen.{change_of, route_of};
 
-use crate::replace::blank_above;
+use crate::replace::blank_direct_path;
 use mls_hash::{HashFault, Suite, fill_hashes, parent_hash_of, tree_hash};
 use mls_nodes::{LeafNode, ParentNode, Unmerged};
 use mls_tree::{HashValue, Journal, Part, PublicTree};
-use mls_wire::{CodecFault, Opaque};
+use mls_wire::Opaque;
 use std::alloc::{AllocError, Global};
 
 /// A new parent, with its place.
@@ -103,23 +103,12 @@ fn path_hash(
     }
 }
 
-/// A hash as the body of a vector.
-pub(crate) fn opaque_of(alloc: Global, hash: &HashValue) -> Result<Opaque, AllocError>
-    ensures { IfOk result (λ bytes. bytes ≡ hash.now) }
-{
-    match Opaque::copy(alloc, hash.as_slice()) {
-        Ok(bytes) => Ok(bytes),
-        Err(CodecFault::OutOfMemory) => Err(AllocError),
-        Err(CodecFault::Wire(_)) => unreachable!(),
-    }
-}
-
 /// A parent that a path makes (RFC 9420, 7.5): with this key, the parent hash of the parent above, and no unmerged
 /// leaves.
 fn path_parent(alloc: Global, key: Opaque, hash: &HashValue) -> Result<Box<ParentNode>, AllocError>
     ensures { IfOk result (λ node. node.value ≡ path_parent key hash.now) }
 {
-    let parent_hash = opaque_of(alloc, hash)?;
+    let parent_hash = hash.to_opaque(alloc)?;
     let Ok(unmerged) = Unmerged::new(Vec::new(alloc)) else {
         unreachable!()
     };
@@ -186,7 +175,7 @@ pub(crate) fn put_path(
         put_leaf 0 (changed 0 (clear_path tree.old.tree leaf) (map change_of parents.items))
         leaf (Some node.value) }
 {
-    blank_above(tree, leaf);
+    blank_direct_path(tree, leaf);
     put_parents(tree, parents);
     let Ok(()) = tree.set_leaf(leaf, Some(node)) else {
         unreachable!();

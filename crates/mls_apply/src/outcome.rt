@@ -13,7 +13,7 @@ use crate::item::ListItem;
 use crate::list::has_concerned_leaf;
 use crate::removes::apply_removes;
 use crate::updates::apply_updates;
-use mls_tree::{Journal, PublicTree, TreeError};
+use mls_tree::{Journal, PublicTree};
 use mls_wire::Sequence;
 use std::alloc::Global;
 
@@ -56,18 +56,6 @@ pub fn apply_list_in_place(
     apply_adds(alloc, tree, journal, items)
 }
 
-/// A second tree, equal to this one.
-fn copy_of(alloc: Global, tree: &PublicTree) -> Result<PublicTree, ApplyFault>
-    ensures same { IfOk result (λ copy. copy ≡ tree.now) }
-    ensures memory { IfErr result (λ e. e ≡ ApplyFault.OutOfMemory) }
-{
-    match tree.try_clone(alloc) {
-        Ok(copy) => Ok(copy),
-        Err(TreeError::OutOfMemory) => Err(ApplyFault::OutOfMemory),
-        Err(_) => unreachable!(),
-    }
-}
-
 /// The tree after a list of proposals (RFC 9420, 12.3): the Updates of the list, then its Removes, then its Adds,
 /// each kind in the order of the list; what it brings to the context's extensions is passed over. The tree that is
 /// handed in stays. `NoSuchLeaf` where an Update or a Remove meets a leaf that isn't set at its turn, else
@@ -95,7 +83,7 @@ pub fn apply_list(
     if !has_concerned_leaf(items) && !has_room(tree, items) {
         return Err(ApplyFault::TooManyLeaves);
     }
-    let mut after = copy_of(alloc, tree)?;
+    let mut after = tree.try_clone(alloc)?;
     let mut journal = Journal::new(alloc);
     match apply_list_in_place(alloc, &mut after, &mut journal, items) {
         Ok(added) => Ok(Applied { tree: after, added }),

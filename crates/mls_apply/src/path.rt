@@ -6,6 +6,7 @@ ghost use Rattle.mls_hash.specs.Hashing.{hash_of};
 ghost use Rattle.mls_tree.specs.Tree.{leaf_at, leaf_count, IsParentPlace};
 ghost use Rattle.mls_tree.specs.Paths.{filtered_direct_path};
 ghost use Rattle.mls_tree.specs.Journals.{before};
+ghost use Rattle.mls_index.specs.TreeIndex.{Covers};
 ghost use Rattle.mls_apply.specs.Merge.{expected_hashes, merged};
 ghost use Rattle.mls_apply.specs.Outcome.{grown};
 ghost use Rattle.mls_apply.specs.PathRules.{carries_first, keys_refusal, node_keys, path_refusal};
@@ -14,17 +15,16 @@ ghost use Rattle.mls_apply.specs.Route.{carried, path_route};
 ghost use Rattle.mls_apply.specs.Seen.{change_of, hash_refusal, route_of};
 
 use crate::fault::ApplyFault;
-use crate::new_parents::{
-    NewParent, NewParents, fill, new_parents, opaque_of, put_path, put_path_in_place,
-};
+use crate::new_parents::{NewParent, NewParents, fill, new_parents, put_path, put_path_in_place};
 use crate::outcome::{Applied, Leaves};
 use crate::path_rules::{has_new_keys, have_counts};
 use crate::replace::leaf_of;
 use mls_hash::Suite;
+use mls_index::TreeIndex;
 use mls_msgs::{PathNode, UpdatePath};
 use mls_nodes::{LeafNode, LeafSource, ParentNode};
 use mls_tree::{HashValue, Journal, PublicTree, TreeError};
-use mls_wire::{CodecFault, Opaque, TryClone};
+use mls_wire::{Opaque, copy_of};
 use std::alloc::{AllocError, Global};
 
 /// The places of the filtered direct path of a leaf, the lowest first. `NoSuchLeaf` where the leaf isn't set.
@@ -44,17 +44,6 @@ fn path_places(alloc: Global, tree: &PublicTree, leaf: u32) -> Result<Vec<u32>, 
         Ok(places) => Ok(places),
         Err(TreeError::OutOfMemory) => Err(ApplyFault::OutOfMemory),
         Err(_) => unreachable!(),
-    }
-}
-
-/// A second key, equal to this one.
-fn copy_of(alloc: Global, key: &Opaque) -> Result<Opaque, AllocError>
-    ensures { IfOk result (λ copy. copy ≡ key.now) }
-{
-    match key.try_clone(alloc) {
-        Ok(copy) => Ok(copy),
-        Err(CodecFault::OutOfMemory) => Err(AllocError),
-        Err(CodecFault::Wire(_)) => unreachable!(),
     }
 }
 
@@ -86,7 +75,7 @@ fn carried(alloc: Global, new: NewParents) -> Result<Vec<Opaque>, AllocError>
 {
     let NewParents { mut parents, hash } = new;
     let mut hashes = Vec::new(alloc);
-    hashes.push(opaque_of(alloc, &hash)?)?;
+    hashes.push(hash.to_opaque(alloc)?)?;
     while let Some(parent) = parents.pop() {
         let ParentNode { parent_hash, .. } = Box::into_inner(parent.node);
         hashes.push(parent_hash)?;
@@ -144,10 +133,12 @@ fn carries(source: &LeafSource, hash: &HashValue) -> bool
 fn checked_places(
     alloc: Global,
     tree: &PublicTree,
+    index: &TreeIndex,
     added: &Leaves,
     committer: u32,
     path: &UpdatePath,
 ) -> Result<Vec<u32>, ApplyFault>
+    requires { Covers tree.now.tree index.now }
     ensures places { IfOk result (λ places. let t = tree.now.tree in
         places.items ≡ filtered_direct_path (leaf_count t) 0 t committer) }
     ensures paired { IfOk result (λ places. length path.now.nodes ≡ length places.items) }
@@ -169,7 +160,7 @@ fn checked_places(
     if !is_from_commit(&path.leaf_node.source) {
         return Err(ApplyFault::PathSource);
     }
-    if !has_new_keys(alloc, path, tree)? {
+    if !has_new_keys(alloc, path, tree, index)? {
         return Err(ApplyFault::PathKeyUsed);
     }
     let added = added.as_slice();
@@ -191,10 +182,12 @@ fn new_nodes(
     alloc: Global,
     suite: Suite,
     tree: &PublicTree,
+    index: &TreeIndex,
     added: &Leaves,
     committer: u32,
     path: &UpdatePath,
 ) -> Result<NewNodes, ApplyFault>
+    requires { Covers tree.now.tree index.now }
     ensures leaf { IfOk result (λ new. new.leaf.value ≡ path.now.leaf_node) }
     ensures route { IfOk result (λ new.
         let keys = node_keys path.now in
@@ -211,7 +204,7 @@ fn new_nodes(
     ensures not_set { (result ≡ Err ApplyFault.NoSuchLeaf)
         ↔ (leaf_at 0 tree.now.tree committer ≡ None) }
 {
-    let places = checked_places(alloc, tree, added, committer, path)?;
+    let places = checked_places(alloc, tree, index, added, committer, path)?;
     let keys = node_keys(alloc, path.nodes.as_slice())?;
     let new = new_parents(alloc, suite, tree, committer, &places, keys)?;
     if !carries(&path.leaf_node.source, &new.hash) {
@@ -227,6 +220,41 @@ fn new_nodes(
 /// The new nodes of a path, where it keeps the rules for paths, and where the committer's leaf is set the hashes that
 /// the tree keeps of its subtrees are filled first: parent hashes take them.
 fn filled_nodes(
+    alloc: Global,
+    suite: Suite,
+    tree: &mut PublicTree,
+    index: &TreeIndex,
+    added: &Leaves,
+    committer: u32,
+    path: &UpdatePath,
+) -> Result<NewNodes, ApplyFault>
+    requires { Covers tree.old.tree index.now }
+    ensures tree { tree.new.tree ≡ tree.old.tree }
+    ensures leaf { IfOk result (λ new. new.leaf.value ≡ path.now.leaf_node) }
+    ensures route { IfOk result (λ new.
+        let keys = node_keys path.now in
+        let made = path_route (hash_of suite) tree.old.tree committer keys in
+        option_map (λ r. r.changes) made ≡ Some (map change_of new.parents.items)) }
+    ensures inside { OnOk result (committer < leaf_count tree.old.tree) }
+    ensures parents { IfOk result (λ new.
+        All (λ p. IsParentPlace tree.old.tree p.place) new.parents.items) }
+    ensures kept { let g = grown tree.old.tree added.now in
+        OnOk result (path_refusal (hash_of suite) g committer path.now ≡ None) }
+    ensures refused { let g = grown tree.old.tree added.now in
+        IfErr result (λ e. e ≢ ApplyFault.OutOfMemory
+        → path_refusal (hash_of suite) g committer path.now ≡ Some e) }
+    ensures not_set { (result ≡ Err ApplyFault.NoSuchLeaf)
+        ↔ (leaf_at 0 tree.old.tree committer ≡ None) }
+{
+    if tree.leaf(committer).is_none() {
+        return Err(ApplyFault::NoSuchLeaf);
+    }
+    fill(alloc, suite, tree)?;
+    new_nodes(alloc, suite, tree, index, added, committer, path)
+}
+
+/// The same, by an index of the tree that is made for it.
+fn indexed_nodes(
     alloc: Global,
     suite: Suite,
     tree: &mut PublicTree,
@@ -254,8 +282,10 @@ fn filled_nodes(
     if tree.leaf(committer).is_none() {
         return Err(ApplyFault::NoSuchLeaf);
     }
-    fill(alloc, suite, tree)?;
-    new_nodes(alloc, suite, tree, added, committer, path)
+    let index = TreeIndex::of(alloc, tree)?;
+    let new = filled_nodes(alloc, suite, tree, &index, added, committer, path);
+    drop(index);
+    new
 }
 
 /// The tree with an update path of the committer merged into it (RFC 9420, 7.5): its leaf is that of the path, the
@@ -289,7 +319,7 @@ pub fn merge_path(
         return Err((ApplyFault::NoSuchLeaf, applied));
     }
     let Applied { mut tree, added } = applied;
-    match filled_nodes(alloc, suite, &mut tree, &added, committer, path) {
+    match indexed_nodes(alloc, suite, &mut tree, &added, committer, path) {
         Ok(new) => {
             put_path(&mut tree, committer, new.leaf, new.parents);
             Ok(tree)
@@ -299,7 +329,8 @@ pub fn merge_path(
 }
 
 /// Merges an update path of the committer into a tree in place, as [`merge_path`] does. What is changed is kept in
-/// the journal. The leaves that the commit's list added are handed in beside the tree. After want of memory a part of
+/// the journal. The leaves that the commit's list added are handed in beside the tree, and an index that covers it, by
+/// which the path's keys are looked for. After want of memory a part of
 /// the path may have been merged; any other fault leaves the tree, but for the hashes that it keeps of its subtrees,
 /// which are filled first.
 pub fn merge_path_in_place(
@@ -307,10 +338,12 @@ pub fn merge_path_in_place(
     suite: Suite,
     tree: &mut PublicTree,
     journal: &mut Journal,
+    index: &TreeIndex,
     added: &Leaves,
     committer: u32,
     path: &UpdatePath,
 ) -> Result<(), ApplyFault>
+    requires { Covers tree.old.tree index.now }
     ensures merged { let keys = node_keys path.now in
         OnOk result (merged (hash_of suite) tree.old.tree committer path.now.leaf_node keys
         ≡ Some tree.new.tree) }
@@ -326,7 +359,7 @@ pub fn merge_path_in_place(
         (λ e. e ≢ ApplyFault.OutOfMemory → tree.new.tree ≡ tree.old.tree) }
     ensures before { before journal.new tree.new.tree ≡ before journal.old tree.old.tree }
 {
-    let new = filled_nodes(alloc, suite, tree, added, committer, path)?;
+    let new = filled_nodes(alloc, suite, tree, index, added, committer, path)?;
     put_path_in_place(alloc, tree, journal, committer, new.leaf, new.parents)?;
     Ok(())
 }

@@ -4,76 +4,73 @@ ghost use Rattle.std.specs.Prelude.{◌≡◌, ℕ, ◌*◌, ◌==◌, All, IfOk
 ghost use Rattle.std.specs.BTreeSet.{contains};
 ghost use Rattle.std.specs.List.{list_any};
 ghost use Rattle.std.specs.Ordering.{nat_cmp};
-ghost use Rattle.mls_nodes.specs.Value.{node_value};
 ghost use Rattle.mls_tree.specs.Tree.{leaf_count, subtree_at, IsParentPlace};
-ghost use Rattle.mls_check.specs.Distinct.{encryption_key, tree_keys};
-ghost use Rattle.mls_apply.specs.PathRules.{has_new_keys, have_counts};
+ghost use Rattle.mls_check.specs.Distinct.{are_distinct, has_key, tree_keys};
+ghost use Rattle.mls_index.specs.TreeIndex.{Covers};
+ghost use Rattle.mls_apply.specs.PathRules.{has_new_keys, have_counts, path_keys};
 ghost use Rattle.mls_apply.specs.Route.{away_resolution, resolution_of};
-ghost use Rattle.mls_apply.specs.Seen.{holds_key, IsKeySet};
 
 use crate::new_parents::away_half;
+use mls_index::{KeyKind, TreeIndex};
 use mls_msgs::{PathNode, UpdatePath};
-use mls_nodes::Node;
 use mls_tree::{PublicTree, TreeError};
+use mls_wire::Opaque;
 use std::alloc::{AllocError, Global};
 use std::collections::BTreeSet;
 
-/// The keys of a path, the leaf's among them. None where one stands twice.
-fn distinct_keys<'a>(
-    alloc: Global,
-    path: &'a UpdatePath,
-) -> Result<Option<BTreeSet<&'a [u8]>>, AllocError>
-    ensures { IfOk result (IsKeySet path.now) }
+/// Whether no key stands twice in a path, the leaf's among them.
+fn has_distinct_keys(alloc: Global, path: &UpdatePath) -> Result<bool, AllocError>
+    ensures { IfOk result (λ distinct. distinct ≡ are_distinct (path_keys path.now)) }
 {
     let nodes = path.nodes.as_slice();
     let mut keys: BTreeSet<&[u8]> = BTreeSet::new(alloc);
     for index in (0..nodes.len()).rev() {
         if !keys.insert(nodes[index].encryption_key.as_slice())? {
-            return Ok(None);
+            return Ok(false);
         }
     }
-    if !keys.insert(path.leaf_node.encryption_key.as_slice())? {
-        return Ok(None);
-    }
-    Ok(Some(keys))
+    Ok(keys.insert(path.leaf_node.encryption_key.as_slice())?)
 }
 
-/// The encryption key of a node.
-fn key_of(node: &Node) -> &[u8]
-    ensures { result.now ≡ encryption_key (node_value node.now) }
+/// Whether a node of a tree that the index covers has this key.
+fn uses_key(tree: &PublicTree, index: &TreeIndex, key: &Opaque) -> bool
+    requires { Covers tree.now.tree index.now }
+    ensures { result ≡ has_key (tree_keys tree.now.tree) key.now }
 {
-    match node {
-        Node::Leaf(leaf) => leaf.encryption_key.as_slice(),
-        Node::Parent(parent) => parent.encryption_key.as_slice(),
-    }
+    index.has_key(tree, KeyKind::Encryption, key.as_slice())
 }
 
-/// Whether a node of the tree has one of these keys.
-fn uses_key(tree: &PublicTree, keys: &BTreeSet<&[u8]>) -> bool
-    ensures { result ≡ list_any (holds_key keys.now) (tree_keys tree.now.tree) }
+/// Whether a node of the tree has one of the keys of a path.
+fn uses_keys(tree: &PublicTree, index: &TreeIndex, path: &UpdatePath) -> bool
+    requires { Covers tree.now.tree index.now }
+    ensures { result ≡ list_any (has_key (tree_keys tree.now.tree)) (path_keys path.now) }
 {
-    for entry in tree.nodes() {
-        if let Some(node) = entry {
-            if keys.contains(key_of(node)) {
-                return true;
-            }
+    let nodes = path.nodes.as_slice();
+    if uses_key(tree, index, &path.leaf_node.encryption_key) {
+        return true;
+    }
+    for node in nodes {
+        if uses_key(tree, index, &node.encryption_key) {
+            return true;
         }
     }
     false
 }
 
-/// Whether no key of a path stands in the tree, or twice in the path (RFC 9420, 12.4.2).
+/// Whether no key of a path stands in the tree, which the index covers, or twice in the path (RFC 9420, 12.4.2).
 pub(crate) fn has_new_keys(
     alloc: Global,
     path: &UpdatePath,
     tree: &PublicTree,
+    index: &TreeIndex,
 ) -> Result<bool, AllocError>
+    requires { Covers tree.now.tree index.now }
     ensures { IfOk result (λ new. new ≡ has_new_keys path.now tree.now.tree) }
 {
-    match distinct_keys(alloc, path)? {
-        Some(keys) => Ok(!uses_key(tree, &keys)),
-        None => Ok(false),
+    if !has_distinct_keys(alloc, path)? {
+        return Ok(false);
     }
+    Ok(!uses_keys(tree, index, path))
 }
 
 /// The places of added leaves.

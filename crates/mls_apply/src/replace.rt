@@ -8,18 +8,14 @@ ghost use Rattle.mls_tree.specs.Journals.{before};
 use crate::fault::ApplyFault;
 use mls_nodes::LeafNode;
 use mls_tree::{Journal, PublicTree};
-use mls_wire::{CodecFault, TryClone};
+use mls_wire::copy_of;
 use std::alloc::{AllocError, Global};
 
 /// A leaf node equal to this one.
 pub(crate) fn leaf_of(alloc: Global, leaf: &LeafNode) -> Result<Box<LeafNode>, AllocError>
     ensures { IfOk result (λ copy. copy.value ≡ leaf.now) }
 {
-    match leaf.try_clone(alloc) {
-        Ok(copy) => Ok(Box::new(alloc, copy)?),
-        Err(CodecFault::OutOfMemory) => Err(AllocError),
-        Err(CodecFault::Wire(_)) => unreachable!(),
-    }
+    Ok(Box::new(alloc, copy_of(alloc, leaf)?)?)
 }
 
 /// Replaces a leaf of the tree by a copy of this one.
@@ -40,8 +36,8 @@ pub(crate) fn put_copy(
     Ok(())
 }
 
-/// Makes the parents above a leaf of the tree blank.
-pub(crate) fn blank_above(tree: &mut PublicTree, index: u32)
+/// Makes the direct path of a leaf of the tree blank, the parents above it (RFC 9420, 4.1.2).
+pub(crate) fn blank_direct_path(tree: &mut PublicTree, index: u32)
     requires { index < leaf_count tree.old.tree }
     ensures { tree.new.tree ≡ clear_path tree.old.tree index }
 {

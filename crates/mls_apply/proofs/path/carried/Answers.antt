@@ -7,5 +7,5 @@ use Rattle.mls_apply.proofs.path.carried.Goals as goal
 pub loop-parent-init : goal.loop-parent-init
 loop-parent-init c =
     let first : c.push.new.self.items ≡ c.args.new.hash ∷ [] =
-    c.in_ok-push.ensures.items ∙ ap (λ (hs : List (List ℕ)). hs ++ c.in_ok-opaque_of.field-0 ∷ []) c.new-hashes.ensures.items ∙ ap (λ (h : List ℕ). h ∷ []) c.in_ok-opaque_of.ensures in
+    c.in_ok-push.ensures.items ∙ ap (λ (hs : List (List ℕ)). hs ++ c.in_ok-to_opaque.field-0 ∷ []) c.new-hashes.ensures.items ∙ ap (λ (h : List ℕ). h ∷ []) c.in_ok-to_opaque.ensures in
     ap (λ (hs : List (List ℕ)). hs ++ reverse (map (λ (p : Change). p.parent.parent_hash) (map change_of c.args.new.parents.items))) first

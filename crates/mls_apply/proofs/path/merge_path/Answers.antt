@@ -25,7 +25,7 @@ returns-in-Ok-clause-merged c =
     let t = c.args.applied.tree.tree in
     let cs = map change_of c.in-Ok.new.parents.items in
     merged-changes (hash_of c.args.suite) t c.args.committer c.args.path.now.leaf_node (node_keys c.args.path.now) cs c.in-Ok.ensures.route
-    ∙ (λ i. Some (put_leaf 0 (changed 0 (clear_path (sym c.filled_nodes.ensures.tree i) c.args.committer) cs) c.args.committer (Some (sym c.in-Ok.ensures.leaf i))))
+    ∙ (λ i. Some (put_leaf 0 (changed 0 (clear_path (sym c.indexed_nodes.ensures.tree i) c.args.committer) cs) c.args.committer (Some (sym c.in-Ok.ensures.leaf i))))
     ∙ (λ i. Some (sym c.put_path.ensures i))
 
 pub returns-in-Err-clause-no_such_leaf : goal.returns-in-Err-clause-no_such_leaf

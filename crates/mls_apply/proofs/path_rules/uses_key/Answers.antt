@@ -1,8 +1,9 @@
-use Rattle.std.proofs.Common.{ap, sym, ◌∙◌}
-use Rattle.std.specs.List.{list_any}
-use Rattle.mls_apply.specs.Seen.{holds_key}
-use Rattle.mls_apply.proofs.PathKeys.{keys_in, tree_keys-listing}
+use Rattle.std.proofs.Common.{◌∙◌, ap}
+use Rattle.mls_check.specs.Distinct.{has_key, tree_keys}
+use Rattle.mls_apply.proofs.PathKeys.{stands}
 use Rattle.mls_apply.proofs.path_rules.uses_key.Goals as goal
 
-pub loop-entry-init : goal.loop-entry-init
-loop-entry-init c = ap (list_any (holds_key c.args.keys.now)) (tree_keys-listing c.args.tree.now.tree ∙ ap keys_in (sym c.nodes-entry-items.ensures))
+pub returns : goal.returns
+returns c =
+    stands c.as_slice.result.now c.args.tree.now.tree c.has_key.result (c.has_key.ensures c.requires)
+    ∙ ap (has_key (tree_keys c.args.tree.now.tree)) c.as_slice.ensures.bytes

@@ -1,8 +1,9 @@
-use Rattle.std.proofs.Common.{◌∙◌, ap, sym, arith}
+use Rattle.std.proofs.Common.{◌∙◌, ap, sym, inl, inr, arith}
+use Rattle.std.proofs.lemmas.Bool.{cases_Bool}
 use Rattle.mls_msgs.specs.declared.commit.PathNode.{PathNode}
 use Rattle.mls_check.proofs.Repeats.{met, unmet}
 use Rattle.mls_apply.proofs.PathKeys.{held-start, held-before, held-all, twice-before, twice-all}
-use Rattle.mls_apply.proofs.path_rules.distinct_keys.Goals as goal
+use Rattle.mls_apply.proofs.path_rules.has_distinct_keys.Goals as goal
 
 pub loop-index-init : goal.loop-index-init
 loop-index-init c = held-start c.as_slice-nodes.result.now c.new-keys.result c.new-keys.ensures.empty
@@ -15,17 +16,19 @@ loop-index-preserved c =
 
 pub returns-then-not-branch : goal.returns-then-not-branch
 returns-then-not-branch c =
-    twice-before c.as_slice-nodes.result.now c.loop-index.index c.index-nodes-index.result c.as_slice.result c.loop-index.keys c.loop-index.invariant
+    sym (twice-before c.as_slice-nodes.result.now c.loop-index.index c.index-nodes-index.result c.as_slice.result c.loop-index.keys c.loop-index.invariant
     (omega (arith, c.loop-index-test.true)) (omega (arith, c.loop-index.auto.index)) c.index-nodes-index.is (c.as_slice.ensures.bytes ∙ ap (λ (n : PathNode). n.encryption_key) (sym c.index-nodes-index.is))
-    c.args.path.now c.as_slice-nodes.ensures (met _ _ c.in_ok-insert.ensures.added c.if-not-branch.true)
-
-pub returns-then-not-branch-2 : goal.returns-then-not-branch-2
-returns-then-not-branch-2 c =
-    twice-all c.args.path.now c.as_slice-nodes.result.now c.loop-index.index c.as_slice-2.result c.loop-index.keys c.loop-index.invariant c.as_slice-nodes.ensures
-    (omega (arith, c.loop-index-test.false)) c.as_slice-2.ensures.bytes (met _ _ c.in_ok-insert-2.ensures.added c.if-not-branch-2.true)
+    c.args.path.now c.as_slice-nodes.ensures (met _ _ c.in_ok-insert.ensures.added c.if-not-branch.true))
 
 pub returns : goal.returns
 returns c =
-    let all = held-all c.args.path.now c.as_slice-nodes.result.now c.loop-index.index c.as_slice-2.result c.loop-index.keys c.loop-index.invariant c.as_slice-nodes.ensures
-    (omega (arith, c.loop-index-test.false)) c.as_slice-2.ensures.bytes c.insert-2.new.self (unmet _ _ c.in_ok-insert-2.ensures.added c.if-not-branch-2.false) c.in_ok-insert-2.ensures.updates.0 in
-    (all.distinct, all.holds)
+    elim (cases_Bool c.in_ok-insert-2.field-0) [
+      | inl new ↦
+          new
+          ∙ sym (held-all c.args.path.now c.as_slice-nodes.result.now c.loop-index.index c.as_slice-2.result c.loop-index.keys c.loop-index.invariant c.as_slice-nodes.ensures
+          (omega (arith, c.loop-index-test.false)) c.as_slice-2.ensures.bytes c.insert-2.new.self (unmet _ _ c.in_ok-insert-2.ensures.added new) c.in_ok-insert-2.ensures.updates.0).distinct
+      | inr again ↦
+          again
+          ∙ sym (twice-all c.args.path.now c.as_slice-nodes.result.now c.loop-index.index c.as_slice-2.result c.loop-index.keys c.loop-index.invariant c.as_slice-nodes.ensures
+          (omega (arith, c.loop-index-test.false)) c.as_slice-2.ensures.bytes (met _ _ c.in_ok-insert-2.ensures.added again))
+    ]

@@ -179,7 +179,7 @@ taken G s bytes (Err e) new h = inl (record { context = ap (λ (t : State). t.co
 
 -- ---- of the tree that a commit moved to
 
-no_fault : (o : Option MemberFault) → AreKept (member_rules o) → o ≡ None
+pub no_fault : (o : Option MemberFault) → AreKept (member_rules o) → o ≡ None
 no_fault None h = refl
 no_fault (Some f) h = absurd (refused h)
 

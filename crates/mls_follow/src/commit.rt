@@ -3,8 +3,8 @@
 ghost use Rattle.std.specs.Prelude.{◌≡◌, ◌<◌, Some, None, IsSome, IfOk, IfErr, OnOk, is_some};
 ghost use Rattle.mls_hash.specs.Hashing.{hash_of};
 ghost use Rattle.mls_tree.specs.Journals.{before};
-ghost use Rattle.mls_tree.specs.Tree.{leaf_at};
-ghost use Rattle.mls_tree.specs.TreeHash.{tree_hash};
+ghost use Rattle.mls_tree.specs.Tree.{Tree, leaf_at};
+ghost use Rattle.mls_index.specs.TreeIndex.{IsBetween};
 ghost use Rattle.mls_apply.specs.Items.{resolved};
 ghost use Rattle.mls_apply.specs.ListRules.{list_refusal};
 ghost use Rattle.mls_apply.specs.Rules.{first_failing};
@@ -12,21 +12,21 @@ ghost use Rattle.mls_apply.specs.Outcome.{grown, outcome};
 ghost use Rattle.mls_follow.specs.State.{last_epoch};
 ghost use Rattle.mls_follow.specs.Judging.{Refuses};
 ghost use Rattle.mls_follow.specs.GroupSeen.{group_state};
-ghost use Rattle.mls_follow.specs.Rules.{commit_refusal, inline_rules, path_rules_of, tree_rules, resulting};
-ghost use Rattle.mls_follow.specs.Changing.{change_rules, changed_tree, in_context};
+ghost use Rattle.mls_follow.specs.Rules.{commit_refusal, inline_rules, path_rules_of, resulting};
+ghost use Rattle.mls_follow.specs.Changing.{change_rules, changed_tree};
 
-use crate::group::{Group, filled_hash};
+use crate::group::Group;
 use crate::inline::check_inline;
+use crate::judging::enter_changes;
 use crate::refusal::Refusal;
 use mls_apply::{
     Leaves, ListItem, apply_list_in_place, check_list, merge_path_in_place, resolve_list,
 };
-use mls_check::{SignatureCheck, has_distinct_keys, validate_members};
+use mls_check::SignatureCheck;
 use mls_hash::Suite;
+use mls_index::TreeIndex;
 use mls_msgs::{Commit, UpdatePath};
-use mls_nodes::{GroupContext, RequiredCapabilities};
 use mls_tree::{Journal, PublicTree};
-use mls_wire::Opaque;
 use std::alloc::Global;
 
 /// The items of a member's commit, where it keeps the rules that are judged before the tree is changed: its epoch is
@@ -60,17 +60,20 @@ pub(crate) fn check_items<C: SignatureCheck>(
     Ok(items)
 }
 
-/// Merges the path of a commit, if it has one, into the tree after its proposals, where it keeps the rules for paths.
+/// Merges the path of a commit, if it has one, into the tree after its proposals, where it keeps the rules for paths. Its
+/// keys are looked for by the index, which is settled with the tree before the proposals.
 fn merge(
     alloc: Global,
     suite: Suite,
     tree: &mut PublicTree,
     journal: &mut Journal,
+    index: &mut TreeIndex,
     added: &Leaves,
     committer: u32,
     path: &Option<UpdatePath>,
 ) -> Result<(), Refusal>
     requires member { IsSome (leaf_at 0 tree.old.tree committer) }
+    requires between { IsBetween (before journal.old tree.old.tree) index.old }
     ensures kept { let g = grown tree.old.tree added.now in
         OnOk result (first_failing (path_rules_of (hash_of suite) g committer path.now) ≡ None) }
     ensures tree { let g = grown tree.old.tree added.now in
@@ -79,26 +82,30 @@ fn merge(
         IfErr result
         (Refuses (first_failing (path_rules_of (hash_of suite) g committer path.now))) }
     ensures before { before journal.new tree.new.tree ≡ before journal.old tree.old.tree }
+    ensures between { (t : Tree) → IsBetween t index.old → IsBetween t index.new }
 {
     let Some(path) = path else {
         return Ok(());
     };
-    Ok(merge_path_in_place(alloc, suite, tree, journal, added, committer, path)?)
+    drop(enter_changes(alloc, tree, journal, index)?);
+    Ok(merge_path_in_place(alloc, suite, tree, journal, index, added, committer, path)?)
 }
 
 /// Changes a group's tree as a member's commit with these items and this path does: the list is applied, and the path
-/// is merged.
+/// is merged. The index stays settled with the tree before.
 pub(crate) fn change_tree(
     alloc: Global,
     suite: Suite,
     tree: &mut PublicTree,
     journal: &mut Journal,
+    index: &mut TreeIndex,
     committer: u32,
     items: &[ListItem],
     path: &Option<UpdatePath>,
 ) -> Result<(), Refusal>
     requires member { IsSome (leaf_at 0 tree.old.tree committer) }
     requires list { list_refusal committer items.now (is_some path.now) ≡ None }
+    requires between { IsBetween (before journal.old tree.old.tree) index.old }
     ensures kept { let o = outcome items.now tree.old.tree in
         OnOk result (first_failing (change_rules (hash_of suite) committer path.now o) ≡ None) }
     ensures tree { let o = outcome items.now tree.old.tree in
@@ -107,59 +114,8 @@ pub(crate) fn change_tree(
         IfErr result
         (Refuses (first_failing (change_rules (hash_of suite) committer path.now o))) }
     ensures before { before journal.new tree.new.tree ≡ before journal.old tree.old.tree }
+    ensures between { (t : Tree) → IsBetween t index.old → IsBetween t index.new }
 {
     let added = apply_list_in_place(alloc, tree, journal, items)?;
-    merge(alloc, suite, tree, journal, &added, committer, path)
-}
-
-/// Whether the tree after a commit keeps the rules of a group with this context, which requires this of its members:
-/// its encryption keys are distinct, and its leaves are members.
-fn check_tree<C: SignatureCheck>(
-    alloc: Global,
-    context: &GroupContext,
-    required: &RequiredCapabilities,
-    checker: &C,
-    tree: &PublicTree,
-) -> Result<(), Refusal>
-    ensures kept { let s = in_context context.now in
-        OnOk result (first_failing
-        (tree_rules (C.meaning checker.now) s required.now (Some tree.now.tree)) ≡ None) }
-    ensures refused { let s = in_context context.now in
-        IfErr result (Refuses (first_failing
-        (tree_rules (C.meaning checker.now) s required.now (Some tree.now.tree)))) }
-{
-    if !has_distinct_keys(alloc, tree)? {
-        return Err(Refusal::KeyRepeated);
-    }
-    Ok(validate_members(
-        alloc,
-        context.cipher_suite,
-        &context.group_id,
-        required,
-        tree,
-        checker,
-    )?)
-}
-
-/// The tree hash of the tree after a commit, where it keeps the rules. What is empty of the hashes that the tree keeps
-/// of its subtrees is filled.
-pub(crate) fn judge_tree<C: SignatureCheck>(
-    alloc: Global,
-    suite: Suite,
-    context: &GroupContext,
-    required: &RequiredCapabilities,
-    checker: &C,
-    tree: &mut PublicTree,
-) -> Result<Opaque, Refusal>
-    ensures tree { tree.new.tree ≡ tree.old.tree }
-    ensures kept { let s = in_context context.now in
-        OnOk result (first_failing
-        (tree_rules (C.meaning checker.now) s required.now (Some tree.old.tree)) ≡ None) }
-    ensures refused { let s = in_context context.now in
-        IfErr result (Refuses (first_failing
-        (tree_rules (C.meaning checker.now) s required.now (Some tree.old.tree)))) }
-    ensures hash { IfOk result (λ hash. tree_hash (hash_of suite) 0 tree.old.tree ≡ Some hash) }
-{
-    check_tree(alloc, context, required, checker, tree)?;
-    Ok(filled_hash(alloc, suite, tree)?)
+    merge(alloc, suite, tree, journal, index, &added, committer, path)
 }

@@ -3,6 +3,7 @@
 ghost use Rattle.std.specs.Prelude.{◌≡◌, ◌≢◌, ◌↔◌, ℕ, List, None, IfOk, IfErr, OnOk, OnErr, IsErrAnd, option_map};
 ghost use Rattle.mls_tree.specs.KeptTree.{plain};
 ghost use Rattle.mls_nodes.specs.Requirements.{extension_of, Requires};
+ghost use Rattle.mls_index.specs.TreeIndex.{IsIndexOf, IsIndexOf-prop};
 ghost use Rattle.mls_follow.specs.State.{IsInput, Spells};
 ghost use Rattle.mls_follow.specs.GroupSeen.{group_state};
 ghost use Rattle.mls_follow.specs.Judged.{IsJudged, IsJudged-prop};
@@ -13,24 +14,27 @@ ghost use Rattle.mls_follow.specs.Start.{FailsSuite, IsFollowed, IsStart, IsStar
 use crate::frame::read_message;
 use crate::group::Group;
 use crate::refusal::Refusal;
-use crate::start::{Judged, StartFault, StartRefused, followed_suite, judge, judge_own};
+use crate::start::{StartFault, StartRefused, followed_suite, judge, judge_own};
 use crate::taken::Taken;
 use mls_apply::KnownProposal;
 use mls_check::SignatureCheck;
 use mls_hash::Suite;
+use mls_index::TreeIndex;
 use mls_msgs::{GroupInfo, Message};
-use mls_nodes::GroupContext;
+use mls_nodes::{GroupContext, RequiredCapabilities};
 use mls_tree::{HashValue, PublicTree};
 use std::alloc::Global;
 
-/// A follower of a group: the group's public state, and the checker of signatures that it asks. The group's encryption
-/// keys are always distinct, and its leaves members by what this checker means.
+/// A follower of a group: the group's public state, the index of its tree, and the checker of signatures that it asks.
+/// The group's encryption keys are always distinct, and its leaves members by what this checker means.
 #[derive(Drop)]
 pub struct Follower<C: SignatureCheck> {
     pub(crate) group: Group,
+    index: TreeIndex,
     checker: C,
     pub(crate) alloc: Global,
     ghost judged: { IsJudged (C.meaning checker) (group_state group) } by { IsJudged-prop (C.meaning checker) (group_state group) },
+    ghost indexed: { IsIndexOf group.tree.tree index } by { IsIndexOf-prop group.tree.tree index },
 }
 
 /// The group of a group info, with its tree, and with no known proposals.
@@ -39,19 +43,20 @@ fn first_group(
     suite: Suite,
     info: GroupInfo,
     tree: PublicTree,
-    judged: Judged,
+    required: RequiredCapabilities,
+    interim: HashValue,
 ) -> Group
     requires suite_of_context { suite ≡ info.context.cipher_suite }
-    requires required { Requires info.context judged.required }
-    ensures { group_state result ≡ first_state info (plain tree) judged.interim }
+    requires required { Requires info.context required }
+    ensures { group_state result ≡ first_state info (plain tree) interim }
 {
     Group {
         context: info.context,
         tree,
-        interim: judged.interim,
+        interim,
         known: Vec::new(alloc),
         suite,
-        required: judged.required,
+        required,
     }
 }
 
@@ -107,7 +112,8 @@ impl<C: SignatureCheck> Follower<C> {
         match tree {
             Some(mut tree) => match judge(alloc, suite, &info, &mut tree, &checker) {
                 Ok(judged) => Ok(Follower {
-                    group: first_group(alloc, suite, info, tree, judged),
+                    group: first_group(alloc, suite, info, tree, judged.required, judged.interim),
+                    index: judged.index,
                     checker,
                     alloc,
                 }),
@@ -120,7 +126,8 @@ impl<C: SignatureCheck> Follower<C> {
             },
             None => match judge_own(alloc, suite, &info, &checker) {
                 Ok((tree, judged)) => Ok(Follower {
-                    group: first_group(alloc, suite, info, tree, judged),
+                    group: first_group(alloc, suite, info, tree, judged.required, judged.interim),
+                    index: judged.index,
                     checker,
                     alloc,
                 }),
@@ -170,11 +177,16 @@ impl<C: SignatureCheck> Follower<C> {
             (state_of self.new) }
         ensures checker { C.meaning (checker_of self.new) ≡ C.meaning (checker_of self.old) }
     {
-        self.group.take(self.alloc, &self.checker, message)
+        self.group
+            .take(self.alloc, &self.checker, &mut self.index, message)
     }
 
     /// Takes one message (RFC 9420, 6): it is accepted where it keeps every rule, and else refused for the
     /// first one that it fails, or for want of memory. A refused message changes nothing.
+    ///
+    /// The tree after a commit is judged by what the commit changed in it, but in two cases: a commit that changes what
+    /// the group requires of its members, and one that is refused by the rules for the tree after it (`KeyRepeated` and
+    /// `Member`), are judged by the whole tree, and take its time.
     pub fn take(&mut self, bytes: &[u8]) -> Result<Taken, Refusal>
         ensures accepted { OnOk result (IsAcceptable (C.meaning (checker_of self.old))
             (state_of self.old) bytes.now) }

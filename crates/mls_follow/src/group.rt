@@ -14,13 +14,13 @@ ghost use Rattle.mls_follow.specs.Transcript.{confirmed_hash, interim_hash};
 use crate::refusal::Refusal;
 use crate::taken::Taken;
 use crate::terms::Terms;
-use crate::transcript::{confirmed_hash, interim_hash, opaque_of};
+use crate::transcript::{confirmed_hash, interim_hash};
 use mls_apply::KnownProposal;
 use mls_hash::{HashFault, Suite, fill_hashes, tree_hash};
 use mls_msgs::{Authenticated, Proposal};
 use mls_nodes::{GroupContext, RequiredCapabilities};
 use mls_tree::{HashValue, PublicTree};
-use mls_wire::{CodecFault, Opaque, TryClone};
+use mls_wire::{Opaque, copy_of};
 use std::alloc::{AllocError, Global};
 
 /// The public state of a group: its context, its tree, the interim transcript hash and the proposals that are
@@ -44,17 +44,6 @@ pub(crate) struct Transcript {
     interim: HashValue,
 }
 
-/// A second proposal, equal to this one.
-fn copy_of(alloc: Global, proposal: &Proposal) -> Result<Proposal, AllocError>
-    ensures { IfOk result (λ p. p ≡ proposal.now) }
-{
-    match proposal.try_clone(alloc) {
-        Ok(copy) => Ok(copy),
-        Err(CodecFault::OutOfMemory) => Err(AllocError),
-        Err(CodecFault::Wire(_)) => unreachable!(),
-    }
-}
-
 impl Group {
     ghost use Rattle.mls_follow.specs.GroupSeen.{group_state};
     ghost use Rattle.mls_follow.specs.Next.{after_proposal, committed, with_extensions};
@@ -71,6 +60,7 @@ impl Group {
             (group_state self.old) sender proposal.now reference
             ≡ record { taken = taken; state = group_state self.new }) }
         ensures stays { OnErr result (group_state self.new ≡ group_state self.old) }
+        ensures tree { self.new.tree ≡ self.old.tree }
     {
         let proposal = copy_of(alloc, proposal)?;
         self.known.push(KnownProposal {
@@ -101,7 +91,7 @@ impl Group {
         let confirmed = confirmed_hash(alloc, self.suite, self.interim.as_slice(), auth)?;
         let interim = interim_hash(alloc, self.suite, confirmed.as_slice(), tag)?;
         Ok(Transcript {
-            confirmed: opaque_of(alloc, &confirmed)?,
+            confirmed: confirmed.to_opaque(alloc)?,
             interim,
         })
     }
@@ -110,9 +100,10 @@ impl Group {
     pub(crate) fn enter(&mut self, tree_hash: Opaque, transcript: Transcript, terms: Terms) -> Taken
         requires later { self.old.context.epoch < last_epoch }
         requires terms { RequiresBy terms.extensions terms.required }
-        ensures { committed (with_extensions (group_state self.old) terms.extensions)
+        ensures next { committed (with_extensions (group_state self.old) terms.extensions)
             self.old.tree.tree tree_hash transcript.confirmed transcript.interim
             ≡ record { taken = result; state = group_state self.new } }
+        ensures tree { self.new.tree ≡ self.old.tree }
     {
         self.context.epoch += 1;
         self.context.extensions = terms.extensions;
@@ -160,5 +151,5 @@ pub(crate) fn filled_hash(
 {
     fill(alloc, suite, tree)?;
     let root = root_hash(alloc, suite, tree)?;
-    opaque_of(alloc, &root)
+    root.to_opaque(alloc)
 }

@@ -9,11 +9,14 @@
 //! [`wanted_by_start`] and [`Follower::wanted`] tell which signatures are asked about, for who checks them elsewhere.
 #![tactic(auto)]
 
+mod asking;
+mod asking_commit;
 mod commit;
 mod follower;
 mod frame;
 mod group;
 mod inline;
+mod judging;
 pub mod laws;
 mod offer;
 mod refusal;

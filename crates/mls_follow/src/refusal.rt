@@ -69,7 +69,7 @@ pub enum Refusal {
     /// the context (RFC 9420, 12.4).
     #[error("a path is missing")]
     PathMissing,
-    /// The group would get more than 1,048,576 members, or a list of unmerged leaves as many entries.
+    /// The group would get more than 1,048,576 members, or a list of unmerged leaves more than 1,048,576 entries.
     #[error("a tree has at most 1,048,576 leaves")]
     TooManyLeaves,
     /// A path has another number of nodes than the committer's filtered direct path (RFC 9420, 7.6).

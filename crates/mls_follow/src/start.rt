@@ -5,6 +5,7 @@ ghost use Rattle.mls_check.specs.Signatures.{Meaning};
 ghost use Rattle.mls_tree.specs.KeptTree.{plain};
 ghost use Rattle.mls_tree.specs.RatchetTree.{RatchetTree};
 ghost use Rattle.mls_nodes.specs.Requirements.{extension_of, Requires, HasNoRequirements};
+ghost use Rattle.mls_index.specs.TreeIndex.{IsIndexOf};
 ghost use Rattle.mls_follow.specs.Start.{FailsSuite, UsesTree, UsesNoTree, IsFollowed, IsStart, IsStartFault, StartsWith, FailsWith, IsSignedIn, FailsSigned, first_state, is_info_signed};
 
 use crate::group::fill;
@@ -13,6 +14,7 @@ use mls_check::{
     MemberFault, OutOfMemory, SignatureCheck, TreeFault, signed, validate_members, validate_tree,
 };
 use mls_hash::Suite;
+use mls_index::TreeIndex;
 use mls_msgs::{GROUP_INFO_LABEL, GroupInfo, info_tbs};
 use mls_nodes::{LeafNode, NodeFault, RequiredCapabilities, find_extension, requirements};
 use mls_tree::{HashValue, PublicTree};
@@ -142,11 +144,12 @@ pub struct StartRefused<C> {
     pub checker: C,
 }
 
-/// What is found of a group info and a tree that a follower starts from.
+/// What is found of a group info and a tree that a follower starts from, and the tree's index.
 #[derive(Drop)]
 pub(crate) struct Judged {
     pub(crate) required: RequiredCapabilities,
     pub(crate) interim: HashValue,
+    pub(crate) index: TreeIndex,
 }
 
 /// The cipher suite of a group info whose version and suite are followed.
@@ -300,9 +303,32 @@ fn filled_interim<C: SignatureCheck>(
     judged_interim(alloc, suite, info, required, tree, checker)
 }
 
+/// The same, with the tree's index.
+fn indexed_interim<C: SignatureCheck>(
+    alloc: Global,
+    suite: Suite,
+    info: &GroupInfo,
+    required: &RequiredCapabilities,
+    tree: &mut PublicTree,
+    checker: &C,
+) -> Result<(HashValue, TreeIndex), StartFault>
+    requires followed { IsFollowed info.now }
+    requires suite_of_context { suite ≡ info.now.context.cipher_suite }
+    requires required { Requires info.now.context required.now }
+    ensures tree { plain tree.new ≡ plain tree.old }
+    ensures started { IfOk result (λ found. StartsWith
+        (C.meaning checker.now) info.now (plain tree.old) found.0) }
+    ensures indexed { IfOk result (λ found. IsIndexOf tree.new.tree found.1) }
+    ensures refused { IfErr result (FailsWith (C.meaning checker.now) info.now (plain tree.old)) }
+{
+    let interim = filled_interim(alloc, suite, info, required, tree, checker)?;
+    let index = TreeIndex::of(alloc, tree)?;
+    Ok((interim, index))
+}
+
 /// What is found of a group info that is followed, where a follower starts with this tree: the group's
 /// requirements are read, the tree is validated, its leaves are judged as members, and then the info's
-/// signature.
+/// signature. The tree is indexed at last.
 pub(crate) fn judge<C: SignatureCheck>(
     alloc: Global,
     suite: Suite,
@@ -316,11 +342,16 @@ pub(crate) fn judge<C: SignatureCheck>(
     ensures required { IfOk result (λ judged. Requires info.now.context judged.required) }
     ensures started { IfOk result (λ judged. StartsWith
         (C.meaning checker.now) info.now (plain tree.old) judged.interim) }
+    ensures indexed { IfOk result (λ judged. IsIndexOf tree.new.tree judged.index) }
     ensures refused { IfErr result (FailsWith (C.meaning checker.now) info.now (plain tree.old)) }
 {
     let required = required_of(alloc, info)?;
-    match filled_interim(alloc, suite, info, &required, tree, checker) {
-        Ok(interim) => Ok(Judged { required, interim }),
+    match indexed_interim(alloc, suite, info, &required, tree, checker) {
+        Ok((interim, index)) => Ok(Judged {
+            required,
+            interim,
+            index,
+        }),
         Err(fault) => {
             drop(required);
             Err(fault)
@@ -340,6 +371,7 @@ pub(crate) fn judge_own<C: SignatureCheck>(
     ensures required { IfOk result (λ found. Requires info.now.context found.1.required) }
     ensures started { IfOk result (λ found. IsStart (C.meaning checker.now) info.now None
         (first_state info.now (plain found.0) found.1.interim)) }
+    ensures indexed { IfOk result (λ found. IsIndexOf found.0.tree found.1.index) }
     ensures refused { IfErr result (IsStartFault (C.meaning checker.now) info.now None) }
     ensures no_extension { extension_of 2 info.now.extensions ≡ None
         → result ≡ Err StartFault.NoTree }

@@ -11,23 +11,27 @@ ghost use Rattle.mls_apply.specs.Extensions.{brought, new_extensions};
 ghost use Rattle.mls_apply.specs.ListRules.{list_refusal};
 ghost use Rattle.mls_apply.specs.Outcome.{outcome};
 ghost use Rattle.mls_apply.specs.Rules.{first_failing};
+ghost use Rattle.mls_index.specs.TreeIndex.{IsIndexOf};
 ghost use Rattle.mls_follow.specs.Changing.{changed_tree};
 ghost use Rattle.mls_follow.specs.GroupSeen.{group_state};
+ghost use Rattle.mls_follow.specs.Judged.{IsJudged};
 ghost use Rattle.mls_follow.specs.Rules.{frame_refusal, handshake_refusal, outcome_rules, required_after, rules_under, reference_of};
 ghost use Rattle.mls_follow.specs.Next.{after_content, after_sender, after_tree, with_extensions};
 ghost use Rattle.mls_follow.specs.State.{IsInput, Spells, last_epoch};
 ghost use Rattle.mls_follow.specs.Judging.{Refuses};
 ghost use Rattle.mls_follow.specs.Runs.{Takes};
 
-use crate::commit::{change_tree, check_items, judge_tree};
+use crate::commit::{change_tree, check_items};
 use crate::frame::check_frame;
 use crate::group::Group;
+use crate::judging::judge_change;
 use crate::offer::check_offer;
 use crate::refusal::Refusal;
 use crate::taken::Taken;
 use crate::terms::{Terms, terms_after};
 use mls_apply::ListItem;
 use mls_check::SignatureCheck;
+use mls_index::TreeIndex;
 use mls_msgs::{Authenticated, Commit, Content, Message, Proposal, UpdatePath};
 use mls_tree::Journal;
 use std::alloc::Global;
@@ -67,6 +71,7 @@ impl Group {
         &mut self,
         alloc: Global,
         checker: &C,
+        index: &mut TreeIndex,
         auth: &Authenticated,
         committer: u32,
         items: &[ListItem],
@@ -79,6 +84,8 @@ impl Group {
         requires hashed { IsSome (confirmed_input auth.now) }
         requires commit { IsTrue (is_commit auth.now.content.content) }
         requires terms { RequiresBy terms.extensions terms.required }
+        requires judged { IsJudged (C.meaning checker.now) (group_state self.old) }
+        requires indexed { IsIndexOf self.old.tree.tree index.old }
         ensures kept { let o = outcome items.now self.old.tree.tree in
             OnOk result (first_failing (outcome_rules (C.meaning checker.now)
             (group_state self.old) terms.required committer path.now o) ≡ None) }
@@ -92,6 +99,7 @@ impl Group {
             IfErr result (Refuses (first_failing (outcome_rules (C.meaning checker.now)
             (group_state self.old) terms.required committer path.now o))) }
         ensures stays { OnErr result (group_state self.new ≡ group_state self.old) }
+        ensures indexed { IsIndexOf self.new.tree.tree index.new }
     {
         let transcript = match self.transcript(alloc, auth) {
             Ok(transcript) => transcript,
@@ -103,19 +111,34 @@ impl Group {
         let mut journal = Journal::new(alloc);
         let suite = self.suite;
         let tree = &mut self.tree;
-        match change_tree(alloc, suite, tree, &mut journal, committer, items, path) {
+        match change_tree(
+            alloc,
+            suite,
+            tree,
+            &mut journal,
+            index,
+            committer,
+            items,
+            path,
+        ) {
             Ok(()) => {
-                let required = &terms.required;
                 let context = &self.context;
-                match judge_tree(alloc, suite, context, required, checker, &mut self.tree) {
+                let former = &self.required;
+                let required = &terms.required;
+                let tree = &mut self.tree;
+                match judge_change(
+                    alloc, suite, context, former, required, checker, index, tree, &journal,
+                ) {
                     Ok(tree_hash) => Ok(self.enter(tree_hash, transcript, terms)),
                     Err(refusal) => {
+                        index.refuse();
                         journal.take_back(&mut self.tree);
                         Err(refusal)
                     }
                 }
             }
             Err(refusal) => {
+                index.refuse();
                 journal.take_back(&mut self.tree);
                 Err(refusal)
             }
@@ -128,6 +151,7 @@ impl Group {
         &mut self,
         alloc: Global,
         checker: &C,
+        index: &mut TreeIndex,
         auth: &Authenticated,
         committer: u32,
         items: &[ListItem],
@@ -138,6 +162,8 @@ impl Group {
         requires list { list_refusal committer items.now (is_some path.now) ≡ None }
         requires hashed { IsSome (confirmed_input auth.now) }
         requires commit { IsTrue (is_commit auth.now.content.content) }
+        requires judged { IsJudged (C.meaning checker.now) (group_state self.old) }
+        requires indexed { IsIndexOf self.old.tree.tree index.old }
         ensures kept { let o = outcome items.now self.old.tree.tree in
             let required = required_after self.old.required (brought items.now) in
             OnOk result (first_failing (rules_under (C.meaning checker.now)
@@ -154,9 +180,10 @@ impl Group {
             IfErr result (Refuses (first_failing (rules_under (C.meaning checker.now)
             (group_state self.old) committer path.now o required))) }
         ensures stays { OnErr result (group_state self.new ≡ group_state self.old) }
+        ensures indexed { IsIndexOf self.new.tree.tree index.new }
     {
         let terms = terms_after(alloc, self, items)?;
-        self.apply_commit(alloc, checker, auth, committer, items, path, terms)
+        self.apply_commit(alloc, checker, index, auth, committer, items, path, terms)
     }
 
     /// Takes a commit that a member has sent and signed.
@@ -165,6 +192,7 @@ impl Group {
         &mut self,
         alloc: Global,
         checker: &C,
+        index: &mut TreeIndex,
         auth: &Authenticated,
         sender: u32,
         commit: &Commit,
@@ -172,6 +200,8 @@ impl Group {
         requires member { IsSome (leaf_at 0 self.old.tree.tree sender) }
         requires hashed { IsSome (confirmed_input auth.now) }
         requires commit { IsTrue (is_commit auth.now.content.content) }
+        requires judged { IsJudged (C.meaning checker.now) (group_state self.old) }
+        requires indexed { IsIndexOf self.old.tree.tree index.old }
         ensures kept { OnOk result (handshake_refusal (C.meaning checker.now)
             (group_state self.old) self.old.required
             auth.now sender (contents.Commit commit.now) ≡ None) }
@@ -182,9 +212,18 @@ impl Group {
             (group_state self.old)
             self.old.required auth.now sender (contents.Commit commit.now))) }
         ensures stays { OnErr result (group_state self.new ≡ group_state self.old) }
+        ensures indexed { IsIndexOf self.new.tree.tree index.new }
     {
         let items = check_items(alloc, self, checker, sender, commit)?;
-        let answer = self.take_items(alloc, checker, auth, sender, items.as_slice(), &commit.path);
+        let answer = self.take_items(
+            alloc,
+            checker,
+            index,
+            auth,
+            sender,
+            items.as_slice(),
+            &commit.path,
+        );
         drop(items);
         answer
     }
@@ -196,10 +235,13 @@ impl Group {
         &mut self,
         alloc: Global,
         checker: &C,
+        index: &mut TreeIndex,
         auth: &Authenticated,
     ) -> Result<Taken, Refusal>
         requires hashed { IsSome (confirmed_input auth.now) }
         requires referenced { IsSome (reference_of self.old.context auth.now) }
+        requires judged { IsJudged (C.meaning checker.now) (group_state self.old) }
+        requires indexed { IsIndexOf self.old.tree.tree index.old }
         ensures kept { OnOk result (frame_refusal (C.meaning checker.now)
             (group_state self.old) self.old.required
             auth.now ≡ None) }
@@ -210,6 +252,7 @@ impl Group {
             (group_state self.old)
             self.old.required auth.now)) }
         ensures stays { OnErr result (group_state self.new ≡ group_state self.old) }
+        ensures indexed { IsIndexOf self.new.tree.tree index.new }
     {
         let sender = check_frame(alloc, self, checker, auth)?;
         match &auth.content().content {
@@ -217,7 +260,9 @@ impl Group {
             Content::Proposal(proposal) => {
                 self.take_proposal(alloc, checker, auth, sender, proposal)
             }
-            Content::Commit(commit) => self.take_commit(alloc, checker, auth, sender, commit),
+            Content::Commit(commit) => self.take_commit(
+                alloc, checker, index, auth, sender, commit,
+            ),
         }
     }
 
@@ -226,15 +271,19 @@ impl Group {
         &mut self,
         alloc: Global,
         checker: &C,
+        index: &mut TreeIndex,
         message: &Message,
     ) -> Result<Taken, Refusal>
-        requires { IsInput message.now }
-        ensures { (bytes : List ℕ) → Spells message.now bytes
+        requires input { IsInput message.now }
+        requires judged { IsJudged (C.meaning checker.now) (group_state self.old) }
+        requires indexed { IsIndexOf self.old.tree.tree index.old }
+        ensures takes { (bytes : List ℕ) → Spells message.now bytes
             → Takes (C.meaning checker.now) (group_state self.old) bytes result
             (group_state self.new) }
+        ensures indexed { IsIndexOf self.new.tree.tree index.new }
     {
         match message {
-            Message::Public(public) => self.take_frame(alloc, checker, public.auth()),
+            Message::Public(public) => self.take_frame(alloc, checker, index, public.auth()),
             _ => Err(Refusal::NotPublic),
         }
     }

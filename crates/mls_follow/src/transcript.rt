@@ -48,14 +48,3 @@ pub fn interim_hash(
         Err(CodecFault::Wire(_)) => unreachable!(),
     }
 }
-
-/// The bytes of a hash.
-pub(crate) fn opaque_of(alloc: Global, hash: &HashValue) -> Result<Opaque, AllocError>
-    ensures { IfOk result (λ o. o ≡ hash.now) }
-{
-    match Opaque::copy(alloc, hash.as_slice()) {
-        Ok(bytes) => Ok(bytes),
-        Err(CodecFault::OutOfMemory) => Err(AllocError),
-        Err(CodecFault::Wire(_)) => unreachable!(),
-    }
-}

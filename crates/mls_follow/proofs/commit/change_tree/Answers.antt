@@ -1,6 +1,8 @@
-use Rattle.std.proofs.Common.{ap, inl, inr, sym, Option, Some, Err, ◌∙◌}
+use Rattle.std.proofs.Common.{ap, inl, inr, sym, subst, Option, Some, Err, ◌∙◌}
 use Rattle.std.proofs.lemmas.Result.{err_from_is_err_and}
+use Rattle.mls_tree.specs.Tree.{Tree}
 use Rattle.mls_hash.specs.Hashing.{hash_of}
+use Rattle.mls_index.specs.TreeIndex.{IsBetween}
 use Rattle.mls_apply.specs.Outcome.{Grown}
 use Rattle.mls_apply.specs.Rules.{first_failing}
 use Rattle.mls_follow.specs.Changing.{change_rules}
@@ -20,10 +22,13 @@ returns-in_err-added-clause-refused c =
       | inr (inr n) ↦ absurd (not_memory (ap refusal_of n))
     ])
 
--- the committer's leaf stays
+-- the committer's leaf stays, and the index is settled with the tree before the changes
 pub merge-requires : goal.merge-requires
 merge-requires c =
-    record { member = committer_stays c.args.committer c.args.items.now _ c.args.tree.now.tree _ c.requires.list c.in_ok-added.ensures.applied c.requires.member }
+    record {
+      member = committer_stays c.args.committer c.args.items.now _ c.args.tree.now.tree _ c.requires.list c.in_ok-added.ensures.applied c.requires.member;
+      between = subst (λ (t : Tree). IsBetween t c.args.index.now) (sym c.in_ok-added.ensures.before) c.requires.between;
+    }
 
 pub returns-clause-kept : goal.returns-clause-kept
 returns-clause-kept c = rw c.in_ok-added.ensures.applied c.merge.ensures.kept

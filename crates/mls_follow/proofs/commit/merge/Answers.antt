@@ -9,7 +9,7 @@ use Rattle.mls_follow.proofs.commit.merge.Goals as goal
 
 pub returns-in_err-merge_path_in_place-clause-refused : goal.returns-in_err-merge_path_in_place-clause-refused
 returns-in_err-merge_path_in_place-clause-refused c =
-    let p = err_from_is_err_and c.from_residual.result c.from_residual.ensures.1 in
+    let p = err_from_is_err_and c.from_residual-in_err-merge_path_in_place.result c.from_residual-in_err-merge_path_in_place.ensures.1 in
     rw (c.in-Some.is, p.1, p.2) (λ own.
     path_word (hash_of c.args.suite) (grown c.args.tree.now.tree c.args.added.now) c.args.committer c.in-Some.path c.requires.member
     ∙ ap (option_map refusal_of) (c.in_err-merge_path_in_place.ensures.refused (λ e. own (ap refusal_of e))))

@@ -1,7 +1,10 @@
-use Rattle.std.proofs.Common.{Some, None, refl, sym, subst}
+use Rattle.std.proofs.Common.{Some, None, refl, sym, ap, subst}
 use Rattle.std.specs.Prelude.{option_map}
 use Rattle.mls_tree.specs.KeptTree.{plain}
+use Rattle.mls_tree.specs.Tree.{Tree}
+use Rattle.mls_index.specs.TreeIndex.{IsIndexOf}
 use Rattle.mls_follow.specs.Judged.{IsJudged}
+use Rattle.mls_follow.specs.State.{State}
 use Rattle.mls_follow.proofs.Judged.{start_judged}
 use Rattle.mls_follow.proofs.Starting.{version_followed, suite_followed, start_again}
 use Rattle.mls_follow.proofs.follower.Follower.start.Goals as goal
@@ -30,13 +33,19 @@ returns-in-Ok-judge-clause-started g c =
     rw (c.in-Some.is, c.first_group.ensures)
     (start_again _ c.args.info (Some (plain c.in-Some.tree)) (plain c.in-Some.tree) (plain c.judge.new.tree) c.in-Ok-judge.judged.interim c.judge.ensures.tree h)
 
--- the group's tree was judged
+-- the group's tree was judged, and the index is that of it
 pub invariant_of-result : goal.invariant_of-result
 invariant_of-result g c =
     let h = c.in-Ok-judge.ensures.started (Some (plain c.in-Some.tree)) refl in
     let again = start_again _ c.args.info (Some (plain c.in-Some.tree)) (plain c.in-Some.tree) (plain c.judge.new.tree) c.in-Ok-judge.judged.interim c.judge.ensures.tree h in
-    record { judged = subst (IsJudged (g.C.SignatureCheck.meaning c.args.checker)) (sym c.first_group.ensures) (start_judged _ c.args.info (Some (plain c.in-Some.tree)) _ again) }
+    record {
+      judged = subst (IsJudged (g.C.SignatureCheck.meaning c.args.checker)) (sym c.first_group.ensures) (start_judged _ c.args.info (Some (plain c.in-Some.tree)) _ again);
+      indexed = subst (λ (t : Tree). IsIndexOf t c.in-Ok-judge.judged.index) (sym (ap (λ (s : State). s.tree) c.first_group.ensures)) c.in-Ok-judge.ensures.indexed;
+    }
 
 pub invariant_of-result-in-Ok-judge_own : goal.invariant_of-result-in-Ok-judge_own
 invariant_of-result-in-Ok-judge_own g c =
-    record { judged = subst (IsJudged (g.C.SignatureCheck.meaning c.args.checker)) (sym c.first_group-in-Ok-judge_own.ensures) (start_judged _ c.args.info None _ c.in-Ok-judge_own.ensures.started) }
+    record {
+      judged = subst (IsJudged (g.C.SignatureCheck.meaning c.args.checker)) (sym c.first_group-in-Ok-judge_own.ensures) (start_judged _ c.args.info None _ c.in-Ok-judge_own.ensures.started);
+      indexed = subst (λ (t : Tree). IsIndexOf t c.in-Ok-judge_own.judged.index) (sym (ap (λ (s : State). s.tree) c.first_group-in-Ok-judge_own.ensures)) c.in-Ok-judge_own.ensures.indexed;
+    }

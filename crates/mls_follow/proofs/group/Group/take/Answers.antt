@@ -10,14 +10,16 @@ use Rattle.mls_follow.proofs.group.Group.take.Goals as goal
 
 pub take_frame-requires : goal.take_frame-requires
 take_frame-requires g c =
-    let input = subst IsInput c.in-Public.is c.requires in
+    let input = subst IsInput c.in-Public.is c.requires.input in
     record {
       hashed = rw c.auth.ensures.value (confirmed_exists c.in-Public.public (put_back (message (messages.Public c.in-Public.public)) input.0 input.1.spelled));
       referenced = rw c.auth.ensures.value (reference_exists c.args.self.now.context c.in-Public.public input);
+      judged = c.requires.judged;
+      indexed = c.requires.indexed;
     }
 
-pub returns-in-Public : goal.returns-in-Public
-returns-in-Public g c =
+pub returns-in-Public-clause-takes : goal.returns-in-Public-clause-takes
+returns-in-Public-clause-takes g c =
     let group = c.args.self.now in
     let taken = c.take_frame.ensures in
     rw c.in-Public.is (frame_taken _ (group_state group) group.required group.requires_these c.in-Public.public c.auth.result.now c.auth.ensures.value

@@ -1,6 +1,6 @@
 use Rattle.std.proofs.Common.{◌≡◌, ◌++◌, drop}
 use Rattle.mls_follow.specs.Wanted.{asked_by_entries}
-use Rattle.mls_follow.proofs.wanted.ask_entries.Given as goal
+use Rattle.mls_follow.proofs.asking_commit.ask_entries.Given as goal
 
 abbrev pub invariant-loop-entry : goal.invariant-loop-entry
 invariant-loop-entry l =

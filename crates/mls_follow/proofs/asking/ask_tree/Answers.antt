@@ -1,6 +1,6 @@
 use Rattle.std.proofs.Common.{arith}
 use Rattle.mls_follow.proofs.WantedLists.{below-all}
-use Rattle.mls_follow.proofs.wanted.ask_tree.Goals as goal
+use Rattle.mls_follow.proofs.asking.ask_tree.Goals as goal
 
 pub returns : goal.returns
 returns c =

@@ -1,6 +1,6 @@
 use Rattle.std.proofs.Common.{◌≡◌, ◌++◌, drop}
 use Rattle.mls_follow.specs.Wanted.{asked_at, replaced_leaves}
-use Rattle.mls_follow.proofs.wanted.ask_replaced.Given as goal
+use Rattle.mls_follow.proofs.asking_commit.ask_replaced.Given as goal
 
 abbrev pub invariant-loop-item : goal.invariant-loop-item
 invariant-loop-item l =

@@ -2,7 +2,7 @@ use Rattle.std.proofs.Common.{◌++◌, List, refl}
 use Rattle.mls_apply.specs.declared.item.ListItem.{ListItem}
 use Rattle.mls_follow.specs.Wanted.{asked_at, asked_of_item, replaced_leaves}
 use Rattle.mls_follow.proofs.WantedLists.{walked-next, walked-all, replaced-step}
-use Rattle.mls_follow.proofs.wanted.ask_replaced.Goals as goal
+use Rattle.mls_follow.proofs.asking_commit.ask_replaced.Goals as goal
 
 pub loop-item-preserved : goal.loop-item-preserved
 loop-item-preserved c =

@@ -2,7 +2,7 @@ use Rattle.std.proofs.Common.{◌∙◌, ◌++◌, List, ℕ, ap, sym, append_as
 use Rattle.mls_follow.specs.Wanted.{asked_at, asked_by_path, replaced_leaves}
 use Rattle.mls_follow.specs.declared.wanted.WantedSignature.{WantedSignature}
 use Rattle.mls_follow.proofs.WantedLists.{at_both}
-use Rattle.mls_follow.proofs.wanted.ask_brought.Goals as goal
+use Rattle.mls_follow.proofs.asking_commit.ask_brought.Goals as goal
 
 pub returns : goal.returns
 returns c =

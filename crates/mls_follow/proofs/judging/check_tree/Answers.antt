@@ -3,7 +3,7 @@ use Rattle.std.proofs.lemmas.Result.{err_from_is_err_and}
 use Rattle.mls_check.specs.Distinct.{has_distinct_keys}
 use Rattle.mls_follow.specs.Changing.{in_context}
 use Rattle.mls_follow.proofs.Committing.{tree_kept, tree_failed}
-use Rattle.mls_follow.proofs.commit.check_tree.Goals as goal
+use Rattle.mls_follow.proofs.judging.check_tree.Goals as goal
 
 pub returns-in_err-validate_members-clause-refused : goal.returns-in_err-validate_members-clause-refused
 returns-in_err-validate_members-clause-refused g c =

@@ -1,6 +1,6 @@
 use Rattle.std.proofs.Common.{◌≡◌, ◌++◌, drop}
 use Rattle.mls_follow.specs.Wanted.{asked_at}
-use Rattle.mls_follow.proofs.wanted.ask_at.Given as goal
+use Rattle.mls_follow.proofs.asking_commit.ask_at.Given as goal
 
 abbrev pub invariant-loop-index : goal.invariant-loop-index
 invariant-loop-index l =

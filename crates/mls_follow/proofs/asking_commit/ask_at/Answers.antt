@@ -2,7 +2,7 @@ use Rattle.std.proofs.Common.{◌++◌, List, ℕ, get_or, refl}
 use Rattle.mls_tree.specs.Tree.{leaf_at}
 use Rattle.mls_follow.specs.Wanted.{asked_at, asked_of_set_leaf}
 use Rattle.mls_follow.proofs.WantedLists.{walked-next, walked-all}
-use Rattle.mls_follow.proofs.wanted.ask_at.Goals as goal
+use Rattle.mls_follow.proofs.asking_commit.ask_at.Goals as goal
 
 pub loop-index-preserved : goal.loop-index-preserved
 loop-index-preserved c =

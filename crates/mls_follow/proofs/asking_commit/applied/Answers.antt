@@ -1,6 +1,6 @@
 use Rattle.std.proofs.Common.{refl, sym}
 use Rattle.mls_follow.proofs.WantedLists.{outcome_none}
-use Rattle.mls_follow.proofs.wanted.applied.Goals as goal
+use Rattle.mls_follow.proofs.asking_commit.applied.Goals as goal
 
 pub returns-in-Err-NoSuchLeaf : goal.returns-in-Err-NoSuchLeaf
 returns-in-Err-NoSuchLeaf c =

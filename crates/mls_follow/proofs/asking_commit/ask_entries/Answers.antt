@@ -1,7 +1,7 @@
 use Rattle.std.proofs.Common.{◌++◌, refl}
 use Rattle.mls_follow.specs.Wanted.{asked_by_entry, asked_by_entries}
 use Rattle.mls_follow.proofs.WantedLists.{walked-next, walked-all}
-use Rattle.mls_follow.proofs.wanted.ask_entries.Goals as goal
+use Rattle.mls_follow.proofs.asking_commit.ask_entries.Goals as goal
 
 pub loop-entry-preserved : goal.loop-entry-preserved
 loop-entry-preserved c =

@@ -4,6 +4,8 @@ pub mod Lines
 pub mod Outcomes
 pub mod Replaying
 pub mod Answered
+pub mod AskedLogs
+pub mod AskedStarts
 pub mod InOrder
 pub mod FindingsOnce
 pub mod ReplaysOnce

@@ -17,7 +17,7 @@ use Rattle.mls_report.specs.declared.outcome.Verdict.{Verdict}
 use Rattle.mls_report.specs.Replay.{Turn, AreTurns, state_after, turn_line, turn_lines, one_if, accepted_count, refused_count, message_limit, still_to_come, AreRecords, Follows, TellsLog, TellsPart, IsVerdict, last_lines, ending, Replays, ReplaysPart, StopsBefore}
 use Rattle.mls_report.specs.ReplaySteps.{ReadsUndecided, TellsTurn, StopsAt, FollowsLog, ReplaysStart, ReplaysStartPart, RefusesBefore}
 use Rattle.mls_report.specs.Starting.{ReadsBoth, IsReadAs, IsStarted, ReadsAndStarts, ReadsAndDeclines}
-use Rattle.mls_report.specs.StartingSteps.{IsUnread}
+use Rattle.mls_report.specs.StartingSteps.{IsUnread, RefusesStartPart}
 use Rattle.mls_report.specs.declared.finding.Finding.{Finding}
 use Rattle.mls_report.specs.declared.finding.Finding.TheVariants.{StartRefused}
 use Rattle.mls_msgs.specs.declared.group_info.GroupInfo.{GroupInfo}
@@ -29,7 +29,7 @@ AreTurns-snoc : (G : Meaning) (s : State) (ts : List Turn) (t : Turn) → AreTur
 AreTurns-snoc G s [] t a b = (b, tt)
 AreTurns-snoc G s (x ∷ ts) t a b = (a.0, AreTurns-snoc G x.state ts t a.1 b)
 
-state_after-snoc : (s : State) (ts : List Turn) (t : Turn) → state_after s (ts ++ t ∷ []) ≡ t.state
+pub state_after-snoc : (s : State) (ts : List Turn) (t : Turn) → state_after s (ts ++ t ∷ []) ≡ t.state
 state_after-snoc s [] t = refl
 state_after-snoc s (x ∷ ts) t = state_after-snoc x.state ts t
 
@@ -58,7 +58,7 @@ pub record SoFar (G : Meaning) (s : State) (log0 log1 written0 written1 : Option
   pub state : now ≡ state_after s ts
 
 -- bytes were read behind the messages so far
-follows-read : (G : Meaning) (s : State) (l0 l1 l2 : Option (List ℕ)) (ts : List Turn) (rest : List ℕ)
+pub follows-read : (G : Meaning) (s : State) (l0 l1 l2 : Option (List ℕ)) (ts : List Turn) (rest : List ℕ)
     → Follows G s l0 l1 ts [] → Consumes l1 l2 rest → Follows G s l0 l2 ts rest
 follows-read G s l0 l1 l2 ts rest f read = record {
   taken = f.taken;
@@ -69,7 +69,7 @@ follows-read G s l0 l1 l2 ts rest f read = record {
 }
 
 -- a record was read behind them, and its message taken
-follows-snoc : (G : Meaning) (s : State) (l0 l1 l2 : Option (List ℕ)) (ts : List Turn) (t : Turn) (read : List ℕ)
+pub follows-snoc : (G : Meaning) (s : State) (l0 l1 l2 : Option (List ℕ)) (ts : List Turn) (t : Turn) (read : List ℕ)
     → Follows G s l0 l1 ts [] → length ts < message_limit → IsRecord read t.bytes → Consumes l1 l2 read
     → IsAnswer G (state_after s ts) t.bytes t.answer t.state → Follows G s l0 l2 (ts ++ t ∷ []) []
 follows-snoc G s l0 l1 l2 ts t read f below r taken is_answer = record {
@@ -80,11 +80,11 @@ follows-snoc G s l0 l1 l2 ts t read f below r taken is_answer = record {
   log_read = subst (Consumes l0 l2) (ap (λ l. l ++ read) (append-nil f.records) ∙ sym (append-nil (f.records ++ read))) (Consumes-trans l0 l1 l2 _ _ f.log_read taken);
 }
 
-Consumes-nil : (a : Option (List ℕ)) → Consumes a a []
+pub Consumes-nil : (a : Option (List ℕ)) → Consumes a a []
 Consumes-nil None = tt
 Consumes-nil (Some x) = refl
 
-Appends-nil : (a : Option (List ℕ)) → Appends a a []
+pub Appends-nil : (a : Option (List ℕ)) → Appends a a []
 Appends-nil None = tt
 Appends-nil (Some x) = sym (append-nil x)
 
@@ -244,6 +244,16 @@ part-followed G s l0 l1 w0 w1 now a r broken f = record {
   left_over = inr (inr (broken, f.log_end));
   wrote = f.wrote;
 }
+
+-- ---- a start that is refused
+
+-- nothing of the log was read, and what was written of the line is told by the fault
+pub refused-before : (G : Meaning) (info : GroupInfo) (handed : Option RatchetTree) (fault : StartFault) (l w0 w1 : Option (List ℕ)) (e : RunFault)
+    → IsStartFault G info handed fault → RefusesStartPart fault w0 w1 e → RefusesBefore G info handed l l w0 w1 e
+refused-before G info handed fault l w0 w1 Read fails part = absurd part
+refused-before G info handed fault l w0 w1 Write fails part =
+    record { fault = fault; own = part.own; fails = fails; unread = refl; wrote = part.wrote }
+refused-before G info handed fault l w0 w1 Memory fails part = record { unread = refl; wrote = part }
 
 -- ---- with the inputs
 

@@ -2,11 +2,14 @@ pub mod FaultText
 pub mod Finding
 pub mod InfoText
 pub mod MessageText
+pub mod OneInput
 pub mod OneReport
 pub mod ReadAll
 pub mod Replay
 pub mod ReplaySteps
 pub mod Show
+pub mod Signatures
+pub mod SignatureSteps
 pub mod SomeReport
 pub mod Starting
 pub mod StartingSteps

@@ -1,7 +1,5 @@
 -- The report `show`. Numbers in parentheses are sections of RFC 9420.
-use Rattle.std.specs.Prelude.{ℕ, ◌≤◌, List, [], ◌++◌, length, codes, Option, Some, ◌≡◌, ◌⊎◌}
-use Rattle.std.specs.Io.KnownBytes.{Appends}
-use Rattle.mls_wire.specs.Devices.{AppendsPrefix}
+use Rattle.std.specs.Prelude.{ℕ, ◌≤◌, List, ◌++◌, length, codes, Option, Some, ◌≡◌, ◌⊎◌}
 use Rattle.mls_wire.specs.Limits.{input_limit}
 use Rattle.mls_nodes.specs.Value.{NodeValue}
 use Rattle.mls_nodes.specs.RatchetTree.{filled}
@@ -11,7 +9,7 @@ use Rattle.mls_msgs.specs.declared.message.Message.{Message}
 use Rattle.mls_msgs.specs.declared.message.Message.TheVariants as messages
 use Rattle.mls_report.specs.InfoText.{info_text}
 use Rattle.mls_report.specs.MessageText.{message_line}
-use Rattle.mls_report.specs.ReadAll.{ReadsAll}
+use Rattle.mls_report.specs.OneInput.{WritesReport, WritesPart}
 use Rattle.mls_report.specs.Texts.{IsOneLine}
 use Rattle.mls_report.specs.TreeText.{tree_text}
 use Rattle.mls_report.specs.declared.outcome.Verdict.{Verdict}
@@ -76,26 +74,11 @@ IsShowReport kind.Message bytes text verdict =
     IsMessageReport bytes text verdict ⊎ IsNoMessageReport bytes text verdict
 
 -- the input was read to its end, and the report of its bytes was written whole
-pub record Shows (k : ShowKind) (left0 left1 written0 written1 : Option (List ℕ))
-    (verdict : Verdict) : Type 0 where
-  pub bytes : List ℕ
-  pub text : List ℕ
-  pub read : ReadsAll left0 left1 bytes
-  pub report : IsShowReport k bytes text verdict
-  pub wrote : Appends written0 written1 text
-
--- the input was read to its end, and a prefix of the report of its bytes was written
-pub record ShowsPrefix (k : ShowKind)
-    (left0 left1 written0 written1 : Option (List ℕ)) : Type 0 where
-  pub bytes : List ℕ
-  pub text : List ℕ
-  pub verdict : Verdict
-  pub read : ReadsAll left0 left1 bytes
-  pub report : IsShowReport k bytes text verdict
-  pub wrote : AppendsPrefix written0 written1 text
+abbrev pub Shows : ShowKind → Option (List ℕ) → Option (List ℕ) → Option (List ℕ) → Option (List ℕ)
+    → Verdict → Type 0
+Shows k = WritesReport (IsShowReport k)
 
 -- nothing was written, or a prefix of the report of an input that had ended
 abbrev pub ShowsPart : ShowKind → Option (List ℕ) → Option (List ℕ) → Option (List ℕ)
     → Option (List ℕ) → Type 0
-ShowsPart k left0 left1 written0 written1 =
-    Appends written0 written1 [] ⊎ ShowsPrefix k left0 left1 written0 written1
+ShowsPart k = WritesPart (IsShowReport k)

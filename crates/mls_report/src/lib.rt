@@ -1,7 +1,9 @@
-//! The reports of the program `mlscheck`: what a file shows, whether a tree and a group are in order, and how a group is
-//! followed through a log. Each is written to a sink, and ends with a verdict or with the fault that broke it off.
+//! The reports of the program `mlscheck`: what a file shows, whether a tree and a group are in order, how a group is
+//! followed through a log, and which signatures this asks about. Each is written to a sink, and ends with a verdict or
+//! with the fault that broke it off.
 #![tactic(auto)]
 
+mod asking;
 mod fault_text;
 mod finding;
 mod info_text;
@@ -16,6 +18,8 @@ mod replay;
 mod replay_text;
 mod report;
 mod show;
+mod signature_text;
+mod signatures;
 mod text;
 mod tree_text;
 mod validate;
@@ -28,6 +32,7 @@ pub use receipts::run_unreadable_receipts;
 pub use replay::run_replay;
 pub use report::Report;
 pub use show::{ShowKind, run_show};
+pub use signatures::run_signatures;
 pub use validate::run_validate;
 pub use validate_tree::run_validate_tree;
 pub use write::{write_bytes, write_text};

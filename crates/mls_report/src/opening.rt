@@ -1,19 +1,18 @@
-//! How `validate` and `replay` begin: the group info and the tree are read, and a follower starts from
-//! them.
+//! How the reports of a group begin: the group info and the tree are read, and a follower starts from them.
 
 ghost use Rattle.std.specs.Prelude.{◌≡◌, ◌≢◌, ◌↔◌, ◌⊎◌, List, ℕ, Option, false, true, Err, IfOk, IfErr, option_map};
 ghost use Rattle.mls_tree.specs.KeptTree.{plain};
 ghost use Rattle.mls_report.specs.Starting.{IsInfo, IsHanded, IsHandedUnread, IsReadAs, ReadsBoth, ReadsHanded, has_failed};
-ghost use Rattle.mls_report.specs.StartingSteps.{Says, IsUnread};
+ghost use Rattle.mls_report.specs.StartingSteps.{Says, IsUnread, RefusesStart, RefusesStartPart};
 
-use crate::finding::Finding;
-use crate::outcome::RunFault;
+use crate::finding::{Finding, tell};
+use crate::outcome::{RunFault, Verdict};
 use crate::read::read_all;
 use mls_follow::StartFault;
 use mls_msgs::{GroupInfo, Message, decode_message};
 use mls_nodes::NodeFault;
 use mls_tree::PublicTree;
-use mls_wire::{CodecFault, Source};
+use mls_wire::{CodecFault, Sink, Source};
 use std::alloc::Global;
 
 /// Why no follower starts.
@@ -152,5 +151,24 @@ pub(crate) fn refused_start(fault: StartFault) -> Result<Finding, RunFault>
     match fault {
         StartFault::OutOfMemory => Err(RunFault::Memory),
         _ => Ok(Finding::StartRefused(fault)),
+    }
+}
+
+/// Writes the line of inputs from which no follower starts, for this fault.
+pub(crate) fn tell_refused<K: Sink>(
+    alloc: Global,
+    fault: StartFault,
+    out: &mut K,
+) -> Result<Verdict, RunFault>
+    requires { K.is_failed out.old ≡ false }
+    ensures told { IfOk result (RefusesStart fault (K.written out.old) (K.written out.new)) }
+    ensures part { IfErr result
+        (RefusesStartPart fault (K.written out.old) (K.written out.new)) }
+    ensures write { (result ≡ Err RunFault.Write) ↔ (K.is_failed out.new ≡ true) }
+    ensures fault { IfErr result (λ e. e ≢ RunFault.Read) }
+{
+    match refused_start(fault) {
+        Ok(finding) => tell(alloc, &finding, out),
+        Err(fault) => Err(fault),
     }
 }

@@ -9,7 +9,7 @@ ghost use Rattle.mls_report.specs.Replay.{message_limit, one_if, IsVerdict, Tell
 ghost use Rattle.mls_report.specs.ReplaySteps.{ReadsUndecided, TellsTurn, StopsAt, FollowsLog, ReplaysStart, ReplaysStartPart};
 
 use crate::finding::tell;
-use crate::opening::{NoStart, read_both, read_inputs, refused_start};
+use crate::opening::{NoStart, read_both, read_inputs, tell_refused};
 use crate::outcome::{RunFault, Verdict};
 use crate::replay_text::{last_lines, turn_line};
 use crate::write::write_text;
@@ -21,7 +21,7 @@ use mls_wire::{LogStep, RecordFault, Records, Sink, Source};
 use std::alloc::Global;
 
 /// The most messages that a log has.
-const MESSAGE_LIMIT: u32 = 1_000_000;
+pub(crate) const MESSAGE_LIMIT: u32 = 1_000_000;
 
 /// How many messages were accepted, and how many refused.
 #[derive(Clone, Copy)]
@@ -47,7 +47,7 @@ impl Tally {
 }
 
 /// Reads the next record of a log.
-fn next_record<L: Source>(reader: &mut Records, log: &mut L) -> Result<LogStep, RunFault>
+pub(crate) fn next_record<L: Source>(reader: &mut Records, log: &mut L) -> Result<LogStep, RunFault>
     requires going { reader.old.is_over ≡ false }
     requires log { L.is_failed log.old ≡ false }
     ensures meets { IfOk result (λ step.
@@ -205,10 +205,7 @@ fn replay_from<L: Source, K: Sink, C: SignatureCheck>(
         Err(refused) => {
             let fault = refused.fault;
             drop(refused);
-            match refused_start(fault) {
-                Ok(finding) => tell(alloc, &finding, out),
-                Err(fault) => Err(fault),
-            }
+            tell_refused(alloc, fault, out)
         }
     }
 }

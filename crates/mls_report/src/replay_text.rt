@@ -105,12 +105,11 @@ fn counts_line(
     format!(in alloc; "accepted {accepted} refused {refused} broken {broken} epoch {epoch}\n")
 }
 
-/// The line of message n, which is broken, before other lines.
-fn broken_line(alloc: Global, n: u32, counts: &str) -> Result<String, AllocError>
-    ensures { IfOk result
-        (λ text. string_bytes text ≡ decimal n ++ (codes " broken\n" ++ counts.now)) }
+/// The line of message n, which is broken.
+pub(crate) fn broken_line(alloc: Global, n: u32) -> Result<String, AllocError>
+    ensures { IfOk result (λ text. string_bytes text ≡ decimal n ++ codes " broken\n") }
 {
-    format!(in alloc; "{n} broken\n{counts}")
+    format!(in alloc; "{n} broken\n")
 }
 
 /// The last lines, behind so many accepted and refused messages.
@@ -129,5 +128,7 @@ pub(crate) fn last_lines(
         return counts_line(alloc, accepted, refused, 0, epoch);
     }
     let counts = counts_line(alloc, accepted, refused, 1, epoch)?;
-    broken_line(alloc, accepted + refused + 1, counts.as_str())
+    let mut text = broken_line(alloc, accepted + refused + 1)?;
+    text.push_str(counts.as_str())?;
+    Ok(text)
 }

@@ -1,12 +1,10 @@
 -- The report `check`: a line for each vector of a file, and their counts.
-use Rattle.std.specs.Prelude.{ℕ, ◌+◌, ◌==◌, List, [], ◌∷◌, ◌++◌, codes, Option, if◌then◌else◌, length, ◌≤◌, ◌≡◌, ◌⊎◌, ◌↔◌}
+use Rattle.std.specs.Prelude.{if◌then◌else◌, ℕ, ◌+◌, ◌==◌, List, [], ◌∷◌, ◌++◌, codes, Option, length, ◌≤◌, ◌≡◌, ◌⊎◌, ◌↔◌}
 use Rattle.std.specs.Fmt.{decimal}
-use Rattle.std.specs.Io.KnownBytes.{Appends}
 use Rattle.serde_json.specs.Data.{Data, Items, no_items, item}
-use Rattle.mls_wire.specs.Devices.{AppendsPrefix}
 use Rattle.mls_wire.specs.Limits.{input_limit}
 use Rattle.mls_vectors.specs.Outcomes.{Outcome, pass, fail, skip}
-use Rattle.mls_report.specs.ReadAll.{ReadsAll}
+use Rattle.mls_report.specs.OneInput.{WritesReport, WritesPart}
 use Rattle.mls_vectors.specs.TreeMath.{IsTreeMath}
 use Rattle.mls_vectors.specs.TranscriptVectors.{IsTranscript}
 use Rattle.mls_vectors.specs.TreeOperations.{IsTreeOperation}
@@ -113,26 +111,11 @@ TellsUnreadable =
     → ((text ≡ codes "vectors unreadable\n") ↔ HoldsNoVectors bytes)
 
 -- the input was read to its end, and the report of its bytes was written whole
-pub record Checks (k : CheckKind) (left0 left1 written0 written1 : Option (List ℕ))
-    (verdict : Verdict) : Type 0 where
-  pub bytes : List ℕ
-  pub text : List ℕ
-  pub read : ReadsAll left0 left1 bytes
-  pub report : IsCheckReport k bytes text verdict
-  pub wrote : Appends written0 written1 text
-
--- the input was read to its end, and a prefix of the report of its bytes was written
-pub record ChecksPrefix (k : CheckKind)
-    (left0 left1 written0 written1 : Option (List ℕ)) : Type 0 where
-  pub bytes : List ℕ
-  pub text : List ℕ
-  pub verdict : Verdict
-  pub read : ReadsAll left0 left1 bytes
-  pub report : IsCheckReport k bytes text verdict
-  pub wrote : AppendsPrefix written0 written1 text
+abbrev pub Checks : CheckKind → Option (List ℕ) → Option (List ℕ) → Option (List ℕ) → Option (List ℕ)
+    → Verdict → Type 0
+Checks k = WritesReport (IsCheckReport k)
 
 -- nothing was written, or a prefix of the report of an input that had ended
 abbrev pub ChecksPart : CheckKind → Option (List ℕ) → Option (List ℕ) → Option (List ℕ)
     → Option (List ℕ) → Type 0
-ChecksPart k left0 left1 written0 written1 =
-    Appends written0 written1 [] ⊎ ChecksPrefix k left0 left1 written0 written1
+ChecksPart k = WritesPart (IsCheckReport k)

@@ -14,12 +14,12 @@ use Rattle.mls_apply.specs.Outcome as operations
 use Rattle.mls_apply.specs.declared.item.ListItem.{ListItem}
 use Rattle.mls_apply.specs.declared.outcome.Applied.{Applied}
 use Rattle.mls_vectors.specs.TreeOperations.{HasProposal}
-use Rattle.mls_vectors.specs.TreeValidation.{HasSuite, HasTree, IsSkipped}
+use Rattle.mls_vectors.specs.TreeValidation.{HasSuite, HasTreeUnder, IsSkipped}
 use Rattle.mls_vectors.specs.VectorFile.{bytes_of, vectors_of}
 use Rattle.mls_vectors.specs.Outcomes as outcomes
 use Rattle.mls_vectors.specs.TreeMath.{Relation, IsLeft, IsRight, IsParent, IsSibling}
-use Rattle.mls_vectors.specs.declared.outcome.Outcome.{Outcome}
-use Rattle.mls_vectors.specs.declared.outcome.Outcome.TheVariants.{Pass, Fail, Skip}
+use Rattle.mls_vectors.specs.declared.vector_outcome.Outcome.{Outcome}
+use Rattle.mls_vectors.specs.declared.vector_outcome.Outcome.TheVariants.{Pass, Fail, Skip}
 use Rattle.mls_vectors.specs.declared.check.CheckKind.{CheckKind}
 use Rattle.mls_vectors.specs.declared.lines.Counts as code
 use Rattle.mls_report.specs.declared.outcome.Verdict.{Verdict}
@@ -70,8 +70,8 @@ ReadsTreeOf bytes (Some t) = IsTreeOf bytes t
 
 -- the tree that was found in a vector, if one can be read
 abbrev pub FindsTree : List ℕ → Data → Option RatchetTree → Type 0
-FindsTree name d None = (t : RatchetTree) → ¬ HasTree name d t
-FindsTree name d (Some t) = HasTree name d t
+FindsTree name d None = (t : RatchetTree) → ¬ HasTreeUnder name d t
+FindsTree name d (Some t) = HasTreeUnder name d t
 
 -- an entry is the hash that is kept for place p
 pub record IsKeptHash (hashes : List (List ℕ)) (p : ℕ) (d : Data) : Type 0 where

@@ -12,7 +12,7 @@ use Rattle.mls_hash.specs.Hashing.{hash_of}
 use Rattle.mls_apply.specs.Outcome.{outcome, Grown}
 use Rattle.mls_apply.specs.declared.item.ListItem.{ListItem}
 use Rattle.mls_vectors.specs.Outcomes.{Check, check, Outcome, IsOutcome, IsEarlyFailure}
-use Rattle.mls_vectors.specs.TreeValidation.{HasSuite, HasTree}
+use Rattle.mls_vectors.specs.TreeValidation.{HasSuite, HasTreeUnder}
 use Rattle.mls_vectors.specs.VectorFile.{whole_under, bytes_under}
 
 -- the proposal of a vector can be read
@@ -43,7 +43,7 @@ pub record HasTreeBytes (name : List ℕ) (t : Tree) (d : Data) : Type 0 where
 abbrev pub operand_checks : Data → List Check
 operand_checks d =
     check (codes "cipher_suite") ((suite : ℕ) × HasSuite d suite)
-    ∷ check (codes "tree_before") ((t : RatchetTree) × HasTree (codes "tree_before") d t)
+    ∷ check (codes "tree_before") ((t : RatchetTree) × HasTreeUnder (codes "tree_before") d t)
     ∷ check (codes "proposal") ((p : Proposal) × HasProposal d p)
     ∷ check (codes "proposal_sender") ((sender : ℕ) × HasSender d sender)
     ∷ []
@@ -53,7 +53,7 @@ pub record Operands (d : Data) : Type 0 where
   pub suite : ℕ
   pub has_suite : HasSuite d suite
   pub tree : RatchetTree
-  pub has_tree : HasTree (codes "tree_before") d tree
+  pub has_tree : HasTreeUnder (codes "tree_before") d tree
   pub item : ListItem
   pub has_proposal : HasProposal d item.proposal
   pub has_sender : HasSender d item.sender

@@ -35,7 +35,7 @@ pub record HasSuite (d : Data) (suite : ℕ) : Type 0 where
   pub supported : IsSupported suite
 
 -- the tree that a vector has under a name can be read
-pub record HasTree (name : List ℕ) (d : Data) (t : RatchetTree) : Type 0 where
+pub record HasTreeUnder (name : List ℕ) (d : Data) (t : RatchetTree) : Type 0 where
   pub bytes : List ℕ
   pub found : bytes_under name d ≡ Some bytes
   pub is_tree : IsTreeOf bytes t
@@ -78,7 +78,7 @@ pub record IsTreeHash (H : List ℕ → List ℕ) (t : Tree) (p : ℕ) (d : Data
 abbrev pub reading_checks : Data → List Check
 reading_checks d =
     check (codes "cipher_suite") ((suite : ℕ) × HasSuite d suite)
-    ∷ check (codes "tree") ((t : RatchetTree) × HasTree (codes "tree") d t)
+    ∷ check (codes "tree") ((t : RatchetTree) × HasTreeUnder (codes "tree") d t)
     ∷ []
 
 -- the further checks, by the hash function of the suite and the tree; it is valid with its own tree
@@ -96,7 +96,7 @@ pub record IsTreeOutcome (d : Data) (o : Outcome) : Type 0 where
   pub suite : ℕ
   pub has_suite : HasSuite d suite
   pub tree : RatchetTree
-  pub has_tree : HasTree (codes "tree") d tree
+  pub has_tree : HasTreeUnder (codes "tree") d tree
   pub outcome : IsOutcome (tree_checks (hash_of suite) tree.tree d) o
 
 -- the outcome of a vector that is not skipped

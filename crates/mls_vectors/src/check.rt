@@ -9,11 +9,11 @@ ghost use Rattle.mls_vectors.specs.VectorFile as vectors;
 ghost use Rattle.mls_vectors.specs.VectorFile.{vectors_of};
 
 use crate::lines::{count, counts_line, outcome_lines};
-use crate::outcome::Outcome;
 use crate::transcript::transcript_outcome;
 use crate::tree_math::tree_math_outcome;
 use crate::tree_operations::tree_operations_outcome;
 use crate::tree_validation::tree_validation_outcome;
+use crate::vector_outcome::Outcome;
 use mls_report::{Report, RunFault, Verdict, read_all, write_bytes};
 use mls_wire::{MAX_INPUT, Sink, Source};
 use serde_json::Value;

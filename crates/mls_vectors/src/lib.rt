@@ -5,12 +5,12 @@ mod check;
 pub mod laws;
 mod lines;
 mod members;
-mod outcome;
 mod suite;
 mod transcript;
 mod tree_math;
 mod tree_operations;
 mod tree_validation;
 mod trees;
+mod vector_outcome;
 
 pub use check::{CheckKind, run_check};

@@ -5,7 +5,7 @@ ghost use Rattle.std.specs.Fmt.{decimal};
 ghost use Rattle.mls_vectors.specs.Check as lines;
 ghost use Rattle.mls_vectors.specs.CheckSeen.{outcome_of, counts_of};
 
-use crate::outcome::Outcome;
+use crate::vector_outcome::Outcome;
 use std::alloc::{AllocError, Global};
 
 /// How many vectors passed, failed and were skipped.

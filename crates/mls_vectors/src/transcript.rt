@@ -10,8 +10,8 @@ ghost use Rattle.mls_vectors.specs.TranscriptVectors.{HasCommit, IsTranscript, h
 ghost use Rattle.mls_vectors.specs.TreeValidation.{HasSuite, IsOutcomeUnlessSkipped};
 
 use crate::members::{bytes_under, has_bytes};
-use crate::outcome::Outcome;
 use crate::suite::{SuiteMember, suite_of};
+use crate::vector_outcome::Outcome;
 use mls_follow::{confirmed_hash, interim_hash};
 use mls_hash::Suite;
 use mls_msgs::{Authenticated, decode_authenticated};

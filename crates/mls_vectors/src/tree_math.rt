@@ -11,7 +11,7 @@ ghost use Rattle.mls_vectors.specs.TreeMath.{HasSize, IsEntry, IsTreeMath, place
 ghost use Rattle.mls_vectors.specs.VectorFile.{AreEntries, HasEntries};
 
 use crate::members::{array_under, has_number, is_number, whole_under};
-use crate::outcome::Outcome;
+use crate::vector_outcome::Outcome;
 use mls_tree::{left, parent, right, root, sibling};
 use serde_json::Value;
 

@@ -9,12 +9,12 @@ ghost use Rattle.mls_hash.specs.Hashing.{hash_of};
 ghost use Rattle.mls_vectors.specs.CheckSeen.{outcome_of, AppliesItem, FindsProposal, ReadsProposalOf};
 ghost use Rattle.mls_vectors.specs.Outcomes.{IsOutcome};
 ghost use Rattle.mls_vectors.specs.TreeOperations.{HasProposal, HasSender, HasTreeBytes, HasTreeHash, IsTreeOperation, IsItemOutcome, after_checks};
-ghost use Rattle.mls_vectors.specs.TreeValidation.{HasSuite, HasTree, IsOutcomeUnlessSkipped};
+ghost use Rattle.mls_vectors.specs.TreeValidation.{HasSuite, HasTreeUnder, IsOutcomeUnlessSkipped};
 
 use crate::members::{bytes_under, has_bytes, whole_under};
-use crate::outcome::Outcome;
 use crate::suite::{SuiteMember, suite_of};
 use crate::trees::{tree_under, whole_hash};
+use crate::vector_outcome::Outcome;
 use mls_apply::{Applied, ApplyFault, ListItem, apply_list};
 use mls_hash::Suite;
 use mls_msgs::{Proposal, decode_proposal};
@@ -168,7 +168,7 @@ fn proposal_outcome(
     vector: &Value,
 ) -> Result<Outcome, AllocError>
     requires suite { HasSuite (view vector.now) suite }
-    requires tree { HasTree (codes "tree_before") (view vector.now) (plain tree.now) }
+    requires tree { HasTreeUnder (codes "tree_before") (view vector.now) (plain tree.now) }
     requires proposal { HasProposal (view vector.now) proposal }
     ensures { IfOk result (λ o. IsTreeOperation (view vector.now) (outcome_of o)) }
 {
@@ -194,7 +194,7 @@ fn tree_outcome(
     vector: &Value,
 ) -> Result<Outcome, AllocError>
     requires suite { HasSuite (view vector.now) suite }
-    requires tree { HasTree (codes "tree_before") (view vector.now) (plain tree.now) }
+    requires tree { HasTreeUnder (codes "tree_before") (view vector.now) (plain tree.now) }
     ensures { IfOk result (λ o. IsTreeOperation (view vector.now) (outcome_of o)) }
 {
     match proposal_in(alloc, vector)? {

@@ -1,9 +1,8 @@
 //! Vectors of the kind `tree-validation`: a tree with its resolutions and tree hashes, which has to be
 //! valid (RFC 9420, 4.1.1, 7.8 and 12.4.3.1).
 
-ghost use Rattle.std.specs.Prelude.{◌≡◌, ◌↔◌, ◌≤◌, ℕ, List, IsTrue, IfOk, codes, length};
+ghost use Rattle.std.specs.Prelude.{◌≡◌, ◌↔◌, ◌≤◌, ℕ, List, IsTrue, IfOk, codes};
 ghost use Rattle.serde_json.specs.View.{view, items_view};
-ghost use Rattle.mls_wire.specs.Limits.{vector_limit};
 ghost use Rattle.mls_nodes.specs.Limits.{leaf_limit};
 ghost use Rattle.mls_tree.specs.Tree.{leaf_count};
 ghost use Rattle.mls_hash.specs.Hashing.{hash_of};
@@ -15,14 +14,14 @@ ghost use Rattle.mls_vectors.specs.TreeValidation.{HasSuite, IsResolution, IsOut
 ghost use Rattle.mls_vectors.specs.VectorFile.{AreEntries, HasEntries};
 
 use crate::members::{array_under, gives_bytes, is_number};
-use crate::outcome::Outcome;
 use crate::suite::{SuiteMember, suite_of};
 use crate::trees::{tree_under, whole_hash};
+use crate::vector_outcome::Outcome;
 use mls_check::{TreeFault, validate_tree};
 use mls_hash::{SubtreeHashes, Suite};
 use mls_nodes::{Extensions, GroupContext};
 use mls_tree::{HashValue, PublicTree, TreeError};
-use mls_wire::{CodecFault, Opaque};
+use mls_wire::Opaque;
 use serde_json::Value;
 use std::alloc::{AllocError, Global};
 
@@ -178,18 +177,6 @@ fn has_tree_hashes(
     has_kept_hashes(alloc, tree.leaf_count(), &hashes, vector)
 }
 
-/// The bytes of a hash.
-fn opaque_of(alloc: Global, hash: &[u8]) -> Result<Opaque, AllocError>
-    requires { length hash.now ≤ vector_limit }
-    ensures { IfOk result (λ o. o ≡ hash.now) }
-{
-    match Opaque::copy(alloc, hash) {
-        Ok(bytes) => Ok(bytes),
-        Err(CodecFault::OutOfMemory) => Err(AllocError),
-        Err(CodecFault::Wire(_)) => unreachable!(),
-    }
-}
-
 /// No extensions.
 fn no_extensions(alloc: Global) -> Extensions {
     match Extensions::new(Vec::new(alloc)) {
@@ -208,7 +195,7 @@ fn context_of(alloc: Global, suite: Suite, hash: &HashValue) -> Result<GroupCont
         cipher_suite: suite.number(),
         group_id: Opaque::new(Vec::new(alloc)).ok().unwrap(),
         epoch: 0,
-        tree_hash: opaque_of(alloc, hash.as_slice())?,
+        tree_hash: hash.to_opaque(alloc)?,
         confirmed: Opaque::new(Vec::new(alloc)).ok().unwrap(),
         extensions: no_extensions(alloc),
     })

@@ -1,0 +1,159 @@
+-- What a start wants, and the report that begins with it.
+use Rattle.std.proofs.Common.{◌≡◌, ◌≢◌, ◌∙◌, ℕ, List, Option, Some, None, refl, sym, ap, subst, inl, inr}
+use Rattle.mls_tree.specs.RatchetTree.{RatchetTree}
+use Rattle.mls_check.specs.Signatures.{Meaning}
+use Rattle.mls_msgs.specs.declared.group_info.GroupInfo.{GroupInfo}
+use Rattle.mls_follow.specs.Start.{UsesTree, UsesNoTree, IsStart, IsStartFault}
+use Rattle.mls_follow.specs.State.{State}
+use Rattle.mls_follow.specs.Wanted.{wanted_by_start}
+use Rattle.mls_follow.specs.declared.start.StartFault.{StartFault}
+use Rattle.mls_follow.specs.declared.start.StartFault.TheVariants as starts
+use Rattle.mls_follow.specs.declared.wanted.WantedSignature.{WantedSignature}
+use Rattle.mls_report.specs.Signatures.{all_good, wanted_lines, StartWants, OpensWanting, Signatures, SignaturesPart, SignaturesBefore}
+use Rattle.mls_report.specs.SignatureSteps.{AreStartLines, StopsInText, TellsBehind, BehindPart, SignaturesStart, SignaturesStartPart, RefusesBefore}
+use Rattle.mls_report.specs.StartingSteps.{RefusesStartPart}
+use Rattle.mls_report.specs.Starting.{ReadsBoth, IsReadAs, ReadsAndDeclines}
+use Rattle.mls_report.specs.declared.finding.Finding.TheVariants.{StartRefused}
+use Rattle.mls_report.specs.declared.outcome.RunFault.{RunFault}
+use Rattle.mls_report.specs.declared.outcome.RunFault.TheVariants.{Read, Write, Memory}
+use Rattle.mls_report.specs.declared.outcome.Verdict.{Verdict}
+use Rattle.mls_report.proofs.Replaying.{Appends-nil}
+use Rattle.mls_report.proofs.StartsOnce.{one_tree}
+
+-- ---- what a start wants
+
+pub lines-handed : (R : Meaning) (info : GroupInfo) (h : RatchetTree) (text : List ℕ) → text ≡ wanted_lines R (wanted_by_start info h.tree)
+    → AreStartLines R info (Some h) text
+lines-handed R info h text e t uses = e ∙ ap (λ (v : RatchetTree). wanted_lines R (wanted_by_start info v.tree)) (sym uses)
+
+pub lines-own : (R : Meaning) (info : GroupInfo) (h : RatchetTree) (text : List ℕ) → UsesTree None info.extensions h
+    → text ≡ wanted_lines R (wanted_by_start info h.tree) → AreStartLines R info None text
+lines-own R info h text own e t uses =
+    e ∙ ap (λ (v : RatchetTree). wanted_lines R (wanted_by_start info v.tree)) (one_tree None info.extensions h t own uses)
+
+pub lines-none : (R : Meaning) (info : GroupInfo) (text : List ℕ) → UsesNoTree None info.extensions → AreStartLines R info None text
+lines-none R info text none t uses = absurd (none t uses)
+
+module _ (R : Meaning) (info : GroupInfo) (handed : Option RatchetTree) (s : State) (start : IsStart all_good info handed s) where
+  pub start-wants : StartWants info handed s (wanted_by_start info s.tree)
+  start-wants = record { start = start; wanted_is = refl }
+
+  pub start-lines : (text : List ℕ) → AreStartLines R info handed text → text ≡ wanted_lines R (wanted_by_start info s.tree)
+  start-lines text lines =
+      lines start.tree start.has_signer.has_members.valid_tree.readable.has_tree.uses
+      ∙ ap (λ (st : State). wanted_lines R (wanted_by_start info st.tree)) (sym start.state)
+
+  module _ (text : List ℕ) (lines : AreStartLines R info handed text) (l0 l1 : Option (Option (List ℕ))) (w0 w1 : Option (List ℕ)) where
+    pub starts-told : (verdict : Verdict) → TellsBehind R s text l0 l1 w0 w1 verdict → SignaturesStart R info handed l0 l1 w0 w1 verdict
+    starts-told verdict told = inl (record {
+      state = s;
+      wanted = wanted_by_start info s.tree;
+      starts = start-wants;
+      behind = subst (λ t. TellsBehind R s t l0 l1 w0 w1 verdict) (start-lines text lines) told;
+    })
+
+    pub starts-part : (fault : RunFault) → BehindPart R s text l0 l1 w0 w1 fault → SignaturesStartPart R info handed l0 l1 w0 w1 fault
+    starts-part fault part = inl (record {
+      state = s;
+      wanted = wanted_by_start info s.tree;
+      starts = start-wants;
+      behind = subst (λ t. BehindPart R s t l0 l1 w0 w1 fault) (start-lines text lines) part;
+    })
+
+-- ---- a start that is refused
+
+-- nothing of the log was read, and what was written of the line is told by the fault
+pub refused-before : (info : GroupInfo) (handed : Option RatchetTree) (fault : StartFault) (l : Option (Option (List ℕ))) (w0 w1 : Option (List ℕ)) (e : RunFault)
+    → IsStartFault all_good info handed fault → RefusesStartPart fault w0 w1 e → RefusesBefore info handed l l w0 w1 e
+refused-before info handed fault l w0 w1 Read fails part = absurd part
+refused-before info handed fault l w0 w1 Write fails part =
+    record { fault = fault; own = part.own; fails = fails; unread = refl; wrote = part.wrote }
+refused-before info handed fault l w0 w1 Memory fails part = record { unread = refl; wrote = part }
+
+-- ---- with the inputs
+
+module _ (R : Meaning) (info_bytes : List ℕ) (tree_bytes : Option (List ℕ)) (info : GroupInfo) (handed : Option RatchetTree)
+    (is_read : IsReadAs info_bytes tree_bytes info handed) (i0 i1 : Option (List ℕ)) (t0 t1 : Option (Option (List ℕ)))
+    (both : ReadsBoth i0 i1 t0 t1 info_bytes tree_bytes) where
+  opens : (s : State) (wanted : List WantedSignature) → StartWants info handed s wanted → OpensWanting i0 i1 t0 t1 s wanted
+  opens s wanted starts = record {
+    info_bytes = info_bytes;
+    tree_bytes = tree_bytes;
+    both_read = both;
+    info = info;
+    handed = handed;
+    is_read = is_read;
+    starts = starts;
+  }
+
+  declines : (fault : StartFault) → fault ≢ starts.OutOfMemory → IsStartFault all_good info handed fault → ReadsAndDeclines all_good i0 i1 t0 t1 (StartRefused fault)
+  declines fault own fails = record {
+    info_bytes = info_bytes;
+    tree_bytes = tree_bytes;
+    both_read = both;
+    found = (info, handed, is_read, own, fails);
+    verdict = refl;
+  }
+
+  module _ (l0 l1 : Option (Option (List ℕ))) (w0 w1 : Option (List ℕ)) where
+    pub told-start : (verdict : Verdict) → SignaturesStart R info handed l0 l1 w0 w1 verdict → Signatures R i0 i1 t0 t1 l0 l1 w0 w1 verdict
+    told-start verdict (inl p) = inr (record {
+      state = p.state;
+      wanted = p.wanted;
+      opens = opens p.state p.wanted p.starts;
+      between = p.behind.between;
+      wrote = p.behind.wrote;
+      tells = p.behind.tells;
+    })
+    told-start verdict (inr p) = inl (record {
+      finding = StartRefused p.fault;
+      declines = declines p.fault p.own p.fails;
+      unread = p.unread;
+      wrote = p.wrote;
+      verdict_is = p.verdict_is;
+    })
+
+    refused-part : (fault : RunFault) → RefusesBefore info handed l0 l1 w0 w1 fault → SignaturesBefore R i0 i1 t0 t1 l0 l1 w0 w1 fault
+    refused-part Read p = absurd p
+    refused-part Write p = inl (record {
+      finding = StartRefused p.fault;
+      declines = declines p.fault p.own p.fails;
+      unread = p.unread;
+      wrote = p.wrote;
+    })
+    refused-part Memory p = p
+
+    in-start : (s : State) (wanted : List WantedSignature) → StartWants info handed s wanted → (fault : RunFault) → fault ≡ Write
+        → StopsInText (wanted_lines R wanted) l0 l1 w0 w1 → SignaturesBefore R i0 i1 t0 t1 l0 l1 w0 w1 fault
+    in-start s wanted starts Read e p = absurd (cc)
+    in-start s wanted starts Write e p = inr (record { state = s; wanted = wanted; opens = opens s wanted starts; unread = p.unread; wrote = p.wrote })
+    in-start s wanted starts Memory e p = absurd (cc)
+
+    behind-part : (s : State) (wanted : List WantedSignature) → StartWants info handed s wanted → (fault : RunFault)
+        → BehindPart R s (wanted_lines R wanted) l0 l1 w0 w1 fault → SignaturesPart R i0 i1 t0 t1 l0 l1 w0 w1 fault
+    behind-part s wanted starts fault (inl p) = inl (in-start s wanted starts fault p.0 p.1)
+    behind-part s wanted starts fault (inr p) = inr (record {
+      state = s;
+      wanted = wanted;
+      opens = opens s wanted starts;
+      between = p.between;
+      wrote = p.wrote;
+      tells = p.tells;
+    })
+
+    pub part-start : (fault : RunFault) → SignaturesStartPart R info handed l0 l1 w0 w1 fault → SignaturesPart R i0 i1 t0 t1 l0 l1 w0 w1 fault
+    part-start fault (inl p) = behind-part p.state p.wanted p.starts fault p.behind
+    part-start fault (inr p) = inl (refused-part fault p)
+
+-- ---- nothing is written
+
+module _ (R : Meaning) (i0 i1 : Option (List ℕ)) (t0 t1 l : Option (Option (List ℕ))) (w : Option (List ℕ)) where
+  pub part-unread : (fault : RunFault) → fault ≢ Write → SignaturesPart R i0 i1 t0 t1 l l w w fault
+  part-unread Read own = inl (record { unread = refl; wrote = Appends-nil w })
+  part-unread Write own = absurd (own refl)
+  part-unread Memory own = inl (record { unread = refl; wrote = Appends-nil w })
+
+  pub part-memory : (fault : RunFault) → fault ≡ Memory → SignaturesPart R i0 i1 t0 t1 l l w w fault
+  part-memory Read same = absurd (cc)
+  part-memory Write same = absurd (cc)
+  part-memory Memory same = inl (record { unread = refl; wrote = Appends-nil w })

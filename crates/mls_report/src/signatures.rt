@@ -1,0 +1,233 @@
+//! The report `signatures`: which signatures the rules may ask about, for whoever checks them.
+
+ghost use Rattle.std.specs.Prelude.{◌≡◌, ◌↔◌, ◌⊎◌, false, true, None, Err, string_bytes, IfOk, IfErr, option_map};
+ghost use Rattle.mls_tree.specs.KeptTree.{plain};
+ghost use Rattle.mls_follow.specs.Seen.{state_of};
+ghost use Rattle.mls_follow.specs.Wanted as wanted;
+ghost use Rattle.mls_report.specs.Starting.{has_failed};
+ghost use Rattle.mls_report.specs.Signatures as specs;
+ghost use Rattle.mls_report.specs.Signatures.{Signatures, SignaturesPart};
+ghost use Rattle.mls_report.specs.SignatureSteps.{AreStartLines, TellsBehind, BehindPart, SignaturesStart, SignaturesStartPart};
+
+use crate::asking::ask_log;
+use crate::finding::tell;
+use crate::opening::{NoStart, read_both, read_inputs, tell_refused};
+use crate::outcome::{RunFault, Verdict};
+use crate::signature_text::wanted_text;
+use crate::write::write_text;
+use mls_check::{SignatureCheck, Trusting};
+use mls_follow::{Follower, StartFault, tree_in, wanted_by_start};
+use mls_msgs::GroupInfo;
+use mls_tree::PublicTree;
+use mls_wire::{Sink, Source};
+use std::alloc::Global;
+
+/// The lines of what a start from this tree wants.
+fn lines_by<R: SignatureCheck>(
+    alloc: Global,
+    info: &GroupInfo,
+    tree: &PublicTree,
+    receipts: &R,
+) -> Result<String, RunFault>
+    ensures lines { IfOk result (λ text. string_bytes text ≡ specs.wanted_lines
+        (R.meaning receipts.now) (wanted.wanted_by_start info.now tree.now.tree)) }
+    ensures memory { IfErr result (λ e. e ≡ RunFault.Memory) }
+{
+    let Ok(wanted) = wanted_by_start(alloc, info, tree) else {
+        return Err(RunFault::Memory);
+    };
+    let text = wanted_text(alloc, wanted.as_slice(), receipts);
+    drop(wanted);
+    Ok(text?)
+}
+
+/// The lines of what a start wants by the tree in the info; none where there is no tree.
+fn own_lines<R: SignatureCheck>(
+    alloc: Global,
+    info: &GroupInfo,
+    receipts: &R,
+) -> Result<String, RunFault>
+    ensures lines { IfOk result
+        (λ text. AreStartLines (R.meaning receipts.now) info.now None (string_bytes text)) }
+    ensures memory { IfErr result (λ e. e ≡ RunFault.Memory) }
+{
+    match tree_in(alloc, info) {
+        Ok(tree) => {
+            let text = lines_by(alloc, info, &tree, receipts);
+            drop(tree);
+            text
+        }
+        Err(StartFault::OutOfMemory) => Err(RunFault::Memory),
+        Err(_) => Ok(String::new(alloc)),
+    }
+}
+
+/// The lines of what a start wants, by the tree handed in or else by the one in the info.
+fn start_lines<R: SignatureCheck>(
+    alloc: Global,
+    info: &GroupInfo,
+    tree: &Option<PublicTree>,
+    receipts: &R,
+) -> Result<String, RunFault>
+    ensures lines { IfOk result
+        (λ text. AreStartLines (R.meaning receipts.now) info.now (option_map plain tree.now)
+        (string_bytes text)) }
+    ensures memory { IfErr result (λ e. e ≡ RunFault.Memory) }
+{
+    match tree {
+        Some(tree) => lines_by(alloc, info, tree, receipts),
+        None => own_lines(alloc, info, receipts),
+    }
+}
+
+/// Writes the lines of what a start wants, and then those of the log, where there is one.
+fn tell_started<L: Source, R: SignatureCheck, K: Sink>(
+    alloc: Global,
+    follower: &mut Follower<Trusting>,
+    lines: &str,
+    log: &mut Option<L>,
+    receipts: &R,
+    out: &mut K,
+) -> Result<Verdict, RunFault>
+    requires log { has_failed (option_map L.is_failed log.old) ≡ false }
+    requires out { K.is_failed out.old ≡ false }
+    ensures told { IfOk result
+        (TellsBehind (R.meaning receipts.now) (state_of follower.old) lines.now
+        (option_map L.left log.old) (option_map L.left log.new)
+        (K.written out.old) (K.written out.new)) }
+    ensures part { IfErr result
+        (BehindPart (R.meaning receipts.now) (state_of follower.old) lines.now
+        (option_map L.left log.old) (option_map L.left log.new)
+        (K.written out.old) (K.written out.new)) }
+    ensures read { (result ≡ Err RunFault.Read)
+        ↔ (has_failed (option_map L.is_failed log.new) ≡ true) }
+    ensures write { (result ≡ Err RunFault.Write) ↔ (K.is_failed out.new ≡ true) }
+{
+    write_text(out, lines)?;
+    match log {
+        Some(log) => ask_log(alloc, follower, log, receipts, out),
+        None => Ok(Verdict::Yes),
+    }
+}
+
+/// Starts a follower, each signature being good, and writes the report; `lines` are those of what the start wants.
+fn tell_start<L: Source, R: SignatureCheck, K: Sink>(
+    alloc: Global,
+    info: GroupInfo,
+    tree: Option<PublicTree>,
+    lines: &str,
+    log: &mut Option<L>,
+    receipts: &R,
+    out: &mut K,
+) -> Result<Verdict, RunFault>
+    requires lines { AreStartLines (R.meaning receipts.now) info (option_map plain tree) lines.now }
+    requires log { has_failed (option_map L.is_failed log.old) ≡ false }
+    requires out { K.is_failed out.old ≡ false }
+    ensures told { IfOk result
+        (SignaturesStart (R.meaning receipts.now) info (option_map plain tree)
+        (option_map L.left log.old) (option_map L.left log.new)
+        (K.written out.old) (K.written out.new)) }
+    ensures part { IfErr result
+        (SignaturesStartPart (R.meaning receipts.now) info (option_map plain tree)
+        (option_map L.left log.old) (option_map L.left log.new)
+        (K.written out.old) (K.written out.new)) }
+    ensures read { (result ≡ Err RunFault.Read)
+        ↔ (has_failed (option_map L.is_failed log.new) ≡ true) }
+    ensures write { (result ≡ Err RunFault.Write) ↔ (K.is_failed out.new ≡ true) }
+{
+    match Follower::start(alloc, info, tree, Trusting) {
+        Ok(started) => {
+            let mut follower = started;
+            let verdict = tell_started(alloc, &mut follower, lines, log, receipts, out);
+            drop(follower);
+            verdict
+        }
+        Err(refused) => {
+            let fault = refused.fault;
+            drop(refused);
+            tell_refused(alloc, fault, out)
+        }
+    }
+}
+
+/// The same, of a group info and a tree that can be read.
+fn signatures_from<L: Source, R: SignatureCheck, K: Sink>(
+    alloc: Global,
+    info: GroupInfo,
+    tree: Option<PublicTree>,
+    log: &mut Option<L>,
+    receipts: &R,
+    out: &mut K,
+) -> Result<Verdict, RunFault>
+    requires log { has_failed (option_map L.is_failed log.old) ≡ false }
+    requires out { K.is_failed out.old ≡ false }
+    ensures told { IfOk result
+        (SignaturesStart (R.meaning receipts.now) info (option_map plain tree)
+        (option_map L.left log.old) (option_map L.left log.new)
+        (K.written out.old) (K.written out.new)) }
+    ensures part { IfErr result
+        (SignaturesStartPart (R.meaning receipts.now) info (option_map plain tree)
+        (option_map L.left log.old) (option_map L.left log.new)
+        (K.written out.old) (K.written out.new)) }
+    ensures read { (result ≡ Err RunFault.Read)
+        ↔ (has_failed (option_map L.is_failed log.new) ≡ true) }
+    ensures write { (result ≡ Err RunFault.Write) ↔ (K.is_failed out.new ≡ true) }
+{
+    match start_lines(alloc, &info, &tree, receipts) {
+        Ok(lines) => tell_start(alloc, info, tree, lines.as_str(), log, receipts, out),
+        Err(fault) => Err(fault),
+    }
+}
+
+/// Reads the group info to its end, then the tree, where one is handed in, and starts a follower from them that takes
+/// each signature as good. Where none starts it writes the line that [`run_validate`](crate::run_validate) would write,
+/// `No`, and doesn't read the log.
+///
+/// Else it writes a line for each signature that the start wants ([`mls_follow::wanted_by_start`]) and that `receipts`
+/// don't cover: its receipt, which is its line in a file of receipts if it is good, the suite, the key, the
+/// SignContent (RFC 9420, 5.1.2) and the signature.
+///
+/// Then it reads the log, where there is one, of at most 1,000,000 records, each the vector of one message (2.1.2): it
+/// reads a record, takes the message, each signature being good, writes the same lines of the signatures that the message
+/// wants ([`Follower::wanted`]), in one piece, and only then reads on. A message that can't be read wants nothing, and is
+/// told by the line that [`run_replay`](crate::run_replay) would write, as a broken log is at its end. It is `Yes` where
+/// each message can be read and the log isn't broken.
+///
+/// `Read` comes where an input fails: then just the messages are told that were read whole. `Write` comes where the
+/// output does: then nothing was read behind the message in whose lines it failed. `Memory` comes where there is not
+/// enough: the messages before are told.
+pub fn run_signatures<I: Source, T: Source, L: Source, R: SignatureCheck, K: Sink>(
+    alloc: Global,
+    info: &mut I,
+    tree: &mut Option<T>,
+    log: &mut Option<L>,
+    receipts: &R,
+    out: &mut K,
+) -> Result<Verdict, RunFault>
+    requires info { I.is_failed info.old ≡ false }
+    requires tree { has_failed (option_map T.is_failed tree.old) ≡ false }
+    requires log { has_failed (option_map L.is_failed log.old) ≡ false }
+    requires out { K.is_failed out.old ≡ false }
+    ensures told { IfOk result
+        (Signatures (R.meaning receipts.now) (I.left info.old) (I.left info.new)
+        (option_map T.left tree.old) (option_map T.left tree.new)
+        (option_map L.left log.old) (option_map L.left log.new)
+        (K.written out.old) (K.written out.new)) }
+    ensures part { IfErr result
+        (SignaturesPart (R.meaning receipts.now) (I.left info.old) (I.left info.new)
+        (option_map T.left tree.old) (option_map T.left tree.new)
+        (option_map L.left log.old) (option_map L.left log.new)
+        (K.written out.old) (K.written out.new)) }
+    ensures read { (result ≡ Err RunFault.Read)
+        ↔ ((I.is_failed info.new ≡ true)
+        ⊎ ((has_failed (option_map T.is_failed tree.new) ≡ true)
+        ⊎ (has_failed (option_map L.is_failed log.new) ≡ true))) }
+    ensures write { (result ≡ Err RunFault.Write) ↔ (K.is_failed out.new ≡ true) }
+{
+    let bytes = read_both(alloc, info, tree)?;
+    match read_inputs(alloc, bytes.info, bytes.tree) {
+        Ok(inputs) => signatures_from(alloc, inputs.info, inputs.tree, log, receipts, out),
+        Err(NoStart::Found(finding)) => tell(alloc, &finding, out),
+        Err(NoStart::Fault(fault)) => Err(fault),
+    }
+}

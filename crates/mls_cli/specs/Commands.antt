@@ -57,6 +57,16 @@ replay_app =
     (file_rule (codes "tree")))
     (needed_rule (codes "log")))
 
+-- `signatures --info FILE [--tree FILE] [--log FILE] [--receipts FILE]`
+abbrev pub signatures_app : App
+signatures_app =
+    with_rule (with_rule (with_rule (with_rule
+    (new_app (codes "signatures"))
+    (needed_rule (codes "info")))
+    (file_rule (codes "tree")))
+    (file_rule (codes "log")))
+    (file_rule (codes "receipts"))
+
 -- `check KIND FILE`
 abbrev pub check_app : App
 check_app =
@@ -74,9 +84,11 @@ bare_app =
 -- the program
 abbrev pub mlscheck_app : App
 mlscheck_app =
-    with_subcommand (with_subcommand (with_subcommand (with_subcommand (with_subcommand bare_app
+    with_subcommand (with_subcommand (with_subcommand
+    (with_subcommand (with_subcommand (with_subcommand bare_app
     show_app.top)
     validate_tree_app.top)
     validate_app.top)
     replay_app.top)
+    signatures_app.top)
     check_app.top

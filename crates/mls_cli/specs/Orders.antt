@@ -1,5 +1,6 @@
 -- The order that a command line gives.
-use Rattle.std.specs.Prelude.{List, [], ◌∷◌, ◌≡◌, ◌≢◌, ◌⊎◌, Option, Some, None, codes}
+use Rattle.std.specs.Prelude.{List, [], ◌∷◌, ℕ, ◌+◌, ◌≤◌, Bool, false, ◌≡◌, ◌≢◌, ◌⊎◌, Option, Some, None, codes}
+use Rattle.std.specs.Str.{bytes_eq}
 use Rattle.clap.specs.Words.{Text, Row, first_of, fault_of, subcommand_of, IsAmong}
 use Rattle.clap.specs.declared.error.kind.ErrorKind.TheVariants.{DisplayHelp, DisplayVersion}
 use Rattle.mls_cli.specs.Commands.{mlscheck_app}
@@ -11,6 +12,7 @@ use Rattle.mls_cli.specs.declared.order.Order.{Order}
 use Rattle.mls_cli.specs.declared.order.Order.TheVariants as order
 use Rattle.mls_cli.specs.declared.order.OrderFault.{OrderFault}
 use Rattle.mls_cli.specs.declared.order.OrderFault.TheVariants.{Help, Usage, Memory}
+use Rattle.mls_report.specs.Replay.{one_if}
 use Rattle.mls_report.specs.declared.show.ShowKind.{ShowKind}
 use Rattle.mls_report.specs.declared.show.ShowKind.TheVariants as kind
 
@@ -43,6 +45,13 @@ abbrev pub IsChecker : Option Text → Option Text → Checker → Type 0
 IsChecker trust receipts checker.Trust = (trust ≡ Some (codes "true")) × (receipts ≡ None)
 IsChecker trust receipts (checker.Receipts file) =
     (trust ≢ Some (codes "true")) × (receipts ≡ Some file)
+IsChecker trust receipts checker.Nobody = ⊥
+
+-- what `--receipts` lists is good, where it is given, and nothing else
+abbrev pub IsCover : Option Text → Checker → Type 0
+IsCover receipts checker.Trust = ⊥
+IsCover receipts (checker.Receipts file) = receipts ≡ Some file
+IsCover receipts checker.Nobody = receipts ≡ None
 
 -- the options of `validate-tree` are these
 abbrev pub IsValidateTree : List Row → Text → Text → Checker → Type 0
@@ -61,6 +70,12 @@ abbrev pub IsReplay : List Row → Text → Option Text → Text → Checker →
 IsReplay rows info tree log c =
     IsValidate rows info tree c × (first_of (codes "log") rows ≡ Some log)
 
+-- the options of `signatures` are these
+abbrev pub IsSignatures : List Row → Text → Option Text → Option Text → Checker → Type 0
+IsSignatures rows info tree log c =
+    (first_of (codes "info") rows ≡ Some info) × (first_of (codes "tree") rows ≡ tree)
+    × (first_of (codes "log") rows ≡ log) × IsCover (first_of (codes "receipts") rows) c
+
 -- the order is what clap found: a subcommand's name, and the values of its arguments
 abbrev pub IsOrder : Option (Text × List Row) → Order → Type 0
 IsOrder found (order.Show k file) =
@@ -72,13 +87,37 @@ IsOrder found (order.Validate info tree c) =
     (rows : List Row) × (found ≡ Some (codes "validate", rows)) × IsValidate rows info tree c
 IsOrder found (order.Replay info tree log c) =
     (rows : List Row) × (found ≡ Some (codes "replay", rows)) × IsReplay rows info tree log c
+IsOrder found (order.Signatures info tree log c) =
+    (rows : List Row) × (found ≡ Some (codes "signatures", rows))
+    × IsSignatures rows info tree log c
 IsOrder found (order.Check k file) =
     (rows : List Row) × (found ≡ Some (codes "check", rows)) × IsCheck rows k file
+
+-- whether a file is standard input
+abbrev pub is_stdin : Option Text → Bool
+is_stdin None = false
+is_stdin (Some name) = bytes_eq name (codes "-")
+
+-- the argument of a name, counted where it is standard input
+abbrev pub stdin_at : List Row → Text → ℕ
+stdin_at rows id = one_if (is_stdin (first_of id rows))
+
+-- how many of the files are standard input
+unfoldable pub stdin_count : List Row → ℕ
+stdin_count rows =
+    stdin_at rows (codes "FILE") + stdin_at rows (codes "context") + stdin_at rows (codes "info")
+    + stdin_at rows (codes "tree") + stdin_at rows (codes "log") + stdin_at rows (codes "receipts")
+
+-- the order is what clap found, and one of its files at most is standard input
+abbrev pub IsGiven : Option (Text × List Row) → Order → Type 0
+IsGiven found o =
+    (given : Text × List Row) × (found ≡ Some given) × (stdin_count given.1 ≤ 1)
+    × IsOrder found o
 
 -- clap refuses none of the words, and what it finds in them is the order
 pub record IsOrderOf (words : List Text) (o : Order) : Type 0 where
   pub passes : fault_of mlscheck_app words ≡ []
-  pub found : IsOrder (subcommand_of mlscheck_app words) o
+  pub found : IsGiven (subcommand_of mlscheck_app words) o
 
 -- a fault other than want of memory comes only where nothing has the property
 abbrev pub Refuses : {A : Type 0} → (A → Type 0) → OrderFault → Type 0

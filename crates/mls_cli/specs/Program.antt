@@ -12,6 +12,8 @@ use Rattle.mls_cli.specs.Orders.{IsOrderOf, IsHelp, IsUsage, AsksForHelp, AsksFo
 use Rattle.mls_report.specs.ReadAll.{ReadsAll, ReadsSome}
 use Rattle.mls_report.specs.Replay.{Replays, ReplaysPart}
 use Rattle.mls_report.specs.Show.{Shows, ShowsPart}
+use Rattle.mls_report.specs.Signatures.{SignaturesPart}
+use Rattle.mls_report.specs.Signatures as report
 use Rattle.mls_report.specs.Starting.{has_failed}
 use Rattle.mls_report.specs.Status.{status}
 use Rattle.mls_cli.specs.Status.{fault_status}
@@ -20,9 +22,9 @@ use Rattle.mls_report.specs.Validate.{Validates, ValidatesPart}
 use Rattle.mls_report.specs.ValidateTree.{ValidatesTree, ValidatesTreePart}
 use Rattle.mls_vectors.specs.declared.check.CheckKind.{CheckKind}
 use Rattle.mls_cli.specs.declared.order.Checker.{Checker}
-use Rattle.mls_cli.specs.declared.order.Checker.TheVariants.{Trust, Receipts}
+use Rattle.mls_cli.specs.declared.order.Checker.TheVariants.{Trust, Receipts, Nobody}
 use Rattle.mls_cli.specs.declared.order.Order.{Order}
-use Rattle.mls_cli.specs.declared.order.Order.TheVariants.{Show, ValidateTree, Validate, Replay, Check}
+use Rattle.mls_cli.specs.declared.order.Order.TheVariants.{Show, ValidateTree, Validate, Replay, Signatures, Check}
 use Rattle.mls_cli.specs.declared.order.OrderFault.{OrderFault}
 use Rattle.mls_cli.specs.declared.order.OrderFault.TheVariants as order
 use Rattle.mls_report.specs.declared.outcome.RunFault.{RunFault}
@@ -124,20 +126,23 @@ module _ {File : Type 0} (F : Opener File) where
     pub read : ReadsFile F name bytes
     pub is_fault : IsReceiptsFault fault bytes
 
-  -- what one means who judges signatures: each is good, or those are that a file of receipts lists
+  -- what one means who judges signatures: each is good, or those are that a file of receipts lists, or none is known
   abbrev pub IsMeaning : Checker → Meaning → Type 0
   IsMeaning Trust G = G ≡ (λ suite key content signature. true)
   IsMeaning (Receipts name) G = IsListed name G
+  IsMeaning Nobody G = G ≡ (λ suite key content signature. false)
 
   -- the file of receipts can't be read
   abbrev pub LosesReceipts : Checker → RunFault → Type 0
   LosesReceipts Trust fault = ⊥
   LosesReceipts (Receipts name) fault = LosesFile F name fault
+  LosesReceipts Nobody fault = ⊥
 
   -- the file of receipts is read, and refused
   abbrev pub RefusesReceipts : Checker → ReceiptsFault → Type 0
   RefusesReceipts Trust fault = ⊥
   RefusesReceipts (Receipts name) fault = IsUnlisted name fault
+  RefusesReceipts Nobody fault = ⊥
 
   -- no receipts, as their file can't be read; nothing is written
   pub record EndsUnread (c : Checker) (written0 written1 : Option (List ℕ))
@@ -163,7 +168,8 @@ module _ {File : Type 0} (F : Opener File) where
     pub is_meaning : IsMeaning c meaning
     pub report : P meaning
 
-  -- the receipts are read first, where there are any, and the report begins where they are good
+  -- the receipts are read, where there are any, and the report begins where they are good; that they are read first,
+  -- and that no other file is opened where they are bad, holds by the code and is no clause
   abbrev pub IsJudgedBy : Checker → (Meaning → Type 0) → Option (List ℕ) → Option (List ℕ)
       → Outcome → Type 0
   IsJudgedBy c P written0 written1 outcome =
@@ -206,7 +212,8 @@ module _ {File : Type 0} (F : Opener File) where
     pub failed : (outcome ≡ Err Read)
         ↔ ((F.is_failed context_ended ≡ true) ⊎ (F.is_failed tree_ended ≡ true))
 
-  -- the order `validate-tree`, by what a checker of signatures means: the context is opened, and then the tree
+  -- the order `validate-tree`, by what a checker of signatures means: the context and the tree are opened; that they
+  -- are in this order, and no other file, holds by the code and is no clause
   abbrev pub CarriesValidateTree : Meaning → List ℕ → List ℕ → Option (List ℕ) → Option (List ℕ)
       → Outcome → Type 0
   CarriesValidateTree G context tree written0 written1 outcome =
@@ -232,7 +239,8 @@ module _ {File : Type 0} (F : Opener File) where
         ↔ ((F.is_failed info_ended ≡ true)
         ⊎ (has_failed (option_map F.is_failed tree_ended) ≡ true))
 
-  -- the order `validate`, by what a checker of signatures means: the info is opened, and then the tree
+  -- the order `validate`, by what a checker of signatures means: the info and the tree are opened; that they are in
+  -- this order, and no other file, holds by the code and is no clause
   abbrev pub CarriesValidate : Meaning → List ℕ → Option (List ℕ) → Option (List ℕ)
       → Option (List ℕ) → Outcome → Type 0
   CarriesValidate G info tree written0 written1 outcome =
@@ -263,7 +271,8 @@ module _ {File : Type 0} (F : Opener File) where
         ⊎ ((has_failed (option_map F.is_failed tree_ended) ≡ true)
         ⊎ (F.is_failed log_ended ≡ true)))
 
-  -- the order `replay`, by the same: the info is opened, then the tree, and then the log
+  -- the order `replay`, by the same: the info, the tree and the log are opened; that they are in this order, and no
+  -- other file, holds by the code and is no clause
   abbrev pub CarriesReplay : Meaning → List ℕ → Option (List ℕ) → List ℕ → Option (List ℕ)
       → Option (List ℕ) → Outcome → Type 0
   CarriesReplay G info tree log written0 written1 outcome =
@@ -271,6 +280,38 @@ module _ {File : Type 0} (F : Opener File) where
       ⊎ ((Opens F info × CannotOpenNamed F tree written0 written1 outcome)
       ⊎ ((Opens F info × OpensNamed F tree × CannotOpen F log written0 written1 outcome)
       ⊎ RunsReplay G info tree log written0 written1 outcome))
+
+  -- the report `signatures` of files of these names, of which those of the tree and of the log may be missing
+  pub record RunsSignatures (G : Meaning) (info : List ℕ) (tree log : Option (List ℕ))
+      (written0 written1 : Option (List ℕ)) (outcome : Outcome) : Type 0 where
+    pub info_opened : File
+    pub info_ended : File
+    pub tree_opened : Option File
+    pub tree_ended : Option File
+    pub log_opened : Option File
+    pub log_ended : Option File
+    pub info_given : F.gives info info_opened
+    pub tree_given : IsOpened F tree tree_opened
+    pub log_given : IsOpened F log log_opened
+    pub told : IfOk outcome (report.Signatures G (F.left info_opened) (F.left info_ended)
+        (option_map F.left tree_opened) (option_map F.left tree_ended)
+        (option_map F.left log_opened) (option_map F.left log_ended) written0 written1)
+    pub part : IfErr outcome (SignaturesPart G (F.left info_opened) (F.left info_ended)
+        (option_map F.left tree_opened) (option_map F.left tree_ended)
+        (option_map F.left log_opened) (option_map F.left log_ended) written0 written1)
+    pub failed : (outcome ≡ Err Read)
+        ↔ ((F.is_failed info_ended ≡ true)
+        ⊎ ((has_failed (option_map F.is_failed tree_ended) ≡ true)
+        ⊎ (has_failed (option_map F.is_failed log_ended) ≡ true)))
+
+  -- the order `signatures`, by what the receipts mean: the info is opened, then the tree, and then the log
+  abbrev pub CarriesSignatures : Meaning → List ℕ → Option (List ℕ) → Option (List ℕ)
+      → Option (List ℕ) → Option (List ℕ) → Outcome → Type 0
+  CarriesSignatures G info tree log written0 written1 outcome =
+      CannotOpen F info written0 written1 outcome
+      ⊎ ((Opens F info × CannotOpenNamed F tree written0 written1 outcome)
+      ⊎ ((Opens F info × OpensNamed F tree × CannotOpenNamed F log written0 written1 outcome)
+      ⊎ RunsSignatures G info tree log written0 written1 outcome))
 
   -- the report `check` of a file of this name
   pub record RunsCheck (k : CheckKind) (name : List ℕ) (written0 written1 : Option (List ℕ))
@@ -300,6 +341,9 @@ module _ {File : Type 0} (F : Opener File) where
       written0 written1 outcome
   CarriesOut (Replay info tree log c) written0 written1 outcome =
       IsJudgedBy F c (λ G. CarriesReplay G info tree log written0 written1 outcome)
+      written0 written1 outcome
+  CarriesOut (Signatures info tree log c) written0 written1 outcome =
+      IsJudgedBy F c (λ G. CarriesSignatures G info tree log written0 written1 outcome)
       written0 written1 outcome
   CarriesOut (Check k name) written0 written1 outcome =
       CarriesCheck k name written0 written1 outcome

@@ -1,7 +1,7 @@
 //! Carrying out an order: the files that it names are opened, and its report is made of them.
 
 ghost use Rattle.std.specs.Prelude.{◌≡◌, ◌↔◌, ◌⊎◌, false, true, None, Err, option_map, IfSome};
-ghost use Rattle.mls_cli.specs.Program.{opener, CarriesOut, CarriesShow, CarriesValidateTree, CarriesValidate, CarriesReplay, CarriesCheck, IsJudgedBy, IsOpened, LacksNamed, EndsUnread, EndsRefused};
+ghost use Rattle.mls_cli.specs.Program.{opener, CarriesOut, CarriesShow, CarriesValidateTree, CarriesValidate, CarriesReplay, CarriesSignatures, CarriesCheck, IsJudgedBy, IsOpened, LacksNamed, EndsUnread, EndsRefused};
 ghost use Rattle.mls_cli.specs.Judges.{judge_meaning};
 ghost use Rattle.mls_report.specs.Starting.{has_failed};
 ghost use Rattle.mls_cli.specs.Judging.{IsJudgeFault};
@@ -12,8 +12,8 @@ use crate::judge::{Judge, JudgeFault};
 use crate::order::{Checker, Order};
 use crate::read_judge::read_judge;
 use mls_report::{
-    RunFault, ShowKind, Verdict, run_replay, run_show, run_unreadable_receipts, run_validate,
-    run_validate_tree,
+    RunFault, ShowKind, Verdict, run_replay, run_show, run_signatures, run_unreadable_receipts,
+    run_validate, run_validate_tree,
 };
 use mls_vectors::{CheckKind, run_check};
 use mls_wire::Sink;
@@ -152,6 +152,35 @@ fn replay<F: Files, K: Sink>(
     run_replay(alloc, &mut info, &mut tree, &mut log, judge, out)
 }
 
+/// Prints which signatures a group's start and its handshakes want.
+fn signatures<F: Files, K: Sink>(
+    alloc: Global,
+    info: &FileName,
+    tree: &Option<FileName>,
+    log: &Option<FileName>,
+    files: &F,
+    receipts: &Judge,
+    out: &mut K,
+) -> Result<Verdict, RunFault>
+    requires { K.is_failed out.old ≡ false }
+    ensures carried { CarriesSignatures
+        (opener (F.gives files.now) (F.lacks files.now) F.File.left F.File.is_failed)
+        (judge_meaning receipts.now) info.now tree.now log.now
+        (K.written out.old) (K.written out.new) result }
+    ensures write { (result ≡ Err RunFault.Write) ↔ (K.is_failed out.new ≡ true) }
+{
+    let Some(mut info) = files.open(info.as_str()) else {
+        return Err(RunFault::Read);
+    };
+    let Some(mut tree) = open_named(tree, files) else {
+        return Err(RunFault::Read);
+    };
+    let Some(mut log) = open_named(log, files) else {
+        return Err(RunFault::Read);
+    };
+    run_signatures(alloc, &mut info, &mut tree, &mut log, receipts, out)
+}
+
 /// Says why nobody judges signatures.
 fn refuse<F: Files, K: Sink>(
     alloc: Global,
@@ -177,7 +206,7 @@ fn refuse<F: Files, K: Sink>(
 }
 
 /// Says whether a tree is that of a group context, and its leaves are members, by whom the order names.
-fn validate_tree_order<F: Files, K: Sink>(
+fn validate_tree_as_ordered<F: Files, K: Sink>(
     alloc: Global,
     context: &FileName,
     tree: &FileName,
@@ -202,7 +231,7 @@ fn validate_tree_order<F: Files, K: Sink>(
 }
 
 /// Says whether a group is in order as its info shows it, by whom the order names.
-fn validate_order<F: Files, K: Sink>(
+fn validate_as_ordered<F: Files, K: Sink>(
     alloc: Global,
     info: &FileName,
     tree: &Option<FileName>,
@@ -227,7 +256,7 @@ fn validate_order<F: Files, K: Sink>(
 }
 
 /// Follows a group from its info through a log of handshakes, by whom the order names.
-fn replay_order<F: Files, K: Sink>(
+fn replay_as_ordered<F: Files, K: Sink>(
     alloc: Global,
     info: &FileName,
     tree: &Option<FileName>,
@@ -252,6 +281,32 @@ fn replay_order<F: Files, K: Sink>(
     }
 }
 
+/// Prints which signatures a group's start and its handshakes want, but for those that the receipts list.
+fn signatures_as_ordered<F: Files, K: Sink>(
+    alloc: Global,
+    info: &FileName,
+    tree: &Option<FileName>,
+    log: &Option<FileName>,
+    checker: &Checker,
+    files: &F,
+    out: &mut K,
+) -> Result<Verdict, RunFault>
+    requires { K.is_failed out.old ≡ false }
+    ensures carried { IsJudgedBy
+        (opener (F.gives files.now) (F.lacks files.now) F.File.left F.File.is_failed)
+        checker.now
+        (λ G. CarriesSignatures
+        (opener (F.gives files.now) (F.lacks files.now) F.File.left F.File.is_failed)
+        G info.now tree.now log.now (K.written out.old) (K.written out.new) result)
+        (K.written out.old) (K.written out.new) result }
+    ensures write { (result ≡ Err RunFault.Write) ↔ (K.is_failed out.new ≡ true) }
+{
+    match read_judge(alloc, checker, files) {
+        Ok(judge) => signatures(alloc, info, tree, log, files, &judge, out),
+        Err(fault) => refuse(alloc, checker, files, fault, out),
+    }
+}
+
 /// Carries out an order, and tells its report on `out`. The receipts are read first, where there are any; then the
 /// other files are opened, in the order of the command's words; then the report begins.
 ///
@@ -259,10 +314,10 @@ fn replay_order<F: Files, K: Sink>(
 /// what it may give: that is so by the code alone. A clause says which file is read as which input, that nothing is
 /// written where one can't be opened, and that bad receipts alone are told.
 ///
-/// Receipts that can't be read are told by one line, `No`, and no other file is opened. `Read` comes where a file can't
+/// Receipts that can't be read are told by a line, `No`; the code opens no other file. `Read` comes where a file can't
 /// be opened, and then nothing is written, and where one fails; `Write` where the output fails. Then a prefix of the
-/// report may be written already. Want of memory comes before anything is written, but in `replay`, which tells its lines
-/// as it goes.
+/// report may be written already. Want of memory comes before anything is written, but in `replay` and `signatures`,
+/// which tell their lines as they go.
 pub fn carry_out<F: Files, K: Sink>(
     alloc: Global,
     order: &Order,
@@ -281,18 +336,24 @@ pub fn carry_out<F: Files, K: Sink>(
             context,
             tree,
             checker,
-        } => validate_tree_order(alloc, context, tree, checker, files, out),
+        } => validate_tree_as_ordered(alloc, context, tree, checker, files, out),
         Order::Validate {
             info,
             tree,
             checker,
-        } => validate_order(alloc, info, tree, checker, files, out),
+        } => validate_as_ordered(alloc, info, tree, checker, files, out),
         Order::Replay {
             info,
             tree,
             log,
             checker,
-        } => replay_order(alloc, info, tree, log, checker, files, out),
+        } => replay_as_ordered(alloc, info, tree, log, checker, files, out),
+        Order::Signatures {
+            info,
+            tree,
+            log,
+            checker,
+        } => signatures_as_ordered(alloc, info, tree, log, checker, files, out),
         Order::Check { kind, file } => check(alloc, *kind, file, files, out),
     }
 }

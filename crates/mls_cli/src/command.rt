@@ -4,7 +4,7 @@ ghost use Rattle.std.specs.Prelude.{◌≡◌, IfOk, false, codes};
 ghost use Rattle.clap.specs.Words.{App, app_of, new_app, rule_of, with_rule, with_subcommand};
 ghost use Rattle.clap.specs.declared.builder.command.Command.TheViews.{out-Command as fields_of};
 ghost use Rattle.mls_cli.specs.Commands as specs;
-ghost use Rattle.mls_cli.specs.Commands.{word_rule, file_rule, needed_rule, flag_rule, show_app, validate_tree_app, validate_app, replay_app, check_app, bare_app, mlscheck_app};
+ghost use Rattle.mls_cli.specs.Commands.{word_rule, file_rule, needed_rule, flag_rule, show_app, validate_tree_app, validate_app, replay_app, signatures_app, check_app, bare_app, mlscheck_app};
 
 use clap::{Arg, ArgAction, Command};
 use std::alloc::{AllocError, Global};
@@ -12,8 +12,10 @@ use std::alloc::{AllocError, Global};
 /// The program's version.
 const VERSION: &str = "0.1.0";
 
-/// What the exit status says.
+/// What help says of files, and what the exit status says.
 const STATUSES: &str = "\
+A file may be named - for standard input, which can be given for one file.
+
 Exit status:
   0  yes, or help is shown
   1  no: something can't be read, is refused, or is broken off
@@ -43,6 +45,17 @@ const REPLAY_HELP: &str = "\
 Example:
   mlscheck replay --info examples/real/epoch-1.info --log examples/real/handshakes.log \\
       --receipts examples/real/receipts.txt";
+
+const SIGNATURES_HELP: &str = "\
+Prints a line for each signature that is wanted and that no receipt covers:
+  RECEIPT SUITE KEY CONTENT SIGNATURE
+Where the signature is good, RECEIPT is its line in the list of good signatures.
+A log is followed as if each signature were good: give one whose messages another
+party has accepted, or from which bad ones are struck after a first replay.
+
+Example:
+  mlscheck signatures --info examples/real/epoch-1.info \\
+      --log examples/real/handshakes.log";
 
 const CHECK_HELP: &str = "\
 Example:
@@ -202,6 +215,24 @@ fn replay_command<'a>(alloc: Global) -> Result<Command<'a>, AllocError>
     with_checker(alloc, command)
 }
 
+/// `signatures --info FILE [--tree FILE] [--log FILE] [--receipts FILE]`.
+fn signatures_command<'a>(alloc: Global) -> Result<Command<'a>, AllocError>
+    ensures app { IfOk result (λ c. app_of c ≡ signatures_app) }
+    ensures own { IfOk result (λ c. (fields_of c).has_globals ≡ false) }
+{
+    let about = "Prints the signatures that a group's start and its handshakes want";
+    let command = titled(alloc, "signatures", about, SIGNATURES_HELP);
+    let command = with_start(alloc, command)?;
+    let log = file(
+        alloc,
+        "log",
+        "The path of the handshakes, each behind its length",
+    );
+    let command = with(command, log)?;
+    let receipts = file(alloc, "receipts", "The path of the list of good signatures");
+    with(command, receipts)
+}
+
 /// `check KIND FILE`.
 fn check_command<'a>(alloc: Global) -> Result<Command<'a>, AllocError>
     ensures app { IfOk result (λ c. app_of c ≡ check_app) }
@@ -261,5 +292,6 @@ pub(crate) fn mlscheck_command<'a>(alloc: Global) -> Result<Command<'a>, AllocEr
     let command = with_command(command, validate_tree_command(alloc))?;
     let command = with_command(command, validate_command(alloc))?;
     let command = with_command(command, replay_command(alloc))?;
+    let command = with_command(command, signatures_command(alloc))?;
     with_command(command, check_command(alloc))
 }

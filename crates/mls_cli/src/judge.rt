@@ -10,6 +10,8 @@ pub enum Judge {
     All,
     /// Those are good that have a receipt.
     Listed(Listed),
+    /// None is known as good.
+    Nobody,
 }
 
 impl SignatureCheck for Judge {
@@ -21,6 +23,7 @@ impl SignatureCheck for Judge {
         match self {
             Judge::All => true,
             Judge::Listed(listed) => listed.good(suite, key, content, signature),
+            Judge::Nobody => false,
         }
     }
 }

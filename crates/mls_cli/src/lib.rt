@@ -15,8 +15,8 @@ pub use carry::carry_out;
 pub use file_name::FileName;
 pub use files::Files;
 pub use mls_report::{
-    RunFault, ShowKind, Verdict, read_all, run_replay, run_show, run_unreadable_receipts,
-    run_validate, run_validate_tree, status_of,
+    RunFault, ShowKind, Verdict, read_all, run_replay, run_show, run_signatures,
+    run_unreadable_receipts, run_validate, run_validate_tree, status_of,
 };
 pub use mls_vectors::{CheckKind, run_check};
 pub use order::{Checker, Order, OrderFault, order_of};

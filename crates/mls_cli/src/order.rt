@@ -3,7 +3,8 @@
 ghost use Rattle.std.specs.Prelude.{◌≡◌, ◌≢◌, ◌↔◌, ◌⊎◌, IsTrue, IfOk, IfErr, codes, Some, option_map, map, string_bytes};
 ghost use Rattle.clap.specs.Values.{kind_of};
 ghost use Rattle.clap.specs.Words.{first_of, rows_of, found_of, subcommand_rows_of};
-ghost use Rattle.mls_cli.specs.Orders.{IsChecker, IsOrder, IsOrderOf, IsHelp, IsUsage, AsksForHelp, AsksForHelpAlone, Refuses, kind_text, check_kind_text};
+ghost use Rattle.mls_cli.specs.Orders.{IsChecker, IsCover, IsOrder, IsGiven, IsOrderOf, stdin_count, IsHelp, IsUsage, AsksForHelp, AsksForHelpAlone, Refuses, kind_text, check_kind_text};
+ghost use Rattle.mls_cli.specs.Orders as specs;
 ghost use Rattle.mls_cli.specs.Status.{fault_status};
 
 use crate::command::mlscheck_command;
@@ -22,6 +23,8 @@ pub enum Checker {
     Trust,
     /// `--receipts FILE`: those that the file lists are.
     Receipts(FileName),
+    /// Neither, in `signatures`: of none it is known.
+    Nobody,
 }
 
 /// What the program is to do.
@@ -61,6 +64,17 @@ pub enum Order {
         /// The file of the log.
         log: FileName,
         /// Who judges signatures.
+        checker: Checker,
+    },
+    /// `signatures`: print which signatures a group's start and its handshakes want.
+    Signatures {
+        /// The file of the group info.
+        info: FileName,
+        /// The file of the ratchet tree, where one is named.
+        tree: Option<FileName>,
+        /// The file of the log, where one is named.
+        log: Option<FileName>,
+        /// Whose signatures are left out, being good: those that the receipts list, or none.
         checker: Checker,
     },
     /// `check KIND FILE`: say which test vectors of a file agree with this library.
@@ -283,6 +297,36 @@ fn replay_order(alloc: Global, matches: &ArgMatches<'_>) -> Result<Order, OrderF
     })
 }
 
+/// Whose signatures are left out: those that the receipts list, where they are given.
+fn cover(alloc: Global, matches: &ArgMatches<'_>) -> Result<Checker, AllocError>
+    ensures { IfOk result (IsCover (first_of (codes "receipts") (rows_of (found_of matches.now)))) }
+{
+    match value(matches, "receipts") {
+        Some(file) => Ok(Checker::Receipts(FileName::new(alloc, file)?)),
+        None => Ok(Checker::Nobody),
+    }
+}
+
+/// The order of `signatures`.
+fn signatures_order(alloc: Global, matches: &ArgMatches<'_>) -> Result<Order, OrderFault>
+    ensures order { IfOk result
+        (IsOrder (Some (codes "signatures", rows_of (found_of matches.now)))) }
+    ensures refused { IfErr result
+        (Refuses (IsOrder (Some (codes "signatures", rows_of (found_of matches.now))))) }
+    ensures own { IfErr result (λ e. IsHelp e → ⊥) }
+{
+    let info = file_of(alloc, matches, "info")?;
+    let tree = optional_file_of(alloc, matches, "tree")?;
+    let log = optional_file_of(alloc, matches, "log")?;
+    let checker = cover(alloc, matches)?;
+    Ok(Order::Signatures {
+        info,
+        tree,
+        log,
+        checker,
+    })
+}
+
 /// The kind that `check` is given.
 fn check_kind(alloc: Global, matches: &ArgMatches<'_>) -> Result<CheckKind, OrderFault>
     ensures kind { IfOk result
@@ -337,24 +381,63 @@ fn named_order(alloc: Global, name: &str, matches: &ArgMatches<'_>) -> Result<Or
         "validate-tree" => validate_tree_order(alloc, matches),
         "validate" => validate_order(alloc, matches),
         "replay" => replay_order(alloc, matches),
+        "signatures" => signatures_order(alloc, matches),
         "check" => check_order(alloc, matches),
         _ => Err(usage(alloc, "usage: no such command\n")),
     }
 }
 
+/// 1 for standard input, where an argument names it as a file, else 0.
+fn stdin_at(matches: &ArgMatches<'_>, id: &str) -> u32
+    ensures { result ≡ specs.stdin_at (rows_of (found_of matches.now)) id.now }
+{
+    match value(matches, id) {
+        Some("-") => 1,
+        _ => 0,
+    }
+}
+
+/// How many of the files are standard input.
+#[tactic(auto, unfolding(crate::specs::Orders::stdin_count))]
+fn stdin_count(matches: &ArgMatches<'_>) -> u32
+    ensures { result ≡ stdin_count (rows_of (found_of matches.now)) }
+{
+    let file = stdin_at(matches, "FILE");
+    let context = stdin_at(matches, "context");
+    let info = stdin_at(matches, "info");
+    let tree = stdin_at(matches, "tree");
+    let log = stdin_at(matches, "log");
+    let receipts = stdin_at(matches, "receipts");
+    file + context + info + tree + log + receipts
+}
+
+/// The order of the subcommand of this name, of whose files one at most is standard input.
+fn given_order(alloc: Global, name: &str, matches: &ArgMatches<'_>) -> Result<Order, OrderFault>
+    ensures order { IfOk result (IsGiven (Some (name.now, rows_of (found_of matches.now)))) }
+    ensures refused { IfErr result
+        (Refuses (IsGiven (Some (name.now, rows_of (found_of matches.now))))) }
+    ensures own { IfErr result (λ e. IsHelp e → ⊥) }
+{
+    if stdin_count(matches) > 1 {
+        return Err(usage(alloc, "usage: standard input can be given for one file\n"));
+    }
+    named_order(alloc, name, matches)
+}
+
 /// The order that clap's matches give.
 fn read_order(alloc: Global, matches: &ArgMatches<'_>) -> Result<Order, OrderFault>
-    ensures order { IfOk result (IsOrder (subcommand_rows_of matches.now)) }
-    ensures refused { IfErr result (Refuses (IsOrder (subcommand_rows_of matches.now))) }
+    ensures order { IfOk result (IsGiven (subcommand_rows_of matches.now)) }
+    ensures refused { IfErr result (Refuses (IsGiven (subcommand_rows_of matches.now))) }
     ensures own { IfErr result (λ e. IsHelp e → ⊥) }
 {
     match subcommand(matches) {
-        Some((name, inner)) => named_order(alloc, name, inner),
+        Some((name, inner)) => given_order(alloc, name, inner),
         None => Err(usage(alloc, "usage: a command is missing\n")),
     }
 }
 
-/// The order of a command line, whose first word is the program's name.
+/// The order of a command line, whose first word is the program's name. The file `-` is standard input, which can be
+/// given for one file of a command line.
 ///
 /// Words that ask for help or for the version are answered with `Help`, and any others that give no order with
 /// `Usage`.

@@ -64,5 +64,6 @@ pub(crate) fn read_judge<F: Files>(
     match checker {
         Checker::Trust => Ok(Judge::All),
         Checker::Receipts(file) => read_listed(alloc, file, files),
+        Checker::Nobody => Ok(Judge::Nobody),
     }
 }

@@ -7,26 +7,48 @@ ghost use Rattle.std.specs.Prelude.{◌≡◌, false};
 
 use mls_cli::{Files, OrderFault, Progress, run_fault, run_program};
 use mls_wire::{Sink, StdSink, StdSource};
-use std::io::IsTerminal;
+use std::io::{IsTerminal, Read, Stdin};
 use std::process::ExitCode;
 use std::{env, fs, io};
 
-/// The files that std opens, of which nothing is known before they are read.
+/// What a file is read from, of whose bytes nothing is known before.
+#[derive(Drop)]
+enum Input<F: Read + Drop> {
+    /// A file that has a name.
+    File(F),
+    /// Standard input.
+    Stdin(Stdin),
+}
+
+impl<F: Read + Drop> Read for Input<F> {
+    fn read(&mut self, buf: &mut [u8]) -> io::Result<usize> {
+        match self {
+            Input::File(file) => file.read(buf),
+            Input::Stdin(stdin) => stdin.read(buf),
+        }
+    }
+}
+
+/// The files that std opens, and standard input, whose name is `-`.
 #[derive(Drop)]
 struct StdFiles<'a, R> {
     rt: &'a R,
+    stdin: Stdin,
 }
 
 impl<R: fs::Files> Files for StdFiles<'_, R> {
-    type File = StdSource<R::File>;
+    type File = StdSource<Input<R::File>>;
 
     ghost gives = { λ _ _ _. Unit {0} };
 
     ghost lacks = { λ _ _. Unit {0} };
 
-    fn open(&self, name: &str) -> Option<StdSource<R::File>> {
+    fn open(&self, name: &str) -> Option<StdSource<Input<R::File>>> {
+        if name == "-" {
+            return Some(StdSource::new(Input::Stdin(self.stdin)));
+        }
         match fs::open(self.rt, name) {
-            Ok(file) => Some(StdSource::new(file)),
+            Ok(file) => Some(StdSource::new(Input::File(file))),
             Err(_) => None,
         }
     }
@@ -60,8 +82,12 @@ fn is_noted(rt: &HostRuntime, words: &[String]) -> bool {
 fn run<K: Sink>(rt: &HostRuntime, words: &[String], out: &mut K) -> u8
     requires { K.is_failed out.old ≡ false }
 {
+    let files = StdFiles {
+        rt,
+        stdin: rt.stdin(),
+    };
     let mut notes = StdSink::new(rt.stderr());
-    run_program(rt.alloc(), words, &StdFiles { rt }, out, &mut notes)
+    run_program(rt.alloc(), words, &files, out, &mut notes)
 }
 
 /// The same, with a note of how far the report is.

@@ -1,7 +1,7 @@
 use Rattle.std.proofs.Common.{◌≡◌, ◌∙◌, ap}
 use Rattle.std.proofs.lemmas.Result.{IfOk-weaker}
 use Rattle.clap.specs.Words.{App, with_subcommand}
-use Rattle.mls_cli.specs.Commands.{show_app, validate_tree_app, validate_app, replay_app, check_app}
+use Rattle.mls_cli.specs.Commands.{show_app, validate_tree_app, validate_app, replay_app, signatures_app, check_app}
 use Rattle.mls_cli.proofs.command.mlscheck_command.Goals as goal
 
 add : (a b s : App) → a ≡ b → with_subcommand a s.top ≡ with_subcommand b s.top
@@ -13,4 +13,5 @@ returns-clause-app c =
     let two = c.in_ok-command-2.ensures.app validate_tree_app c.validate_tree_command.ensures.app ∙ add _ _ validate_tree_app one in
     let three = c.in_ok-command-3.ensures.app validate_app c.validate_command.ensures.app ∙ add _ _ validate_app two in
     let four = c.in_ok-command-4.ensures.app replay_app c.replay_command.ensures.app ∙ add _ _ replay_app three in
-    IfOk-weaker c.with_command-5.result _ _ (λ r app. app ∙ add _ _ check_app four) (c.with_command-5.ensures.app check_app c.check_command.ensures.app)
+    let five = c.in_ok-command-5.ensures.app signatures_app c.signatures_command.ensures.app ∙ add _ _ signatures_app four in
+    IfOk-weaker c.with_command-6.result _ _ (λ r app. app ∙ add _ _ check_app five) (c.with_command-6.ensures.app check_app c.check_command.ensures.app)

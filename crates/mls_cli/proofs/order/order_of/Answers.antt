@@ -5,7 +5,7 @@ use Rattle.clap.specs.Values.{kind_of}
 use Rattle.clap.specs.declared.error.kind.ErrorKind.{ErrorKind}
 use Rattle.clap.proofs.OnLiterals.{clap_on_literals}
 use Rattle.mls_cli.specs.Commands.{mlscheck_app}
-use Rattle.mls_cli.specs.Orders.{IsOrder, IsUsage}
+use Rattle.mls_cli.specs.Orders.{IsGiven, IsUsage}
 use Rattle.mls_cli.proofs.order.order_of.Goals as goal
 
 -- the program's command is one whose matches and refusals clap gives as functions of the words
@@ -28,14 +28,14 @@ returns-in-Ok-clause-order c =
     let words : List Text = map string_bytes c.args.words.now in
     let found = (c.in-Ok.ensures.matches (ap is_simple app_is ∙ app_is_simple)).1 ∙ ap (λ (a : App). subcommand_of a words) app_is in
     let passes = ap (λ (a : App). fault_of a words) (sym app_is) ∙ c.in-Ok.ensures.kinds (ap is_simple_and_free app_is ∙ app_is_free) in
-    IfOk-weaker c.read_order-order.result _ _ (λ o h. record { passes = passes; found = subst (λ f. IsOrder f o) found h }) c.read_order-order.ensures.order
+    IfOk-weaker c.read_order-order.result _ _ (λ o h. record { passes = passes; found = subst (λ f. IsGiven f o) found h }) c.read_order-order.ensures.order
 
 pub returns-in-Ok-clause-refused : goal.returns-in-Ok-clause-refused
 returns-in-Ok-clause-refused c =
     let app_is = c.in_ok-command.ensures.app in
     let words : List Text = map string_bytes c.args.words.now in
     let found = (c.in-Ok.ensures.matches (ap is_simple app_is ∙ app_is_simple)).1 ∙ ap (λ (a : App). subcommand_of a words) app_is in
-    IfErr-weaker c.read_order-order.result _ _ (λ e h not_memory o is_order. h not_memory o (subst (λ f. IsOrder f o) (sym found) is_order.found)) c.read_order-order.ensures.refused
+    IfErr-weaker c.read_order-order.result _ _ (λ e h not_memory o is_order. h not_memory o (subst (λ f. IsGiven f o) (sym found) is_order.found)) c.read_order-order.ensures.refused
 
 pub returns-in-Ok-clause-help : goal.returns-in-Ok-clause-help
 returns-in-Ok-clause-help c = IfErr-weaker c.read_order-order.result _ _ (λ e h help. absurd (h help)) c.read_order-order.ensures.own

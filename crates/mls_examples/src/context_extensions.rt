@@ -101,7 +101,7 @@ fn extensions_require(rt: HostRuntime) -> Result<(), Fail> {
 }
 
 /// The list of these proposals, as member 0's.
-fn list_of(alloc: Global, proposals: &[&str]) -> Result<Vec<ListItem>, Fail> {
+pub(crate) fn list_of(alloc: Global, proposals: &[&str]) -> Result<Vec<ListItem>, Fail> {
     let mut list = Vec::new(alloc);
     for proposal in proposals {
         let proposal = decode_proposal(alloc, bytes(alloc, proposal)?.as_slice())?;

@@ -32,7 +32,7 @@ const BOTH_RECEIPTS: &str = "bd6f8df8dcd01852d1c0a3e53b39dcb3bb86dda462a62c39b95
     584cca8421eb79fc5ddfb3f6cc7af53016bdb08bef17bdfff9609d6ae9071284\n";
 
 /// The group info of a text.
-fn info_of(alloc: Global, info: &str) -> Result<GroupInfo, Fail> {
+pub(crate) fn info_of(alloc: Global, info: &str) -> Result<GroupInfo, Fail> {
     let bytes = bytes(alloc, info)?;
     match decode_message(alloc, bytes.as_slice()) {
         Ok(Message::GroupInfo(info)) => Ok(info),

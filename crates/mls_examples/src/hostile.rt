@@ -239,7 +239,7 @@ fn real_messages() -> Option<(&'static str, &'static str)> {
     Some((LATER.get(4..318)?, LATER.get(322..1378)?))
 }
 
-/// Only the bits of the membership tag at its end aren't judged.
+/// Only the bits of the membership tag at its end aren't judged, each tried by a follower of its own.
 #[test]
 fn a_changed_real_proposal_is_refused(rt: HostRuntime) -> Result<(), Fail> {
     let (message, _) = real_messages().ok_or("a proposal")?;
@@ -249,7 +249,7 @@ fn a_changed_real_proposal_is_refused(rt: HostRuntime) -> Result<(), Fail> {
         info: FIFTH_INFO,
         before: &[],
         message,
-        turns: 64,
+        turns: 1,
     };
     let unjudged = unjudged_bits(rt.alloc(), sent, taken)?;
     expect_bytes(&rt, rt.alloc(), unjudged, &[(125, 157)])

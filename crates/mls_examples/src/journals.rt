@@ -1,8 +1,13 @@
 //! Changes of a tree that a journal takes back (RFC 9420, 7.7 and 12.1): the tree is then the one before them, node by
 //! node.
 
-use crate::support::{bytes, expect_text, grown_tree, key_package, list_text, tree_of, tree_text};
+use crate::context_extensions::list_of;
+use crate::kept_hashes::{whole_text, whole_text_anew};
+use crate::support::{
+    bytes, expect_text, grown_tree, key_package, list_text, suite, tree_of, tree_text,
+};
 use mls_apply::{ListItem, apply_list_in_place};
+use mls_hash::fill_hashes;
 use mls_msgs::decode_proposal;
 use mls_tree::{Journal, PublicTree};
 use std::alloc::Global;
@@ -231,6 +236,48 @@ fn many_adds_are_taken_back(rt: HostRuntime) -> Result<(), Fail> {
         let after = nodes_text(alloc, &tree)?;
         let found = comparison(alloc, leaves, before.as_str(), after.as_str())?;
         expect_text(&rt, found, wanted);
+    }
+    Ok(())
+}
+
+/// Fills the hashes of a tree, applies a list that can't be applied to its end, and takes back what was applied: how
+/// many hashes were filled, why the list is refused, whether the tree is another one then, and whether it has the nodes
+/// and the hashes that it had in the end, as it keeps them and as they are made anew.
+fn applied_and_back(
+    alloc: Global,
+    tree: &mut PublicTree,
+    proposals: &[&str],
+) -> Result<String, Fail> {
+    let filled = fill_hashes(alloc, suite()?, tree)?;
+    let before = whole_text(alloc, tree)?;
+    let list = list_of(alloc, proposals)?;
+    let mut journal = Journal::new(alloc);
+    let fault = apply_list_in_place(alloc, tree, &mut journal, list.as_slice()).err();
+    drop(list);
+    let changed = whole_text(alloc, tree);
+    journal.take_back(tree);
+    drop(journal);
+    let is_changed = before != changed?;
+    let is_same = before == whole_text(alloc, tree)?;
+    let is_same_anew = before == whole_text_anew(alloc, tree)?;
+    Ok(format!(in alloc; "{filled} {fault:?} {is_changed} {is_same} {is_same_anew}")?)
+}
+
+/// A leaf is removed twice, before and behind other proposals.
+#[test]
+fn the_front_of_a_list_is_taken_back(rt: HostRuntime) -> Result<(), Fail> {
+    let alloc = rt.alloc();
+    const UPDATE: &str = "0002019001b0000101400200010200010000020001020001c0";
+    const LISTS: &[&[&str]] = &[
+        &["000300000001", "000300000001"],
+        &["000300000003", UPDATE, "000300000002", "000300000003"],
+        &["000300000002", "000300000002", "000300000003"],
+    ];
+    for proposals in LISTS {
+        let mut tree = grown_tree(alloc)?;
+        let told = applied_and_back(alloc, &mut tree, proposals);
+        drop(tree);
+        expect_text(&rt, told?, "7 Some(NoSuchLeaf) true true true");
     }
     Ok(())
 }

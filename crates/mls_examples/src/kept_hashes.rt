@@ -1,10 +1,23 @@
-//! Hashes that a tree keeps of its subtrees (RFC 9420, 7.8): which of them a change empties, and how many are made anew.
+//! Hashes that a tree keeps of its subtrees (RFC 9420, 7.8): which of them a change empties, how many are made anew,
+//! and that a follower's tree keeps each of them.
 
-use crate::support::{expect_text, joined_leaf, leaf_node, list_text, suite};
-use mls_hash::fill_hashes;
+use crate::by_hand::{adds_of, member_commit};
+use crate::commits::SOURCE;
+use crate::follower::{started, taken_text};
+use crate::paths::LOWER_COMMIT;
+use crate::support::{
+    COMMIT, GROUP_INFO, PROPOSAL, bytes, expect_text, joined_leaf, leaf_node, list_text, suite,
+    text, tree_text,
+};
+use mls_check::{SignatureCheck, Trusting};
+use mls_follow::Follower;
+use mls_hash::{fill_hashes, tree_hash};
+use mls_nodes::{decode_ratchet_tree, encode_ratchet_tree};
 use mls_tree::{HashKind, PublicTree};
 use std::alloc::Global;
 use std::test::Fail;
+
+// ---- changes
 
 /// A change of a tree.
 #[derive(Clone, Copy)]
@@ -92,5 +105,102 @@ fn emptied_places(rt: HostRuntime) -> Result<(), Fail> {
     tree.reserve_hashes(alloc, HashKind::Sha256)?;
     assert!(rt; tree.hash_kind() == Some(HashKind::Sha256));
     expect_text(&rt, empty_places(alloc, &tree)?, "[]");
+    Ok(())
+}
+
+// ---- a follower's tree
+
+/// The nodes of a tree, and the tree hash of each place.
+pub(crate) fn whole_text(alloc: Global, tree: &PublicTree) -> Result<String, Fail> {
+    let mut all = tree_text(alloc, tree)?;
+    for place in 0..tree.leaf_count().saturating_mul(2).saturating_sub(1) {
+        let hash = tree_hash(alloc, suite()?, tree, place)?;
+        all.push_str(text(alloc, hash.as_slice())?.as_str())?;
+    }
+    Ok(all)
+}
+
+/// The same of a tree that is made anew of a copy of these nodes, and so keeps no hash.
+pub(crate) fn whole_text_anew(alloc: Global, tree: &PublicTree) -> Result<String, Fail> {
+    let written = encode_ratchet_tree(alloc, tree.nodes())?;
+    match PublicTree::from_nodes(decode_ratchet_tree(alloc, written.as_slice())?) {
+        Ok(tree) => whole_text(alloc, &tree),
+        Err(refused) => {
+            drop(refused);
+            Err(Fail::from("a tree"))
+        }
+    }
+}
+
+/// How many hashes a tree doesn't keep.
+fn lacking(alloc: Global, tree: &PublicTree) -> Result<u32, Fail> {
+    let suite = suite()?;
+    let mut copy = tree.try_clone(alloc)?;
+    let filled = fill_hashes(alloc, suite, &mut copy);
+    drop(copy);
+    Ok(filled?)
+}
+
+/// Takes a message that has to be accepted. The tree then keeps the hash of each place, and has the hashes of a tree
+/// that is made anew.
+fn accept<C: SignatureCheck>(
+    alloc: Global,
+    follower: &mut Follower<C>,
+    message: &str,
+) -> Result<String, Fail> {
+    let message = bytes(alloc, message)?;
+    let Ok(taken) = follower.take(message.as_slice()) else {
+        return Err(Fail::from("an accepted message"));
+    };
+    let said = taken_text(alloc, taken)?;
+    let tree = follower.tree();
+    if whole_text(alloc, tree)?.as_str() != whole_text_anew(alloc, tree)?.as_str() {
+        return Err(Fail::from("the hashes of these nodes"));
+    }
+    match lacking(alloc, tree)? {
+        0 => Ok(said),
+        _ => Err(Fail::from("a hash of each place")),
+    }
+}
+
+/// Takes messages that have to be accepted, each as [`accept`] does.
+pub(crate) fn accept_all<C: SignatureCheck>(
+    alloc: Global,
+    follower: &mut Follower<C>,
+    messages: &[&str],
+) -> Result<String, Fail> {
+    let mut said = String::new(alloc);
+    for message in messages {
+        if !said.is_empty() {
+            said.push_str("; ")?;
+        }
+        said.push_str(accept(alloc, follower, message)?.as_str())?;
+    }
+    Ok(said)
+}
+
+/// After a commit without a path, one with a path, one that adds a member beside a path, and a lone member's path
+/// without nodes.
+#[test]
+fn followers_keep_each_hash(rt: HostRuntime) -> Result<(), Fail> {
+    let alloc = rt.alloc();
+    let renewed = member_commit(alloc, 1, "", Some(("8", SOURCE, "01d10401aa01bb")))?;
+    let list = adds_of(alloc, &[2])?;
+    let nodes = "01d10401aa01bb01d300";
+    let grown = member_commit(alloc, 1, list.as_str(), Some(("8", LOWER_COMMIT, nodes)))?;
+    let alone = member_commit(alloc, 0, "", Some(("8", "0300", "")))?;
+    let two = "proposal 419afc0a88fe171b793b00410d11c8121fb96fdfde7b5ced43d5912144a3a9f9; \
+        commit 1; commit 2";
+    let rows: [(&[&str], &str); 3] = [
+        (&[PROPOSAL, COMMIT, renewed.as_str()], two),
+        (&[PROPOSAL, COMMIT, grown.as_str()], two),
+        (&[alone.as_str()], "commit 1"),
+    ];
+    for (messages, wanted) in &rows {
+        let mut follower = started(alloc, Trusting, GROUP_INFO)?;
+        let said = accept_all(alloc, &mut follower, messages);
+        drop(follower);
+        expect_text(&rt, said?, wanted);
+    }
     Ok(())
 }

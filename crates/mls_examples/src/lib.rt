@@ -94,6 +94,8 @@ mod support;
 #[cfg(test)]
 mod tree;
 #[cfg(test)]
+mod tree_indexes;
+#[cfg(test)]
 mod tree_parts;
 #[cfg(test)]
 mod tree_reports;
@@ -103,5 +105,7 @@ mod validator;
 mod validity;
 #[cfg(test)]
 mod vectors;
+#[cfg(test)]
+mod wanted;
 #[cfg(test)]
 mod wire;

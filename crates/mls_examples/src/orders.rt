@@ -18,11 +18,12 @@ fn order(alloc: Global, line: &str) -> Result<Result<Order, OrderFault>, Fail> {
     Ok(order_of(alloc, words.as_slice()))
 }
 
-/// The file of receipts, `-` where there is none.
+/// The file of receipts, `-` where each signature is good, `none` where none is known as good.
 fn receipts_of(checker: &Checker) -> &str {
     match checker {
         Checker::Trust => "-",
         Checker::Receipts(file) => file.as_str(),
+        Checker::Nobody => "none",
     }
 }
 
@@ -77,6 +78,18 @@ fn words_of(alloc: Global, order: &Order) -> Result<String, Fail> {
             log.as_str(),
             receipts_of(checker)
         )?),
+        Order::Signatures {
+            info,
+            tree,
+            log,
+            checker,
+        } => Ok(format!(in alloc;
+            "signatures {} {} {} {}",
+            info.as_str(),
+            name_of(tree),
+            name_of(log),
+            receipts_of(checker)
+        )?),
         Order::Check { kind, file } => {
             let kind = match kind {
                 CheckKind::TreeMath => "math",
@@ -127,9 +140,27 @@ fn orders_are_read(rt: HostRuntime) -> Result<(), Fail> {
             "replay --log l --tree b --receipts c --info a",
             "replay a b l c",
         ),
+        ("signatures --info a", "signatures a - - none"),
+        (
+            "signatures --log l --receipts c --tree b --info a",
+            "signatures a b l c",
+        ),
         (
             "validate --info a --tree b",
             "2 usage: give one of --trust and --receipts\n",
+        ),
+        (
+            "validate-tree --context - --tree b --trust",
+            "validate - b -",
+        ),
+        ("check transcript -", "check transcript -"),
+        (
+            "replay --info a --tree - --log - --trust",
+            "2 usage: standard input can be given for one file\n",
+        ),
+        (
+            "signatures --info - --receipts -",
+            "2 usage: standard input can be given for one file\n",
         ),
         ("show nope x", "2 usage: KIND is tree, info or message\n"),
         ("check tree-math x", "check math x"),
@@ -164,6 +195,8 @@ fn usage_and_help(rt: HostRuntime) -> Result<(), Fail> {
         (("show tree x y", "unexpected argument 'y'"), "2"),
         (("check --help", "Usage: mlscheck"), "0"),
         (("check transcript", "<FILE>"), "2"),
+        (("signatures --log l", "--info"), "2"),
+        (("signatures --info a --trust", "--trust"), "2"),
         (("", "requires a subcommand"), "2"),
     ];
     // The status of a line whose text has a part, else the text.

@@ -10,8 +10,8 @@ use std::test::Fail;
 const VECTORS: &str = "[{\"n_leaves\":1,\"n_nodes\":1,\"root\":0,\"left\":[null],\"right\":[null],\
     \"parent\":[null],\"sibling\":[null]},{\"n_leaves\":1,\"n_nodes\":1,\"root\":1},{}]";
 
-/// The files of an info, a log, a context, a tree, receipts and vectors, the last two of which are the bytes of a text.
-/// There is no other.
+/// The files of an info, a log, which is standard input too, a context, a tree, receipts and vectors, the last two of
+/// which are the bytes of a text. There is no other.
 #[derive(Drop)]
 struct Shelf<'a> {
     info: &'a [u8],
@@ -31,7 +31,7 @@ impl<'a> Files for Shelf<'a> {
     fn open(&self, name: &str) -> Option<MemorySource<'a>> {
         match name {
             "info" => Some(MemorySource::new(self.info, 40, None)),
-            "log" => Some(MemorySource::new(self.log, 40, None)),
+            "log" | "-" => Some(MemorySource::new(self.log, 40, None)),
             "context" => Some(MemorySource::new(self.context, 40, None)),
             "tree" => Some(MemorySource::new(self.tree, 40, None)),
             "receipts" => Some(MemorySource::new(self.receipts.as_bytes(), 40, None)),
@@ -85,6 +85,22 @@ fn run_over(
     Ok(format!(in alloc; "{status} {out}| {notes}")?)
 }
 
+/// What `signatures` prints: of the info its own, the leaf's having a receipt; of the proposal its own, the leaf's and the
+/// key package's; the second message can't be read.
+const SIGNATURES: &str =
+    "1 584cca8421eb79fc5ddfb3f6cc7af53016bdb08bef17bdfff9609d6ae9071284 1 b0 144d4c5320312e302047726f\
+    7570496e666f5442534065000100010147000000000000000020e32ab6a0a711ec8a732c3fad9263ed5fa61caf53fdf9\
+    b9690dc57271d8f110d700002d00022a29010101a001b0000101400200010200010000020001010000000000000000ff\
+    ffffffffffffff0001c001e000000000 c4\nfd064fc6472edfe1ed558ad948a217e66423a65a87d59215cf027574c22\
+    d998a 1 b0 184d4c5320312e30204672616d6564436f6e74656e7454425340780001000101470000000000000000010\
+    0000000000200010001000101f101a101b1000101410200010200010000020001010000000000000000fffffffffffff\
+    fff0001c10001c9000100010147000000000000000020e32ab6a0a711ec8a732c3fad9263ed5fa61caf53fdf9b9690dc\
+    57271d8f110d70000 c8\ne60b8f3c0a227ffc5e084212caecf78d7e2b38f53addb2f55387762615d6872a 1 b1 134d\
+    4c5320312e30204c6561664e6f64655442532501a101b1000101410200010200010000020001010000000000000000ff\
+    ffffffffffffff00 c1\n47c350198b187b8db3ec7885f5f8de0799a2ebdd4d7c97610b7b94d2af36410e 1 b1 154d4\
+    c5320312e30204b65795061636b6167655442532e0001000101f101a101b100010141020001020001000002000101000\
+    0000000000000ffffffffffffffff0001c100 c9\n2 refused 1\n| ";
+
 /// Each status, and each file at its place. The receipts begin with the letter `b`, which as the first byte of a vector
 /// begins a length in two bytes, of more bytes than there are.
 #[test]
@@ -131,6 +147,16 @@ fn orders_are_carried_out(rt: HostRuntime) -> Result<(), Fail> {
             "1 1 accepted proposal 419afc0a88fe171b793b00410d11c8121fb96fdfde7b5ced43d5912144a3a9f9\n\
                 2 refused 1\naccepted 1 refused 1 broken 0 epoch 0\n| ",
         ),
+        (
+            "signatures --info info --log log --receipts receipts",
+            SIGNATURES,
+        ),
+        (
+            "replay --info info --log - --trust",
+            "1 1 accepted proposal 419afc0a88fe171b793b00410d11c8121fb96fdfde7b5ced43d5912144a3a9f9\n\
+                2 refused 1\naccepted 1 refused 1 broken 0 epoch 0\n| ",
+        ),
+        ("signatures --info info --log other", "3 | fault: read\n"),
         (
             "check tree-math vectors",
             "1 1 pass\n2 fail root\n3 fail n_leaves\npassed 1 failed 2 skipped 0\n| ",

@@ -2,15 +2,15 @@
 //! every message that its members took, and has in each epoch the tree hash and the confirmed transcript hash that they
 //! had. These, and the references of its proposals, are worked out from what the members held.
 
-use crate::support::{bytes, expect_text};
-use mls_check::Listed;
-use mls_cli::run_replay;
-use mls_wire::{MemorySink, MemorySource};
+use crate::follower::listed;
+use crate::group_reports::told;
+use crate::support::expect_text;
 use std::alloc::Global;
 use std::test::Fail;
 
 /// The GroupInfo of epoch 1, with its tree.
-const FIRST_INFO: &str = "0001000400010001202465531c40cda7923c62292d3a824c84d15fae2af10cb7a5015875\
+pub(crate) const FIRST_INFO: &str =
+    "0001000400010001202465531c40cda7923c62292d3a824c84d15fae2af10cb7a5015875\
     f18a1d2a1a000000000000000120a5ecf7c59c337b74e69277fad5edc3146f7df3207bc98b4e033905d1f2deedb620\
     a4c0a6b3df03260266857b419c0ee1f006ee0eea5dbed8172d9cf6ede96a58e90041630002415f415d010120a471df\
     5efaf283096e9a03cfba04c104493c0d670e2d0c85a340978b3420531d206634f895f115a3eb0dada46b8cc065ed4f\
@@ -47,7 +47,8 @@ pub(crate) const FIFTH_INFO: &str =
     589830f1c8bc61147fce3c37ba01c788cda666fadc03a90748e7dd293ba53d8f6ba7121c0d";
 
 /// The messages of epochs 1 to 4, each behind its length.
-const EARLIER: &str = "41d200010001202465531c40cda7923c62292d3a824c84d15fae2af10cb7a5015875f18a1d2\
+pub(crate) const EARLIER: &str =
+    "41d200010001202465531c40cda7923c62292d3a824c84d15fae2af10cb7a5015875f18a1d2\
     a1a00000000000000010100000001000341170100010001000120d516ab3f48328b4e0fce46cdd5d14a1515f5db98e\
     375c6756bfee192d5833a7c20c8078f6d74fe49661e17c3f5db19b6c3d314c89f11d6b0a83bc3ad454c31f44320cfb\
     a27cfb68cb22f025995ffb0139255d57401dbaaddf4bf226618133ea1631400010467332d320200010600020001000\
@@ -223,15 +224,7 @@ pub(crate) fn replayed(
     log: &str,
     receipts: &str,
 ) -> Result<String, Fail> {
-    let info = bytes(alloc, info)?;
-    let log = bytes(alloc, log)?;
-    let listed = Listed::read(alloc, receipts.as_bytes())?;
-    let mut info = MemorySource::new(info.as_slice(), 1000, None);
-    let mut tree: Option<MemorySource> = None;
-    let mut log = MemorySource::new(log.as_slice(), 100, None);
-    let mut out = MemorySink::new(alloc, 4000, 1000, None)?;
-    run_replay(alloc, &mut info, &mut tree, &mut log, listed, &mut out)?;
-    Ok(String::from_utf8(Vec::from_slice(alloc, out.bytes())?)?)
+    told(alloc, listed(alloc, receipts)?, (info, log), 100)
 }
 
 #[test]

@@ -192,7 +192,7 @@ const RECEIPTS: &str = "98107e6239913e480415e126da1af1eccd76c294326f6052f5521bdb
 /// came first is taken, and what else was sent in that epoch comes too late. Message 7 is the commit that was taken back:
 /// nothing in the log says so, and it keeps every rule, so it is taken, what follows of epoch 2 comes too late, and the
 /// commit of the group's own epoch 3 was signed over another context.
-const ALL_TOLD: &str = "1 refused 2\n\
+const ALL_TOLD: &str = "no: 1 refused 2\n\
     2 refused 2\n\
     3 accepted commit 2 508cbcd6997904f0d41b16d7f92465dbe20255db0483c9379da9475262f17fa0 \
     abc54e80dc53256a6e28e0237b5a41684d2d657e659751ba78ffba8fb32073ea\n\

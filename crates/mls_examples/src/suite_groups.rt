@@ -1,11 +1,9 @@
 //! The example group in suites 4 and 7, which hash with SHA-512 and SHA-384 (RFC 9420, 17.1): the same proposal and commit are accepted,
 //! with the hashes that these suites give.
 
-use crate::support::{PROPOSAL, bytes, expect_text};
+use crate::group_reports::told;
+use crate::support::{PROPOSAL, expect_text};
 use mls_check::Trusting;
-use mls_cli::{RunFault, Verdict, run_replay};
-use mls_wire::{MemorySink, MemorySource};
-use std::alloc::Global;
 use std::test::Fail;
 
 /// The group info in suite 4: the tree hash has 64 bytes, behind `4040`.
@@ -53,24 +51,6 @@ const MIDDLE_TOLD: &str = "1 accepted proposal 9aca6170a85769d5f7839146cfb663a21
         bb16a88f520728d31dd5e6c4d0164021ba573e8ecd825aebd54\naccepted 2 refuse\
         d 0 broken 0 epoch 1\n";
 
-/// What `replay` writes of a group info and a log, behind `no: ` where the verdict is No.
-fn replayed(alloc: Global, inputs: (&str, &str)) -> Result<String, Fail> {
-    let (info, log) = inputs;
-    let info = bytes(alloc, info)?;
-    let log = bytes(alloc, log)?;
-    let mut info = MemorySource::new(info.as_slice(), 64, None);
-    let mut tree: Option<MemorySource> = None;
-    let mut log = MemorySource::new(log.as_slice(), 64, None);
-    let mut out = MemorySink::new(alloc, 1000, 64, None)?;
-    let outcome = run_replay(alloc, &mut info, &mut tree, &mut log, Trusting, &mut out);
-    let written = String::from_utf8(Vec::from_slice(alloc, out.bytes())?)?;
-    match outcome {
-        Ok(Verdict::Yes) => Ok(written),
-        Ok(Verdict::No) => Ok(format!(in alloc; "no: {written}")?),
-        Err(fault) => Ok(format!(in alloc; "{written}: {fault}")?),
-    }
-}
-
 /// A key package of suite 1 can't be added.
 #[test]
 fn groups_are_followed(rt: HostRuntime) -> Result<(), Fail> {
@@ -81,9 +61,10 @@ fn groups_are_followed(rt: HostRuntime) -> Result<(), Fail> {
         ((MIDDLE_INFO, MIDDLE_LOG), MIDDLE_TOLD),
     ];
     for (input, wanted) in INPUTS {
-        expect_text(&rt, replayed(alloc, *input)?, wanted);
+        expect_text(&rt, told(alloc, Trusting, *input, 64)?, wanted);
     }
-    let log = format!(in rt.alloc(); "404b{PROPOSAL}")?;
-    expect_text(&rt, replayed(rt.alloc(), (LONG_INFO, log.as_str()))?, other);
+    let log = format!(in alloc; "404b{PROPOSAL}")?;
+    let found = told(alloc, Trusting, (LONG_INFO, log.as_str()), 64)?;
+    expect_text(&rt, found, other);
     Ok(())
 }

@@ -2,7 +2,7 @@
 //! worked out by hand from RFC 9420, and the hashes are SHA-256 of what is written beside them there.
 //!
 //! The group has the id `47` and cipher suite 1. Member `i` has keys of one byte: `a0 + i` encrypts (`80 + i` after a
-//! commit), `b0 + i` signs, and its signatures are `c0 + i`.
+//! commit, and `70 + i` after another one), `b0 + i` signs, and its signatures are `c0 + i`.
 
 /// The leaves of the key packages of members 0 and 1.
 pub(crate) const LEAVES: [&str; 2] = [
@@ -42,8 +42,19 @@ pub(crate) const ADD_COMMIT: &str = "0001000101470000000000000001010000000000033
     00101400200010200010000020001032093665b04245cc070b1bdf028955a30b2dc700e38eb40845f274e3075f50535\
     910001c00a01d10401aa01bb01d30001c601e101c5";
 
-/// Member 0's next commit, in its place, which has the same path and sets the context's extensions: members have to be
-/// capable of basic credentials.
+/// Member 0's commit behind that one, which adds member 3, whose leaf is under a set parent, and has no path.
+pub(crate) const SECOND_ADD_COMMIT: &str = "0001000101470000000000000002010000000000033301000100010\
+    00101f301a301b3000101430200010200010000020001010000000000000000ffffffffffffffff0001c30001c90001\
+    c601e101c5";
+
+/// Member 0's commit behind that one, which removes members 2 and 3, so that the tree is halved, and has a path of one
+/// node.
+pub(crate) const REMOVE_COMMIT: &str = "0001000101470000000000000003010000000000030e010003000000020\
+    100030000000301017001b0000101400200010200010000020001032017fe3dff0db3a35636766b363c1ecf09a43952\
+    1bbd57fe198659a154d90056ae0001c00701d50401aa01bb01c601e101c5";
+
+/// Member 0's next commit in the place of [`PATH_COMMIT`], which has the same path and sets the context's extensions:
+/// members have to be capable of basic credentials.
 pub(crate) const EXTENSIONS_COMMIT: &str =
     "0001000101470000000000000001010000000000030c010007080003\
     05000002000101018001b0000101400200010200010000020001032\
@@ -76,12 +87,15 @@ pub(crate) const PATH_ANSWERS: &str = "proposal 419afc0a88fe171b793b00410d11c812
     c0eb8c9bb0e98c3e3ada46f6526c016b444c56 2bd33e10d5cdf5a3f1f12c942e68dba501b002342990fe895593eda8\
     b2227429";
 
-/// What is answered where the next commit adds member 2.
+/// What is answered where the next commit adds member 2, the one behind it member 3, and the last one removes both.
 pub(crate) const ADD_ANSWERS: &str = "proposal 419afc0a88fe171b793b00410d11c8121fb96fdfde7b5ced43d5\
     912144a3a9f9; commit 1 3dd545ada09b9e9be453de8b5c20702e810685eca3710882583a67d8a3eddd8b 3b3fe4c\
     f185f12883575d4bc9a402561feafe917dc05379ecd9f3f0abe6607e5; commit 2 01fca42e2e9594b5e27dc046ce6\
     18ac5b6d06d3fd7c145b8387ce547c6f36219 5be7438d55c9dc61ba6c8508d01874da81f701a73e3dc8bfb7c6df020\
-    03bade0";
+    03bade0; commit 3 5c8af4eac028a0c3f6cd02a3cf4fc167fd6042cb16866eecb73dd0da4aca3f09 a4c0baeb2954\
+    f4b26e6771441d15707b3dadf631666a3772daf64ec1f1f1485d; commit 4 666f8110166bde6e4403af938cc9c62d\
+    fd96cd881e7f4d07ec85017c07c112ed aef662c94fe890b7abbb22c9f5be6d333e43b36031d250346590102e165fda\
+    91";
 
 /// What is answered where the next commit sets the context's extensions.
 pub(crate) const EXTENSIONS_ANSWERS: &str = "proposal 419afc0a88fe171b793b00410d11c8121fb96fdfde7b5\

@@ -26,7 +26,7 @@ use crate::changed::try_input;
 use crate::followers::{bytes_of_all, follow};
 use crate::group::{
     ADD_ANSWERS, ADD_COMMIT, COMMIT, EXTENSIONS_ANSWERS, EXTENSIONS_COMMIT, GROUP_INFO,
-    PATH_ANSWERS, PATH_COMMIT, PROPOSAL,
+    PATH_ANSWERS, PATH_COMMIT, PROPOSAL, REMOVE_COMMIT, SECOND_ADD_COMMIT,
 };
 use crate::inputs::{read_message, read_receipts};
 use crate::reports::{Report, tell_report};
@@ -73,8 +73,15 @@ const CALLS: &[(&str, Call, &str)] = &[
         PATH_ANSWERS,
     ),
     (
-        "Follower::start and take, to a commit with a path that adds a member to a full tree",
-        Call::Follow(&[PROPOSAL, COMMIT, ADD_COMMIT]),
+        "Follower::start and take, to commits that add a member to a full tree, add one under a set parent, \
+        and halve the tree",
+        Call::Follow(&[
+            PROPOSAL,
+            COMMIT,
+            ADD_COMMIT,
+            SECOND_ADD_COMMIT,
+            REMOVE_COMMIT,
+        ]),
         ADD_ANSWERS,
     ),
     (

@@ -1,0 +1,123 @@
+//! The index of a tree's keys, while the tree changes (RFC 9420, 7.3), and the rules of the leaves that changed.
+
+use crate::support::{bytes, expect_text, leaf_node, leaf_with, path_tree, updated_leaf};
+use mls_check::Trusting;
+use mls_index::{KeyKind, TreeIndex, changed_leaves_keep_rules};
+use mls_tree::{Journal, PublicTree};
+use mls_wire::{Opaque, read_all_of};
+use std::alloc::Global;
+use std::test::Fail;
+
+/// Keys of leaves and of parents; a key that begins as another one, and is longer, is not that one.
+#[test]
+fn keys_of_a_tree(rt: HostRuntime) -> Result<(), Fail> {
+    let alloc = rt.alloc();
+    const KEYS: &[(KeyKind, &str, bool)] = &[
+        (KeyKind::Encryption, "80", true),
+        (KeyKind::Encryption, "a1", true),
+        (KeyKind::Encryption, "d1", true),
+        (KeyKind::Encryption, "d3", true),
+        (KeyKind::Encryption, "b1", false),
+        (KeyKind::Encryption, "a3", false),
+        (KeyKind::Encryption, "a100", false),
+        (KeyKind::Encryption, "", false),
+        (KeyKind::Signature, "b0", true),
+        (KeyKind::Signature, "b2", true),
+        (KeyKind::Signature, "b3", false),
+        (KeyKind::Signature, "a1", false),
+        (KeyKind::Signature, "d1", false),
+    ];
+    let tree = path_tree(alloc)?;
+    let index = TreeIndex::of(alloc, &tree)?;
+    for (kind, key, wanted) in KEYS {
+        let bytes = bytes(alloc, key)?;
+        let found = index.has_key(&tree, *kind, bytes.as_slice());
+        assert_eq!(rt; found, *wanted, "{kind:?} {key}");
+    }
+    Ok(())
+}
+
+/// Which of the keys `91` and `a1` a tree has.
+fn both(alloc: Global, index: &TreeIndex, tree: &PublicTree) -> Result<String, Fail> {
+    let new = index.has_key(tree, KeyKind::Encryption, &[0x91]);
+    let old = index.has_key(tree, KeyKind::Encryption, &[0xa1]);
+    Ok(format!(in alloc; "{new} {old}")?)
+}
+
+/// Which of them the tree has once member 1 has updated its leaf, and again once that is accepted or refused.
+fn updated(alloc: Global, is_accepted: bool) -> Result<String, Fail> {
+    let mut tree = path_tree(alloc)?;
+    let mut index = TreeIndex::of(alloc, &tree)?;
+    let mut journal = Journal::new(alloc);
+    let leaf = updated_leaf(alloc, 1)?;
+    journal.set_leaf(&mut tree, 1, Some(leaf_node(alloc, leaf.as_str())?))?;
+    index.enter(&tree, &[2])?;
+    let entered = both(alloc, &index, &tree)?;
+    if is_accepted {
+        index.accept(&tree, &[2]);
+    } else {
+        journal.take_back(&mut tree);
+        index.refuse();
+    }
+    let settled = both(alloc, &index, &tree)?;
+    Ok(format!(in alloc; "{entered}, {settled}")?)
+}
+
+#[test]
+fn keys_that_come_and_go(rt: HostRuntime) -> Result<(), Fail> {
+    let alloc = rt.alloc();
+    expect_text(&rt, updated(alloc, true)?, "true false, true false");
+    expect_text(&rt, updated(alloc, false)?, "true false, false true");
+    Ok(())
+}
+
+/// Whose keys are their own once the blank leaf 3 gets the keys of member 1, and leaf 1 is removed or not: those of
+/// leaf 3, of leaf 1, and of the places 0 and 6.
+fn moved(alloc: Global, is_removed: bool) -> Result<String, Fail> {
+    let mut tree = path_tree(alloc)?;
+    let mut index = TreeIndex::of(alloc, &tree)?;
+    let leaf = leaf_with(alloc, 1, "a", "02")?;
+    tree.set_leaf(3, Some(leaf_node(alloc, leaf.as_str())?))?;
+    if is_removed {
+        tree.set_leaf(1, None)?;
+    }
+    index.enter(&tree, &[2, 6, 2])?;
+    let encryption = index.has_own_key(&tree, KeyKind::Encryption, 6);
+    let signature = index.has_own_key(&tree, KeyKind::Signature, 6);
+    let other = index.has_own_key(&tree, KeyKind::Signature, 2);
+    let both = index.have_own_keys(&tree, KeyKind::Encryption, &[0, 6]);
+    let parent = index.have_own_keys(&tree, KeyKind::Signature, &[0, 1]);
+    Ok(format!(in alloc; "{encryption} {signature} {other} {both} {parent}")?)
+}
+
+#[test]
+fn keys_that_move(rt: HostRuntime) -> Result<(), Fail> {
+    let alloc = rt.alloc();
+    expect_text(&rt, moved(alloc, false)?, "false false false false true");
+    expect_text(&rt, moved(alloc, true)?, "true true true true true");
+    Ok(())
+}
+
+/// The leaves support no type of extension beside the default ones, and the parents and the blank leaf are asked
+/// nothing.
+#[test]
+fn rules_of_changed_leaves(rt: HostRuntime) -> Result<(), Fail> {
+    let alloc = rt.alloc();
+    const CHANGES: &[(&str, &[u32], bool)] = &[
+        ("000000", &[0, 1, 2, 4], true),
+        ("0200090000", &[0, 1, 2, 4], false),
+        ("0200090000", &[1, 3, 6, 9], true),
+    ];
+    let tree = path_tree(alloc)?;
+    let group_id = Opaque::copy(alloc, &[0x47])?;
+    for (required, places, wanted) in CHANGES {
+        let input = bytes(alloc, required)?;
+        let required = read_all_of(alloc, input.as_slice())?;
+        let kept = changed_leaves_keep_rules(
+            alloc, 1, &group_id, &required, &tree, places, &Trusting,
+        )?;
+        drop(required);
+        assert_eq!(rt; kept, *wanted);
+    }
+    Ok(())
+}

@@ -1,20 +1,34 @@
 #!/usr/bin/env python3
 """Makes a valid group to measure with, and a log of commits.
 
-    group.py FOLDER --members N [--commits C] [--unmerged U] [--log L]
+    group.py FOLDER --members N [--commits C] [--unmerged U] [--log L] [--kind paths|mixed]
 
 writes `tree`, `valid.context`, `other-hash.context` (the same with another tree hash), `info` (a
 GroupInfo without the tree) and `log` into the folder. The tree is made by C commits of members that are
 spread evenly over it, and U members who were added since, who are unmerged. The log has L commits, each
-with a path and no proposals. Keys and signatures are bytes that mean nothing.
+with a path. Those of the kind `paths` have no proposals; those of the kind `mixed` add up to two members
+and remove up to two beside their path. Keys and signatures are bytes that mean nothing.
 """
 import argparse
+import collections
 import hashlib
 import random
+
+# What a leaf says, but for where it comes from.
+Leaf = collections.namedtuple("Leaf", "encryption signature credential capabilities extensions")
+
+# What a commit does: who sends it, whom it removes, the leaves that it adds, the sender's new leaf, and the
+# keys that are set in place of its path's, by their places in the path.
+Plan = collections.namedtuple("Plan", "committer removed joining renewed keys")
+
+BASIC = bytes.fromhex("020001 020001 00 00 020001")
 
 
 def number(value, size):
     return value.to_bytes(size, "big")
+
+
+KEY_PACKAGE = b"\x01" + number(0, 8) + number(2**64 - 1, 8)
 
 
 def vector(body):
@@ -38,15 +52,19 @@ def optional(body):
     return b"\x00" if body is None else b"\x01" + body
 
 
-def leaf(index, parent_hash=None, count=0):
-    keys = vector(key("encryption", index, parent_hash, count)) + vector(key("signature", index))
-    credential = b"\x00\x01" + vector(b"member %d" % index)
-    capabilities = bytes.fromhex("020001 020001 00 00 020001")
-    if parent_hash is None:
-        source = b"\x01" + number(0, 8) + number(2**64 - 1, 8)
-    else:
-        source = b"\x03" + vector(parent_hash)
-    return keys + credential + capabilities + source + b"\x00" + vector(bytes(64))
+def new_leaf(*name, capabilities=BASIC):
+    credential = b"\x00\x01" + vector(repr(name).encode())
+    return Leaf(key("encryption", *name), key("signature", *name), credential, capabilities, b"")
+
+
+def leaf_bytes(leaf, source):
+    keys = vector(leaf.encryption) + vector(leaf.signature)
+    return keys + leaf.credential + leaf.capabilities + source + vector(leaf.extensions) + vector(bytes(64))
+
+
+def key_package(leaf, init_key):
+    package = number(1, 2) + number(1, 2) + vector(init_key) + leaf_bytes(leaf, KEY_PACKAGE)
+    return package + b"\x00" + vector(bytes(64))
 
 
 def parent(node):
@@ -57,110 +75,168 @@ def parent(node):
 
 class Group:
     """A level lists its nodes from left to right; leaves are level 0. A leaf is its bytes, a parent its
-    key, its parent hash and its unmerged leaves; a blank is None. The hashes are kept as it changes."""
+    key, its parent hash and its unmerged leaves; a blank is None. `leaves` has what each leaf says. The tree
+    hash of each subtree, and the size of its resolution, are kept as the group changes."""
 
     NAME = b"group"
 
-    def __init__(self, members, commits, unmerged):
+    def __init__(self, members, commits=0, unmerged=0):
         self.depth = (members - 1).bit_length()
-        sizes = [1 << (self.depth - level) for level in range(self.depth + 1)]
-        self.levels = [[None] * size for size in sizes]
-        self.hashes = [[None] * size for size in sizes]
-        self.is_blank = [[True] * size for size in sizes]
-        self.members = members
-        self.epoch = commits
+        lengths = [1 << (self.depth - level) for level in range(self.depth + 1)]
+        self.levels = [[None] * length for length in lengths]
+        self.hashes = [[None] * length for length in lengths]
+        self.sizes = [[0] * length for length in lengths]
+        self.leaves = [None] * lengths[0]
+        self.epoch = 0
         step = members // unmerged if unmerged else 0
         added = range(step // 2 | 1, members, step) if unmerged else range(0)
         for index in range(members):
             if index not in added:
-                self.levels[0][index] = leaf(index)
-        self.hash_all_again()
+                self.leaves[index] = new_leaf("made", index)
+                self.levels[0][index] = leaf_bytes(self.leaves[index], KEY_PACKAGE)
+        self.hash_again(range(lengths[0]))
         for count in range(commits):
             index = count * members // commits
             if index not in added:
-                self.commit(index, count)
+                self.renew(index, self.renewed(index))
+            self.epoch += 1
         for index in added:
-            self.add(index)
-        self.hash_all_again()
+            self.set_leaf(index, new_leaf("made", index))
 
-    def hash_again(self, level, at):
+    def present(self):
+        return [index for index, leaf in enumerate(self.leaves) if leaf]
+
+    def renewed(self, index):
+        """What the member's leaf says after its next commit."""
+        leaf = new_leaf("renewed", index, self.epoch)
+        return leaf._replace(signature=self.leaves[index].signature)
+
+    # ---- changes of the tree
+
+    def hash_one(self, level, at):
         node = self.levels[level][at]
         if level == 0:
-            body = b"\x01" + number(at, 4) + optional(node)
-            self.is_blank[0][at] = node is None
-        else:
-            below, left = level - 1, 2 * at
-            halves = vector(self.hashes[below][left]) + vector(self.hashes[below][left + 1])
-            body = b"\x02" + optional(parent(node) if node else None) + halves
-            self.is_blank[level][at] = self.is_blank[below][left] and self.is_blank[below][left + 1]
+            self.hashes[0][at] = digest(b"\x01" + number(at, 4) + optional(node))
+            self.sizes[0][at] = 1 if node else 0
+            return
+        left, right = self.hashes[level - 1][2 * at:2 * at + 2]
+        body = b"\x02" + optional(parent(node) if node else None) + vector(left) + vector(right)
         self.hashes[level][at] = digest(body)
+        below = sum(self.sizes[level - 1][2 * at:2 * at + 2])
+        self.sizes[level][at] = 1 + len(node[2]) if node else below
 
-    def hash_all_again(self):
+    def hash_again(self, indices):
+        """Makes the hashes of these leaves and of what is above them anew."""
+        places = sorted(set(indices))
         for level in range(self.depth + 1):
-            for at in range(len(self.levels[level])):
-                self.hash_again(level, at)
+            for at in places:
+                self.hash_one(level, at)
+            places = sorted({at // 2 for at in places})
 
-    def commit(self, index, count):
-        """The member renews its leaf and the parents of its filtered direct path, from the root down.
-        It answers the path: its leaf, and the keys with the levels and places of their other halves."""
-        parent_hash = b""
-        path = []
-        for level in range(self.depth, 0, -1):
-            other = (index >> (level - 1)) ^ 1
-            if self.is_blank[level - 1][other]:
-                self.levels[level][index >> level] = None
-                continue
-            node = (key("parent", level, count), parent_hash, [])
-            self.levels[level][index >> level] = node
-            path.append((node[0], level - 1, other))
-            parts = vector(node[0]) + vector(node[1]) + vector(self.hashes[level - 1][other])
-            parent_hash = digest(parts)
-        self.levels[0][index] = leaf(index, parent_hash, count)
-        for level in range(self.depth + 1):
-            self.hash_again(level, index >> level)
-        return self.levels[0][index], path[::-1]
-
-    def add(self, index):
-        """The member joins: a new leaf, unmerged at every set parent above it."""
-        self.levels[0][index] = leaf(index)
+    def set_leaf(self, index, leaf):
+        """A member joins: a new leaf, unmerged at every set parent above it."""
+        self.leaves[index] = leaf
+        self.levels[0][index] = leaf_bytes(leaf, KEY_PACKAGE)
         for level in range(1, self.depth + 1):
             node = self.levels[level][index >> level]
             if node:
                 node[2].append(index)
+                node[2].sort()
+        self.hash_again([index])
 
-    def resolution_size(self, level, at):
-        if self.is_blank[level][at]:
-            return 0
-        node = self.levels[level][at]
-        if level == 0:
-            return 1
-        if node:
-            return 1 + len(node[2])
-        below, left = level - 1, 2 * at
-        return self.resolution_size(below, left) + self.resolution_size(below, left + 1)
+    def join(self, leaf):
+        if None not in self.leaves:
+            self.double()
+        index = self.leaves.index(None)
+        self.set_leaf(index, leaf)
+        return index
 
-    def commit_message(self, index, count):
-        """The message of a commit without proposals, of which the group then is the result."""
-        renewed, path = self.commit(index, count)
-        nodes = b""
+    def remove(self, index):
+        self.leaves[index] = None
+        for level in range(self.depth + 1):
+            self.levels[level][index >> level] = None
+        self.hash_again([index])
+
+    def double(self):
+        count = len(self.leaves)
+        self.depth += 1
+        self.leaves += [None] * count
+        for rows, blank in ((self.levels, None), (self.hashes, None), (self.sizes, 0)):
+            for row in rows:
+                row += [blank] * len(row)
+            rows.append([blank])
+        self.hash_again(range(count, 2 * count))
+
+    def halve(self):
+        """Halves the tree as often as its right half is blank."""
+        while self.depth and self.sizes[self.depth - 1][1] == 0:
+            self.depth -= 1
+            del self.leaves[1 << self.depth:]
+            for rows in (self.levels, self.hashes, self.sizes):
+                rows.pop()
+                for row in rows:
+                    del row[len(row) // 2:]
+
+    # ---- commits
+
+    def renew(self, index, leaf, keys=None):
+        """The member renews its leaf and the parents of its filtered direct path, from the root down. It
+        answers the path from the lowest parent on: its keys, with the levels and places of their other halves."""
+        others = [(level, (index >> (level - 1)) ^ 1) for level in range(self.depth, 0, -1)]
+        filtered = [level for level, other in others if self.sizes[level - 1][other]]
+        parent_hash, path = b"", []
+        for level, other in others:
+            if level not in filtered:
+                self.levels[level][index >> level] = None
+                continue
+            at = len(filtered) - 1 - filtered.index(level)
+            node = ((keys or {}).get(at, key("path", level, self.epoch)), parent_hash, [])
+            self.levels[level][index >> level] = node
+            path.append((node[0], level - 1, other))
+            parent_hash = digest(vector(node[0]) + vector(node[1]) + vector(self.hashes[level - 1][other]))
+        self.leaves[index] = leaf
+        self.levels[0][index] = leaf_bytes(leaf, b"\x03" + vector(parent_hash))
+        self.hash_again([index])
+        return path[::-1]
+
+    def path_bytes(self, index, path, added):
+        """A path, in which each node has a ciphertext for each node that stands for its other half, but for
+        the leaves that were just added."""
+        ciphertext = vector(bytes(32)) + vector(bytes(48))
+        nodes = []
         for encryption_key, level, at in path:
-            ciphertext = vector(bytes(32)) + vector(bytes(48))
-            nodes += vector(encryption_key) + vector(ciphertext * self.resolution_size(level, at))
-        content = vector(self.NAME) + number(self.epoch, 8) + b"\x01" + number(index, 4) + b"\x00"
-        content += b"\x03" + b"\x00" + b"\x01" + renewed + vector(nodes)
+            count = self.sizes[level][at] - sum(other >> level == at for other in added)
+            nodes.append(vector(encryption_key) + vector(ciphertext * count))
+        return self.levels[0][index] + vector(b"".join(nodes))
+
+    def commit(self, plan):
+        """Commits, and answers the message."""
+        for index in plan.removed:
+            self.remove(index)
+        self.halve()
+        added = {self.join(leaf) for leaf in plan.joining}
+        path = self.renew(plan.committer, plan.renewed, plan.keys)
+        path = self.path_bytes(plan.committer, path, added)
+        proposals = [number(3, 2) + number(index, 4) for index in plan.removed]
+        proposals += [number(1, 2) + key_package(leaf, key("init", leaf)) for leaf in plan.joining]
+        content = vector(self.NAME) + number(self.epoch, 8) + b"\x01" + number(plan.committer, 4) + b"\x00"
+        content += b"\x03" + vector(b"".join(b"\x01" + proposal for proposal in proposals)) + optional(path)
         self.epoch += 1
-        tags = vector(bytes(64)) + vector(bytes(32)) + vector(bytes(32))
-        return number(1, 2) + number(1, 2) + content + tags
+        return number(1, 2) + number(1, 2) + content + vector(bytes(64)) + vector(bytes(32)) + vector(bytes(32))
+
+    # ---- what is written
 
     def tree(self):
         entries = []
-        for place in range(2 * self.members - 1):
+        for place in range(2 * len(self.leaves) - 1):
             level = (~place & (place + 1)).bit_length() - 1
             node = self.levels[level][place >> (level + 1)]
             if node and level:
                 entries.append(b"\x01\x02" + parent(node))
             else:
                 entries.append(optional(b"\x01" + node if node else None))
+        while entries[-1] == b"\x00":
+            entries.pop()
         return vector(b"".join(entries))
 
     def tree_hash(self):
@@ -170,8 +246,33 @@ class Group:
         numbers = number(1, 2) + number(1, 2) + vector(self.NAME) + number(self.epoch, 8)
         return numbers + vector(tree_hash) + b"\x00\x00"
 
+    def info(self):
+        """The GroupInfo, without the tree, signed by member 0."""
+        context = self.context(self.tree_hash())
+        info = number(1, 2) + number(4, 2) + context + b"\x00" + vector(bytes(32)) + number(0, 4)
+        return info + vector(bytes(64))
+
     def set_parents(self):
         return sum(node is not None for level in self.levels[1:] for node in level)
+
+
+def any_member(group, chosen):
+    while True:
+        index = chosen.randrange(len(group.leaves))
+        if group.leaves[index]:
+            return index
+
+
+def next_plan(group, kind, chosen):
+    """What a commit of a kind of log does. In a mixed one as many members are added as are removed, over time,
+    so that the group stays about as large as it is."""
+    committer = any_member(group, chosen)
+    removed, joining = [], []
+    if kind == "mixed":
+        others = {any_member(group, chosen) for _ in range(chosen.randrange(3))}
+        removed = sorted(others - {committer})
+        joining = [new_leaf("joined", group.epoch, at) for at in range(chosen.randrange(3))]
+    return Plan(committer, removed, joining, group.renewed(committer), {})
 
 
 def main():
@@ -181,24 +282,19 @@ def main():
     parser.add_argument("--commits", type=int, default=0)
     parser.add_argument("--unmerged", type=int, default=0)
     parser.add_argument("--log", type=int, default=0)
+    parser.add_argument("--kind", choices=["paths", "mixed"], default="paths")
     args = parser.parse_args()
     group = Group(args.members, args.commits, args.unmerged)
-    context = group.context(group.tree_hash())
-    info = number(1, 2) + number(4, 2) + context + b"\x00" + vector(bytes(32)) + number(0, 4)
     files = {
         "tree": group.tree(),
-        "valid.context": context,
+        "valid.context": group.context(group.tree_hash()),
         "other-hash.context": group.context(digest(group.tree_hash())),
-        "info": info + vector(bytes(64)),
+        "info": group.info(),
     }
     print(f"{args.members} members, {group.set_parents()} set parents, {args.unmerged} unmerged leaves")
     chosen = random.Random(1)
-    first = args.commits
-    log = b"".join(
-        vector(group.commit_message(chosen.randrange(args.members), first + count))
-        for count in range(args.log)
-    )
-    files["log"] = log
+    messages = [group.commit(next_plan(group, args.kind, chosen)) for _ in range(args.log)]
+    files["log"] = b"".join(vector(message) for message in messages)
     for name, body in files.items():
         with open(f"{args.folder}/{name}", "wb") as file:
             file.write(body)

@@ -1,41 +1,45 @@
 #!/bin/sh
-# Times `mlscheck replay --trust` on a log of commits, each with a path and no proposals (the first
-# argument says how many, or 1,000), in a group of 1,000 members and in one of 100,000. How long the
-# start alone takes is told beside it, by a log of no messages. PROGRAM in the environment names another
-# program that takes the same words.
+# Times `mlscheck replay --trust` on logs of commits (the first argument says how many, or 1,000), each with
+# a path: in one log they have no proposals, in the other they add and remove members too. The group has
+# 1,000 members, and then 100,000. How long the start alone takes is told beside it, by a log of no messages,
+# and how much memory was held at most. PROGRAM in the environment names another program that takes the same
+# words, and PEER one that is run beside it and has to print the same reports. It needs GNU time.
 set -e
 here=$(dirname -- "$(readlink -f -- "$0")")
 folder=$(mktemp -d)
 trap 'rm -rf -- "$folder"' EXIT
 
+# Tells what a program makes of a log, and keeps its report, and how long it worked, in seconds of the
+# processor.
+run() {
+    env time -o "$folder/usage" -f '%U %S %e %M' "$1" replay --info "$folder/info" \
+        --tree "$folder/tree" --log "$folder/$2" --trust >"$folder/report"
+    awk -v name="$2" -v last="$(tail -n 1 "$folder/report")" \
+        '{ printf "  %s: %.2f s of the processor, %.2f s in all, %.0f MB: %s\n", name, $1 + $2, $3, $4 / 1024, last }' \
+        "$folder/usage"
+    used=$(awk '{ print $1 + $2 }' "$folder/usage")
+}
+
+# The same of a log of no messages and then of the log, and what the messages take.
+compare() {
+    echo "$(basename -- "$1"), $2:"
+    run "$1" empty
+    alone=$used
+    run "$1" log
+    awk -v used="$used" -v alone="$alone" 'BEGIN { printf "  %.2f s for the messages\n", used - alone }'
+}
+
 program=${PROGRAM:-$here/../mlscheck}
 [ -n "$PROGRAM" ] || "$program" --help >/dev/null
 for members in 1000 100000; do
-    python3 "$here/group.py" "$folder" --members $members --commits 1000 --log "${1:-1000}"
-    : >"$folder/empty"
-    python3 - "$program" "$folder" <<'PYTHON'
-import os
-import subprocess
-import sys
-import time
-
-program, folder = sys.argv[1:]
-
-
-def seconds(log):
-    """How long the program works on the log, in seconds of the processor."""
-    files = ["--info", f"{folder}/info", "--tree", f"{folder}/tree", "--log", f"{folder}/{log}"]
-    before = os.times()
-    start = time.monotonic()
-    report = subprocess.run([program, "replay", *files, "--trust"], capture_output=True, text=True)
-    after = os.times()
-    used = after.children_user + after.children_system - before.children_user - before.children_system
-    print(f"{log}: {used:.2f} s of the processor, {time.monotonic() - start:.2f} s in all: ", end="")
-    print(report.stdout.splitlines()[-1], flush=True)
-    return used
-
-
-alone = seconds("empty")
-print(f"{seconds('log') - alone:.2f} s for the messages")
-PYTHON
+    for kind in paths mixed; do
+        python3 "$here/group.py" "$folder" --members $members --commits 1000 --log "${1:-1000}" --kind $kind
+        : >"$folder/empty"
+        compare "$program" $kind
+        if [ -n "$PEER" ]; then
+            mv "$folder/report" "$folder/own"
+            compare "$PEER" $kind
+            cmp "$folder/own" "$folder/report"
+        fi
+    done
 done

@@ -1,31 +1,51 @@
 #!/bin/sh
-# Hands inputs that are changed by chance to the libraries, by the program crates/mls_hostile: 100,000 of them, or as many
-# thousands as the first word says, from the input of the number of the second word on. It is run by `rt try`, which
-# proves nothing, and checks each access. Run it by hand, from anywhere: neither `rt ci` nor any test tries so many. Each
-# thousand is a run, which stops at a crash, at the first input at which something is wrong, and after a minute. Where
-# one did, or a call took over a second, it ends with 1.
+# Hands inputs that are changed by chance to the libraries, by the program crates/mls_hostile: 100,000 of them, or as
+# many thousands as the first word says, from the input of the number of the second word on. It is run by `rt try`,
+# which proves nothing, and checks each access. Run it by hand, from anywhere: neither `rt ci` nor any test tries so
+# many. Each thousand is a run. At the first one in which something is wrong it ends with 1, and keeps what was printed
+# till then: a run that crashes, finds something wrong, takes over a minute, or has a call that takes over a second.
 set -eu
 
 cd -- "$(dirname -- "$0")/../crates/mls_hostile"
 thousands=${1:-100} first=${2:-0}
 made=$(mktemp -d)
-trap 'rm -r -- "$made"' EXIT
 mkdir "$made/each"
-
 for thousand in $(seq 0 "$((thousands - 1))"); do
     echo "0 $((first + 1000 * thousand)) 1000" >"$made/each/$(printf '%06d' "$thousand")"
 done
-status=0
-rt try --cases "$made/each" >"$made/out" 2>"$made/notes" || status=$?
 
-ended=$(grep -c '^case=[0-9]* run=ended status=0 ' "$made/notes" || true)
-accepted=$(awk '/^accepted /{ sum += $2 } END { print sum + 0 }' "$made/notes")
-slowest=$(awk '/^accepted / && $4 > most { most = $4 } END { print most + 0 }' "$made/notes")
-if [ "$status" -ne 0 ] || [ "$ended" -ne "$thousands" ] || [ "$slowest" -ge 1000 ]; then
-    grep -v -e '^accepted ' -e ' run=ended status=0 ' "$made/notes" >&2 || true
-    grep wrong: "$made/out" >&2 || true
-    echo "of $thousands runs $ended are as they have to be, and the slowest call took $slowest ms" >&2
+# Reads what the runs tell, one after the other: how many inputs were accepted and how long the slowest took, and then
+# how the run ended. Where it reads no further, no further run is made.
+judge() {
+    accepted=0 slowest=0 ended=0
+    while read -r line; do
+        printf '%s\n' "$line" >>"$made/notes"
+        case $line in
+        'accepted '*)
+            words=${line#accepted }
+            accepted=$((accepted + ${words%% *}))
+            words=${line#* slowest }
+            [ "${words%% *}" -le "$slowest" ] || slowest=${words%% *}
+            ;;
+        case=*' run=ended status=0 '*)
+            [ "$slowest" -lt 1000 ] || break
+            ended=$((ended + 1))
+            ;;
+        case=*) break ;;
+        esac
+    done
+    if [ "$ended" -lt "$thousands" ]; then
+        echo "something is wrong in the thousand from $((first + 1000 * ended)) on;" \
+            "the slowest call took $slowest ms" >&2
+        return 1
+    fi
+    echo "$((1000 * ended)) changed inputs from $first on: $accepted accepted, the others refused;" \
+        "the slowest took $slowest ms"
+}
+
+if rt try --cases "$made/each" 2>&1 >"$made/out" | judge; then
+    rm -r -- "$made"
+else
+    echo "what was printed is in $made" >&2
     exit 1
 fi
-echo "$((1000 * thousands)) changed inputs from $first on: $accepted accepted, the others refused;" \
-    "the slowest took $slowest ms"

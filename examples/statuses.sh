@@ -25,6 +25,7 @@ tree=examples/one-leaf.tree
 printf 'no digest\n' >"$made/bad"
 
 expect 0 out 'leaves 1 members 1' show tree "$tree"
+expect 0 out 'leaves 1 members 1' show tree - <"$tree"
 expect 0 out 'valid ' validate-tree --context "$context" --tree "$tree" --trust
 expect 0 out 'valid ' validate-tree --context "$context" --tree "$tree" \
     --receipts examples/one-leaf.receipts
@@ -32,6 +33,8 @@ expect 0 out 'valid epoch 1 members 2 ' validate --info examples/real/epoch-1.in
     --receipts examples/real/receipts.txt
 expect 0 out 'accepted 10 refused 0 broken 0 epoch 8' replay --info examples/real/epoch-1.info \
     --log examples/real/handshakes.log --receipts examples/real/receipts.txt
+expect 0 out ' 1 b0 134d4c5320312e30204c6561664e6f6465544253' signatures \
+    --info examples/one-leaf.info
 for kind in tree-math tree-validation tree-operations transcript; do
     expect 0 out ' failed 0 ' check "$kind" "examples/$kind.json"
 done
@@ -58,6 +61,8 @@ expect 2 notes 'usage: give one of --trust and --receipts' validate-tree --conte
     --tree "$tree"
 expect 2 notes 'usage: give one of --trust and --receipts' validate-tree --context "$context" \
     --tree "$tree" --trust --receipts examples/one-leaf.receipts
+expect 2 notes 'usage: standard input can be given for one file' validate-tree --context - \
+    --tree - --trust
 
 expect 2 notes 'usage: KIND is ' check nope examples/tree-math.json
 

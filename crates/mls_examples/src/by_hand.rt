@@ -1,7 +1,7 @@
 //! What tests put together by hand from its parts, as hexadecimal text: commits and update paths (RFC 9420, 7.6 and
 //! 12.4), the group's infos and trees, and hashes, which SHA-256 itself makes and nothing of these libraries. The members and the group are those of `crate::support`.
 
-use crate::follower::{Story, follow, sent};
+use crate::story::{Story, follow, sent};
 use crate::support::{
     FIRST_HASH, GROUP_INFO, TREE, bytes, committed_leaf, key_package, leaf_with, list_text, text,
 };

@@ -4,8 +4,8 @@
 //! Most stories begin in the group of two members, of `crate::follower`.
 
 use crate::by_hand::{Path, adds_of, commit_of, member_commit};
-use crate::follower::{Story, first_answer, follow, last_answer, proposed};
 use crate::paths::LOWER_COMMIT;
+use crate::story::{Story, first_answer, follow, last_answer, proposed};
 use crate::support::{COMMIT, GROUP_INFO, PROPOSAL, RECEIPT, expect_text, updated_leaf};
 use std::alloc::Global;
 use std::test::Fail;

@@ -1,9 +1,9 @@
 //! Hostile bytes: inputs that are cut, messages of which one bit is changed, and lengths with nothing behind them. None
 //! is taken for what it isn't, and what is refused changes nothing.
 
-use crate::follower::{first_answer, listed, started, state_text, taken_text};
 use crate::real_group::{FIFTH_INFO, LATER, RECEIPTS};
 use crate::rules::{PROPOSAL_RECEIPTS, SIGNED_FRAMES};
+use crate::story::{first_answer, listed, started, state_text, taken_text};
 use crate::support::{
     COMMIT, GROUP_INFO, LEAF, PROPOSAL, RECEIPT, REFERENCE, TREE, bytes, expect_text,
 };

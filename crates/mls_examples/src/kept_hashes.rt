@@ -3,8 +3,8 @@
 
 use crate::by_hand::{adds_of, member_commit};
 use crate::commits::SOURCE;
-use crate::follower::{started, taken_text};
 use crate::paths::LOWER_COMMIT;
+use crate::story::{started, taken_text};
 use crate::support::{
     COMMIT, GROUP_INFO, PROPOSAL, bytes, expect_text, joined_leaf, leaf_node, list_text, suite,
     text, tree_text,

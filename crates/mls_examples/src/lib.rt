@@ -24,6 +24,8 @@ mod contexts;
 #[cfg(test)]
 mod devices;
 #[cfg(test)]
+mod extension_commits;
+#[cfg(test)]
 mod follower;
 #[cfg(test)]
 mod group_reports;
@@ -56,6 +58,8 @@ mod next_trees;
 #[cfg(test)]
 mod node_fields;
 #[cfg(test)]
+mod operation_vectors;
+#[cfg(test)]
 mod orders;
 #[cfg(test)]
 mod paths;
@@ -86,11 +90,17 @@ mod show;
 #[cfg(test)]
 mod single_checks;
 #[cfg(test)]
+mod starts;
+#[cfg(test)]
+mod story;
+#[cfg(test)]
 mod suite_groups;
 #[cfg(test)]
 mod suites;
 #[cfg(test)]
 mod support;
+#[cfg(test)]
+mod transcript_vectors;
 #[cfg(test)]
 mod tree;
 #[cfg(test)]
@@ -100,9 +110,13 @@ mod tree_parts;
 #[cfg(test)]
 mod tree_reports;
 #[cfg(test)]
+mod tree_vectors;
+#[cfg(test)]
 mod validator;
 #[cfg(test)]
 mod validity;
+#[cfg(test)]
+mod vector_hashes;
 #[cfg(test)]
 mod vectors;
 #[cfg(test)]

@@ -2,7 +2,7 @@
 //! holds, which is this library's own limit.
 
 use crate::by_hand::{adds_of, commit_of, info_at, vector};
-use crate::follower::{Story, follow};
+use crate::story::{Story, follow};
 use crate::support::{bytes, expect_text};
 use mls_apply::{Applied, ListItem, apply_list, resolve_list};
 use mls_msgs::Commit;

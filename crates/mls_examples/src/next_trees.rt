@@ -3,7 +3,7 @@
 //! is worked out from its nodes (7.8), and by its nodes' keys.
 
 use crate::by_hand::{Step, adds_of, commit_of, end_of, follow_all, path_of, step_messages};
-use crate::follower::{Story, follow, proposed};
+use crate::story::{Story, follow, proposed};
 use crate::support::{
     GROUP_INFO, LOWER, REFERENCE, UPPER, committed_leaf, expect_text, key_package, updated_leaf,
 };

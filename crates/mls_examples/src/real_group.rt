@@ -2,8 +2,8 @@
 //! every message that its members took, and has in each epoch the tree hash and the confirmed transcript hash that they
 //! had. These, and the references of its proposals, are worked out from what the members held.
 
-use crate::follower::listed;
 use crate::group_reports::told;
+use crate::story::listed;
 use crate::support::expect_text;
 use std::alloc::Global;
 use std::test::Fail;

@@ -3,8 +3,8 @@
 //! the group as if the refused one had never come. After it the hashes are again those of a tree that is made anew.
 
 use crate::by_hand::{Path, adds_of, member_commit};
-use crate::follower::{listed, proposed, started};
 use crate::kept_hashes::{accept_all, whole_text, whole_text_anew};
+use crate::story::{listed, proposed, started};
 use crate::support::{COMMIT, GROUP_INFO, LOWER, PROPOSAL, RECEIPT, bytes, expect_text};
 use mls_check::{SignatureCheck, Trusting};
 use mls_follow::Follower;

@@ -4,8 +4,8 @@
 
 use crate::by_hand::{Path, commit_of, info_at, member_commit};
 use crate::commits::{OTHER_SOURCE, SOURCE};
-use crate::follower::{Story, first_answer, follow, last_answer};
 use crate::paths::LOWER_COMMIT;
+use crate::story::{Story, first_answer, follow, last_answer};
 use crate::support::{COMMIT, GROUP_INFO, KEY_PACKAGE, PROPOSAL, RECEIPT, REFERENCE, expect_text};
 use std::alloc::Global;
 use std::test::Fail;

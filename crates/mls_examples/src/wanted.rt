@@ -4,9 +4,9 @@
 //! signature, which were worked out from the standard's text.
 
 use crate::by_hand::{Step, step_message, vector};
-use crate::follower::listed;
 use crate::group_reports::{LOG, said};
 use crate::real_group::{EARLIER, FIRST_INFO, LATER, RECEIPTS};
+use crate::story::listed;
 use crate::support::{COMMIT, GROUP_INFO, PROPOSAL, TREE, bytes, expect_text};
 use mls_cli::run_signatures;
 use mls_wire::{MemorySink, MemorySource};

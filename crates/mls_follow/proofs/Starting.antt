@@ -15,8 +15,8 @@ use Rattle.mls_check.specs.declared.valid.TreeFault.TheVariants as trees
 use Rattle.mls_msgs.specs.declared.group_info.GroupInfo.{GroupInfo}
 use Rattle.mls_nodes.specs.Requirements.{Requires, HasNoRequirements}
 use Rattle.mls_follow.specs.Start.{UsesTree, IsFollowed, HasTree, IsReadable, HasValidTree, HasMembers, IsSignedIn, StartsWith, FailsWith, FailsSigned, IsStart, first_state, IsStartFault, FailsSuite, FailsValid, FailsMembers, is_info_signed, info_interim, tree_fault_of, member_fault_of}
-use Rattle.mls_follow.specs.declared.start.StartFault.{StartFault}
-use Rattle.mls_follow.specs.declared.start.StartFault.TheVariants.{UnsupportedVersion, UnsupportedSuite, RequirementsUnreadable, SignerNotMember, InfoSignature, OutOfMemory}
+use Rattle.mls_follow.specs.declared.start_fault.StartFault.{StartFault}
+use Rattle.mls_follow.specs.declared.start_fault.StartFault.TheVariants.{UnsupportedVersion, UnsupportedSuite, RequirementsUnreadable, SignerNotMember, InfoSignature, OutOfMemory}
 
 -- a later fault of an info that is followed is neither of the first two
 module _ (G : Meaning) (info : GroupInfo) (handed : Option RatchetTree) (fault : StartFault) (followed : IsFollowed info) (h : IsStartFault G info handed fault) where

@@ -12,8 +12,8 @@ use Rattle.mls_msgs.specs.declared.group_info.GroupInfo.{GroupInfo}
 use Rattle.mls_follow.specs.State.{State}
 use Rattle.mls_follow.specs.Start.{IsFollowed, HasMembers, HasSigner, HasValidTree, is_info_signed, IsStart, IsStartFault}
 use Rattle.mls_follow.specs.Wanted.{AgreeOn, AgreeOnStart, WantedDecideStarts, WantedDecideStartFaults, is_followed, asked_of_info, asked_of_tree, asked_by_start}
-use Rattle.mls_follow.specs.declared.start.StartFault.{StartFault}
-use Rattle.mls_follow.specs.declared.start.StartFault.TheVariants as starts
+use Rattle.mls_follow.specs.declared.start_fault.StartFault.{StartFault}
+use Rattle.mls_follow.specs.declared.start_fault.StartFault.TheVariants as starts
 use Rattle.mls_follow.specs.declared.wanted.WantedSignature.{WantedSignature}
 use Rattle.mls_follow.proofs.WantedOnce.{front, back, from_once}
 use Rattle.mls_follow.proofs.WantedAnswers.{tree_leaf, leaf_alike, info_alike, members_alike, faults_alike}

@@ -2,8 +2,8 @@
 use Rattle.std.specs.Prelude.{ℕ}
 use Rattle.mls_follow.specs.declared.refusal.Refusal.{Refusal}
 use Rattle.mls_follow.specs.declared.refusal.Refusal.TheVariants as refusals
-use Rattle.mls_follow.specs.declared.start.StartFault.{StartFault}
-use Rattle.mls_follow.specs.declared.start.StartFault.TheVariants as starts
+use Rattle.mls_follow.specs.declared.start_fault.StartFault.{StartFault}
+use Rattle.mls_follow.specs.declared.start_fault.StartFault.TheVariants as starts
 
 -- the number of a refusal
 abbrev pub number_of : Refusal → ℕ

@@ -21,8 +21,8 @@ use Rattle.mls_nodes.specs.Requirements.{Requires, HasNoRequirements}
 use Rattle.mls_follow.specs.State.{State}
 use Rattle.mls_tree.specs.Reading.{IsTreeOf}
 use Rattle.mls_follow.specs.Transcript.{interim_hash}
-use Rattle.mls_follow.specs.declared.start.StartFault.{StartFault}
-use Rattle.mls_follow.specs.declared.start.StartFault.TheVariants.{UnsupportedVersion, UnsupportedSuite, NoTree, RequirementsUnreadable, Tree, Member, SignerNotMember, InfoSignature, OutOfMemory}
+use Rattle.mls_follow.specs.declared.start_fault.StartFault.{StartFault}
+use Rattle.mls_follow.specs.declared.start_fault.StartFault.TheVariants.{UnsupportedVersion, UnsupportedSuite, NoTree, RequirementsUnreadable, Tree, Member, SignerNotMember, InfoSignature, OutOfMemory}
 
 -- the tree of a group info's extension of type 2, where it has one (12.4.3.3)
 abbrev pub IsTreeIn : Option (List ℕ) → RatchetTree → Type 0

@@ -35,7 +35,7 @@ use Rattle.mls_apply.specs.Outcome.{Grown, outcome}
 use Rattle.mls_follow.specs.State.{State, Spells}
 use Rattle.mls_follow.specs.Rules.{message_rules}
 use Rattle.mls_follow.specs.Start.{UsesTree, IsStart, IsStartFault}
-use Rattle.mls_follow.specs.declared.start.StartFault.{StartFault}
+use Rattle.mls_follow.specs.declared.start_fault.StartFault.{StartFault}
 use Rattle.mls_follow.specs.declared.wanted.WantedSignature.{WantedSignature}
 
 -- ---- one wanted signature, or none

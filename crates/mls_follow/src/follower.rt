@@ -14,7 +14,8 @@ ghost use Rattle.mls_follow.specs.Start.{FailsSuite, IsFollowed, IsStart, IsStar
 use crate::frame::read_message;
 use crate::group::Group;
 use crate::refusal::Refusal;
-use crate::start::{StartFault, StartRefused, followed_suite, judge, judge_own};
+use crate::start::{StartRefused, followed_suite, judge, judge_own};
+use crate::start_fault::StartFault;
 use crate::taken::Taken;
 use mls_apply::KnownProposal;
 use mls_check::SignatureCheck;

@@ -21,6 +21,7 @@ pub mod laws;
 mod offer;
 mod refusal;
 mod start;
+mod start_fault;
 mod take;
 mod taken;
 mod terms;
@@ -29,7 +30,8 @@ mod wanted;
 
 pub use follower::Follower;
 pub use refusal::Refusal;
-pub use start::{StartFault, StartRefused, tree_in};
+pub use start::{StartRefused, tree_in};
+pub use start_fault::StartFault;
 pub use taken::Taken;
 pub use transcript::{confirmed_hash, interim_hash};
 pub use wanted::{WantedFault, WantedSignature, wanted_by_start};

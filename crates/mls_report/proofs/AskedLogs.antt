@@ -16,10 +16,10 @@ use Rattle.mls_report.specs.Replay.{Turn, Follows, IsLogEnd, message_limit, stat
 use Rattle.mls_report.specs.ReplaySteps.{ReadsUndecided}
 use Rattle.mls_report.specs.Signatures.{all_good, Wants, Asked, turns_of, AllWant, asked_lines, log_lines, all_read, break_line, log_verdict, Asks, TellsAsked, AskedPart}
 use Rattle.mls_report.specs.SignatureSteps.{AsksTurn, StopsAsking}
-use Rattle.mls_report.specs.declared.outcome.RunFault.{RunFault}
-use Rattle.mls_report.specs.declared.outcome.RunFault.TheVariants.{Read, Write, Memory}
-use Rattle.mls_report.specs.declared.outcome.Verdict.{Verdict}
-use Rattle.mls_report.specs.declared.outcome.Verdict.TheVariants.{No}
+use Rattle.mls_report.specs.declared.verdict.RunFault.{RunFault}
+use Rattle.mls_report.specs.declared.verdict.RunFault.TheVariants.{Read, Write, Memory}
+use Rattle.mls_report.specs.declared.verdict.Verdict.{Verdict}
+use Rattle.mls_report.specs.declared.verdict.Verdict.TheVariants.{No}
 use Rattle.mls_report.proofs.Replaying.{state_after-snoc, follows-read, follows-snoc, Consumes-nil, Appends-nil}
 
 -- ---- one message more

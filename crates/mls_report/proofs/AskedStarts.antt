@@ -6,17 +6,17 @@ use Rattle.mls_msgs.specs.declared.group_info.GroupInfo.{GroupInfo}
 use Rattle.mls_follow.specs.Start.{UsesTree, UsesNoTree, IsStart, IsStartFault}
 use Rattle.mls_follow.specs.State.{State}
 use Rattle.mls_follow.specs.Wanted.{wanted_by_start}
-use Rattle.mls_follow.specs.declared.start.StartFault.{StartFault}
-use Rattle.mls_follow.specs.declared.start.StartFault.TheVariants as starts
+use Rattle.mls_follow.specs.declared.start_fault.StartFault.{StartFault}
+use Rattle.mls_follow.specs.declared.start_fault.StartFault.TheVariants as starts
 use Rattle.mls_follow.specs.declared.wanted.WantedSignature.{WantedSignature}
 use Rattle.mls_report.specs.Signatures.{all_good, wanted_lines, StartWants, OpensWanting, Signatures, SignaturesPart, SignaturesBefore}
 use Rattle.mls_report.specs.SignatureSteps.{AreStartLines, StopsInText, TellsBehind, BehindPart, SignaturesStart, SignaturesStartPart, RefusesBefore}
 use Rattle.mls_report.specs.StartingSteps.{RefusesStartPart}
 use Rattle.mls_report.specs.Starting.{ReadsBoth, IsReadAs, ReadsAndDeclines}
 use Rattle.mls_report.specs.declared.finding.Finding.TheVariants.{StartRefused}
-use Rattle.mls_report.specs.declared.outcome.RunFault.{RunFault}
-use Rattle.mls_report.specs.declared.outcome.RunFault.TheVariants.{Read, Write, Memory}
-use Rattle.mls_report.specs.declared.outcome.Verdict.{Verdict}
+use Rattle.mls_report.specs.declared.verdict.RunFault.{RunFault}
+use Rattle.mls_report.specs.declared.verdict.RunFault.TheVariants.{Read, Write, Memory}
+use Rattle.mls_report.specs.declared.verdict.Verdict.{Verdict}
 use Rattle.mls_report.proofs.Replaying.{Appends-nil}
 use Rattle.mls_report.proofs.StartsOnce.{one_tree}
 

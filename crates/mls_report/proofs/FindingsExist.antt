@@ -28,7 +28,7 @@ use Rattle.mls_report.specs.Starting.{IsInfo, IsNoMessage, IsHanded, IsHandedUnr
 use Rattle.mls_report.specs.ValidateTree.{IsContext, IsNoContext, IsUsable, HasTree, IsReadable, HasValidTree, IsTreeFinding}
 use Rattle.mls_report.specs.declared.finding.Finding.{Finding}
 use Rattle.mls_report.specs.declared.finding.Finding.TheVariants.{ContextUnreadable, InfoUnreadable, NotGroupInfo, TreeUnreadable, UnsupportedVersion, UnsupportedSuite, RequirementsUnreadable, TreeRefused, MembersRefused, StartRefused, TreeValid, Starts}
-use Rattle.mls_report.specs.declared.outcome.Verdict.TheVariants.{No}
+use Rattle.mls_report.specs.declared.verdict.Verdict.TheVariants.{No}
 
 -- ---- a context and a tree
 

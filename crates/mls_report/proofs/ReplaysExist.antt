@@ -11,8 +11,8 @@ use Rattle.mls_report.specs.ReadAll.{ReadsAll}
 use Rattle.mls_report.specs.Replay.{message_limit, IsVerdict, turn_lines, ending, refused_count}
 use Rattle.mls_report.specs.SomeReport.{SomeReplay}
 use Rattle.mls_report.specs.Starting.{ReadsHanded, ReadsBoth, IsStarted}
-use Rattle.mls_report.specs.declared.outcome.Verdict.{Verdict}
-use Rattle.mls_report.specs.declared.outcome.Verdict.TheVariants.{Yes, No}
+use Rattle.mls_report.specs.declared.verdict.Verdict.{Verdict}
+use Rattle.mls_report.specs.declared.verdict.Verdict.TheVariants.{Yes, No}
 
 -- ---- reading to the end
 

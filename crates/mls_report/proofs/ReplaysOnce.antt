@@ -18,8 +18,8 @@ use Rattle.mls_report.specs.Starting.{ReadsHanded, IsStarted, IsStartFinding, st
 use Rattle.mls_report.specs.declared.finding.Finding.{Finding}
 use Rattle.mls_report.specs.declared.finding.Finding.TheVariants.{ContextUnreadable, InfoUnreadable, NotGroupInfo, TreeUnreadable, UnsupportedVersion, UnsupportedSuite, RequirementsUnreadable, TreeRefused, MembersRefused, StartRefused, TreeValid, Starts}
 use Rattle.mls_report.specs.declared.finding.Started.{Started}
-use Rattle.mls_report.specs.declared.outcome.Verdict.{Verdict}
-use Rattle.mls_report.specs.declared.outcome.Verdict.TheVariants.{Yes, No}
+use Rattle.mls_report.specs.declared.verdict.Verdict.{Verdict}
+use Rattle.mls_report.specs.declared.verdict.Verdict.TheVariants.{Yes, No}
 
 -- what was written is what was appended
 written_is : (before text line : List ℕ) → Appends (Some before) (Some (before ++ text)) line → text ≡ line

@@ -24,8 +24,8 @@ use Rattle.mls_msgs.specs.declared.message.Message.TheVariants as messages
 use Rattle.mls_follow.specs.Start.{UsesTree, UsesNoTree, IsTreeIn, IsFollowed, HasTree, IsReadable, HasValidTree, HasMembers, HasSigner, IsStart, IsStartFault, is_info_signed, info_interim, first_state}
 use Rattle.mls_follow.specs.State.{State}
 use Rattle.mls_follow.specs.Transcript.{interim_hash}
-use Rattle.mls_follow.specs.declared.start.StartFault.{StartFault}
-use Rattle.mls_follow.specs.declared.start.StartFault.TheVariants.{UnsupportedVersion, UnsupportedSuite, NoTree, RequirementsUnreadable, Tree, Member, SignerNotMember, InfoSignature, OutOfMemory}
+use Rattle.mls_follow.specs.declared.start_fault.StartFault.{StartFault}
+use Rattle.mls_follow.specs.declared.start_fault.StartFault.TheVariants.{UnsupportedVersion, UnsupportedSuite, NoTree, RequirementsUnreadable, Tree, Member, SignerNotMember, InfoSignature, OutOfMemory}
 use Rattle.mls_report.proofs.Decided.{requires_or_not, tree_or_not, members_or_fault}
 
 -- ---- the interim transcript hash

@@ -10,8 +10,8 @@ use Rattle.mls_check.specs.declared.members.MemberFault.{MemberFault}
 use Rattle.mls_check.specs.declared.members.MemberFault.TheVariants as members
 use Rattle.mls_check.specs.declared.valid.TreeFault.{TreeFault}
 use Rattle.mls_check.specs.declared.valid.TreeFault.TheVariants as trees
-use Rattle.mls_follow.specs.declared.start.StartFault.{StartFault}
-use Rattle.mls_follow.specs.declared.start.StartFault.TheVariants as starts
+use Rattle.mls_follow.specs.declared.start_fault.StartFault.{StartFault}
+use Rattle.mls_follow.specs.declared.start_fault.StartFault.TheVariants as starts
 
 -- what is wrong with bytes that can't be read; a tag that stands for nothing is told by its value
 abbrev pub wire_kind_text : WireFaultKind → List ℕ

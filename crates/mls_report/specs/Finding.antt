@@ -1,13 +1,15 @@
 -- How a finding is worded, and what it says. Numbers in parentheses are sections of RFC 9420.
-use Rattle.std.specs.Prelude.{ℕ, List, ◌++◌, codes}
+use Rattle.std.specs.Prelude.{ℕ, List, [], ◌++◌, codes, Option, ◌≡◌, ◌⊎◌}
 use Rattle.std.specs.Fmt.{decimal}
+use Rattle.std.specs.Io.KnownBytes.{Appends}
+use Rattle.mls_wire.specs.Devices.{AppendsPrefix}
 use Rattle.mls_report.specs.FaultText.{wire_fault_text, node_fault_text, tree_fault_text, member_fault_text, start_fault_text}
 use Rattle.mls_report.specs.Texts.{hex_text}
 use Rattle.mls_report.specs.declared.finding.Finding.{Finding}
 use Rattle.mls_report.specs.declared.finding.Finding.TheVariants.{ContextUnreadable, InfoUnreadable, NotGroupInfo, TreeUnreadable, UnsupportedVersion, UnsupportedSuite, RequirementsUnreadable, TreeRefused, MembersRefused, StartRefused, TreeValid, Starts}
 use Rattle.mls_report.specs.declared.finding.Started.{Started}
-use Rattle.mls_report.specs.declared.outcome.Verdict.{Verdict}
-use Rattle.mls_report.specs.declared.outcome.Verdict.TheVariants.{Yes, No}
+use Rattle.mls_report.specs.declared.verdict.Verdict.{Verdict}
+use Rattle.mls_report.specs.declared.verdict.Verdict.TheVariants.{Yes, No}
 
 -- what is told of a follower that starts: its epoch, its members, and its tree's hash (8.1)
 abbrev pub started_text : Started → List ℕ
@@ -40,3 +42,25 @@ abbrev pub finding_verdict : Finding → Verdict
 finding_verdict (TreeValid _) = Yes
 finding_verdict (Starts _) = Yes
 finding_verdict _ = No
+
+-- ---- the report of a finding
+
+-- this is found, and its line was written whole
+pub record TellsFinding (IsFound : Finding → Type 0) (written0 written1 : Option (List ℕ))
+    (verdict : Verdict) : Type 0 where
+  pub finding : Finding
+  pub found : IsFound finding
+  pub wrote : Appends written0 written1 (finding_line finding)
+  pub verdict_is : verdict ≡ finding_verdict finding
+
+-- this is found, and a prefix of its line was written
+pub record TellsFindingPrefix (IsFound : Finding → Type 0)
+    (written0 written1 : Option (List ℕ)) : Type 0 where
+  pub finding : Finding
+  pub found : IsFound finding
+  pub wrote : AppendsPrefix written0 written1 (finding_line finding)
+
+-- nothing was written, or a prefix of the line of what is found
+abbrev pub TellsFindingPart : (Finding → Type 0) → Option (List ℕ) → Option (List ℕ) → Type 0
+TellsFindingPart IsFound written0 written1 =
+    Appends written0 written1 [] ⊎ TellsFindingPrefix IsFound written0 written1

@@ -3,7 +3,7 @@ use Rattle.std.specs.Prelude.{ℕ, List, [], Option, ◌⊎◌}
 use Rattle.std.specs.Io.KnownBytes.{Appends}
 use Rattle.mls_wire.specs.Devices.{AppendsPrefix}
 use Rattle.mls_report.specs.ReadAll.{ReadsAll}
-use Rattle.mls_report.specs.declared.outcome.Verdict.{Verdict}
+use Rattle.mls_report.specs.declared.verdict.Verdict.{Verdict}
 
 -- the input was read to its end, and the report of its bytes was written whole
 pub record WritesReport (IsReport : List ℕ → List ℕ → Verdict → Type 0)

@@ -8,7 +8,7 @@ use Rattle.mls_report.specs.Starting.{IsStarted, IsStartFinding}
 use Rattle.mls_report.specs.ValidateTree.{IsTreeFinding}
 use Rattle.mls_report.specs.declared.finding.Finding.{Finding}
 use Rattle.mls_report.specs.declared.finding.Finding.TheVariants.{ContextUnreadable, InfoUnreadable, TreeUnreadable}
-use Rattle.mls_report.specs.declared.outcome.Verdict.{Verdict}
+use Rattle.mls_report.specs.declared.verdict.Verdict.{Verdict}
 
 -- ---- what is found
 

@@ -11,16 +11,16 @@ use Rattle.mls_follow.specs.Runs.{IsAnswer}
 use Rattle.mls_follow.specs.Start.{IsStart, IsStartFault}
 use Rattle.mls_follow.specs.State.{State}
 use Rattle.mls_follow.specs.declared.refusal.Refusal.{Refusal}
-use Rattle.mls_follow.specs.declared.start.StartFault.{StartFault}
-use Rattle.mls_follow.specs.declared.start.StartFault.TheVariants as starts
+use Rattle.mls_follow.specs.declared.start_fault.StartFault.{StartFault}
+use Rattle.mls_follow.specs.declared.start_fault.StartFault.TheVariants as starts
 use Rattle.mls_follow.specs.declared.taken.Taken.{Taken}
 use Rattle.mls_report.specs.Finding.{finding_line}
 use Rattle.mls_report.specs.Replay.{Turn, Follows, IsLogEnd, TellsLog, TellsPart, TellsNothing, accepted_count, answer_text, state_after, still_to_come, turn_lines}
 use Rattle.mls_report.specs.declared.finding.Finding.TheVariants.{StartRefused}
-use Rattle.mls_report.specs.declared.outcome.RunFault.{RunFault}
-use Rattle.mls_report.specs.declared.outcome.RunFault.TheVariants.{Read, Write, Memory}
-use Rattle.mls_report.specs.declared.outcome.Verdict.{Verdict}
-use Rattle.mls_report.specs.declared.outcome.Verdict.TheVariants.{No}
+use Rattle.mls_report.specs.declared.verdict.RunFault.{RunFault}
+use Rattle.mls_report.specs.declared.verdict.RunFault.TheVariants.{Read, Write, Memory}
+use Rattle.mls_report.specs.declared.verdict.Verdict.{Verdict}
+use Rattle.mls_report.specs.declared.verdict.Verdict.TheVariants.{No}
 
 -- bytes of a log were read that don't tell yet what comes next
 pub record ReadsUndecided (log0 log1 : Option (List ℕ)) (most : ℕ) : Type 0 where

@@ -12,8 +12,8 @@ use Rattle.mls_report.specs.MessageText.{message_line}
 use Rattle.mls_report.specs.OneInput.{WritesReport, WritesPart}
 use Rattle.mls_report.specs.Texts.{IsOneLine}
 use Rattle.mls_report.specs.TreeText.{tree_text}
-use Rattle.mls_report.specs.declared.outcome.Verdict.{Verdict}
-use Rattle.mls_report.specs.declared.outcome.Verdict.TheVariants.{Yes, No}
+use Rattle.mls_report.specs.declared.verdict.Verdict.{Verdict}
+use Rattle.mls_report.specs.declared.verdict.Verdict.TheVariants.{Yes, No}
 use Rattle.mls_report.specs.declared.show.ShowKind.{ShowKind}
 use Rattle.mls_report.specs.declared.show.ShowKind.TheVariants as kind
 

@@ -10,17 +10,17 @@ use Rattle.mls_follow.specs.Start.{UsesTree, IsStartFault}
 use Rattle.mls_follow.specs.State.{State}
 use Rattle.mls_follow.specs.Wanted.{wanted_by_start}
 use Rattle.mls_follow.specs.declared.refusal.Refusal.{Refusal}
-use Rattle.mls_follow.specs.declared.start.StartFault.{StartFault}
-use Rattle.mls_follow.specs.declared.start.StartFault.TheVariants as starts
+use Rattle.mls_follow.specs.declared.start_fault.StartFault.{StartFault}
+use Rattle.mls_follow.specs.declared.start_fault.StartFault.TheVariants as starts
 use Rattle.mls_follow.specs.declared.taken.Taken.{Taken}
 use Rattle.mls_follow.specs.declared.wanted.WantedSignature.{WantedSignature}
 use Rattle.mls_report.specs.Finding.{finding_line}
 use Rattle.mls_report.specs.Signatures.{all_good, Wants, asked_lines, wanted_lines, StartWants, TellsLogIf, LogPartIf, WritesNothing}
 use Rattle.mls_report.specs.declared.finding.Finding.TheVariants.{StartRefused}
-use Rattle.mls_report.specs.declared.outcome.RunFault.{RunFault}
-use Rattle.mls_report.specs.declared.outcome.RunFault.TheVariants.{Read, Write, Memory}
-use Rattle.mls_report.specs.declared.outcome.Verdict.{Verdict}
-use Rattle.mls_report.specs.declared.outcome.Verdict.TheVariants.{No}
+use Rattle.mls_report.specs.declared.verdict.RunFault.{RunFault}
+use Rattle.mls_report.specs.declared.verdict.RunFault.TheVariants.{Read, Write, Memory}
+use Rattle.mls_report.specs.declared.verdict.Verdict.{Verdict}
+use Rattle.mls_report.specs.declared.verdict.Verdict.TheVariants.{No}
 
 -- the text of message n, and whether it can be read
 pub record TellsWanted (R : Meaning) (s : State) (n : ℕ) (bytes text : List ℕ) (is_read : Bool)

@@ -20,10 +20,10 @@ use Rattle.mls_report.specs.Replay.{Turn, Follows, IsLogEnd, IsLeftOver, still_t
 use Rattle.mls_report.specs.Starting.{IsReadAs, ReadsBoth, ReadsAndDeclines}
 use Rattle.mls_report.specs.Texts.{hex_text}
 use Rattle.mls_report.specs.declared.finding.Finding.{Finding}
-use Rattle.mls_report.specs.declared.outcome.RunFault.{RunFault}
-use Rattle.mls_report.specs.declared.outcome.RunFault.TheVariants.{Read, Write, Memory}
-use Rattle.mls_report.specs.declared.outcome.Verdict.{Verdict}
-use Rattle.mls_report.specs.declared.outcome.Verdict.TheVariants.{Yes, No}
+use Rattle.mls_report.specs.declared.verdict.RunFault.{RunFault}
+use Rattle.mls_report.specs.declared.verdict.RunFault.TheVariants.{Read, Write, Memory}
+use Rattle.mls_report.specs.declared.verdict.Verdict.{Verdict}
+use Rattle.mls_report.specs.declared.verdict.Verdict.TheVariants.{Yes, No}
 
 -- each signature is good: so the follower goes on
 abbrev pub all_good : Meaning

@@ -5,7 +5,7 @@ use Rattle.mls_report.specs.OneReport.{IsReplayReport}
 use Rattle.mls_report.specs.Starting.{IsStartFinding}
 use Rattle.mls_report.specs.ValidateTree.{IsTreeFinding}
 use Rattle.mls_report.specs.declared.finding.Finding.{Finding}
-use Rattle.mls_report.specs.declared.outcome.Verdict.{Verdict}
+use Rattle.mls_report.specs.declared.verdict.Verdict.{Verdict}
 
 -- of the bytes of a context and of a tree something is found
 abbrev pub SomeTreeFinding : Type 0

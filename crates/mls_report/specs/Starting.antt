@@ -11,14 +11,14 @@ use Rattle.mls_msgs.specs.declared.message.Message.{Message}
 use Rattle.mls_msgs.specs.declared.message.Message.TheVariants as messages
 use Rattle.mls_follow.specs.State.{State}
 use Rattle.mls_follow.specs.Start.{IsStart, IsStartFault}
-use Rattle.mls_follow.specs.declared.start.StartFault.TheVariants as starts
+use Rattle.mls_follow.specs.declared.start_fault.StartFault.TheVariants as starts
 use Rattle.mls_report.specs.Finding.{finding_verdict}
 use Rattle.mls_report.specs.ReadAll.{ReadsAll}
 use Rattle.mls_report.specs.Show.{IsMessage}
 use Rattle.mls_report.specs.declared.finding.Finding.{Finding}
 use Rattle.mls_report.specs.declared.finding.Finding.TheVariants.{InfoUnreadable, NotGroupInfo, TreeUnreadable, StartRefused, Starts}
 use Rattle.mls_report.specs.declared.finding.Started.{Started}
-use Rattle.mls_report.specs.declared.outcome.Verdict.TheVariants.{No}
+use Rattle.mls_report.specs.declared.verdict.Verdict.TheVariants.{No}
 
 -- ---- what is read of the inputs
 

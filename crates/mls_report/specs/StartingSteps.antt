@@ -3,18 +3,18 @@ use Rattle.std.specs.Prelude.{List, [], ℕ, Option, ◌≡◌, ◌≢◌}
 use Rattle.std.specs.Io.KnownBytes.{Appends}
 use Rattle.mls_wire.specs.Devices.{AppendsPrefix}
 use Rattle.mls_check.specs.Signatures.{Meaning}
-use Rattle.mls_follow.specs.declared.start.StartFault.{StartFault}
-use Rattle.mls_follow.specs.declared.start.StartFault.TheVariants as starts
+use Rattle.mls_follow.specs.declared.start_fault.StartFault.{StartFault}
+use Rattle.mls_follow.specs.declared.start_fault.StartFault.TheVariants as starts
 use Rattle.mls_report.specs.Finding.{finding_line, finding_verdict}
 use Rattle.mls_report.specs.Starting.{IsStartFinding}
 use Rattle.mls_report.specs.declared.finding.Finding.{Finding}
 use Rattle.mls_report.specs.declared.finding.Finding.TheVariants.{StartRefused}
 use Rattle.mls_report.specs.declared.opening.NoStart.{NoStart}
 use Rattle.mls_report.specs.declared.opening.NoStart.TheVariants.{Found, Fault}
-use Rattle.mls_report.specs.declared.outcome.RunFault.{RunFault}
-use Rattle.mls_report.specs.declared.outcome.RunFault.TheVariants.{Read, Write, Memory}
-use Rattle.mls_report.specs.declared.outcome.Verdict.{Verdict}
-use Rattle.mls_report.specs.declared.outcome.Verdict.TheVariants.{No}
+use Rattle.mls_report.specs.declared.verdict.RunFault.{RunFault}
+use Rattle.mls_report.specs.declared.verdict.RunFault.TheVariants.{Read, Write, Memory}
+use Rattle.mls_report.specs.declared.verdict.Verdict.{Verdict}
+use Rattle.mls_report.specs.declared.verdict.Verdict.TheVariants.{No}
 
 -- why no follower starts: a finding of which this holds, unless memory ran out
 abbrev pub Says : (Finding → Type 0) → NoStart → Type 0

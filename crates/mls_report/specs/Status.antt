@@ -1,8 +1,8 @@
 -- The exit statuses of reports.
 use Rattle.std.specs.Prelude.{ℕ, Result, Ok, Err}
-use Rattle.mls_report.specs.declared.outcome.Verdict.{Verdict}
-use Rattle.mls_report.specs.declared.outcome.Verdict.TheVariants.{Yes, No}
-use Rattle.mls_report.specs.declared.outcome.RunFault.{RunFault}
+use Rattle.mls_report.specs.declared.verdict.Verdict.{Verdict}
+use Rattle.mls_report.specs.declared.verdict.Verdict.TheVariants.{Yes, No}
+use Rattle.mls_report.specs.declared.verdict.RunFault.{RunFault}
 
 -- the exit status after a report: yes, no, or a fault
 abbrev pub status : Result Verdict RunFault → ℕ

@@ -4,8 +4,8 @@ use Rattle.std.specs.Fmt.{decimal}
 use Rattle.std.specs.Io.KnownBytes.{Appends}
 use Rattle.mls_check.specs.declared.receipts.ReceiptsFault.{ReceiptsFault}
 use Rattle.mls_check.specs.declared.receipts.ReceiptsFault.TheVariants as faults
-use Rattle.mls_report.specs.declared.outcome.Verdict.{Verdict}
-use Rattle.mls_report.specs.declared.outcome.Verdict.TheVariants.{No}
+use Rattle.mls_report.specs.declared.verdict.Verdict.{Verdict}
+use Rattle.mls_report.specs.declared.verdict.Verdict.TheVariants.{No}
 
 -- the line names the first line that holds no digest, by its number, or says that the file is too long;
 -- want of memory has no line

@@ -1,8 +1,6 @@
 -- The report `validate-tree`: one line, the first that applies. Numbers in parentheses are sections of
 -- RFC 9420.
 use Rattle.std.specs.Prelude.{ℕ, ◌≤◌, List, [], length, Option, Some, ◌≡◌, ◌≢◌, ◌⊎◌}
-use Rattle.std.specs.Io.KnownBytes.{Appends}
-use Rattle.mls_wire.specs.Devices.{AppendsPrefix}
 use Rattle.mls_wire.specs.Limits.{input_limit}
 use Rattle.mls_nodes.specs.Layout.{group_context}
 use Rattle.mls_nodes.specs.Requirements.{Requires, HasNoRequirements}
@@ -18,11 +16,11 @@ use Rattle.mls_check.specs.Signatures.{Meaning}
 use Rattle.mls_check.specs.Valid.{Valid, IsFirstTreeFault}
 use Rattle.mls_check.specs.declared.members.MemberFault.TheVariants as members
 use Rattle.mls_check.specs.declared.valid.TreeFault.TheVariants as trees
-use Rattle.mls_report.specs.Finding.{finding_line, finding_verdict}
+use Rattle.mls_report.specs.Finding.{TellsFinding, TellsFindingPart}
 use Rattle.mls_report.specs.ReadAll.{ReadsAll}
 use Rattle.mls_report.specs.declared.finding.Finding.{Finding}
 use Rattle.mls_report.specs.declared.finding.Finding.TheVariants.{ContextUnreadable, TreeUnreadable, UnsupportedVersion, UnsupportedSuite, RequirementsUnreadable, TreeRefused, MembersRefused, TreeValid}
-use Rattle.mls_report.specs.declared.outcome.Verdict.{Verdict}
+use Rattle.mls_report.specs.declared.verdict.Verdict.{Verdict}
 
 -- the group context is the one that the bytes of an input spell (8.1)
 pub record IsContext (bytes : List ℕ) (c : GroupContext) : Type 0 where
@@ -88,33 +86,23 @@ IsTreeFinding G context_bytes tree_bytes _ = ⊥
 
 -- ---- the report
 
--- both inputs were read to their ends, and the line of what is found of their bytes was written whole
-pub record ValidatesTree (G : Meaning)
-    (context0 context1 tree0 tree1 written0 written1 : Option (List ℕ))
-    (verdict : Verdict) : Type 0 where
+-- both inputs were read to their ends, and this is found of their bytes
+pub record FindsTree (G : Meaning) (context0 context1 tree0 tree1 : Option (List ℕ))
+    (finding : Finding) : Type 0 where
   pub context_bytes : List ℕ
   pub tree_bytes : List ℕ
-  pub finding : Finding
   pub context_read : ReadsAll context0 context1 context_bytes
   pub tree_read : ReadsAll tree0 tree1 tree_bytes
   pub found : IsTreeFinding G context_bytes tree_bytes finding
-  pub wrote : Appends written0 written1 (finding_line finding)
-  pub verdict_is : verdict ≡ finding_verdict finding
 
--- both inputs were read to their ends, and a prefix of that line was written
-pub record ValidatesTreePrefix (G : Meaning)
-    (context0 context1 tree0 tree1 written0 written1 : Option (List ℕ)) : Type 0 where
-  pub context_bytes : List ℕ
-  pub tree_bytes : List ℕ
-  pub finding : Finding
-  pub context_read : ReadsAll context0 context1 context_bytes
-  pub tree_read : ReadsAll tree0 tree1 tree_bytes
-  pub found : IsTreeFinding G context_bytes tree_bytes finding
-  pub wrote : AppendsPrefix written0 written1 (finding_line finding)
+-- both inputs were read to their ends, and the line of what is found was written whole
+abbrev pub ValidatesTree : Meaning → Option (List ℕ) → Option (List ℕ) → Option (List ℕ)
+    → Option (List ℕ) → Option (List ℕ) → Option (List ℕ) → Verdict → Type 0
+ValidatesTree G context0 context1 tree0 tree1 =
+    TellsFinding (FindsTree G context0 context1 tree0 tree1)
 
 -- nothing was written, or a prefix of the report of inputs that had ended
 abbrev pub ValidatesTreePart : Meaning → Option (List ℕ) → Option (List ℕ) → Option (List ℕ)
     → Option (List ℕ) → Option (List ℕ) → Option (List ℕ) → Type 0
-ValidatesTreePart G context0 context1 tree0 tree1 written0 written1 =
-    Appends written0 written1 []
-    ⊎ ValidatesTreePrefix G context0 context1 tree0 tree1 written0 written1
+ValidatesTreePart G context0 context1 tree0 tree1 =
+    TellsFindingPart (FindsTree G context0 context1 tree0 tree1)

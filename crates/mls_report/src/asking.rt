@@ -9,10 +9,10 @@ ghost use Rattle.mls_report.specs.Signatures as specs;
 ghost use Rattle.mls_report.specs.Signatures.{log_verdict, TellsAsked, AskedPart};
 ghost use Rattle.mls_report.specs.SignatureSteps.{TellsWanted, AsksTurn, StopsAsking};
 
-use crate::outcome::{RunFault, Verdict};
 use crate::replay::{MESSAGE_LIMIT, next_record};
 use crate::replay_text::{broken_line, turn_line};
 use crate::signature_text::wanted_text;
+use crate::verdict::{RunFault, Verdict};
 use crate::write::write_text;
 use mls_check::{SignatureCheck, Trusting};
 use mls_follow::{Follower, Refusal, WantedFault, WantedSignature};

@@ -8,8 +8,8 @@ ghost use Rattle.mls_report.specs.Finding as findings;
 use crate::fault_text::{
     member_fault_text, node_fault_text, start_fault_text, tree_fault_text, wire_fault_text,
 };
-use crate::outcome::{RunFault, Verdict};
 use crate::text::hex_of;
+use crate::verdict::{RunFault, Verdict};
 use crate::write::write_text;
 use mls_check::{MemberFault, TreeFault};
 use mls_follow::StartFault;

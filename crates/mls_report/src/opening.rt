@@ -6,8 +6,8 @@ ghost use Rattle.mls_report.specs.Starting.{IsInfo, IsHanded, IsHandedUnread, Is
 ghost use Rattle.mls_report.specs.StartingSteps.{Says, IsUnread, RefusesStart, RefusesStartPart};
 
 use crate::finding::{Finding, tell};
-use crate::outcome::{RunFault, Verdict};
 use crate::read::read_all;
+use crate::verdict::{RunFault, Verdict};
 use mls_follow::StartFault;
 use mls_msgs::{GroupInfo, Message, decode_message};
 use mls_nodes::NodeFault;

@@ -4,7 +4,7 @@ ghost use Rattle.std.specs.Prelude.{◌≡◌, ◌≢◌, ◌↔◌, ◌<◌, �
 ghost use Rattle.std.specs.Io.KnownBytes.{Consumes, Keeps, IsAtEnd};
 ghost use Rattle.mls_report.specs.ReadAll.{ReadsAll, ReadsSome};
 
-use crate::outcome::RunFault;
+use crate::verdict::RunFault;
 use mls_wire::{DeviceFault, MAX_INPUT, Source};
 use std::alloc::Global;
 

@@ -6,7 +6,7 @@ ghost use Rattle.mls_wire.specs.Devices.{AppendsPrefix};
 ghost use Rattle.mls_report.specs.UnreadableReceipts as reports;
 ghost use Rattle.mls_report.specs.UnreadableReceipts.{TellsReceipts};
 
-use crate::outcome::{RunFault, Verdict};
+use crate::verdict::{RunFault, Verdict};
 use crate::write::write_text;
 use mls_check::ReceiptsFault;
 use mls_wire::Sink;

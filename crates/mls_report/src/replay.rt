@@ -10,8 +10,8 @@ ghost use Rattle.mls_report.specs.ReplaySteps.{ReadsUndecided, TellsTurn, StopsA
 
 use crate::finding::tell;
 use crate::opening::{NoStart, read_both, read_inputs, tell_refused};
-use crate::outcome::{RunFault, Verdict};
 use crate::replay_text::{last_lines, turn_line};
+use crate::verdict::{RunFault, Verdict};
 use crate::write::write_text;
 use mls_check::SignatureCheck;
 use mls_follow::{Follower, Refusal};

@@ -4,7 +4,7 @@ ghost use Rattle.std.specs.Prelude.{◌≡◌, ◌++◌, codes, IfOk, string_byt
 ghost use Rattle.mls_report.specs.Show.{IsUnreadable};
 ghost use Rattle.mls_report.specs.Texts.{IsOneLine};
 
-use crate::outcome::Verdict;
+use crate::verdict::Verdict;
 use std::alloc::{AllocError, Global};
 
 /// A report that is made, and not written yet.

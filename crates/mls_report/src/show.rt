@@ -7,10 +7,10 @@ ghost use Rattle.mls_report.specs.Show.{InfoReport, IsShowReport, IsUnreadable, 
 use crate::fault_text::{node_fault_text, wire_fault_text};
 use crate::info_text::info_text;
 use crate::message_text::message_line;
-use crate::outcome::{RunFault, Verdict};
 use crate::read::read_all;
 use crate::report::{Report, unreadable_report};
 use crate::tree_text::tree_text;
+use crate::verdict::{RunFault, Verdict};
 use crate::write::write_bytes;
 use mls_msgs::{Message, decode_message};
 use mls_nodes::NodeFault;

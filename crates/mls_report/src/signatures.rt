@@ -12,8 +12,8 @@ ghost use Rattle.mls_report.specs.SignatureSteps.{AreStartLines, TellsBehind, Be
 use crate::asking::ask_log;
 use crate::finding::tell;
 use crate::opening::{NoStart, read_both, read_inputs, tell_refused};
-use crate::outcome::{RunFault, Verdict};
 use crate::signature_text::wanted_text;
+use crate::verdict::{RunFault, Verdict};
 use crate::write::write_text;
 use mls_check::{SignatureCheck, Trusting};
 use mls_follow::{Follower, StartFault, tree_in, wanted_by_start};

@@ -9,7 +9,7 @@ ghost use Rattle.mls_report.specs.Validate.{Validates, ValidatesPart};
 
 use crate::finding::{Finding, Started, tell, tree_hash_of};
 use crate::opening::{Inputs, NoStart, read_both, read_inputs, refused_start};
-use crate::outcome::{RunFault, Verdict};
+use crate::verdict::{RunFault, Verdict};
 use mls_check::SignatureCheck;
 use mls_follow::Follower;
 use mls_wire::{Sink, Source};

@@ -8,8 +8,8 @@ ghost use Rattle.mls_check.specs.Valid.{Valid};
 ghost use Rattle.mls_report.specs.ValidateTree.{IsContext, IsUsable, HasTree, IsReadable, HasValidTree, IsTreeFinding, ValidatesTree, ValidatesTreePart};
 
 use crate::finding::{Finding, tell, tree_hash_of};
-use crate::outcome::{RunFault, Verdict};
 use crate::read::read_all;
+use crate::verdict::{RunFault, Verdict};
 use mls_check::{MemberFault, SignatureCheck, TreeFault, validate_members, validate_tree};
 use mls_hash::Suite;
 use mls_nodes::{GroupContext, NodeFault, RequiredCapabilities, decode_context, requirements};

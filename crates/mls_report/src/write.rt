@@ -4,7 +4,7 @@ ghost use Rattle.std.specs.Prelude.{◌≡◌, ◌↔◌, false, true, IfErr, On
 ghost use Rattle.std.specs.Io.KnownBytes.{Appends};
 ghost use Rattle.mls_wire.specs.Devices.{AppendsPrefix};
 
-use crate::outcome::RunFault;
+use crate::verdict::RunFault;
 use mls_wire::{DeviceFault, Sink, write_all};
 
 /// Writes bytes, in as few pieces as the sink takes. Where the sink fails, a prefix was written.

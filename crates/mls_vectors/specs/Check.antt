@@ -12,8 +12,8 @@ use Rattle.mls_vectors.specs.TreeValidation.{IsOutcomeUnlessSkipped, IsTreeValid
 use Rattle.mls_vectors.specs.VectorFile.{HoldsVectors, HoldsNoVectors}
 use Rattle.mls_vectors.specs.declared.check.CheckKind.{CheckKind}
 use Rattle.mls_vectors.specs.declared.check.CheckKind.TheVariants as kind
-use Rattle.mls_report.specs.declared.outcome.Verdict.{Verdict}
-use Rattle.mls_report.specs.declared.outcome.Verdict.TheVariants.{Yes, No}
+use Rattle.mls_report.specs.declared.verdict.Verdict.{Verdict}
+use Rattle.mls_report.specs.declared.verdict.Verdict.TheVariants.{Yes, No}
 
 -- the outcome of a vector of a kind
 abbrev pub IsOutcomeOf : CheckKind → Data → Outcome → Type 0

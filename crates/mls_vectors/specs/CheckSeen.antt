@@ -22,7 +22,7 @@ use Rattle.mls_vectors.specs.declared.vector_outcome.Outcome.{Outcome}
 use Rattle.mls_vectors.specs.declared.vector_outcome.Outcome.TheVariants.{Pass, Fail, Skip}
 use Rattle.mls_vectors.specs.declared.check.CheckKind.{CheckKind}
 use Rattle.mls_vectors.specs.declared.lines.Counts as code
-use Rattle.mls_report.specs.declared.outcome.Verdict.{Verdict}
+use Rattle.mls_report.specs.declared.verdict.Verdict.{Verdict}
 use Rattle.mls_vectors.specs.declared.suite.SuiteMember.{SuiteMember}
 use Rattle.mls_vectors.specs.declared.suite.SuiteMember.TheVariants as suites
 use Rattle.mls_vectors.specs.declared.tree_math.Column.{Column}

@@ -2,7 +2,7 @@ use Rattle.std.proofs.Common.{rules, arith, ◌∙◌, subst}
 use Rattle.std.specs.Io.KnownBytes.{Appends}
 use Rattle.mls_wire.specs.Devices.{AppendsPrefix}
 use Rattle.mls_follow.specs.Seen.{state_of}
-use Rattle.mls_report.specs.declared.outcome.RunFault.TheVariants.{Write}
+use Rattle.mls_report.specs.declared.verdict.RunFault.TheVariants.{Write}
 use Rattle.mls_report.proofs.Answered.{answered}
 use Rattle.mls_report.proofs.Outcomes.{IfErr-is}
 use Rattle.mls_report.proofs.asking.ask_turn.Goals as goal

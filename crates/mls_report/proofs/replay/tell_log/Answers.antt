@@ -2,7 +2,7 @@ use Rattle.std.proofs.Common.{rules, ◌∙◌, ap, subst}
 use Rattle.mls_wire.specs.Devices.{AppendsPrefix}
 use Rattle.mls_nodes.specs.declared.context.GroupContext.{GroupContext}
 use Rattle.mls_report.specs.Replay.{last_lines}
-use Rattle.mls_report.specs.declared.outcome.RunFault.TheVariants.{Write}
+use Rattle.mls_report.specs.declared.verdict.RunFault.TheVariants.{Write}
 use Rattle.mls_report.proofs.Outcomes.{IfErr-is}
 use Rattle.mls_report.proofs.Replaying.{part-ending}
 use Rattle.mls_report.proofs.replay.tell_log.Goals as goal

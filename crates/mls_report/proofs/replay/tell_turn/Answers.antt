@@ -1,6 +1,6 @@
 use Rattle.std.proofs.Common.{rules, arith}
 use Rattle.mls_follow.specs.Seen.{state_of}
-use Rattle.mls_report.specs.declared.outcome.RunFault.TheVariants.{Write}
+use Rattle.mls_report.specs.declared.verdict.RunFault.TheVariants.{Write}
 use Rattle.mls_report.proofs.Answered.{answered}
 use Rattle.mls_report.proofs.Outcomes.{IfErr-is}
 use Rattle.mls_report.proofs.replay.tell_turn.Goals as goal

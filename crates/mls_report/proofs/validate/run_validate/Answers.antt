@@ -10,11 +10,13 @@ returns-clause-read g c = read-nothing c.tell.result c.tell.ensures.fault (λ fa
 pub returns-clause-validated : goal.returns-clause-validated
 returns-clause-validated g c =
     IfOk-weaker c.tell.result _ _ (λ verdict told. record {
-      info_bytes = c.in_ok-bytes.bytes.info.items;
-      tree_bytes = option_map (λ v. v.items) c.in_ok-bytes.bytes.tree;
       finding = c.in_ok-finding.finding;
-      read = c.in_ok-bytes.ensures.both;
-      found = c.in_ok-finding.ensures.found;
+      found = record {
+        info_bytes = c.in_ok-bytes.bytes.info.items;
+        tree_bytes = option_map (λ v. v.items) c.in_ok-bytes.bytes.tree;
+        read = c.in_ok-bytes.ensures.both;
+        found = c.in_ok-finding.ensures.found;
+      };
       wrote = told.0;
       verdict_is = told.1;
     }) c.tell.ensures.told
@@ -22,10 +24,12 @@ returns-clause-validated g c =
 pub returns-clause-part : goal.returns-clause-part
 returns-clause-part g c =
     on_err_weaker c.tell.result (λ told. inr (record {
-      info_bytes = c.in_ok-bytes.bytes.info.items;
-      tree_bytes = option_map (λ v. v.items) c.in_ok-bytes.bytes.tree;
       finding = c.in_ok-finding.finding;
-      read = c.in_ok-bytes.ensures.both;
-      found = c.in_ok-finding.ensures.found;
+      found = record {
+        info_bytes = c.in_ok-bytes.bytes.info.items;
+        tree_bytes = option_map (λ v. v.items) c.in_ok-bytes.bytes.tree;
+        read = c.in_ok-bytes.ensures.both;
+        found = c.in_ok-finding.ensures.found;
+      };
       wrote = told;
     })) c.tell.ensures.part

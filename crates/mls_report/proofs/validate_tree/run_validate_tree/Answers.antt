@@ -6,12 +6,14 @@ pub returns-clause-validated : goal.returns-clause-validated
 returns-clause-validated g c =
     let found = rw c.as_slice.ensures.value at c.in_ok-finding.ensures.found in
     IfOk-weaker c.tell.result _ _ (λ verdict told. record {
-      context_bytes = c.in_ok-context_bytes.context_bytes.items;
-      tree_bytes = c.in_ok-tree_bytes.tree_bytes.items;
       finding = c.in_ok-finding.finding;
-      context_read = c.in_ok-context_bytes.ensures.all;
-      tree_read = c.in_ok-tree_bytes.ensures.all;
-      found = found;
+      found = record {
+        context_bytes = c.in_ok-context_bytes.context_bytes.items;
+        tree_bytes = c.in_ok-tree_bytes.tree_bytes.items;
+        context_read = c.in_ok-context_bytes.ensures.all;
+        tree_read = c.in_ok-tree_bytes.ensures.all;
+        found = found;
+      };
       wrote = told.0;
       verdict_is = told.1;
     }) c.tell.ensures.told
@@ -20,11 +22,13 @@ pub returns-clause-part : goal.returns-clause-part
 returns-clause-part g c =
     let found = rw c.as_slice.ensures.value at c.in_ok-finding.ensures.found in
     on_err_weaker c.tell.result (λ told. inr (record {
-      context_bytes = c.in_ok-context_bytes.context_bytes.items;
-      tree_bytes = c.in_ok-tree_bytes.tree_bytes.items;
       finding = c.in_ok-finding.finding;
-      context_read = c.in_ok-context_bytes.ensures.all;
-      tree_read = c.in_ok-tree_bytes.ensures.all;
-      found = found;
+      found = record {
+        context_bytes = c.in_ok-context_bytes.context_bytes.items;
+        tree_bytes = c.in_ok-tree_bytes.tree_bytes.items;
+        context_read = c.in_ok-context_bytes.ensures.all;
+        tree_read = c.in_ok-tree_bytes.ensures.all;
+        found = found;
+      };
       wrote = told;
     })) c.tell.ensures.part

@@ -30,7 +30,7 @@ pub enum RunFault {
 }
 
 impl From<AllocError> for RunFault {
-    ghost use Rattle.mls_report.specs.declared.outcome.RunFault.TheVariants.{Memory};
+    ghost use Rattle.mls_report.specs.declared.verdict.RunFault.TheVariants.{Memory};
 
     ghost from_gives = { λ _ e. e ≡ Memory };
 

@@ -1,0 +1,111 @@
+//! Why a group can't be followed from a group info (RFC 9420, 12.4.3.1).
+
+use mls_check::{MemberFault, OutOfMemory, TreeFault};
+use std::alloc::AllocError;
+use thiserror::Error;
+
+/// Why a group can't be followed from a group info: the first check that fails, in this order.
+#[derive(Clone, Copy, Debug, PartialEq, Eq, Error)]
+pub enum StartFault {
+    /// The group's version isn't 1 (RFC 9420, 6).
+    #[error("the version is not followed")]
+    UnsupportedVersion,
+    /// The group's cipher suite isn't one from 1 to 7 (RFC 9420, 17.1).
+    #[error("the cipher suite is not followed")]
+    UnsupportedSuite,
+    /// No tree was handed in, and the info has no extension of type 2, or the first one can't be read (RFC
+    /// 9420, 12.4.3.3).
+    #[error("there is no tree")]
+    NoTree,
+    /// The group's required capabilities can't be read (RFC 9420, 11.1).
+    #[error("the required capabilities can't be read")]
+    RequirementsUnreadable,
+    /// The tree isn't valid, for this fault (RFC 9420, 7.9.2 and 12.4.3.1).
+    #[error("{0}")]
+    Tree(TreeFault),
+    /// The tree's leaves are no members of the group, for this fault (RFC 9420, 7.3).
+    #[error("{0}")]
+    Member(MemberFault),
+    /// The signer's leaf isn't set (RFC 9420, 12.4.3).
+    #[error("the signer is no member")]
+    SignerNotMember,
+    /// The signer has not signed the group info (RFC 9420, 12.4.3).
+    #[error("the group info's signature is not good")]
+    InfoSignature,
+    /// An allocation was refused. It says nothing of the group info.
+    #[error("out of memory")]
+    OutOfMemory,
+}
+
+impl StartFault {
+    ghost use Rattle.std.specs.Prelude.{◌≡◌};
+    ghost use Rattle.mls_follow.specs.Numbers.{start_number_of};
+
+    /// The number by which reports name the fault: 0 for want of memory, else that of the check in the order
+    /// above, from 1 on.
+    pub fn number(&self) -> u8
+        ensures { result ≡ start_number_of self.now }
+    {
+        match self {
+            StartFault::OutOfMemory => 0,
+            StartFault::UnsupportedVersion => 1,
+            StartFault::UnsupportedSuite => 2,
+            StartFault::NoTree => 3,
+            StartFault::RequirementsUnreadable => 4,
+            StartFault::Tree(_) => 5,
+            StartFault::Member(_) => 6,
+            StartFault::SignerNotMember => 7,
+            StartFault::InfoSignature => 8,
+        }
+    }
+}
+
+impl From<AllocError> for StartFault {
+    ghost use Rattle.std.specs.Prelude.{◌≡◌};
+    ghost use Rattle.mls_follow.specs.declared.start_fault.StartFault.TheVariants.{OutOfMemory};
+
+    ghost from_gives = { λ _ e. e ≡ OutOfMemory };
+
+    fn from(_error: AllocError) -> StartFault {
+        StartFault::OutOfMemory
+    }
+}
+
+impl From<OutOfMemory> for StartFault {
+    ghost use Rattle.std.specs.Prelude.{◌≡◌};
+    ghost use Rattle.mls_follow.specs.declared.start_fault.StartFault.TheVariants as faults;
+
+    ghost from_gives = { λ _ e. e ≡ faults.OutOfMemory };
+
+    fn from(_memory: OutOfMemory) -> StartFault {
+        StartFault::OutOfMemory
+    }
+}
+
+impl From<TreeFault> for StartFault {
+    ghost use Rattle.std.specs.Prelude.{◌≡◌};
+    ghost use Rattle.mls_follow.specs.Start.{tree_fault_of};
+
+    ghost from_gives = { λ fault e. e ≡ tree_fault_of fault };
+
+    fn from(fault: TreeFault) -> StartFault {
+        match fault {
+            TreeFault::OutOfMemory => StartFault::OutOfMemory,
+            _ => StartFault::Tree(fault),
+        }
+    }
+}
+
+impl From<MemberFault> for StartFault {
+    ghost use Rattle.std.specs.Prelude.{◌≡◌};
+    ghost use Rattle.mls_follow.specs.Start.{member_fault_of};
+
+    ghost from_gives = { λ fault e. e ≡ member_fault_of fault };
+
+    fn from(fault: MemberFault) -> StartFault {
+        match fault {
+            MemberFault::OutOfMemory => StartFault::OutOfMemory,
+            _ => StartFault::Member(fault),
+        }
+    }
+}

@@ -35,3 +35,4 @@ pub mod Touching
 pub mod SoundSubtrees
 pub mod Remaining
 pub mod Adding
+pub mod GroupTrees

@@ -5,6 +5,7 @@
 mod beginnings;
 mod credentials;
 mod distinct;
+mod group_tree;
 pub mod laws;
 mod leaf_lists;
 mod members;
@@ -22,6 +23,7 @@ mod valid;
 
 pub use beginnings::beginning;
 pub use distinct::has_distinct_keys;
+pub use group_tree::{GroupTreeFault, validate_group_tree};
 pub use members::{LEAF_NODE_TBS, MemberFault, is_leaf_signed, validate_members};
 pub use receipts::{Listed, ReceiptsFault, receipt};
 pub use requirements::RisingRequirements;

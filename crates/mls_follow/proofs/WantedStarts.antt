@@ -6,11 +6,12 @@ use Rattle.mls_nodes.specs.declared.leaf.LeafNode.{LeafNode}
 use Rattle.mls_nodes.specs.declared.required_capabilities.RequiredCapabilities.{RequiredCapabilities}
 use Rattle.mls_tree.specs.Tree.{leaf_at}
 use Rattle.mls_tree.specs.RatchetTree.{RatchetTree}
+use Rattle.mls_check.specs.GroupTree.{IsFollowed, HasMembers, HasValidTree}
 use Rattle.mls_check.specs.Members.{is_leaf_signed}
 use Rattle.mls_check.specs.Signatures.{Meaning}
 use Rattle.mls_msgs.specs.declared.group_info.GroupInfo.{GroupInfo}
 use Rattle.mls_follow.specs.State.{State}
-use Rattle.mls_follow.specs.Start.{IsFollowed, HasMembers, HasSigner, HasValidTree, is_info_signed, IsStart, IsStartFault}
+use Rattle.mls_follow.specs.Start.{UsesTree, HasSigner, is_info_signed, IsStart, IsStartFault}
 use Rattle.mls_follow.specs.Wanted.{AgreeOn, AgreeOnStart, WantedDecideStarts, WantedDecideStartFaults, is_followed, asked_of_info, asked_of_tree, asked_by_start}
 use Rattle.mls_follow.specs.declared.start_fault.StartFault.{StartFault}
 use Rattle.mls_follow.specs.declared.start_fault.StartFault.TheVariants as starts
@@ -21,7 +22,7 @@ use Rattle.mls_follow.proofs.WantedAnswers.{tree_leaf, leaf_alike, info_alike, m
 numbers_followed : (version suite : ℕ) → version ≡ 1 → 1 ≤ suite → suite ≤ 7 → (version == 1 && nat_le 1 suite && nat_le suite 7) ≡ true
 numbers_followed version suite e low high = grind (arith, nat_tests)
 
-followed : (info : GroupInfo) → IsFollowed info → is_followed info ≡ true
+followed : (info : GroupInfo) → IsFollowed info.context → is_followed info ≡ true
 followed info h = numbers_followed info.context.version info.context.cipher_suite h.version h.suite.0 h.suite.1
 
 -- where a version and a suite are followed, all is asked
@@ -30,7 +31,7 @@ all_asked G K true qs e h = h
 all_asked G K false qs e h = absurd (cc)
 
 module _ (G K : Meaning) (info : GroupInfo) (handed : Option RatchetTree) (agree : AgreeOnStart G K info handed) where
-  module _ (t : RatchetTree) (required : RequiredCapabilities) (valid : HasValidTree info handed t required) where
+  module _ (t : RatchetTree) (required : RequiredCapabilities) (valid : HasValidTree info.context (UsesTree handed info.extensions) t required) where
     asked : AgreeOn G K (asked_of_info info (leaf_at 0 t.tree info.signer) ++ asked_of_tree info.context.cipher_suite info.context.group_id 0 t.tree)
     asked =
         all_asked G K (is_followed info) (asked_of_info info (leaf_at 0 t.tree info.signer) ++ asked_of_tree info.context.cipher_suite info.context.group_id 0 t.tree)
@@ -44,7 +45,7 @@ module _ (G K : Meaning) (info : GroupInfo) (handed : Option RatchetTree) (agree
         (tree_leaf G K info.context.cipher_suite info.context.group_id 0 t.tree
         (back G K (asked_of_info info (leaf_at 0 t.tree info.signer)) (asked_of_tree info.context.cipher_suite info.context.group_id 0 t.tree) asked) i x e)
 
-  members_move : (t : RatchetTree) (required : RequiredCapabilities) → HasMembers G info handed t required → HasMembers K info handed t required
+  members_move : (t : RatchetTree) (required : RequiredCapabilities) → HasMembers G info.context (UsesTree handed info.extensions) t required → HasMembers K info.context (UsesTree handed info.extensions) t required
   members_move t required m = record {
     valid_tree = m.valid_tree;
     members = members_alike G K info.context.cipher_suite info.context.group_id required t.tree (leaves_say t required m.valid_tree) m.members;

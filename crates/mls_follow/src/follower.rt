@@ -9,7 +9,8 @@ ghost use Rattle.mls_follow.specs.GroupSeen.{group_state};
 ghost use Rattle.mls_follow.specs.Judged.{IsJudged, IsJudged-prop};
 ghost use Rattle.mls_follow.specs.Judging.{IsAcceptable, IsNext, IsFirstRefusal};
 ghost use Rattle.mls_follow.specs.Runs.{Takes};
-ghost use Rattle.mls_follow.specs.Start.{FailsSuite, IsFollowed, IsStart, IsStartFault, first_state};
+ghost use Rattle.mls_check.specs.GroupTree.{FailsSuite, IsFollowed};
+ghost use Rattle.mls_follow.specs.Start.{IsStart, IsStartFault, first_state};
 
 use crate::frame::read_message;
 use crate::group::Group;
@@ -93,8 +94,8 @@ impl<C: SignatureCheck> Follower<C> {
         ensures unsupported_version { IsErrAnd result
             (λ r. r.fault ≡ StartFault.UnsupportedVersion) ↔ (info.context.version ≢ 1) }
         ensures unsupported_suite { IsErrAnd result
-            (λ r. r.fault ≡ StartFault.UnsupportedSuite) ↔ FailsSuite info }
-        ensures no_tree { IsFollowed info → tree ≡ None → extension_of 2 info.extensions ≡ None
+            (λ r. r.fault ≡ StartFault.UnsupportedSuite) ↔ FailsSuite info.context }
+        ensures no_tree { IsFollowed info.context → tree ≡ None → extension_of 2 info.extensions ≡ None
             → IsErrAnd result (λ r. r.fault ≡ StartFault.NoTree) }
         ensures handed_back { IfErr result (λ r. (r.info ≡ info)
             × (option_map plain r.tree ≡ option_map plain tree) × (r.checker ≡ checker)) }

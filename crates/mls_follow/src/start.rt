@@ -4,18 +4,19 @@ ghost use Rattle.std.specs.Prelude.{◌≡◌, ◌≢◌, ◌↔◌, ℕ, List, 
 ghost use Rattle.mls_check.specs.Signatures.{Meaning};
 ghost use Rattle.mls_tree.specs.KeptTree.{plain};
 ghost use Rattle.mls_tree.specs.RatchetTree.{RatchetTree};
-ghost use Rattle.mls_nodes.specs.Requirements.{extension_of, Requires, HasNoRequirements};
+ghost use Rattle.mls_nodes.specs.Requirements.{extension_of, Requires};
+ghost use Rattle.mls_check.specs.GroupTree.{IsFollowed, HasMembers, FailsSuite};
 ghost use Rattle.mls_index.specs.TreeIndex.{IsIndexOf};
-ghost use Rattle.mls_follow.specs.Start.{FailsSuite, UsesTree, UsesNoTree, IsFollowed, IsStart, IsStartFault, StartsWith, FailsWith, IsSignedIn, FailsSigned, first_state, is_info_signed};
+ghost use Rattle.mls_follow.specs.Start.{UsesTree, UsesNoTree, IsStart, IsStartFault, StartsWith, FailsWith, IsSignedIn, FailsSigned, first_state, info_interim, is_info_signed};
 
 use crate::group::fill;
 use crate::start_fault::StartFault;
 use crate::transcript::interim_hash;
-use mls_check::{OutOfMemory, SignatureCheck, signed, validate_members, validate_tree};
+use mls_check::{OutOfMemory, SignatureCheck, signed, validate_group_tree};
 use mls_hash::Suite;
 use mls_index::TreeIndex;
 use mls_msgs::{GROUP_INFO_LABEL, GroupInfo, info_tbs};
-use mls_nodes::{LeafNode, NodeFault, RequiredCapabilities, find_extension, requirements};
+use mls_nodes::{LeafNode, NodeFault, RequiredCapabilities, find_extension};
 use mls_tree::{HashValue, PublicTree};
 use mls_wire::CodecFault;
 use std::alloc::Global;
@@ -46,14 +47,14 @@ pub(crate) struct Judged {
 
 /// The cipher suite of a group info whose version and suite are followed.
 pub(crate) fn followed_suite(info: &GroupInfo) -> Result<Suite, StartFault>
-    ensures followed { OnOk result (IsFollowed info.now) }
+    ensures followed { OnOk result (IsFollowed info.now.context) }
     ensures suite { IfOk result (λ suite. suite ≡ info.now.context.cipher_suite) }
     ensures refused { IfErr result (λ e. (G : Meaning) (handed : Option RatchetTree)
         → IsStartFault G info.now handed e) }
-    ensures unfollowed { OnErr result (¬ IsFollowed info.now) }
+    ensures unfollowed { OnErr result (¬ IsFollowed info.now.context) }
     ensures unsupported_version { (result ≡ Err StartFault.UnsupportedVersion)
         ↔ (info.now.context.version ≢ 1) }
-    ensures unsupported_suite { (result ≡ Err StartFault.UnsupportedSuite) ↔ FailsSuite info.now }
+    ensures unsupported_suite { (result ≡ Err StartFault.UnsupportedSuite) ↔ FailsSuite info.now.context }
 {
     if info.context.version != 1 {
         return Err(StartFault::UnsupportedVersion);
@@ -80,20 +81,6 @@ pub fn tree_in(alloc: Global, info: &GroupInfo) -> Result<PublicTree, StartFault
         Ok(tree) => Ok(tree),
         Err(NodeFault::OutOfMemory) => Err(StartFault::OutOfMemory),
         Err(_) => Err(StartFault::NoTree),
-    }
-}
-
-/// What the group of an info requires of its members.
-fn required_of(alloc: Global, info: &GroupInfo) -> Result<RequiredCapabilities, StartFault>
-    ensures required { IfOk result (Requires info.now.context) }
-    ensures none { IfErr result (λ e. e ≢ StartFault.OutOfMemory → (e
-        ≡ StartFault.RequirementsUnreadable)
-        × HasNoRequirements info.now.context) }
-{
-    match requirements(alloc, &info.context) {
-        Ok(required) => Ok(required),
-        Err(CodecFault::OutOfMemory) => Err(StartFault::OutOfMemory),
-        Err(CodecFault::Wire(_)) => Err(StartFault::RequirementsUnreadable),
     }
 }
 
@@ -143,84 +130,52 @@ fn check_signer<C: SignatureCheck>(
     Ok(())
 }
 
-/// The interim transcript hash of a group info that is followed, where a follower starts with this tree.
+/// What the group of an info that is followed requires, where the tree is the group's and its leaves are members. The
+/// hashes that the tree keeps of its subtrees are filled before.
+fn judged_tree<C: SignatureCheck>(
+    alloc: Global,
+    suite: Suite,
+    info: &GroupInfo,
+    tree: &mut PublicTree,
+    checker: &C,
+) -> Result<RequiredCapabilities, StartFault>
+    requires followed { IsFollowed info.now.context }
+    requires suite_of_context { suite ≡ info.now.context.cipher_suite }
+    ensures tree { plain tree.new ≡ plain tree.old }
+    ensures members { IfOk result (HasMembers (C.meaning checker.now) info.now.context
+        (λ t. t ≡ plain tree.new) (plain tree.new)) }
+    ensures refused { IfErr result (FailsWith (C.meaning checker.now) info.now (plain tree.new)) }
+{
+    fill(alloc, suite, tree)?;
+    match validate_group_tree(alloc, suite, &info.context, tree, checker) {
+        Ok(required) => Ok(required),
+        Err(fault) => Err(StartFault::from(fault)),
+    }
+}
+
+/// The interim transcript hash of a group info that its signer has signed, and the index of the tree.
 fn judged_interim<C: SignatureCheck>(
     alloc: Global,
     suite: Suite,
     info: &GroupInfo,
-    required: &RequiredCapabilities,
     tree: &PublicTree,
     checker: &C,
-) -> Result<HashValue, StartFault>
-    requires followed { IsFollowed info.now }
-    requires suite_of_context { suite ≡ info.now.context.cipher_suite }
-    requires required { Requires info.now.context required.now }
-    ensures started { IfOk result (λ interim. StartsWith
-        (C.meaning checker.now) info.now (plain tree.now) interim) }
-    ensures refused { IfErr result (FailsWith (C.meaning checker.now) info.now (plain tree.now)) }
-{
-    let context = &info.context;
-    validate_tree(alloc, suite, context, tree)?;
-    validate_members(
-        alloc,
-        context.cipher_suite,
-        &context.group_id,
-        required,
-        tree,
-        checker,
-    )?;
-    check_signer(alloc, info, tree, checker)?;
-    let confirmed = context.confirmed.as_slice();
-    Ok(interim_hash(alloc, suite, confirmed, &info.confirmation_tag)?)
-}
-
-/// The same, and the hashes that the tree keeps of its subtrees are filled before it is validated.
-fn filled_interim<C: SignatureCheck>(
-    alloc: Global,
-    suite: Suite,
-    info: &GroupInfo,
-    required: &RequiredCapabilities,
-    tree: &mut PublicTree,
-    checker: &C,
-) -> Result<HashValue, StartFault>
-    requires followed { IsFollowed info.now }
-    requires suite_of_context { suite ≡ info.now.context.cipher_suite }
-    requires required { Requires info.now.context required.now }
-    ensures tree { plain tree.new ≡ plain tree.old }
-    ensures started { IfOk result (λ interim. StartsWith
-        (C.meaning checker.now) info.now (plain tree.old) interim) }
-    ensures refused { IfErr result (FailsWith (C.meaning checker.now) info.now (plain tree.old)) }
-{
-    fill(alloc, suite, tree)?;
-    judged_interim(alloc, suite, info, required, tree, checker)
-}
-
-/// The same, with the tree's index.
-fn indexed_interim<C: SignatureCheck>(
-    alloc: Global,
-    suite: Suite,
-    info: &GroupInfo,
-    required: &RequiredCapabilities,
-    tree: &mut PublicTree,
-    checker: &C,
 ) -> Result<(HashValue, TreeIndex), StartFault>
-    requires followed { IsFollowed info.now }
     requires suite_of_context { suite ≡ info.now.context.cipher_suite }
-    requires required { Requires info.now.context required.now }
-    ensures tree { plain tree.new ≡ plain tree.old }
-    ensures started { IfOk result (λ found. StartsWith
-        (C.meaning checker.now) info.now (plain tree.old) found.0) }
-    ensures indexed { IfOk result (λ found. IsIndexOf tree.new.tree found.1) }
-    ensures refused { IfErr result (FailsWith (C.meaning checker.now) info.now (plain tree.old)) }
+    ensures signed { OnOk result (IsSignedIn (C.meaning checker.now) info.now (plain tree.now)) }
+    ensures hashed { IfOk result (λ found. info_interim info.now ≡ Some found.0) }
+    ensures indexed { IfOk result (λ found. IsIndexOf tree.now.tree found.1) }
+    ensures refused { IfErr result (FailsSigned (C.meaning checker.now) info.now (plain tree.now)) }
 {
-    let interim = filled_interim(alloc, suite, info, required, tree, checker)?;
+    check_signer(alloc, info, tree, checker)?;
+    let confirmed = info.context.confirmed.as_slice();
+    let interim = interim_hash(alloc, suite, confirmed, &info.confirmation_tag)?;
     let index = TreeIndex::of(alloc, tree)?;
     Ok((interim, index))
 }
 
-/// What is found of a group info that is followed, where a follower starts with this tree: the group's
-/// requirements are read, the tree is validated, its leaves are judged as members, and then the info's
-/// signature. The tree is indexed at last.
+/// What is found of a group info that is followed, where a follower starts with this tree: the tree is judged as the
+/// group's, and its leaves as members, and then the info's signature. The tree is indexed at last.
 pub(crate) fn judge<C: SignatureCheck>(
     alloc: Global,
     suite: Suite,
@@ -228,7 +183,7 @@ pub(crate) fn judge<C: SignatureCheck>(
     tree: &mut PublicTree,
     checker: &C,
 ) -> Result<Judged, StartFault>
-    requires followed { IsFollowed info.now }
+    requires followed { IsFollowed info.now.context }
     requires suite_of_context { suite ≡ info.now.context.cipher_suite }
     ensures tree { plain tree.new ≡ plain tree.old }
     ensures required { IfOk result (λ judged. Requires info.now.context judged.required) }
@@ -237,8 +192,8 @@ pub(crate) fn judge<C: SignatureCheck>(
     ensures indexed { IfOk result (λ judged. IsIndexOf tree.new.tree judged.index) }
     ensures refused { IfErr result (FailsWith (C.meaning checker.now) info.now (plain tree.old)) }
 {
-    let required = required_of(alloc, info)?;
-    match indexed_interim(alloc, suite, info, &required, tree, checker) {
+    let required = judged_tree(alloc, suite, info, tree, checker)?;
+    match judged_interim(alloc, suite, info, tree, checker) {
         Ok((interim, index)) => Ok(Judged {
             required,
             interim,
@@ -258,7 +213,7 @@ pub(crate) fn judge_own<C: SignatureCheck>(
     info: &GroupInfo,
     checker: &C,
 ) -> Result<(PublicTree, Judged), StartFault>
-    requires followed { IsFollowed info.now }
+    requires followed { IsFollowed info.now.context }
     requires suite_of_context { suite ≡ info.now.context.cipher_suite }
     ensures required { IfOk result (λ found. Requires info.now.context found.1.required) }
     ensures started { IfOk result (λ found. IsStart (C.meaning checker.now) info.now None

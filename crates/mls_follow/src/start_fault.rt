@@ -1,6 +1,6 @@
 //! Why a group can't be followed from a group info (RFC 9420, 12.4.3.1).
 
-use mls_check::{MemberFault, OutOfMemory, TreeFault};
+use mls_check::{GroupTreeFault, MemberFault, OutOfMemory, TreeFault};
 use std::alloc::AllocError;
 use thiserror::Error;
 
@@ -82,30 +82,18 @@ impl From<OutOfMemory> for StartFault {
     }
 }
 
-impl From<TreeFault> for StartFault {
+impl From<GroupTreeFault> for StartFault {
     ghost use Rattle.std.specs.Prelude.{◌≡◌};
-    ghost use Rattle.mls_follow.specs.Start.{tree_fault_of};
+    ghost use Rattle.mls_follow.specs.Start.{start_fault_of};
 
-    ghost from_gives = { λ fault e. e ≡ tree_fault_of fault };
+    ghost from_gives = { λ fault e. e ≡ start_fault_of fault };
 
-    fn from(fault: TreeFault) -> StartFault {
+    fn from(fault: GroupTreeFault) -> StartFault {
         match fault {
-            TreeFault::OutOfMemory => StartFault::OutOfMemory,
-            _ => StartFault::Tree(fault),
-        }
-    }
-}
-
-impl From<MemberFault> for StartFault {
-    ghost use Rattle.std.specs.Prelude.{◌≡◌};
-    ghost use Rattle.mls_follow.specs.Start.{member_fault_of};
-
-    ghost from_gives = { λ fault e. e ≡ member_fault_of fault };
-
-    fn from(fault: MemberFault) -> StartFault {
-        match fault {
-            MemberFault::OutOfMemory => StartFault::OutOfMemory,
-            _ => StartFault::Member(fault),
+            GroupTreeFault::RequirementsUnreadable => StartFault::RequirementsUnreadable,
+            GroupTreeFault::Tree(fault) => StartFault::Tree(fault),
+            GroupTreeFault::Member(fault) => StartFault::Member(fault),
+            GroupTreeFault::OutOfMemory => StartFault::OutOfMemory,
         }
     }
 }

@@ -10,8 +10,10 @@ use Rattle.mls_nodes.specs.declared.context.GroupContext.{GroupContext}
 use Rattle.mls_nodes.specs.declared.fault.NodeFault.TheVariants.{EmptyTree}
 use Rattle.mls_nodes.specs.declared.required_capabilities.RequiredCapabilities.{RequiredCapabilities}
 use Rattle.mls_tree.specs.RatchetTree.{RatchetTree}
+use Rattle.mls_tree.specs.Reading.{IsTreeOf}
 use Rattle.mls_hash.specs.Hashing.{hash_of}
 use Rattle.mls_check.proofs.Faulted.{valid_or_fault}
+use Rattle.mls_check.specs.GroupTree.{IsFollowed, HasTree, IsReadable, HasValidTree}
 use Rattle.mls_check.specs.Signatures.{Meaning}
 use Rattle.mls_msgs.specs.MessageExact.{message_takes, message_again}
 use Rattle.mls_msgs.specs.MessageParsing.{message_at}
@@ -25,7 +27,7 @@ use Rattle.mls_report.specs.Finding.{finding_verdict}
 use Rattle.mls_report.specs.Show.{IsMessage}
 use Rattle.mls_report.specs.SomeReport.{SomeTreeFinding, SomeStartFinding}
 use Rattle.mls_report.specs.Starting.{IsInfo, IsNoMessage, IsHanded, IsHandedUnread, IsReadAs, IsStarted, IsStartFinding, started_of}
-use Rattle.mls_report.specs.ValidateTree.{IsContext, IsNoContext, IsUsable, HasTree, IsReadable, HasValidTree, IsTreeFinding}
+use Rattle.mls_report.specs.ValidateTree.{IsContext, IsNoContext, IsTreeFinding}
 use Rattle.mls_report.specs.declared.finding.Finding.{Finding}
 use Rattle.mls_report.specs.declared.finding.Finding.TheVariants.{ContextUnreadable, InfoUnreadable, NotGroupInfo, TreeUnreadable, UnsupportedVersion, UnsupportedSuite, RequirementsUnreadable, TreeRefused, MembersRefused, StartRefused, TreeValid, Starts}
 use Rattle.mls_report.specs.declared.verdict.Verdict.TheVariants.{No}
@@ -46,39 +48,39 @@ module _ (G : Meaning) (context_bytes tree_bytes : List ℕ) where
   abbrev Found : Type 0
   Found = (finding : Finding) × IsTreeFinding G context_bytes tree_bytes finding
 
-  by_members : (c : GroupContext) (t : RatchetTree) (r : RequiredCapabilities) → HasValidTree context_bytes tree_bytes c t r → Found
-  by_members c t r h =
+  by_members : (c : GroupContext) (t : RatchetTree) (r : RequiredCapabilities) → IsContext context_bytes c → HasValidTree c (IsTreeOf tree_bytes) t r → Found
+  by_members c t r context h =
       elim (members_or_fault G c.cipher_suite c.group_id r t.tree) [
-        | inl m ↦ (TreeValid c.tree_hash, (c, t, r, h, m, refl))
-        | inr f ↦ (MembersRefused f.0, (c, t, r, h, f.1, f.2))
+        | inl m ↦ (TreeValid c.tree_hash, (c, t, r, context, record { valid_tree = h; members = m }, refl))
+        | inr f ↦ (MembersRefused f.0, (c, context, record { tree = t; required = r; valid_tree = h; own = f.1; first = f.2 }))
       ]
 
-  by_tree : (c : GroupContext) (t : RatchetTree) (r : RequiredCapabilities) → IsReadable context_bytes tree_bytes c t r → Found
-  by_tree c t r h =
+  by_tree : (c : GroupContext) (t : RatchetTree) (r : RequiredCapabilities) → IsContext context_bytes c → IsReadable c (IsTreeOf tree_bytes) t r → Found
+  by_tree c t r context h =
       elim (valid_or_fault (hash_of c.cipher_suite) c.tree_hash t.tree) [
-        | inl v ↦ by_members c t r (record { readable = h; valid = v })
-        | inr f ↦ (TreeRefused f.0, (c, t, r, h, f.1, f.2))
+        | inl v ↦ by_members c t r context (record { readable = h; valid = v })
+        | inr f ↦ (TreeRefused f.0, (c, context, record { tree = t; required = r; readable = h; own = f.1; first = f.2 }))
       ]
 
-  by_requirements : (c : GroupContext) (t : RatchetTree) → HasTree context_bytes tree_bytes c t → Found
-  by_requirements c t h =
+  by_requirements : (c : GroupContext) (t : RatchetTree) → IsContext context_bytes c → HasTree c (IsTreeOf tree_bytes) t → Found
+  by_requirements c t context h =
       elim (requires_or_not c) [
-        | inl r ↦ by_tree c t r.0 (record { has_tree = h; requires = r.1 })
-        | inr none ↦ (RequirementsUnreadable, (c, t, h, none))
+        | inl r ↦ by_tree c t r.0 context (record { has_tree = h; requires = r.1 })
+        | inr none ↦ (RequirementsUnreadable, (c, context, record { tree = t; has_tree = h; none = none }))
       ]
 
-  by_use : (c : GroupContext) → IsUsable context_bytes c → Found
-  by_use c h =
+  by_use : (c : GroupContext) → IsContext context_bytes c → IsFollowed c → Found
+  by_use c context h =
       elim (tree_or_not tree_bytes) [
-        | inl t ↦ by_requirements c t.0 (record { usable = h; is_tree = t.1 })
-        | inr none ↦ (TreeUnreadable EmptyTree, (c, h, none, λ own. cc))
+        | inl t ↦ by_requirements c t.0 context (record { followed = h; uses = t.1 })
+        | inr none ↦ (TreeUnreadable EmptyTree, (c, context, h, none, λ own. cc))
       ]
 
   by_suite : (c : GroupContext) → IsContext context_bytes c → c.version ≡ 1 → Found
   by_suite c h version =
       elim (supported_or_not c.cipher_suite) [
-        | inl suite ↦ by_use c (record { is_context = h; version = version; suite = suite })
-        | inr none ↦ (UnsupportedSuite, (c, h, version, none))
+        | inl suite ↦ by_use c h (record { version = version; suite = suite })
+        | inr none ↦ (UnsupportedSuite, (c, h, record { version = version; unsupported = none }))
       ]
 
   by_context : (c : GroupContext) → IsContext context_bytes c → Found

@@ -15,6 +15,7 @@ use Rattle.mls_tree.specs.RatchetTree.{RatchetTree}
 use Rattle.mls_hash.specs.Hashing.{hash_of}
 use Rattle.mls_hash.specs.Suites.{IsSupported}
 use Rattle.mls_check.proofs.Faulted.{fault-not_valid, fault-unique}
+use Rattle.mls_check.specs.GroupTree.{IsFollowed, HasTree, IsReadable, HasValidTree}
 use Rattle.mls_check.specs.Members.{Members}
 use Rattle.mls_check.specs.Signatures.{Meaning}
 use Rattle.mls_check.specs.Valid.{Valid, IsFirstTreeFault}
@@ -29,7 +30,7 @@ use Rattle.mls_report.proofs.StartsOnce.{one_tree_of, one_members_fault, no_memb
 use Rattle.mls_report.specs.OneReport.{AreAlike, OneTreeFinding, OneStartFinding, OneStart}
 use Rattle.mls_report.specs.Show.{IsMessage}
 use Rattle.mls_report.specs.Starting.{IsInfo, IsHanded, IsHandedUnread, IsReadAs, IsStarted, IsStartFinding, started_of}
-use Rattle.mls_report.specs.ValidateTree.{IsContext, IsUsable, HasTree, IsReadable, HasValidTree, IsTreeFinding}
+use Rattle.mls_report.specs.ValidateTree.{IsContext, IsTreeFinding}
 use Rattle.mls_report.specs.declared.finding.Finding.{Finding}
 use Rattle.mls_report.specs.declared.finding.Finding.TheVariants.{ContextUnreadable, InfoUnreadable, NotGroupInfo, TreeUnreadable, UnsupportedVersion, UnsupportedSuite, RequirementsUnreadable, TreeRefused, MembersRefused, StartRefused, TreeValid, Starts}
 
@@ -114,19 +115,19 @@ module _ (G : Meaning) (context_bytes tree_bytes : List ℕ) where
   fails : (f : Finding) → Found f → Met (tree_place f) → ⊥
   fails (ContextUnreadable x) a m = a m.0 m.1
   fails UnsupportedVersion a m = a.2 (ap (λ (c : GroupContext). c.version) (same_context a.0 m.0 a.1 m.1) ∙ m.2)
-  fails UnsupportedSuite a m = a.3 (subst (λ (c : GroupContext). IsSupported c.cipher_suite) (same_context m.0 a.0 m.1 a.1) m.2)
-  fails (TreeUnreadable x) a m = a.2 m.1.nodes m.1.is_tree
-  fails RequirementsUnreadable a m =
-      a.3 m.1 (subst (λ (c : GroupContext). Requires c m.1) (same_context m.0 a.0 m.2 a.2.usable.is_context) m.3)
+  fails UnsupportedSuite a m = a.2.unsupported (subst (λ (c : GroupContext). IsSupported c.cipher_suite) (same_context m.0 a.0 m.1 a.1) m.2)
+  fails (TreeUnreadable x) a m = a.3 m.1.nodes m.1.is_tree
+  fails RequirementsUnreadable a m = a.2.none m.1 (subst (λ (c : GroupContext). Requires c m.1) (same_context m.0 a.0 m.2 a.1) m.3)
   fails (TreeRefused x) a m =
-      let ec = same_context m.0 a.0 m.2 a.3.has_tree.usable.is_context in
-      let et = same_tree m.1 a.1 m.3 a.3.has_tree.is_tree in
-      fault-not_valid (hash_of a.0.cipher_suite) a.0.tree_hash a.1.tree x a.4 a.5
+      let ec = same_context m.0 a.0 m.2 a.1 in
+      let et = same_tree m.1 a.2.tree m.3 a.2.readable.has_tree.uses in
+      fault-not_valid (hash_of a.0.cipher_suite) a.0.tree_hash a.2.tree.tree x a.2.own a.2.first
       (subst (λ (t : RatchetTree). IsValid a.0 t) et (subst (λ (c : GroupContext). IsValid c m.1) ec m.4))
   fails (MembersRefused x) a m =
-      let ec = same_context a.0 m.0 a.3.readable.has_tree.usable.is_context m.3 in
-      no_members_fault G a.0 m.0 a.2 m.2 a.1 m.1 x ec (same_required a.0 m.0 a.2 m.2 ec a.3.readable.requires m.5)
-      (same_tree a.1 m.1 a.3.readable.has_tree.is_tree m.4) a.4 a.5 m.6
+      let ec = same_context a.0 m.0 a.1 m.3 in
+      let h = a.2.valid_tree.readable in
+      no_members_fault G a.0 m.0 a.2.required m.2 a.2.tree m.1 x ec (same_required a.0 m.0 a.2.required m.2 ec h.requires m.5)
+      (same_tree a.2.tree m.1 h.has_tree.uses m.4) a.2.own a.2.first m.6
   fails (TreeValid x) a m = absurd m
   fails _ a m = absurd a
 
@@ -138,30 +139,29 @@ module _ (G : Meaning) (context_bytes tree_bytes : List ℕ) where
   met_suite : (c : GroupContext) → IsGiven c → c.version ≡ 1 → MetBefore Met 2
   met_suite c h one = below_more Met 1 (met_version c h) (c, h, one)
 
-  met_usable : (c : GroupContext) → IsUsable context_bytes c → MetBefore Met 3
-  met_usable c h = below_more Met 2 (met_suite c h.is_context h.version) (c, h.is_context, h.suite)
+  met_followed : (c : GroupContext) → IsGiven c → IsFollowed c → MetBefore Met 3
+  met_followed c h followed = below_more Met 2 (met_suite c h followed.version) (c, h, followed.suite)
 
-  met_tree : (c : GroupContext) (t : RatchetTree) → HasTree context_bytes tree_bytes c t → MetBefore Met 4
-  met_tree c t h = below_more Met 3 (met_usable c h.usable) (t, h.is_tree)
+  met_tree : (c : GroupContext) (t : RatchetTree) → IsGiven c → HasTree c (IsTreeOf tree_bytes) t → MetBefore Met 4
+  met_tree c t h x = below_more Met 3 (met_followed c h x.followed) (t, x.uses)
 
-  met_readable : (c : GroupContext) (t : RatchetTree) (r : RequiredCapabilities) → IsReadable context_bytes tree_bytes c t r → MetBefore Met 5
-  met_readable c t r h = below_more Met 4 (met_tree c t h.has_tree) (c, r, h.has_tree.usable.is_context, h.requires)
+  met_readable : (c : GroupContext) (t : RatchetTree) (r : RequiredCapabilities) → IsGiven c → IsReadable c (IsTreeOf tree_bytes) t r → MetBefore Met 5
+  met_readable c t r h x = below_more Met 4 (met_tree c t h x.has_tree) (c, r, h, x.requires)
 
-  met_valid : (c : GroupContext) (t : RatchetTree) (r : RequiredCapabilities) → HasValidTree context_bytes tree_bytes c t r → MetBefore Met 6
-  met_valid c t r h =
-      below_more Met 5 (met_readable c t r h.readable) (c, t, h.readable.has_tree.usable.is_context, h.readable.has_tree.is_tree, h.valid)
+  met_valid : (c : GroupContext) (t : RatchetTree) (r : RequiredCapabilities) → IsGiven c → HasValidTree c (IsTreeOf tree_bytes) t r → MetBefore Met 6
+  met_valid c t r h x = below_more Met 5 (met_readable c t r h x.readable) (c, t, h, x.readable.has_tree.uses, x.valid)
 
   met_before : (f : Finding) → Found f → MetBefore Met (tree_place f)
   met_before (ContextUnreadable x) a = below_none Met
   met_before UnsupportedVersion a = met_version a.0 a.1
-  met_before UnsupportedSuite a = met_suite a.0 a.1 a.2
-  met_before (TreeUnreadable x) a = met_usable a.0 a.1
-  met_before RequirementsUnreadable a = met_tree a.0 a.1 a.2
-  met_before (TreeRefused x) a = met_readable a.0 a.1 a.2 a.3
-  met_before (MembersRefused x) a = met_valid a.0 a.1 a.2 a.3
+  met_before UnsupportedSuite a = met_suite a.0 a.1 a.2.version
+  met_before (TreeUnreadable x) a = met_followed a.0 a.1 a.2
+  met_before RequirementsUnreadable a = met_tree a.0 a.2.tree a.1 a.2.has_tree
+  met_before (TreeRefused x) a = met_readable a.0 a.2.tree a.2.required a.1 a.2.readable
+  met_before (MembersRefused x) a = met_valid a.0 a.2.tree a.2.required a.1 a.2.valid_tree
   met_before (TreeValid x) a =
-      let h = a.3.readable in
-      below_more Met 6 (met_valid a.0 a.1 a.2 a.3) (a.0, a.1, a.2, h.has_tree.usable.is_context, h.has_tree.is_tree, h.requires, a.4)
+      let h = a.4.valid_tree.readable in
+      below_more Met 6 (met_valid a.0 a.1 a.2 a.3 a.4.valid_tree) (a.0, a.1, a.2, a.3, h.has_tree.uses, h.requires, a.4.members)
   met_before _ a = absurd a
 
   -- two findings of one condition
@@ -172,17 +172,20 @@ module _ (G : Meaning) (context_bytes tree_bytes : List ℕ) where
   alike (TreeUnreadable x) (TreeUnreadable y) e a b = tt
   alike RequirementsUnreadable RequirementsUnreadable e a b = refl
   alike (TreeRefused x) (TreeRefused y) e a b =
-      let ec = same_context a.0 b.0 a.3.has_tree.usable.is_context b.3.has_tree.usable.is_context in
-      let et = same_tree a.1 b.1 a.3.has_tree.is_tree b.3.has_tree.is_tree in
-      ap TreeRefused (fault-unique (hash_of b.0.cipher_suite) b.0.tree_hash b.1.tree x y a.4 b.4
+      let ec = same_context a.0 b.0 a.1 b.1 in
+      let et = same_tree a.2.tree b.2.tree a.2.readable.has_tree.uses b.2.readable.has_tree.uses in
+      ap TreeRefused (fault-unique (hash_of b.0.cipher_suite) b.0.tree_hash b.2.tree.tree x y a.2.own b.2.own
       (subst (λ (t : RatchetTree). IsFirstTreeFault (hash_of b.0.cipher_suite) b.0.tree_hash t.tree x) et
-      (subst (λ (c : GroupContext). IsFirstTreeFault (hash_of c.cipher_suite) c.tree_hash a.1.tree x) ec a.5)) b.5)
+      (subst (λ (c : GroupContext). IsFirstTreeFault (hash_of c.cipher_suite) c.tree_hash a.2.tree.tree x) ec a.2.first)) b.2.first)
   alike (MembersRefused x) (MembersRefused y) e a b =
-      let ec = same_context a.0 b.0 a.3.readable.has_tree.usable.is_context b.3.readable.has_tree.usable.is_context in
-      ap MembersRefused (one_members_fault G a.0 b.0 a.2 b.2 a.1 b.1 x y ec (same_required a.0 b.0 a.2 b.2 ec a.3.readable.requires b.3.readable.requires)
-      (same_tree a.1 b.1 a.3.readable.has_tree.is_tree b.3.readable.has_tree.is_tree) a.4 b.4 a.5 b.5)
+      let ec = same_context a.0 b.0 a.1 b.1 in
+      let h = a.2.valid_tree.readable in
+      let k = b.2.valid_tree.readable in
+      ap MembersRefused (one_members_fault G a.0 b.0 a.2.required b.2.required a.2.tree b.2.tree x y ec
+      (same_required a.0 b.0 a.2.required b.2.required ec h.requires k.requires)
+      (same_tree a.2.tree b.2.tree h.has_tree.uses k.has_tree.uses) a.2.own b.2.own a.2.first b.2.first)
   alike (TreeValid x) (TreeValid y) e a b =
-      let ec = same_context a.0 b.0 a.3.readable.has_tree.usable.is_context b.3.readable.has_tree.usable.is_context in
+      let ec = same_context a.0 b.0 a.3 b.3 in
       ap TreeValid (a.5 ∙ ap (λ (c : GroupContext). c.tree_hash) ec ∙ sym b.5)
   alike (InfoUnreadable x) g e a b = absurd a
   alike NotGroupInfo g e a b = absurd a

@@ -16,12 +16,13 @@ use Rattle.mls_tree.specs.Tree.{leaf_at}
 use Rattle.mls_hash.specs.Hashing.{hash_of}
 use Rattle.mls_hash.specs.Suites.{IsSupported}
 use Rattle.mls_check.proofs.Faulted.{valid_or_fault}
+use Rattle.mls_check.specs.GroupTree.{IsFollowed, HasTree, IsReadable, HasValidTree, HasMembers}
 use Rattle.mls_check.specs.Signatures.{Meaning}
 use Rattle.mls_msgs.specs.Layout.{group_info}
 use Rattle.mls_msgs.specs.Message.{message, header}
 use Rattle.mls_msgs.specs.declared.group_info.GroupInfo.{GroupInfo}
 use Rattle.mls_msgs.specs.declared.message.Message.TheVariants as messages
-use Rattle.mls_follow.specs.Start.{UsesTree, UsesNoTree, IsTreeIn, IsFollowed, HasTree, IsReadable, HasValidTree, HasMembers, HasSigner, IsStart, IsStartFault, is_info_signed, info_interim, first_state}
+use Rattle.mls_follow.specs.Start.{UsesTree, UsesNoTree, IsTreeIn, HasSigner, IsStart, IsStartFault, is_info_signed, info_interim, first_state}
 use Rattle.mls_follow.specs.State.{State}
 use Rattle.mls_follow.specs.Transcript.{interim_hash}
 use Rattle.mls_follow.specs.declared.start_fault.StartFault.{StartFault}
@@ -69,33 +70,33 @@ module _ (G : Meaning) (info : GroupInfo) (handed : Option RatchetTree) (interim
       inl (first_state info t interim, record { tree = t; signer = signer; has_signer = h; signed = e; interim = interim; hashed = hashed; state = refl })
   by_signature t signer h false e = inr (InfoSignature, λ own. cc, record { tree = t; signer = signer; has_signer = h; unsigned = e })
 
-  by_signer : (t : RatchetTree) (required : RequiredCapabilities) → HasMembers G info handed t required → (o : Option LeafNode) → leaf_at 0 t.tree info.signer ≡ o → StartsOrNot
+  by_signer : (t : RatchetTree) (required : RequiredCapabilities) → HasMembers G info.context (UsesTree handed info.extensions) t required → (o : Option LeafNode) → leaf_at 0 t.tree info.signer ≡ o → StartsOrNot
   by_signer t required h None e = inr (SignerNotMember, λ own. cc, record { tree = t; required = required; has_members = h; blank = e })
   by_signer t required h (Some signer) e =
       by_signature t signer (record { required = required; has_members = h; set = e }) (is_info_signed G info signer) refl
 
-  by_members : (t : RatchetTree) (required : RequiredCapabilities) → HasValidTree info handed t required → StartsOrNot
+  by_members : (t : RatchetTree) (required : RequiredCapabilities) → HasValidTree info.context (UsesTree handed info.extensions) t required → StartsOrNot
   by_members t required h =
       elim (members_or_fault G info.context.cipher_suite info.context.group_id required t.tree) [
         | inl m ↦ by_signer t required (record { valid_tree = h; members = m }) (leaf_at 0 t.tree info.signer) refl
         | inr f ↦ inr (Member f.0, λ own. cc, record { tree = t; required = required; valid_tree = h; own = f.1; first = f.2 })
       ]
 
-  by_tree : (t : RatchetTree) (required : RequiredCapabilities) → IsReadable info handed t required → StartsOrNot
+  by_tree : (t : RatchetTree) (required : RequiredCapabilities) → IsReadable info.context (UsesTree handed info.extensions) t required → StartsOrNot
   by_tree t required h =
       elim (valid_or_fault (hash_of info.context.cipher_suite) info.context.tree_hash t.tree) [
         | inl v ↦ by_members t required (record { readable = h; valid = v })
         | inr f ↦ inr (Tree f.0, λ own. cc, record { tree = t; required = required; readable = h; own = f.1; first = f.2 })
       ]
 
-  by_requirements : (t : RatchetTree) → HasTree info handed t → StartsOrNot
+  by_requirements : (t : RatchetTree) → HasTree info.context (UsesTree handed info.extensions) t → StartsOrNot
   by_requirements t h =
       elim (requires_or_not info.context) [
         | inl r ↦ by_tree t r.0 (record { has_tree = h; requires = r.1 })
         | inr none ↦ inr (RequirementsUnreadable, λ own. cc, record { tree = t; has_tree = h; none = none })
       ]
 
-  by_use : IsFollowed info → StartsOrNot
+  by_use : IsFollowed info.context → StartsOrNot
   by_use followed =
       elim (uses_or_not handed) [
         | inl u ↦ by_requirements u.0 (record { followed = followed; uses = u.1 })

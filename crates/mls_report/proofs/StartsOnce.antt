@@ -19,6 +19,7 @@ use Rattle.mls_hash.specs.Hashing.{hash_of}
 use Rattle.mls_hash.specs.Suites.{IsSupported}
 use Rattle.mls_check.proofs.Faulted.{fault-not_valid, fault-unique}
 use Rattle.mls_check.proofs.FirstFault.{fault-first, members-faultless}
+use Rattle.mls_check.specs.GroupTree.{IsFollowed, HasTree, IsReadable, HasValidTree, HasMembers}
 use Rattle.mls_check.specs.Members.{Members, IsMemberFault, member_fault}
 use Rattle.mls_check.specs.Signatures.{Meaning}
 use Rattle.mls_check.specs.Valid.{Valid, IsFirstTreeFault}
@@ -26,7 +27,7 @@ use Rattle.mls_check.specs.declared.members.MemberFault.{MemberFault}
 use Rattle.mls_check.specs.declared.members.MemberFault.TheVariants as members
 use Rattle.mls_msgs.specs.declared.group_info.GroupInfo.{GroupInfo}
 use Rattle.mls_follow.specs.State.{State}
-use Rattle.mls_follow.specs.Start.{UsesTree, IsTreeIn, IsFollowed, HasTree, IsReadable, HasValidTree, HasMembers, HasSigner, is_info_signed, first_state, IsStart, IsStartFault}
+use Rattle.mls_follow.specs.Start.{UsesTree, IsTreeIn, HasSigner, is_info_signed, first_state, IsStart, IsStartFault}
 use Rattle.mls_follow.specs.declared.start_fault.StartFault.{StartFault}
 use Rattle.mls_follow.specs.declared.start_fault.StartFault.TheVariants.{UnsupportedVersion, UnsupportedSuite, NoTree, RequirementsUnreadable, Tree, Member, SignerNotMember, InfoSignature, OutOfMemory}
 use Rattle.mls_report.proofs.InOrder.{first_then, no_more, MetBefore, one_place, other_place}
@@ -134,19 +135,19 @@ module _ (G : Meaning) (info : GroupInfo) (handed : Option RatchetTree) where
   met_version : info.context.version ≡ 1 → MetBefore Met 1
   met_version h = below_more Met 0 (below_none Met) h
 
-  met_followed : IsFollowed info → MetBefore Met 2
+  met_followed : IsFollowed info.context → MetBefore Met 2
   met_followed h = below_more Met 1 (met_version h.version) h.suite
 
-  met_tree : (t : RatchetTree) → HasTree info handed t → MetBefore Met 3
+  met_tree : (t : RatchetTree) → HasTree info.context (UsesTree handed info.extensions) t → MetBefore Met 3
   met_tree t h = below_more Met 2 (met_followed h.followed) (t, h.uses)
 
-  met_readable : (t : RatchetTree) (r : RequiredCapabilities) → IsReadable info handed t r → MetBefore Met 4
+  met_readable : (t : RatchetTree) (r : RequiredCapabilities) → IsReadable info.context (UsesTree handed info.extensions) t r → MetBefore Met 4
   met_readable t r h = below_more Met 3 (met_tree t h.has_tree) (r, h.requires)
 
-  met_valid : (t : RatchetTree) (r : RequiredCapabilities) → HasValidTree info handed t r → MetBefore Met 5
+  met_valid : (t : RatchetTree) (r : RequiredCapabilities) → HasValidTree info.context (UsesTree handed info.extensions) t r → MetBefore Met 5
   met_valid t r h = below_more Met 4 (met_readable t r h.readable) (t, h.readable.has_tree.uses, h.valid)
 
-  met_members : (t : RatchetTree) (r : RequiredCapabilities) → HasMembers G info handed t r → MetBefore Met 6
+  met_members : (t : RatchetTree) (r : RequiredCapabilities) → HasMembers G info.context (UsesTree handed info.extensions) t r → MetBefore Met 6
   met_members t r h =
       below_more Met 5 (met_valid t r h.valid_tree) (t, r, h.valid_tree.readable.has_tree.uses, h.valid_tree.readable.requires, h.members)
 

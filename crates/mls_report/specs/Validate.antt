@@ -8,7 +8,7 @@ use Rattle.mls_report.specs.declared.finding.Finding.{Finding}
 use Rattle.mls_report.specs.declared.verdict.Verdict.{Verdict}
 
 -- the inputs were read to their ends, and this is found of their bytes
-pub record FindsStart (G : Meaning) (info0 info1 : Option (List ℕ))
+pub record IsFoundOfStart (G : Meaning) (info0 info1 : Option (List ℕ))
     (tree0 tree1 : Option (Option (List ℕ))) (finding : Finding) : Type 0 where
   pub info_bytes : List ℕ
   pub tree_bytes : Option (List ℕ)
@@ -18,9 +18,9 @@ pub record FindsStart (G : Meaning) (info0 info1 : Option (List ℕ))
 -- the inputs were read to their ends, and the line of what is found was written whole
 abbrev pub Validates : Meaning → Option (List ℕ) → Option (List ℕ) → Option (Option (List ℕ))
     → Option (Option (List ℕ)) → Option (List ℕ) → Option (List ℕ) → Verdict → Type 0
-Validates G info0 info1 tree0 tree1 = TellsFinding (FindsStart G info0 info1 tree0 tree1)
+Validates G info0 info1 tree0 tree1 = TellsFinding (IsFoundOfStart G info0 info1 tree0 tree1)
 
 -- nothing was written, or a prefix of the report of inputs that had ended
 abbrev pub ValidatesPart : Meaning → Option (List ℕ) → Option (List ℕ) → Option (Option (List ℕ))
     → Option (Option (List ℕ)) → Option (List ℕ) → Option (List ℕ) → Type 0
-ValidatesPart G info0 info1 tree0 tree1 = TellsFindingPart (FindsStart G info0 info1 tree0 tree1)
+ValidatesPart G info0 info1 tree0 tree1 = TellsFindingPart (IsFoundOfStart G info0 info1 tree0 tree1)

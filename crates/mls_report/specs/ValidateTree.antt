@@ -1,21 +1,15 @@
 -- The report `validate-tree`: one line, the first that applies. Numbers in parentheses are sections of
 -- RFC 9420.
-use Rattle.std.specs.Prelude.{ℕ, ◌≤◌, List, [], length, Option, Some, ◌≡◌, ◌≢◌, ◌⊎◌}
+use Rattle.std.specs.Prelude.{ℕ, ◌≤◌, List, length, Option, Some, ◌≡◌, ◌≢◌}
 use Rattle.mls_wire.specs.Limits.{input_limit}
 use Rattle.mls_nodes.specs.Layout.{group_context}
-use Rattle.mls_nodes.specs.Requirements.{Requires, HasNoRequirements}
 use Rattle.mls_nodes.specs.declared.context.GroupContext.{GroupContext}
 use Rattle.mls_nodes.specs.declared.fault.NodeFault.TheVariants as nodes
 use Rattle.mls_nodes.specs.declared.required_capabilities.RequiredCapabilities.{RequiredCapabilities}
 use Rattle.mls_tree.specs.RatchetTree.{RatchetTree}
 use Rattle.mls_tree.specs.Reading.{IsTreeOf, IsNoTree}
-use Rattle.mls_hash.specs.Suites.{IsSupported}
-use Rattle.mls_hash.specs.Hashing.{hash_of}
-use Rattle.mls_check.specs.Members.{Members, IsMemberFault}
+use Rattle.mls_check.specs.GroupTree.{IsFollowed, HasMembers, FailsSuite, FailsRequirements, FailsValid, FailsMembers}
 use Rattle.mls_check.specs.Signatures.{Meaning}
-use Rattle.mls_check.specs.Valid.{Valid, IsFirstTreeFault}
-use Rattle.mls_check.specs.declared.members.MemberFault.TheVariants as members
-use Rattle.mls_check.specs.declared.valid.TreeFault.TheVariants as trees
 use Rattle.mls_report.specs.Finding.{TellsFinding, TellsFindingPart}
 use Rattle.mls_report.specs.ReadAll.{ReadsAll}
 use Rattle.mls_report.specs.declared.finding.Finding.{Finding}
@@ -31,32 +25,7 @@ pub record IsContext (bytes : List ℕ) (c : GroupContext) : Type 0 where
 abbrev pub IsNoContext : List ℕ → Type 0
 IsNoContext bytes = (c : GroupContext) → IsContext bytes c → ⊥
 
--- ---- how far the bytes of a context and of a tree come
-
--- the context can be read, its version is 1 (6), and its suite is followed (17.1)
-pub record IsUsable (context_bytes : List ℕ) (c : GroupContext) : Type 0 where
-  pub is_context : IsContext context_bytes c
-  pub version : c.version ≡ 1
-  pub suite : IsSupported c.cipher_suite
-
--- and the tree can be read (12.4.3.3)
-pub record HasTree (context_bytes tree_bytes : List ℕ) (c : GroupContext) (t : RatchetTree) : Type 0 where
-  pub usable : IsUsable context_bytes c
-  pub is_tree : IsTreeOf tree_bytes t
-
--- and the group's requirements can be read (11.1)
-pub record IsReadable (context_bytes tree_bytes : List ℕ) (c : GroupContext) (t : RatchetTree)
-    (required : RequiredCapabilities) : Type 0 where
-  pub has_tree : HasTree context_bytes tree_bytes c t
-  pub requires : Requires c required
-
--- and the tree is valid (7.9.2 and 12.4.3.1)
-pub record HasValidTree (context_bytes tree_bytes : List ℕ) (c : GroupContext) (t : RatchetTree)
-    (required : RequiredCapabilities) : Type 0 where
-  pub readable : IsReadable context_bytes tree_bytes c t required
-  pub valid : Valid (hash_of c.cipher_suite) c.tree_hash t.tree
-
--- ---- what is found of them
+-- ---- what is found of a context and a tree
 
 -- by what a checker of signatures means: the first that applies, or that all is well, with the tree's hash,
 -- which is the context's
@@ -65,29 +34,26 @@ IsTreeFinding G context_bytes tree_bytes (ContextUnreadable fault) = IsNoContext
 IsTreeFinding G context_bytes tree_bytes UnsupportedVersion =
     (c : GroupContext) × IsContext context_bytes c × (c.version ≢ 1)
 IsTreeFinding G context_bytes tree_bytes UnsupportedSuite =
-    (c : GroupContext) × IsContext context_bytes c × (c.version ≡ 1) × (¬ IsSupported c.cipher_suite)
+    (c : GroupContext) × IsContext context_bytes c × FailsSuite c
 IsTreeFinding G context_bytes tree_bytes (TreeUnreadable fault) =
-    (c : GroupContext) × IsUsable context_bytes c × IsNoTree tree_bytes × (fault ≢ nodes.OutOfMemory)
+    (c : GroupContext) × IsContext context_bytes c × IsFollowed c
+    × IsNoTree tree_bytes × (fault ≢ nodes.OutOfMemory)
 IsTreeFinding G context_bytes tree_bytes RequirementsUnreadable =
-    (c : GroupContext) × (t : RatchetTree) × HasTree context_bytes tree_bytes c t × HasNoRequirements c
+    (c : GroupContext) × IsContext context_bytes c × FailsRequirements c (IsTreeOf tree_bytes)
 IsTreeFinding G context_bytes tree_bytes (TreeRefused fault) =
-    (c : GroupContext) × (t : RatchetTree) × (required : RequiredCapabilities)
-    × IsReadable context_bytes tree_bytes c t required × (fault ≢ trees.OutOfMemory)
-    × IsFirstTreeFault (hash_of c.cipher_suite) c.tree_hash t.tree fault
+    (c : GroupContext) × IsContext context_bytes c × FailsValid c (IsTreeOf tree_bytes) fault
 IsTreeFinding G context_bytes tree_bytes (MembersRefused fault) =
-    (c : GroupContext) × (t : RatchetTree) × (required : RequiredCapabilities)
-    × HasValidTree context_bytes tree_bytes c t required × (fault ≢ members.OutOfMemory)
-    × IsMemberFault G c.cipher_suite c.group_id required t.tree fault
+    (c : GroupContext) × IsContext context_bytes c × FailsMembers G c (IsTreeOf tree_bytes) fault
 IsTreeFinding G context_bytes tree_bytes (TreeValid tree_hash) =
     (c : GroupContext) × (t : RatchetTree) × (required : RequiredCapabilities)
-    × HasValidTree context_bytes tree_bytes c t required
-    × Members G c.cipher_suite c.group_id required t.tree × (tree_hash ≡ c.tree_hash)
+    × IsContext context_bytes c × HasMembers G c (IsTreeOf tree_bytes) t required
+    × (tree_hash ≡ c.tree_hash)
 IsTreeFinding G context_bytes tree_bytes _ = ⊥
 
 -- ---- the report
 
 -- both inputs were read to their ends, and this is found of their bytes
-pub record FindsTree (G : Meaning) (context0 context1 tree0 tree1 : Option (List ℕ))
+pub record IsFoundOfTree (G : Meaning) (context0 context1 tree0 tree1 : Option (List ℕ))
     (finding : Finding) : Type 0 where
   pub context_bytes : List ℕ
   pub tree_bytes : List ℕ
@@ -99,10 +65,10 @@ pub record FindsTree (G : Meaning) (context0 context1 tree0 tree1 : Option (List
 abbrev pub ValidatesTree : Meaning → Option (List ℕ) → Option (List ℕ) → Option (List ℕ)
     → Option (List ℕ) → Option (List ℕ) → Option (List ℕ) → Verdict → Type 0
 ValidatesTree G context0 context1 tree0 tree1 =
-    TellsFinding (FindsTree G context0 context1 tree0 tree1)
+    TellsFinding (IsFoundOfTree G context0 context1 tree0 tree1)
 
 -- nothing was written, or a prefix of the report of inputs that had ended
 abbrev pub ValidatesTreePart : Meaning → Option (List ℕ) → Option (List ℕ) → Option (List ℕ)
     → Option (List ℕ) → Option (List ℕ) → Option (List ℕ) → Type 0
 ValidatesTreePart G context0 context1 tree0 tree1 =
-    TellsFindingPart (FindsTree G context0 context1 tree0 tree1)
+    TellsFindingPart (IsFoundOfTree G context0 context1 tree0 tree1)

@@ -3,83 +3,44 @@
 ghost use Rattle.std.specs.Prelude.{◌≡◌, ◌↔◌, ◌⊎◌, List, ℕ, false, true, [], Err, IfOk, OnErr, IfErr};
 ghost use Rattle.std.specs.Io.KnownBytes.{Appends};
 ghost use Rattle.mls_tree.specs.KeptTree.{plain};
-ghost use Rattle.mls_hash.specs.Hashing.{hash_of};
-ghost use Rattle.mls_check.specs.Valid.{Valid};
-ghost use Rattle.mls_report.specs.ValidateTree.{IsContext, IsUsable, HasTree, IsReadable, HasValidTree, IsTreeFinding, ValidatesTree, ValidatesTreePart};
+ghost use Rattle.mls_tree.specs.Reading.{IsTreeOf};
+ghost use Rattle.mls_check.specs.GroupTree.{IsFollowed};
+ghost use Rattle.mls_report.specs.ValidateTree.{IsContext, IsTreeFinding, ValidatesTree, ValidatesTreePart};
 
 use crate::finding::{Finding, tell, tree_hash_of};
 use crate::read::read_all;
 use crate::verdict::{RunFault, Verdict};
-use mls_check::{MemberFault, SignatureCheck, TreeFault, validate_members, validate_tree};
+use mls_check::{GroupTreeFault, SignatureCheck, validate_group_tree};
 use mls_hash::Suite;
-use mls_nodes::{GroupContext, NodeFault, RequiredCapabilities, decode_context, requirements};
+use mls_nodes::{GroupContext, NodeFault, decode_context};
 use mls_tree::PublicTree;
 use mls_wire::{CodecFault, Sink, Source};
 use std::alloc::Global;
 
-/// What is found of a valid tree.
-#[tactic(auto, using(crate::proofs::Hashes::length_valid))]
-fn judge_members<C: SignatureCheck>(
-    alloc: Global,
-    context: &GroupContext,
-    required: &RequiredCapabilities,
-    tree: &PublicTree,
-    checker: &C,
-) -> Result<Finding, RunFault>
-    requires { Valid (hash_of context.now.cipher_suite) context.now.tree_hash tree.now.tree }
-    ensures found { (context_bytes tree_bytes : List ℕ)
-        → HasValidTree context_bytes tree_bytes context.now (plain tree.now) required.now
-        → IfOk result (IsTreeFinding (C.meaning checker.now) context_bytes tree_bytes) }
-    ensures memory { IfErr result (λ e. e ≡ RunFault.Memory) }
-{
-    let suite = context.cipher_suite;
-    match validate_members(alloc, suite, &context.group_id, required, tree, checker) {
-        Ok(()) => Ok(Finding::TreeValid(tree_hash_of(context))),
-        Err(MemberFault::OutOfMemory) => Err(RunFault::Memory),
-        Err(fault) => Ok(Finding::MembersRefused(fault)),
-    }
-}
-
-/// What is found of a tree, where the group's requirements can be read.
+/// What is found of a context that is followed, where the tree can be read.
 fn judge_tree<C: SignatureCheck>(
     alloc: Global,
     suite: Suite,
     context: &GroupContext,
-    required: &RequiredCapabilities,
     tree: &PublicTree,
     checker: &C,
 ) -> Result<Finding, RunFault>
-    requires { suite ≡ context.now.cipher_suite }
-    ensures found { (context_bytes tree_bytes : List ℕ)
-        → IsReadable context_bytes tree_bytes context.now (plain tree.now) required.now
+    requires followed { IsFollowed context.now }
+    requires suite_of_context { suite ≡ context.now.cipher_suite }
+    ensures found { (context_bytes tree_bytes : List ℕ) → IsContext context_bytes context.now
+        → IsTreeOf tree_bytes (plain tree.now)
         → IfOk result (IsTreeFinding (C.meaning checker.now) context_bytes tree_bytes) }
     ensures memory { IfErr result (λ e. e ≡ RunFault.Memory) }
 {
-    match validate_tree(alloc, suite, context, tree) {
-        Ok(()) => judge_members(alloc, context, required, tree, checker),
-        Err(TreeFault::OutOfMemory) => Err(RunFault::Memory),
-        Err(fault) => Ok(Finding::TreeRefused(fault)),
-    }
-}
-
-/// What is found of a context, where the tree can be read.
-fn judge_required<C: SignatureCheck>(
-    alloc: Global,
-    suite: Suite,
-    context: &GroupContext,
-    tree: &PublicTree,
-    checker: &C,
-) -> Result<Finding, RunFault>
-    requires { suite ≡ context.now.cipher_suite }
-    ensures found { (context_bytes tree_bytes : List ℕ)
-        → HasTree context_bytes tree_bytes context.now (plain tree.now)
-        → IfOk result (IsTreeFinding (C.meaning checker.now) context_bytes tree_bytes) }
-    ensures memory { IfErr result (λ e. e ≡ RunFault.Memory) }
-{
-    match requirements(alloc, context) {
-        Ok(required) => judge_tree(alloc, suite, context, &required, tree, checker),
-        Err(CodecFault::OutOfMemory) => Err(RunFault::Memory),
-        Err(CodecFault::Wire(_)) => Ok(Finding::RequirementsUnreadable),
+    match validate_group_tree(alloc, suite, context, tree, checker) {
+        Ok(required) => {
+            drop(required);
+            Ok(Finding::TreeValid(tree_hash_of(context)))
+        }
+        Err(GroupTreeFault::RequirementsUnreadable) => Ok(Finding::RequirementsUnreadable),
+        Err(GroupTreeFault::Tree(fault)) => Ok(Finding::TreeRefused(fault)),
+        Err(GroupTreeFault::Member(fault)) => Ok(Finding::MembersRefused(fault)),
+        Err(GroupTreeFault::OutOfMemory) => Err(RunFault::Memory),
     }
 }
 
@@ -91,15 +52,16 @@ fn judge_tree_bytes<C: SignatureCheck>(
     tree_bytes: Vec<u8>,
     checker: &C,
 ) -> Result<Finding, RunFault>
-    requires { suite ≡ context.now.cipher_suite }
-    ensures found { (context_bytes : List ℕ) → IsUsable context_bytes context.now
+    requires followed { IsFollowed context.now }
+    requires suite_of_context { suite ≡ context.now.cipher_suite }
+    ensures found { (context_bytes : List ℕ) → IsContext context_bytes context.now
         → IfOk result (IsTreeFinding (C.meaning checker.now) context_bytes tree_bytes.items) }
     ensures memory { IfErr result (λ e. e ≡ RunFault.Memory) }
 {
     let tree = PublicTree::decode(alloc, tree_bytes.as_slice());
     drop(tree_bytes);
     match tree {
-        Ok(tree) => judge_required(alloc, suite, context, &tree, checker),
+        Ok(tree) => judge_tree(alloc, suite, context, &tree, checker),
         Err(NodeFault::OutOfMemory) => Err(RunFault::Memory),
         Err(fault) => Ok(Finding::TreeUnreadable(fault)),
     }

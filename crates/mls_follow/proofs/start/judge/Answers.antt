@@ -1,9 +1,17 @@
-use Rattle.std.proofs.lemmas.Result.{err_from_is_err_and}
 use Rattle.mls_tree.specs.KeptTree.{plain}
-use Rattle.mls_follow.proofs.Starting.{requirements_fail}
+use Rattle.mls_follow.proofs.Starting.{signature_fails, starts, starts_again, fails_again}
 use Rattle.mls_follow.proofs.start.judge.Goals as goal
 
-pub returns-in_err-required-clause-refused : goal.returns-in_err-required-clause-refused
-returns-in_err-required-clause-refused g c =
-    let p = err_from_is_err_and c.from_residual.result c.from_residual.ensures.1 in
-    rw p.1 (requirements_fail _ c.args.info.now (plain c.args.tree.now) c.requires.followed _ (rw p.2 c.in_err-required.ensures.none))
+pub returns-in-Ok-clause-started : goal.returns-in-Ok-clause-started
+returns-in-Ok-clause-started g c =
+    let G = g.C.SignatureCheck.meaning c.args.checker.now in
+    starts_again G c.args.info.now (plain c.judged_tree.new.tree) (plain c.args.tree.now) _ c.judged_tree.ensures.tree
+    (starts G c.args.info.now (plain c.judged_tree.new.tree) c.in_ok-required.required c.in_ok-required.ensures.members
+    _ c.in-Ok.ensures.signed c.in-Ok.ensures.hashed)
+
+pub returns-in-Err-clause-refused : goal.returns-in-Err-clause-refused
+returns-in-Err-clause-refused g c =
+    let G = g.C.SignatureCheck.meaning c.args.checker.now in
+    fails_again G c.args.info.now (plain c.judged_tree.new.tree) (plain c.args.tree.now) _ c.judged_tree.ensures.tree
+    (signature_fails G c.args.info.now (plain c.judged_tree.new.tree) c.in_ok-required.required c.in_ok-required.ensures.members
+    _ c.in-Err.ensures.refused)

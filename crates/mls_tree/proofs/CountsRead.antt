@@ -4,7 +4,7 @@ use Rattle.std.specs.Prelude.{◌||◌, ◌↔◌}
 use Rattle.std.proofs.lemmas.Bool.{cases_lt}
 use Rattle.mls_nodes.specs.declared.node.Node.{Node}
 use Rattle.mls_tree.specs.declared.count.Count.{Count}
-use Rattle.mls_tree.specs.Tree.{Tree, leaf, branch, leaf_count, member_count, leaves_at}
+use Rattle.mls_tree.specs.Tree.{Tree, leaf, branch, leaf_count, member_count, leaves_at, Subtree, subtree_at}
 use Rattle.mls_tree.specs.Array.{tree_in}
 use Rattle.mls_tree.specs.Changes.{has_set_leaf, left_half}
 use Rattle.mls_tree.specs.Paths.{resolution}
@@ -12,6 +12,7 @@ use Rattle.mls_tree.specs.Counts.{set_count, AreCounts}
 use Rattle.mls_tree.specs.CountsSeen.{AreCountsIfAny}
 use Rattle.mls_tree.proofs.Choices.{is_less, not_less}
 use Rattle.mls_tree.proofs.Arrays.{leaf_count-tree_in}
+use Rattle.mls_tree.proofs.Trees.{along}
 use Rattle.mls_tree.proofs.Walking.{tree_in-split, append-set, append-set_right, leaves_at-split}
 use Rattle.mls_tree.proofs.KeptCells.{leaf_count-left_half}
 use Rattle.mls_tree.proofs.Counting.{AreCounts-left_half}
@@ -45,6 +46,16 @@ module _ (xs : List (Option Node)) (first half level : ℕ) (deep : level ≢ 0)
       let at = subst (λ t. AreCounts first t cs) (tree_in-split xs first half level deep e) ok.1 in
       (omega (arith, far-count, leaves_at-split level half deep e, leaf_count-tree_in xs level first), subst (λ k. AreCounts (first + k) far cs) near-count at.1)
 
+-- counts of the whole have those of the subtree at a place
+pub if_any-subtree : (o : Option (List Count)) (first : ℕ) (t : Tree) (p : ℕ) (s : Subtree) → subtree_at first t p ≡ Some s → AreCountsIfAny o first t → AreCountsIfAny o s.first s.tree
+if_any-subtree None first t p s e ok = tt
+if_any-subtree (Some cs) first t p s e ok =
+    along (λ first t p s. AreCountsIfAny (Some cs) first t → AreCountsIfAny (Some cs) s.first s.tree)
+    (λ first t p at ok. ok)
+    (λ first l n r p s lt sub ih ok. ih (let room = ok.0 in omega arith, ok.1.0))
+    (λ first l n r p s gt sub ih ok. ih (let room = ok.0 in omega arith, ok.1.1))
+    first t p s e ok
+
 -- ---- what the counts tell
 
 or_positive : (a b : ℕ) → (nat_lt 0 a || nat_lt 0 b) ≡ nat_lt 0 (a + b)
@@ -62,7 +73,7 @@ has_set_leaf-counted (branch l n r) =
     (λ i. has_set_leaf-counted l i || has_set_leaf-counted r i) ∙ or_positive (member_count l) (member_count r)
 
 -- a resolution is empty where no node is set, and nowhere else
-resolution-none : (leaves first : ℕ) (t : Tree) → set_count t ≡ 0 → resolution leaves first t ≡ []
+pub resolution-none : (leaves first : ℕ) (t : Tree) → set_count t ≡ 0 → resolution leaves first t ≡ []
 resolution-none leaves first (leaf None) e = refl
 resolution-none leaves first (leaf (Some x)) e = absurd (omega arith)
 resolution-none leaves first (branch l None r) e =

@@ -37,5 +37,6 @@ pub mod Counting
 pub mod KeptCounts
 pub mod CountsRead
 pub mod CountedBlanks
+pub mod TakingOff
 pub mod HashRows
 pub mod HashLengths

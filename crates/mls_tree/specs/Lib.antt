@@ -3,6 +3,7 @@ pub mod RatchetTree
 pub mod Places
 pub mod Parts
 pub mod Paths
+pub mod Remainders
 pub mod Blanks
 pub mod Changes
 pub mod Cells

@@ -1,5 +1,7 @@
 -- Resolutions (RFC 9420, 4.1.1), and the paths from a leaf to the root (4.1.2), each the lowest node first.
-use Rattle.std.specs.Prelude.{ℕ, ◌+◌, ◌*◌, ◌-◌, nat_lt, if◌then◌else◌, List, [], ◌∷◌, ◌++◌, map, filter, Option, Some, None, option_map}
+use Rattle.std.specs.Prelude.{ℕ, ◌+◌, ◌*◌, ◌-◌, nat_lt, if◌then◌else◌, not, List, [], ◌∷◌, ◌++◌, length, map, filter, Option, Some, None, option_map}
+use Rattle.std.specs.BTreeSet.{BTreeSet, contains}
+use Rattle.std.specs.Ordering.{nat_cmp}
 use Rattle.mls_tree.specs.Tree.{Tree, leaf, branch, leaf_count, root_place, subtree_at}
 
 -- the places of a parent's unmerged leaves in the order of its list, without the entries that are the index of no leaf of the whole tree
@@ -17,6 +19,10 @@ resolution leaves first (branch l (Some p) r) = (2 * (first + leaf_count l) - 1)
 -- the resolution of the node at place p, if the tree has such a place
 abbrev pub resolution_at : Tree → ℕ → Option (List ℕ)
 resolution_at t p = option_map (λ s. resolution (leaf_count t) s.first s.tree) (subtree_at 0 t p)
+
+-- how many of these places aren't in a set
+abbrev pub count_beside : BTreeSet ℕ → List ℕ → ℕ
+count_beside without places = length (filter (λ p. not (contains nat_cmp without p)) places)
 
 -- the direct path of leaf i (4.1.2): the places of the parents above it
 abbrev pub direct_path : ℕ → Tree → ℕ → List ℕ

@@ -28,6 +28,7 @@ mod paths;
 mod places;
 mod public_tree;
 mod resolution;
+mod resolution_len;
 mod sizes;
 mod split;
 mod unmerged;

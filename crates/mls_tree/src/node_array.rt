@@ -1,10 +1,10 @@
 //! The nodes of a tree, kept as one array.
-ghost use Rattle.std.specs.Prelude.{◌≡◌, ℕ, ◌+◌, ◌≤◌, ◌<◌, length, IfOk, IfErr, Err, MatchOption, OnOk, OnErr, IsOk, IsErr, ◌↔◌, ◌⊎◌, None, Some, false, map, option_map, option_copied};
+ghost use Rattle.std.specs.Prelude.{◌≡◌, ℕ, ◌+◌, ◌≤◌, ◌<◌, ◌==◌, length, IfOk, IfErr, IfSome, Err, MatchOption, OnOk, OnErr, IsOk, IsErr, ◌↔◌, ◌⊎◌, None, Some, false, map, option_map, option_copied};
 ghost use Rattle.std.specs.Bool.{OnTrue, OnFalse};
 ghost use Rattle.mls_nodes.specs.Limits.{leaf_limit};
 ghost use Rattle.mls_nodes.specs.Value.{entry_value, node_value};
 ghost use Rattle.mls_tree.specs.Tree.{leaf_count, member_count, height, listing, node_at, leaf_at, IsBranch, IsParentPlace};
-ghost use Rattle.mls_tree.specs.Paths.{direct_path, copath, filtered_direct_path, resolution_at};
+ghost use Rattle.mls_tree.specs.Paths.{direct_path, copath, filtered_direct_path, resolution_at, count_beside};
 ghost use Rattle.mls_tree.specs.Blanks.{first_blank_leaf, next_blank_leaf, IsFirstBlank, AllLeavesSet};
 ghost use Rattle.mls_tree.specs.Changes.{put_leaf, put_parent, clear_path, change_parent, with_unmerged, without_unmerged, enter_unmerged, is_overfilled, is_overfilled_above, IsOverfull, shrink, blank_tree, grow, left_half, rejoined};
 ghost use Rattle.mls_tree.specs.Parts.{parent_of};
@@ -22,10 +22,12 @@ use crate::exchange::swap_front;
 use crate::paths::{push_copath, push_direct_path, push_filtered_direct_path};
 use crate::places::level_inside;
 use crate::resolution::push_resolution;
+use crate::resolution_len::take_resolution;
 use crate::sizes::{height_of, height_of_length, leaves_of};
 use crate::unmerged::{enter, is_overfilled_above, leave, push_new_lists, put_lists};
 use mls_nodes::{LeafNode, Node, ParentNode};
 use std::alloc::{AllocError, Global};
+use std::collections::BTreeSet;
 use std::marker::Model;
 use std::mem;
 
@@ -284,6 +286,35 @@ impl NodeArray {
         let mut out = Vec::new(alloc);
         push_resolution(&mut out, self.nodes.as_slice(), leaves, level, first)?;
         Ok(out)
+    }
+
+    /// Whether the resolution of the node at a place (RFC 9420, 4.1.1) has so many places beside those in `without`. Takes no memory, and
+    /// goes no further than it finds `len` places and those of `without`; where there are counts of the tree's parents, it passes by the
+    /// parts that have no set node. `NoSuchNode` where the tree has no such place.
+    pub(crate) fn has_resolution_len(
+        &self,
+        counts: Option<&[Count]>,
+        place: u32,
+        without: &BTreeSet<u64>,
+        len: usize,
+    ) -> Result<bool, TreeError>
+        requires { AreCountsIfAny (option_copied counts) 0 self.now.tree }
+        ensures answer { IfOk result (λ b. IfSome (resolution_at self.now.tree place)
+            (λ ps. b ≡ (count_beside without.now ps == len))) }
+        ensures no_such_node { (result ≡ Err TreeError.NoSuchNode)
+            ↔ (resolution_at self.now.tree place ≡ None) }
+        ensures else_no_such { IfErr result (λ e. e ≡ TreeError.NoSuchNode) }
+    {
+        let leaves = self.leaf_count();
+        let Some(level) = level_inside(place, leaves) else {
+            return Err(TreeError::NoSuchNode);
+        };
+        let first = (place + 1 - leaves_of(level)) / 2;
+        let nodes = self.nodes.as_slice();
+        match take_resolution(nodes, counts, without, leaves, level, first, len) {
+            Some(left) => Ok(left == 0),
+            None => Ok(false),
+        }
     }
 
     /// A tree with the same nodes.

@@ -1,10 +1,10 @@
 //! The public tree of a group: its nodes, and the hashes of subtrees that it keeps.
-ghost use Rattle.std.specs.Prelude.{◌≡◌, ◌≢◌, ◌≤◌, ◌<◌, ◌-◌, ◌*◌, ◌∷◌, [], length, take, replicate, IfOk, IfErr, IfSome, Err, MatchOption, OnOk, OnErr, IsOk, IsErr, ◌↔◌, ◌⊎◌, None, Some, false, map, option_map, option_copied, slice_get, slice_set, IsSome};
+ghost use Rattle.std.specs.Prelude.{◌≡◌, ◌≢◌, ◌≤◌, ◌<◌, ◌-◌, ◌*◌, ◌∷◌, ◌==◌, [], length, take, replicate, IfOk, IfErr, IfSome, Err, MatchOption, OnOk, OnErr, IsOk, IsErr, ◌↔◌, ◌⊎◌, None, Some, false, map, option_map, option_copied, slice_get, slice_set, IsSome};
 ghost use Rattle.std.specs.Bool.{OnTrue, OnFalse};
 ghost use Rattle.mls_nodes.specs.Limits.{leaf_limit};
 ghost use Rattle.mls_nodes.specs.Value.{entry_value, node_value};
 ghost use Rattle.mls_tree.specs.Tree.{leaf_count, member_count, height, listing, node_at, leaf_at, IsBranch, IsParentPlace};
-ghost use Rattle.mls_tree.specs.Paths.{direct_path, copath, filtered_direct_path, resolution_at};
+ghost use Rattle.mls_tree.specs.Paths.{direct_path, copath, filtered_direct_path, resolution_at, count_beside};
 ghost use Rattle.mls_tree.specs.Blanks.{first_blank_leaf, next_blank_leaf, IsFirstBlank, AllLeavesSet};
 ghost use Rattle.mls_tree.specs.Changes.{put_leaf, put_parent, clear_path, change_parent, with_unmerged, without_unmerged, enter_unmerged, is_overfilled, is_overfilled_above, IsOverfull, shrink, blank_tree, grow, left_half, rejoined};
 ghost use Rattle.mls_tree.specs.Parts.{parent_of};
@@ -26,6 +26,7 @@ use crate::hash_value::HashValue;
 use crate::node_array::NodeArray;
 use mls_nodes::{LeafNode, Node, ParentNode};
 use std::alloc::{AllocError, Global};
+use std::collections::BTreeSet;
 use std::marker::Model;
 use std::mem;
 
@@ -36,7 +37,7 @@ use std::mem;
 /// is right: each call that changes the tree empties the cells of the subtrees that it changes, and no other.
 ///
 /// A tree with cells also counts the leaves and the nodes set under each parent, and so tells its members, its blank leaves, a filtered
-/// direct path and whether its right half is empty without going through its nodes.
+/// direct path, how long a resolution is and whether its right half is empty without going through its nodes.
 #[derive(Debug, Drop)]
 pub struct PublicTree {
     tree: NodeArray,
@@ -211,6 +212,25 @@ impl PublicTree {
             (λ e. (e ≡ TreeError.NoSuchNode) ⊎ (e ≡ TreeError.OutOfMemory)) }
     {
         self.tree.resolution(alloc, place)
+    }
+
+    /// Whether the resolution of the node at a place (RFC 9420, 4.1.1) has so many places beside those in `without`. Takes no memory, and
+    /// goes no further than it finds `len` places and those of `without`; in a tree with cells it passes by the parts that have no set
+    /// node. `NoSuchNode` where the tree has no such place.
+    pub fn has_resolution_len(
+        &self,
+        place: u32,
+        without: &BTreeSet<u64>,
+        len: usize,
+    ) -> Result<bool, TreeError>
+        ensures answer { IfOk result (λ b. IfSome (resolution_at self.now.tree place)
+            (λ ps. b ≡ (count_beside without.now ps == len))) }
+        ensures no_such_node { (result ≡ Err TreeError.NoSuchNode)
+            ↔ (resolution_at self.now.tree place ≡ None) }
+        ensures else_no_such { IfErr result (λ e. e ≡ TreeError.NoSuchNode) }
+    {
+        self.tree
+            .has_resolution_len(counts_in(&self.counts), place, without, len)
     }
 
     /// The hash function by which the tree keeps hashes of its subtrees. None where it keeps none.

@@ -1,0 +1,23 @@
+use Rattle.std.proofs.Common.{ap, arith, subst, sym, ◌∙◌, eqb-true}
+use Rattle.std.specs.Prelude.{option_copied}
+use Rattle.mls_tree.specs.Array.{tree_in}
+use Rattle.mls_tree.specs.CountsSeen.{AreCountsIfAny}
+use Rattle.mls_tree.specs.declared.count.Count.{Count}
+use Rattle.mls_tree.proofs.Arrays.{leaf_count-tree_in}
+use Rattle.mls_tree.proofs.CountsRead.{resolution-none}
+use Rattle.mls_tree.proofs.resolution_len.is_counted_empty.Goals as goal
+
+pub count_of-requires-clause-room : goal.count_of-requires-clause-room
+count_of-requires-clause-room c =
+    let ok = subst (λ o. AreCountsIfAny (option_copied o) c.args.first (tree_in c.args.nodes.now c.args.level c.args.first)) c.in-Some.is c.requires.counts in
+    let room = ok.0 in
+    omega (arith, leaf_count-tree_in c.args.nodes.now c.args.level c.args.first)
+
+pub count_of-requires-clause-counts : goal.count_of-requires-clause-counts
+count_of-requires-clause-counts c =
+    let ok = subst (λ o. AreCountsIfAny (option_copied o) c.args.first (tree_in c.args.nodes.now c.args.level c.args.first)) c.in-Some.is c.requires.counts in
+    ok.1
+
+pub returns-in-Some : goal.returns-in-Some
+returns-in-Some c zero leaves =
+    resolution-none leaves c.args.first (tree_in c.args.nodes.now c.args.level c.args.first) (sym (ap (λ (v : Count). v.nodes) c.count_of.ensures) ∙ eqb-true c.count_of.result.nodes 0 zero)

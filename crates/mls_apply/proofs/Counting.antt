@@ -1,6 +1,6 @@
 -- The ciphertexts of a path's nodes, counted one node after the other.
-use Rattle.std.proofs.Common.{◌≡◌, ◌≢◌, ℕ, ◌+◌, ◌*◌, ◌<◌, ◌≤◌, Bool, true, false, not, ◌&&◌, List, map, drop, length, get_or, sym, ap, ◌∙◌, arith}
-use Rattle.std.specs.Prelude.{◌==◌}
+use Rattle.std.proofs.Common.{◌≡◌, ◌≢◌, ℕ, ◌+◌, ◌*◌, ◌<◌, ◌≤◌, Bool, true, false, not, ◌&&◌, List, map, drop, length, get_or, Option, Some, None, sym, ap, ◌∙◌, arith}
+use Rattle.std.specs.Prelude.{◌==◌, option_map, IsSome, IfSome}
 use Rattle.std.specs.BTreeSet.{BTreeSet, contains}
 use Rattle.std.specs.List.{filter, list_any}
 use Rattle.std.specs.Ordering.{nat_cmp}
@@ -9,12 +9,18 @@ use Rattle.std.proofs.lemmas.List.{drop_more, drop_all}
 use Rattle.std.proofs.lemmas.List.Elements.{filter_agree}
 use Rattle.mls_msgs.specs.declared.commit.PathNode.{PathNode}
 use Rattle.mls_msgs.specs.declared.commit.UpdatePath.{UpdatePath}
-use Rattle.mls_tree.specs.Tree.{leaf_count}
-use Rattle.mls_tree.specs.Paths.{filtered_direct_path}
+use Rattle.mls_tree.specs.Tree.{leaf_count, Subtree}
+use Rattle.mls_tree.specs.Paths.{resolution, filtered_direct_path}
 use Rattle.mls_apply.specs.Outcome.{Grown}
 use Rattle.mls_apply.specs.PathRules.{has_ciphertexts, have_counts, without_added}
-use Rattle.mls_apply.specs.Route.{away_resolution}
+use Rattle.mls_apply.specs.Route.{resolution_of, away_resolution}
 use Rattle.mls_apply.proofs.Paths.{copath_resolutions-filtered}
+
+-- what is told of the resolution of a subtree that stands somewhere, by another word for the subtree
+pub resolution_of-told : (found wanted : Option Subtree) (leaves : ℕ) (f : List ℕ → Bool) (b : Bool) → found ≡ wanted → IsSome found
+    → IfSome (option_map (λ s. resolution leaves s.first s.tree) found) (λ places. b ≡ f places) → b ≡ f (resolution_of leaves wanted)
+resolution_of-told None wanted leaves f b same some told = absurd (cc)
+resolution_of-told (Some s) wanted leaves f b same some told = told ∙ ap (λ o. f (resolution_of leaves o)) same
 
 module _ (added : List ℕ) (s : BTreeSet ℕ) (has : (p : ℕ) → contains nat_cmp s p ≡ list_any (λ j. p == 2 * j) added)
     (f : ℕ → List ℕ) (places : List ℕ) (nodes : List PathNode) (k : ℕ) (node : PathNode) (place count : ℕ)

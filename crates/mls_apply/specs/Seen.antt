@@ -1,5 +1,5 @@
 -- What is seen of the values that the code of paths works with. For the code alone.
-use Rattle.std.specs.Prelude.{◌≡◌, ℕ, List, [], ◌∷◌, map, Bool, true, false, Option, Some, None}
+use Rattle.std.specs.Prelude.{ℕ, List, [], ◌∷◌, map, Option}
 use Rattle.mls_tree.specs.Tree.{Tree}
 use Rattle.mls_msgs.specs.declared.commit.UpdatePath.{UpdatePath}
 use Rattle.mls_apply.specs.Rules.{rule, first_failing}

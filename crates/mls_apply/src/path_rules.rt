@@ -1,19 +1,19 @@
 //! The rules for the keys and the ciphertexts of an update path (RFC 9420, 7.6 and 12.4.2).
 
-ghost use Rattle.std.specs.Prelude.{◌≡◌, ℕ, ◌*◌, ◌==◌, All, IfOk, IsSome, filter, length, map, not};
+ghost use Rattle.std.specs.Prelude.{◌≡◌, ℕ, ◌*◌, ◌==◌, All, IfOk, filter, length, map, not};
 ghost use Rattle.std.specs.BTreeSet.{contains};
 ghost use Rattle.std.specs.List.{list_any};
 ghost use Rattle.std.specs.Ordering.{nat_cmp};
-ghost use Rattle.mls_tree.specs.Tree.{leaf_count, subtree_at, IsParentPlace};
+ghost use Rattle.mls_tree.specs.Tree.{IsParentPlace};
 ghost use Rattle.mls_check.specs.Distinct.{are_distinct, has_key, tree_keys};
 ghost use Rattle.mls_index.specs.TreeIndex.{Covers};
 ghost use Rattle.mls_apply.specs.PathRules.{has_new_keys, have_counts, path_keys};
-ghost use Rattle.mls_apply.specs.Route.{away_resolution, resolution_of};
+ghost use Rattle.mls_apply.specs.Route.{away_resolution};
 
 use crate::new_parents::away_half;
 use mls_index::{KeyKind, TreeIndex};
 use mls_msgs::{PathNode, UpdatePath};
-use mls_tree::{PublicTree, TreeError};
+use mls_tree::PublicTree;
 use mls_wire::Opaque;
 use std::alloc::{AllocError, Global};
 use std::collections::BTreeSet;
@@ -85,41 +85,24 @@ fn places_of(alloc: Global, added: &[u32]) -> Result<BTreeSet<u64>, AllocError>
     Ok(places)
 }
 
-/// The resolution of the subtree at a place.
-fn resolution(alloc: Global, tree: &PublicTree, place: u32) -> Result<Vec<u32>, AllocError>
-    requires { IsSome (subtree_at 0 tree.now.tree place) }
-    ensures { IfOk result (λ places. let t = tree.now.tree in
-        places.items ≡ resolution_of (leaf_count t) (subtree_at 0 t place)) }
-{
-    match tree.resolution(alloc, place) {
-        Ok(places) => Ok(places),
-        Err(TreeError::OutOfMemory) => Err(AllocError),
-        Err(_) => unreachable!(),
-    }
-}
-
-/// How many ciphertexts the node of a path of a leaf has at a place: one for each node of the resolution of its half
-/// away from the leaf, but for those at the places of added leaves.
-fn recipient_count(
-    alloc: Global,
+/// Whether the node of a path of a leaf at a place has to have so many ciphertexts: one for each node of the resolution
+/// of its half away from the leaf, but for those at the places of added leaves.
+fn has_recipients(
     tree: &PublicTree,
     leaf: u32,
     place: u32,
     added: &BTreeSet<u64>,
-) -> Result<usize, AllocError>
+    count: usize,
+) -> bool
     requires { IsParentPlace tree.now.tree place }
-    ensures { IfOk result (λ count.
-        let resolution = away_resolution tree.now.tree leaf place in
-        count ≡ length (filter (λ p. not (contains nat_cmp added.now p)) resolution)) }
+    ensures { let resolution = away_resolution tree.now.tree leaf place in
+        result ≡ (length (filter (λ p. not (contains nat_cmp added.now p)) resolution) == count) }
 {
     let away = away_half(tree, leaf, place);
-    let places = resolution(alloc, tree, away)?;
-    Ok(
-        places
-            .iter()
-            .filter(|place| !added.contains(&u64::from(**place)))
-            .count(),
-    )
+    match tree.has_resolution_len(away, added, count) {
+        Ok(right) => right,
+        Err(_) => unreachable!(),
+    }
 }
 
 /// Whether each node of a path of a leaf has as many ciphertexts as it has to, where leaves were added (RFC 9420,
@@ -140,8 +123,8 @@ pub(crate) fn have_counts(
 {
     let added = places_of(alloc, added)?;
     for (index, node) in nodes.iter().enumerate() {
-        let count = recipient_count(alloc, tree, leaf, places[index], &added)?;
-        if node.ciphertexts.as_slice().len() != count {
+        let count = node.ciphertexts.as_slice().len();
+        if !has_recipients(tree, leaf, places[index], &added, count) {
             return Ok(false);
         }
     }

@@ -1,5 +1,6 @@
 -- Who judges signatures in a report, and why nobody does. For the code alone.
-use Rattle.mls_cli.specs.Program.{Opener, LosesReceipts, RefusesReceipts}
+use Rattle.mls_cli.specs.Files.{Opener}
+use Rattle.mls_cli.specs.Judges.{LosesReceipts, RefusesReceipts}
 use Rattle.mls_cli.specs.declared.order.Checker.{Checker}
 use Rattle.mls_cli.specs.declared.judge.JudgeFault.{JudgeFault}
 use Rattle.mls_cli.specs.declared.judge.JudgeFault.TheVariants.{Lost, Refused}

@@ -1,6 +1,9 @@
+pub mod CarriedOut
 pub mod Commands
+pub mod Files
 pub mod Judges
 pub mod Judging
 pub mod Orders
+pub mod Outcome
 pub mod Program
 pub mod Status

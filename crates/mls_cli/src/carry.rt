@@ -1,8 +1,9 @@
 //! Carrying out an order: the files that it names are opened, and its report is made of them.
 
 ghost use Rattle.std.specs.Prelude.{◌≡◌, ◌↔◌, ◌⊎◌, false, true, None, Err, option_map, IfSome};
-ghost use Rattle.mls_cli.specs.Program.{opener, CarriesOut, CarriesShow, CarriesValidateTree, CarriesValidate, CarriesReplay, CarriesSignatures, CarriesCheck, IsJudgedBy, IsOpened, LacksNamed, EndsUnread, EndsRefused};
-ghost use Rattle.mls_cli.specs.Judges.{judge_meaning};
+ghost use Rattle.mls_cli.specs.CarriedOut.{CarriesOut, CarriesShow, CarriesValidateTree, CarriesValidate, CarriesReplay, CarriesSignatures, CarriesCheck};
+ghost use Rattle.mls_cli.specs.Files.{opener, IsOpened, LacksNamed};
+ghost use Rattle.mls_cli.specs.Judges.{judge_meaning, IsJudgedBy, EndsUnread, EndsRefused};
 ghost use Rattle.mls_report.specs.Starting.{has_failed};
 ghost use Rattle.mls_cli.specs.Judging.{IsJudgeFault};
 

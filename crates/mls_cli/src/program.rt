@@ -1,7 +1,8 @@
 //! The program, but for what opens real files and ends the process.
 
 ghost use Rattle.std.specs.Prelude.{◌≡◌, false, Err, map, string_bytes};
-ghost use Rattle.mls_cli.specs.Program.{opener, Ends, EndsOrder, EndsHelp, EndsFault, RunsProgram, Tells};
+ghost use Rattle.mls_cli.specs.Files.{opener};
+ghost use Rattle.mls_cli.specs.Program.{Ends, EndsOrder, EndsHelp, EndsFault, RunsProgram, Tells};
 ghost use Rattle.mls_cli.specs.Program as program;
 
 use crate::carry::carry_out;

@@ -1,8 +1,8 @@
 //! Reading a file of receipts.
 
 ghost use Rattle.std.specs.Prelude.{◌≡◌, ◌↔◌, false, true, IfOk, IfErr};
-ghost use Rattle.mls_cli.specs.Program.{opener, ReadsFile, LosesFile, IsMeaning, IsListed, IsUnlisted};
-ghost use Rattle.mls_cli.specs.Judges.{judge_meaning};
+ghost use Rattle.mls_cli.specs.Files.{opener, ReadsFile, LosesFile};
+ghost use Rattle.mls_cli.specs.Judges.{judge_meaning, IsMeaning, IsListed, IsUnlisted};
 ghost use Rattle.mls_cli.specs.Judging.{IsJudgeFault};
 ghost use Rattle.mls_cli.specs.declared.order.Checker.TheVariants.{Receipts};
 

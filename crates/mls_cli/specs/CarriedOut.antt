@@ -1,0 +1,190 @@
+-- How an order is carried out: which file is opened for which input, and what is told.
+use Rattle.std.specs.Prelude.{ℕ, List, [], true, Option, option_map, Err, IfOk, IfErr, OnErr, ◌≡◌, ◌↔◌, ◌⊎◌}
+use Rattle.std.specs.Io.KnownBytes.{Appends}
+use Rattle.mls_check.specs.Signatures.{Meaning}
+use Rattle.mls_cli.specs.Files.{Opener, Opens, OpensNamed, IsOpened, CannotOpen, CannotOpenNamed}
+use Rattle.mls_cli.specs.Judges.{IsJudgedBy}
+use Rattle.mls_cli.specs.Outcome.{Outcome}
+use Rattle.mls_cli.specs.declared.order.Order.{Order}
+use Rattle.mls_cli.specs.declared.order.Order.TheVariants.{Show, ValidateTree, Validate, Replay, Signatures, Check}
+use Rattle.mls_report.specs.Replay.{Replays, ReplaysPart}
+use Rattle.mls_report.specs.Show.{Shows, ShowsPart}
+use Rattle.mls_report.specs.Signatures.{SignaturesPart}
+use Rattle.mls_report.specs.Signatures as signatures
+use Rattle.mls_report.specs.Starting.{has_failed}
+use Rattle.mls_report.specs.Validate.{Validates, ValidatesPart}
+use Rattle.mls_report.specs.ValidateTree.{ValidatesTree, ValidatesTreePart}
+use Rattle.mls_report.specs.declared.verdict.RunFault.TheVariants.{Read, Memory}
+use Rattle.mls_report.specs.declared.show.ShowKind.{ShowKind}
+use Rattle.mls_vectors.specs.Check.{Checks, ChecksPart}
+use Rattle.mls_vectors.specs.declared.check.CheckKind.{CheckKind}
+
+module _ {File : Type 0} (F : Opener File) where
+  -- the report `show` of a file of this name
+  pub record RunsShow (k : ShowKind) (name : List ℕ) (written0 written1 : Option (List ℕ))
+      (outcome : Outcome) : Type 0 where
+    pub opened : File
+    pub ended : File
+    pub given : F.gives name opened
+    pub shown : IfOk outcome (Shows k (F.left opened) (F.left ended) written0 written1)
+    pub part : OnErr outcome (ShowsPart k (F.left opened) (F.left ended) written0 written1)
+    pub memory : outcome ≡ Err Memory → Appends written0 written1 []
+    pub failed : (outcome ≡ Err Read) ↔ (F.is_failed ended ≡ true)
+
+  -- the order `show`
+  abbrev pub CarriesShow : ShowKind → List ℕ → Option (List ℕ) → Option (List ℕ) → Outcome → Type 0
+  CarriesShow k name written0 written1 outcome =
+      CannotOpen F name written0 written1 outcome ⊎ RunsShow k name written0 written1 outcome
+
+  -- the report `validate-tree` of files of these names
+  pub record RunsValidateTree (G : Meaning) (context tree : List ℕ)
+      (written0 written1 : Option (List ℕ)) (outcome : Outcome) : Type 0 where
+    pub context_opened : File
+    pub context_ended : File
+    pub tree_opened : File
+    pub tree_ended : File
+    pub context_given : F.gives context context_opened
+    pub tree_given : F.gives tree tree_opened
+    pub validated : IfOk outcome (ValidatesTree G (F.left context_opened) (F.left context_ended)
+        (F.left tree_opened) (F.left tree_ended) written0 written1)
+    pub part : OnErr outcome (ValidatesTreePart G (F.left context_opened) (F.left context_ended)
+        (F.left tree_opened) (F.left tree_ended) written0 written1)
+    pub memory : outcome ≡ Err Memory → Appends written0 written1 []
+    pub failed : (outcome ≡ Err Read)
+        ↔ ((F.is_failed context_ended ≡ true) ⊎ (F.is_failed tree_ended ≡ true))
+
+  -- the order `validate-tree`, by what a checker of signatures means: the context and the tree are opened; that they
+  -- are in this order, and no other file, holds by the code and is no clause
+  abbrev pub CarriesValidateTree : Meaning → List ℕ → List ℕ → Option (List ℕ) → Option (List ℕ)
+      → Outcome → Type 0
+  CarriesValidateTree G context tree written0 written1 outcome =
+      CannotOpen F context written0 written1 outcome
+      ⊎ ((Opens F context × CannotOpen F tree written0 written1 outcome)
+      ⊎ RunsValidateTree G context tree written0 written1 outcome)
+
+  -- the report `validate` of files of these names, of which that of the tree may be missing
+  pub record RunsValidate (G : Meaning) (info : List ℕ) (tree : Option (List ℕ))
+      (written0 written1 : Option (List ℕ)) (outcome : Outcome) : Type 0 where
+    pub info_opened : File
+    pub info_ended : File
+    pub tree_opened : Option File
+    pub tree_ended : Option File
+    pub info_given : F.gives info info_opened
+    pub tree_given : IsOpened F tree tree_opened
+    pub validated : IfOk outcome (Validates G (F.left info_opened) (F.left info_ended)
+        (option_map F.left tree_opened) (option_map F.left tree_ended) written0 written1)
+    pub part : OnErr outcome (ValidatesPart G (F.left info_opened) (F.left info_ended)
+        (option_map F.left tree_opened) (option_map F.left tree_ended) written0 written1)
+    pub memory : outcome ≡ Err Memory → Appends written0 written1 []
+    pub failed : (outcome ≡ Err Read)
+        ↔ ((F.is_failed info_ended ≡ true)
+        ⊎ (has_failed (option_map F.is_failed tree_ended) ≡ true))
+
+  -- the order `validate`, by what a checker of signatures means: the info and the tree are opened; that they are in
+  -- this order, and no other file, holds by the code and is no clause
+  abbrev pub CarriesValidate : Meaning → List ℕ → Option (List ℕ) → Option (List ℕ)
+      → Option (List ℕ) → Outcome → Type 0
+  CarriesValidate G info tree written0 written1 outcome =
+      CannotOpen F info written0 written1 outcome
+      ⊎ ((Opens F info × CannotOpenNamed F tree written0 written1 outcome)
+      ⊎ RunsValidate G info tree written0 written1 outcome)
+
+  -- the report `replay` of files of these names, of which that of the tree may be missing
+  pub record RunsReplay (G : Meaning) (info : List ℕ) (tree : Option (List ℕ)) (log : List ℕ)
+      (written0 written1 : Option (List ℕ)) (outcome : Outcome) : Type 0 where
+    pub info_opened : File
+    pub info_ended : File
+    pub tree_opened : Option File
+    pub tree_ended : Option File
+    pub log_opened : File
+    pub log_ended : File
+    pub info_given : F.gives info info_opened
+    pub tree_given : IsOpened F tree tree_opened
+    pub log_given : F.gives log log_opened
+    pub replayed : IfOk outcome (Replays G (F.left info_opened) (F.left info_ended)
+        (option_map F.left tree_opened) (option_map F.left tree_ended)
+        (F.left log_opened) (F.left log_ended) written0 written1)
+    pub part : IfErr outcome (ReplaysPart G (F.left info_opened) (F.left info_ended)
+        (option_map F.left tree_opened) (option_map F.left tree_ended)
+        (F.left log_opened) (F.left log_ended) written0 written1)
+    pub failed : (outcome ≡ Err Read)
+        ↔ ((F.is_failed info_ended ≡ true)
+        ⊎ ((has_failed (option_map F.is_failed tree_ended) ≡ true)
+        ⊎ (F.is_failed log_ended ≡ true)))
+
+  -- the order `replay`, by the same: the info, the tree and the log are opened; that they are in this order, and no
+  -- other file, holds by the code and is no clause
+  abbrev pub CarriesReplay : Meaning → List ℕ → Option (List ℕ) → List ℕ → Option (List ℕ)
+      → Option (List ℕ) → Outcome → Type 0
+  CarriesReplay G info tree log written0 written1 outcome =
+      CannotOpen F info written0 written1 outcome
+      ⊎ ((Opens F info × CannotOpenNamed F tree written0 written1 outcome)
+      ⊎ ((Opens F info × OpensNamed F tree × CannotOpen F log written0 written1 outcome)
+      ⊎ RunsReplay G info tree log written0 written1 outcome))
+
+  -- the report `signatures` of files of these names, of which those of the tree and of the log may be missing
+  pub record RunsSignatures (G : Meaning) (info : List ℕ) (tree log : Option (List ℕ))
+      (written0 written1 : Option (List ℕ)) (outcome : Outcome) : Type 0 where
+    pub info_opened : File
+    pub info_ended : File
+    pub tree_opened : Option File
+    pub tree_ended : Option File
+    pub log_opened : Option File
+    pub log_ended : Option File
+    pub info_given : F.gives info info_opened
+    pub tree_given : IsOpened F tree tree_opened
+    pub log_given : IsOpened F log log_opened
+    pub told : IfOk outcome (signatures.Signatures G (F.left info_opened) (F.left info_ended)
+        (option_map F.left tree_opened) (option_map F.left tree_ended)
+        (option_map F.left log_opened) (option_map F.left log_ended) written0 written1)
+    pub part : IfErr outcome (SignaturesPart G (F.left info_opened) (F.left info_ended)
+        (option_map F.left tree_opened) (option_map F.left tree_ended)
+        (option_map F.left log_opened) (option_map F.left log_ended) written0 written1)
+    pub failed : (outcome ≡ Err Read)
+        ↔ ((F.is_failed info_ended ≡ true)
+        ⊎ ((has_failed (option_map F.is_failed tree_ended) ≡ true)
+        ⊎ (has_failed (option_map F.is_failed log_ended) ≡ true)))
+
+  -- the order `signatures`, by what the receipts mean: the info is opened, then the tree, and then the log
+  abbrev pub CarriesSignatures : Meaning → List ℕ → Option (List ℕ) → Option (List ℕ)
+      → Option (List ℕ) → Option (List ℕ) → Outcome → Type 0
+  CarriesSignatures G info tree log written0 written1 outcome =
+      CannotOpen F info written0 written1 outcome
+      ⊎ ((Opens F info × CannotOpenNamed F tree written0 written1 outcome)
+      ⊎ ((Opens F info × OpensNamed F tree × CannotOpenNamed F log written0 written1 outcome)
+      ⊎ RunsSignatures G info tree log written0 written1 outcome))
+
+  -- the report `check` of a file of this name
+  pub record RunsCheck (k : CheckKind) (name : List ℕ) (written0 written1 : Option (List ℕ))
+      (outcome : Outcome) : Type 0 where
+    pub opened : File
+    pub ended : File
+    pub given : F.gives name opened
+    pub checked : IfOk outcome (Checks k (F.left opened) (F.left ended) written0 written1)
+    pub part : OnErr outcome (ChecksPart k (F.left opened) (F.left ended) written0 written1)
+    pub memory : outcome ≡ Err Memory → Appends written0 written1 []
+    pub failed : (outcome ≡ Err Read) ↔ (F.is_failed ended ≡ true)
+
+  -- the order `check`
+  abbrev pub CarriesCheck : CheckKind → List ℕ → Option (List ℕ) → Option (List ℕ) → Outcome
+      → Type 0
+  CarriesCheck k name written0 written1 outcome =
+      CannotOpen F name written0 written1 outcome ⊎ RunsCheck k name written0 written1 outcome
+
+  -- an order was carried out
+  abbrev pub CarriesOut : Order → Option (List ℕ) → Option (List ℕ) → Outcome → Type 0
+  CarriesOut (Show k name) written0 written1 outcome = CarriesShow k name written0 written1 outcome
+  CarriesOut (ValidateTree context tree c) written0 written1 outcome =
+      IsJudgedBy F c (λ G. CarriesValidateTree G context tree written0 written1 outcome)
+      written0 written1 outcome
+  CarriesOut (Validate info tree c) written0 written1 outcome =
+      IsJudgedBy F c (λ G. CarriesValidate G info tree written0 written1 outcome)
+      written0 written1 outcome
+  CarriesOut (Replay info tree log c) written0 written1 outcome =
+      IsJudgedBy F c (λ G. CarriesReplay G info tree log written0 written1 outcome)
+      written0 written1 outcome
+  CarriesOut (Signatures info tree log c) written0 written1 outcome =
+      IsJudgedBy F c (λ G. CarriesSignatures G info tree log written0 written1 outcome)
+      written0 written1 outcome
+  CarriesOut (Check k name) written0 written1 outcome =
+      CarriesCheck k name written0 written1 outcome

@@ -7,6 +7,7 @@ mod file_name;
 mod files;
 mod judge;
 mod order;
+mod order_words;
 mod program;
 mod progress;
 mod read_judge;
@@ -19,6 +20,7 @@ pub use mls_report::{
     run_unreadable_receipts, run_validate, run_validate_tree, status_of,
 };
 pub use mls_vectors::{CheckKind, run_check};
-pub use order::{Checker, Order, OrderFault, order_of};
+pub use order::{Checker, Order, OrderFault};
+pub use order_words::order_of;
 pub use program::{run_fault, run_program};
 pub use progress::Progress;

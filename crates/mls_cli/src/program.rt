@@ -7,7 +7,8 @@ ghost use Rattle.mls_cli.specs.Program as program;
 
 use crate::carry::carry_out;
 use crate::files::Files;
-use crate::order::{Order, OrderFault, order_of};
+use crate::order::{Order, OrderFault};
+use crate::order_words::order_of;
 use mls_report::{RunFault, Verdict, status_of, write_text};
 use mls_wire::{Sink, write_all};
 use std::alloc::Global;

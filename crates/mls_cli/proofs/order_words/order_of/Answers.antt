@@ -6,7 +6,7 @@ use Rattle.clap.specs.declared.error.kind.ErrorKind.{ErrorKind}
 use Rattle.clap.proofs.OnLiterals.{clap_on_literals}
 use Rattle.mls_cli.specs.Commands.{mlscheck_app}
 use Rattle.mls_cli.specs.Orders.{IsGiven, IsUsage}
-use Rattle.mls_cli.proofs.order.order_of.Goals as goal
+use Rattle.mls_cli.proofs.order_words.order_of.Goals as goal
 
 -- the program's command is one whose matches and refusals clap gives as functions of the words
 app_is_simple : is_simple mlscheck_app ≡ true

@@ -2,7 +2,7 @@ use Rattle.std.proofs.Common.{◌≡◌, Option, Some, None, refl}
 use Rattle.std.specs.Prelude.{List, option_map}
 use Rattle.clap.specs.Words.{Text, Row}
 use Rattle.clap.specs.declared.parser.matches.ArgMatches.TheViews.{out-ArgMatches}
-use Rattle.mls_cli.proofs.order.subcommand.Goals as goal
+use Rattle.mls_cli.proofs.order_words.subcommand.Goals as goal
 
 -- what has the same name and the same rows is the same
 same_pair : {A B : Type 0} (r : Option A) (s : Option B) (f : A → Text) (g : A → List Row) (h : B → Text × List Row)

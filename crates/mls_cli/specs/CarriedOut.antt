@@ -5,8 +5,10 @@ use Rattle.mls_check.specs.Signatures.{Meaning}
 use Rattle.mls_cli.specs.Files.{Opener, Opens, OpensNamed, IsOpened, CannotOpen, CannotOpenNamed}
 use Rattle.mls_cli.specs.Judges.{IsJudgedBy}
 use Rattle.mls_cli.specs.Outcome.{Outcome}
+use Rattle.mls_cli.specs.declared.order.JudgedReport.{JudgedReport}
+use Rattle.mls_cli.specs.declared.order.JudgedReport.TheVariants.{ValidateTree, Validate, Replay, Signatures}
 use Rattle.mls_cli.specs.declared.order.Order.{Order}
-use Rattle.mls_cli.specs.declared.order.Order.TheVariants.{Show, ValidateTree, Validate, Replay, Signatures, Check}
+use Rattle.mls_cli.specs.declared.order.Order.TheVariants.{Show, Judged, Check}
 use Rattle.mls_report.specs.Replay.{Replays, ReplaysPart}
 use Rattle.mls_report.specs.Show.{Shows, ShowsPart}
 use Rattle.mls_report.specs.Signatures.{SignaturesPart}
@@ -171,20 +173,23 @@ module _ {File : Type 0} (F : Opener File) where
   CarriesCheck k name written0 written1 outcome =
       CannotOpen F name written0 written1 outcome ⊎ RunsCheck k name written0 written1 outcome
 
+  -- a report was carried out by what one means who judges signatures
+  abbrev pub CarriesReport : Meaning → JudgedReport → Option (List ℕ) → Option (List ℕ) → Outcome
+      → Type 0
+  CarriesReport G (ValidateTree context tree) written0 written1 outcome =
+      CarriesValidateTree G context tree written0 written1 outcome
+  CarriesReport G (Validate info tree) written0 written1 outcome =
+      CarriesValidate G info tree written0 written1 outcome
+  CarriesReport G (Replay info tree log) written0 written1 outcome =
+      CarriesReplay G info tree log written0 written1 outcome
+  CarriesReport G (Signatures info tree log) written0 written1 outcome =
+      CarriesSignatures G info tree log written0 written1 outcome
+
   -- an order was carried out
   abbrev pub CarriesOut : Order → Option (List ℕ) → Option (List ℕ) → Outcome → Type 0
   CarriesOut (Show k name) written0 written1 outcome = CarriesShow k name written0 written1 outcome
-  CarriesOut (ValidateTree context tree c) written0 written1 outcome =
-      IsJudgedBy F c (λ G. CarriesValidateTree G context tree written0 written1 outcome)
-      written0 written1 outcome
-  CarriesOut (Validate info tree c) written0 written1 outcome =
-      IsJudgedBy F c (λ G. CarriesValidate G info tree written0 written1 outcome)
-      written0 written1 outcome
-  CarriesOut (Replay info tree log c) written0 written1 outcome =
-      IsJudgedBy F c (λ G. CarriesReplay G info tree log written0 written1 outcome)
-      written0 written1 outcome
-  CarriesOut (Signatures info tree log c) written0 written1 outcome =
-      IsJudgedBy F c (λ G. CarriesSignatures G info tree log written0 written1 outcome)
+  CarriesOut (Judged report c) written0 written1 outcome =
+      IsJudgedBy F c (λ G. CarriesReport G report written0 written1 outcome)
       written0 written1 outcome
   CarriesOut (Check k name) written0 written1 outcome =
       CarriesCheck k name written0 written1 outcome

@@ -8,6 +8,8 @@ use Rattle.mls_vectors.specs.declared.check.CheckKind.{CheckKind}
 use Rattle.mls_vectors.specs.declared.check.CheckKind.TheVariants as checks
 use Rattle.mls_cli.specs.declared.order.Checker.{Checker}
 use Rattle.mls_cli.specs.declared.order.Checker.TheVariants as checker
+use Rattle.mls_cli.specs.declared.order.JudgedReport.{JudgedReport}
+use Rattle.mls_cli.specs.declared.order.JudgedReport.TheVariants as report
 use Rattle.mls_cli.specs.declared.order.Order.{Order}
 use Rattle.mls_cli.specs.declared.order.Order.TheVariants as order
 use Rattle.mls_cli.specs.declared.order.OrderFault.{OrderFault}
@@ -76,20 +78,24 @@ IsSignatures rows info tree log c =
     (first_of (codes "info") rows ≡ Some info) × (first_of (codes "tree") rows ≡ tree)
     × (first_of (codes "log") rows ≡ log) × IsCover (first_of (codes "receipts") rows) c
 
+-- the report is what clap found, and so is who judges signatures in it
+abbrev pub IsJudgedReport : Option (Text × List Row) → JudgedReport → Checker → Type 0
+IsJudgedReport found (report.ValidateTree context tree) c =
+    (rows : List Row) × (found ≡ Some (codes "validate-tree", rows))
+    × IsValidateTree rows context tree c
+IsJudgedReport found (report.Validate info tree) c =
+    (rows : List Row) × (found ≡ Some (codes "validate", rows)) × IsValidate rows info tree c
+IsJudgedReport found (report.Replay info tree log) c =
+    (rows : List Row) × (found ≡ Some (codes "replay", rows)) × IsReplay rows info tree log c
+IsJudgedReport found (report.Signatures info tree log) c =
+    (rows : List Row) × (found ≡ Some (codes "signatures", rows))
+    × IsSignatures rows info tree log c
+
 -- the order is what clap found: a subcommand's name, and the values of its arguments
 abbrev pub IsOrder : Option (Text × List Row) → Order → Type 0
 IsOrder found (order.Show k file) =
     (rows : List Row) × (found ≡ Some (codes "show", rows)) × IsShow rows k file
-IsOrder found (order.ValidateTree context tree c) =
-    (rows : List Row) × (found ≡ Some (codes "validate-tree", rows))
-    × IsValidateTree rows context tree c
-IsOrder found (order.Validate info tree c) =
-    (rows : List Row) × (found ≡ Some (codes "validate", rows)) × IsValidate rows info tree c
-IsOrder found (order.Replay info tree log c) =
-    (rows : List Row) × (found ≡ Some (codes "replay", rows)) × IsReplay rows info tree log c
-IsOrder found (order.Signatures info tree log c) =
-    (rows : List Row) × (found ≡ Some (codes "signatures", rows))
-    × IsSignatures rows info tree log c
+IsOrder found (order.Judged r c) = IsJudgedReport found r c
 IsOrder found (order.Check k file) =
     (rows : List Row) × (found ≡ Some (codes "check", rows)) × IsCheck rows k file
 

@@ -1,7 +1,7 @@
 //! Carrying out an order: the files that it names are opened, and its report is made of them.
 
 ghost use Rattle.std.specs.Prelude.{◌≡◌, ◌↔◌, ◌⊎◌, false, true, None, Err, option_map, IfSome};
-ghost use Rattle.mls_cli.specs.CarriedOut.{CarriesOut, CarriesShow, CarriesValidateTree, CarriesValidate, CarriesReplay, CarriesSignatures, CarriesCheck};
+ghost use Rattle.mls_cli.specs.CarriedOut.{CarriesOut, CarriesReport, CarriesShow, CarriesValidateTree, CarriesValidate, CarriesReplay, CarriesSignatures, CarriesCheck};
 ghost use Rattle.mls_cli.specs.Files.{opener, IsOpened, LacksNamed};
 ghost use Rattle.mls_cli.specs.Judges.{judge_meaning, IsJudgedBy, EndsUnread, EndsRefused};
 ghost use Rattle.mls_report.specs.Starting.{has_failed};
@@ -10,7 +10,7 @@ ghost use Rattle.mls_cli.specs.Judging.{IsJudgeFault};
 use crate::file_name::FileName;
 use crate::files::Files;
 use crate::judge::{Judge, JudgeFault};
-use crate::order::{Checker, Order};
+use crate::order::{Checker, JudgedReport, Order};
 use crate::read_judge::read_judge;
 use mls_report::{
     RunFault, ShowKind, Verdict, run_replay, run_show, run_signatures, run_unreadable_receipts,
@@ -206,36 +206,38 @@ fn refuse<F: Files, K: Sink>(
     }
 }
 
-/// Says whether a tree is that of a group context, and its leaves are members, by whom the order names.
-fn validate_tree_as_ordered<F: Files, K: Sink>(
+/// Carries out a report by who judges signatures.
+fn report_by<F: Files, K: Sink>(
     alloc: Global,
-    context: &FileName,
-    tree: &FileName,
-    checker: &Checker,
+    report: &JudgedReport,
     files: &F,
+    judge: Judge,
     out: &mut K,
 ) -> Result<Verdict, RunFault>
     requires { K.is_failed out.old ≡ false }
-    ensures carried { IsJudgedBy
+    ensures carried { CarriesReport
         (opener (F.gives files.now) (F.lacks files.now) F.File.left F.File.is_failed)
-        checker.now
-        (λ G. CarriesValidateTree
-        (opener (F.gives files.now) (F.lacks files.now) F.File.left F.File.is_failed)
-        G context.now tree.now (K.written out.old) (K.written out.new) result)
-        (K.written out.old) (K.written out.new) result }
+        (judge_meaning judge) report.now (K.written out.old) (K.written out.new) result }
     ensures write { (result ≡ Err RunFault.Write) ↔ (K.is_failed out.new ≡ true) }
 {
-    match read_judge(alloc, checker, files) {
-        Ok(judge) => validate_tree(alloc, context, tree, files, &judge, out),
-        Err(fault) => refuse(alloc, checker, files, fault, out),
+    match report {
+        JudgedReport::ValidateTree { context, tree } => {
+            validate_tree(alloc, context, tree, files, &judge, out)
+        }
+        JudgedReport::Validate { info, tree } => validate(alloc, info, tree, files, judge, out),
+        JudgedReport::Replay { info, tree, log } => {
+            replay(alloc, info, tree, log, files, judge, out)
+        }
+        JudgedReport::Signatures { info, tree, log } => {
+            signatures(alloc, info, tree, log, files, &judge, out)
+        }
     }
 }
 
-/// Says whether a group is in order as its info shows it, by whom the order names.
-fn validate_as_ordered<F: Files, K: Sink>(
+/// Carries out a report by whom the order names, or says why nobody judges signatures.
+fn judged<F: Files, K: Sink>(
     alloc: Global,
-    info: &FileName,
-    tree: &Option<FileName>,
+    report: &JudgedReport,
     checker: &Checker,
     files: &F,
     out: &mut K,
@@ -244,66 +246,14 @@ fn validate_as_ordered<F: Files, K: Sink>(
     ensures carried { IsJudgedBy
         (opener (F.gives files.now) (F.lacks files.now) F.File.left F.File.is_failed)
         checker.now
-        (λ G. CarriesValidate
+        (λ G. CarriesReport
         (opener (F.gives files.now) (F.lacks files.now) F.File.left F.File.is_failed)
-        G info.now tree.now (K.written out.old) (K.written out.new) result)
+        G report.now (K.written out.old) (K.written out.new) result)
         (K.written out.old) (K.written out.new) result }
     ensures write { (result ≡ Err RunFault.Write) ↔ (K.is_failed out.new ≡ true) }
 {
     match read_judge(alloc, checker, files) {
-        Ok(judge) => validate(alloc, info, tree, files, judge, out),
-        Err(fault) => refuse(alloc, checker, files, fault, out),
-    }
-}
-
-/// Follows a group from its info through a log of handshakes, by whom the order names.
-fn replay_as_ordered<F: Files, K: Sink>(
-    alloc: Global,
-    info: &FileName,
-    tree: &Option<FileName>,
-    log: &FileName,
-    checker: &Checker,
-    files: &F,
-    out: &mut K,
-) -> Result<Verdict, RunFault>
-    requires { K.is_failed out.old ≡ false }
-    ensures carried { IsJudgedBy
-        (opener (F.gives files.now) (F.lacks files.now) F.File.left F.File.is_failed)
-        checker.now
-        (λ G. CarriesReplay
-        (opener (F.gives files.now) (F.lacks files.now) F.File.left F.File.is_failed)
-        G info.now tree.now log.now (K.written out.old) (K.written out.new) result)
-        (K.written out.old) (K.written out.new) result }
-    ensures write { (result ≡ Err RunFault.Write) ↔ (K.is_failed out.new ≡ true) }
-{
-    match read_judge(alloc, checker, files) {
-        Ok(judge) => replay(alloc, info, tree, log, files, judge, out),
-        Err(fault) => refuse(alloc, checker, files, fault, out),
-    }
-}
-
-/// Prints which signatures a group's start and its handshakes want, but for those that the receipts list.
-fn signatures_as_ordered<F: Files, K: Sink>(
-    alloc: Global,
-    info: &FileName,
-    tree: &Option<FileName>,
-    log: &Option<FileName>,
-    checker: &Checker,
-    files: &F,
-    out: &mut K,
-) -> Result<Verdict, RunFault>
-    requires { K.is_failed out.old ≡ false }
-    ensures carried { IsJudgedBy
-        (opener (F.gives files.now) (F.lacks files.now) F.File.left F.File.is_failed)
-        checker.now
-        (λ G. CarriesSignatures
-        (opener (F.gives files.now) (F.lacks files.now) F.File.left F.File.is_failed)
-        G info.now tree.now log.now (K.written out.old) (K.written out.new) result)
-        (K.written out.old) (K.written out.new) result }
-    ensures write { (result ≡ Err RunFault.Write) ↔ (K.is_failed out.new ≡ true) }
-{
-    match read_judge(alloc, checker, files) {
-        Ok(judge) => signatures(alloc, info, tree, log, files, &judge, out),
+        Ok(judge) => report_by(alloc, report, files, judge, out),
         Err(fault) => refuse(alloc, checker, files, fault, out),
     }
 }
@@ -333,28 +283,7 @@ pub fn carry_out<F: Files, K: Sink>(
 {
     match order {
         Order::Show { kind, file } => show(alloc, *kind, file, files, out),
-        Order::ValidateTree {
-            context,
-            tree,
-            checker,
-        } => validate_tree_as_ordered(alloc, context, tree, checker, files, out),
-        Order::Validate {
-            info,
-            tree,
-            checker,
-        } => validate_as_ordered(alloc, info, tree, checker, files, out),
-        Order::Replay {
-            info,
-            tree,
-            log,
-            checker,
-        } => replay_as_ordered(alloc, info, tree, log, checker, files, out),
-        Order::Signatures {
-            info,
-            tree,
-            log,
-            checker,
-        } => signatures_as_ordered(alloc, info, tree, log, checker, files, out),
+        Order::Judged { report, checker } => judged(alloc, report, checker, files, out),
         Order::Check { kind, file } => check(alloc, *kind, file, files, out),
     }
 }

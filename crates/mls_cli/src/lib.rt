@@ -20,7 +20,7 @@ pub use mls_report::{
     run_unreadable_receipts, run_validate, run_validate_tree, status_of,
 };
 pub use mls_vectors::{CheckKind, run_check};
-pub use order::{Checker, Order, OrderFault};
+pub use order::{Checker, JudgedReport, Order, OrderFault};
 pub use order_words::order_of;
 pub use program::{run_fault, run_program};
 pub use progress::Progress;

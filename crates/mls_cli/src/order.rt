@@ -20,6 +20,43 @@ pub enum Checker {
     Nobody,
 }
 
+/// A report that asks who judges signatures.
+#[derive(Debug, Drop)]
+pub enum JudgedReport {
+    /// `validate-tree`: say whether a tree is that of a group context, and its leaves are members.
+    ValidateTree {
+        /// The file of the group context.
+        context: FileName,
+        /// The file of the ratchet tree.
+        tree: FileName,
+    },
+    /// `validate`: say whether a group is in order as its info shows it.
+    Validate {
+        /// The file of the group info.
+        info: FileName,
+        /// The file of the ratchet tree, where one is named.
+        tree: Option<FileName>,
+    },
+    /// `replay`: follow a group from its info through a log of handshakes.
+    Replay {
+        /// The file of the group info.
+        info: FileName,
+        /// The file of the ratchet tree, where one is named.
+        tree: Option<FileName>,
+        /// The file of the log.
+        log: FileName,
+    },
+    /// `signatures`: print which signatures a group's start and its handshakes want.
+    Signatures {
+        /// The file of the group info.
+        info: FileName,
+        /// The file of the ratchet tree, where one is named.
+        tree: Option<FileName>,
+        /// The file of the log, where one is named.
+        log: Option<FileName>,
+    },
+}
+
 /// What the program is to do.
 #[derive(Debug, Drop)]
 pub enum Order {
@@ -30,44 +67,11 @@ pub enum Order {
         /// The file.
         file: FileName,
     },
-    /// `validate-tree`: say whether a tree is that of a group context, and its leaves are members.
-    ValidateTree {
-        /// The file of the group context.
-        context: FileName,
-        /// The file of the ratchet tree.
-        tree: FileName,
-        /// Who judges signatures.
-        checker: Checker,
-    },
-    /// `validate`: say whether a group is in order as its info shows it.
-    Validate {
-        /// The file of the group info.
-        info: FileName,
-        /// The file of the ratchet tree, where one is named.
-        tree: Option<FileName>,
-        /// Who judges signatures.
-        checker: Checker,
-    },
-    /// `replay`: follow a group from its info through a log of handshakes.
-    Replay {
-        /// The file of the group info.
-        info: FileName,
-        /// The file of the ratchet tree, where one is named.
-        tree: Option<FileName>,
-        /// The file of the log.
-        log: FileName,
-        /// Who judges signatures.
-        checker: Checker,
-    },
-    /// `signatures`: print which signatures a group's start and its handshakes want.
-    Signatures {
-        /// The file of the group info.
-        info: FileName,
-        /// The file of the ratchet tree, where one is named.
-        tree: Option<FileName>,
-        /// The file of the log, where one is named.
-        log: Option<FileName>,
-        /// Whose signatures are left out, being good: those that the receipts list, or none.
+    /// `validate-tree`, `validate`, `replay` or `signatures`.
+    Judged {
+        /// Which of them, and its files.
+        report: JudgedReport,
+        /// Who judges signatures. `signatures` leaves out those that are good: those that the receipts list, or none.
         checker: Checker,
     },
     /// `check KIND FILE`: say which test vectors of a file agree with this library.

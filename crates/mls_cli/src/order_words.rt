@@ -8,7 +8,7 @@ ghost use Rattle.mls_cli.specs.Orders as specs;
 
 use crate::command::mlscheck_command;
 use crate::file_name::FileName;
-use crate::order::{Checker, Order, OrderFault};
+use crate::order::{Checker, JudgedReport, Order, OrderFault};
 use clap::error::ErrorKind;
 use clap::{ArgMatches, Error};
 use mls_report::ShowKind;
@@ -143,11 +143,8 @@ fn validate_tree_order(alloc: Global, matches: &ArgMatches<'_>) -> Result<Order,
     let checker = chosen_checker(alloc, matches)?;
     let context = file_of(alloc, matches, "context")?;
     let tree = file_of(alloc, matches, "tree")?;
-    Ok(Order::ValidateTree {
-        context,
-        tree,
-        checker,
-    })
+    let report = JudgedReport::ValidateTree { context, tree };
+    Ok(Order::Judged { report, checker })
 }
 
 /// The order of `validate`.
@@ -161,11 +158,8 @@ fn validate_order(alloc: Global, matches: &ArgMatches<'_>) -> Result<Order, Orde
     let checker = chosen_checker(alloc, matches)?;
     let info = file_of(alloc, matches, "info")?;
     let tree = optional_file_of(alloc, matches, "tree")?;
-    Ok(Order::Validate {
-        info,
-        tree,
-        checker,
-    })
+    let report = JudgedReport::Validate { info, tree };
+    Ok(Order::Judged { report, checker })
 }
 
 /// The order of `replay`.
@@ -180,12 +174,8 @@ fn replay_order(alloc: Global, matches: &ArgMatches<'_>) -> Result<Order, OrderF
     let info = file_of(alloc, matches, "info")?;
     let tree = optional_file_of(alloc, matches, "tree")?;
     let log = file_of(alloc, matches, "log")?;
-    Ok(Order::Replay {
-        info,
-        tree,
-        log,
-        checker,
-    })
+    let report = JudgedReport::Replay { info, tree, log };
+    Ok(Order::Judged { report, checker })
 }
 
 /// Whose signatures are left out: those that the receipts list, where they are given.
@@ -210,12 +200,8 @@ fn signatures_order(alloc: Global, matches: &ArgMatches<'_>) -> Result<Order, Or
     let tree = optional_file_of(alloc, matches, "tree")?;
     let log = optional_file_of(alloc, matches, "log")?;
     let checker = cover(alloc, matches)?;
-    Ok(Order::Signatures {
-        info,
-        tree,
-        log,
-        checker,
-    })
+    let report = JudgedReport::Signatures { info, tree, log };
+    Ok(Order::Judged { report, checker })
 }
 
 /// The kind that `check` is given.

@@ -2,8 +2,8 @@
 
 use crate::support::expect_text;
 use mls_cli::{
-    CheckKind, Checker, FileName, Order, OrderFault, RunFault, ShowKind, Verdict, order_of,
-    status_of,
+    CheckKind, Checker, FileName, JudgedReport, Order, OrderFault, RunFault, ShowKind, Verdict,
+    order_of, status_of,
 };
 use std::alloc::Global;
 use std::test::Fail;
@@ -35,6 +35,34 @@ fn name_of(file: &Option<FileName>) -> &str {
     }
 }
 
+/// A report that asks who judges signatures in words: what is to be done, the files, and the file of receipts.
+fn words_of_report(alloc: Global, report: &JudgedReport, receipts: &str) -> Result<String, Fail> {
+    match report {
+        JudgedReport::ValidateTree { context, tree } => Ok(format!(in alloc;
+            "validate {} {} {receipts}",
+            context.as_str(),
+            tree.as_str()
+        )?),
+        JudgedReport::Validate { info, tree } => Ok(format!(in alloc;
+            "start {} {} {receipts}",
+            info.as_str(),
+            name_of(tree)
+        )?),
+        JudgedReport::Replay { info, tree, log } => Ok(format!(in alloc;
+            "replay {} {} {} {receipts}",
+            info.as_str(),
+            name_of(tree),
+            log.as_str()
+        )?),
+        JudgedReport::Signatures { info, tree, log } => Ok(format!(in alloc;
+            "signatures {} {} {} {receipts}",
+            info.as_str(),
+            name_of(tree),
+            name_of(log)
+        )?),
+    }
+}
+
 /// An order in words: what is to be done, the files, and the file of receipts.
 fn words_of(alloc: Global, order: &Order) -> Result<String, Fail> {
     match order {
@@ -46,50 +74,7 @@ fn words_of(alloc: Global, order: &Order) -> Result<String, Fail> {
             };
             Ok(format!(in alloc; "show {kind} {}", file.as_str())?)
         }
-        Order::ValidateTree {
-            context,
-            tree,
-            checker,
-        } => Ok(format!(in alloc;
-            "validate {} {} {}",
-            context.as_str(),
-            tree.as_str(),
-            receipts_of(checker)
-        )?),
-        Order::Validate {
-            info,
-            tree,
-            checker,
-        } => Ok(format!(in alloc;
-            "start {} {} {}",
-            info.as_str(),
-            name_of(tree),
-            receipts_of(checker)
-        )?),
-        Order::Replay {
-            info,
-            tree,
-            log,
-            checker,
-        } => Ok(format!(in alloc;
-            "replay {} {} {} {}",
-            info.as_str(),
-            name_of(tree),
-            log.as_str(),
-            receipts_of(checker)
-        )?),
-        Order::Signatures {
-            info,
-            tree,
-            log,
-            checker,
-        } => Ok(format!(in alloc;
-            "signatures {} {} {} {}",
-            info.as_str(),
-            name_of(tree),
-            name_of(log),
-            receipts_of(checker)
-        )?),
+        Order::Judged { report, checker } => words_of_report(alloc, report, receipts_of(checker)),
         Order::Check { kind, file } => {
             let kind = match kind {
                 CheckKind::TreeMath => "math",

@@ -2,8 +2,9 @@
 
 use crate::support::{expect_text, list_text, path_tree, put_parent, tree_of, tree_text};
 use mls_nodes::encode_ratchet_tree;
-use mls_tree::{PublicTree, left, level, parent, right, root, sibling};
+use mls_tree::{HashKind, PublicTree, left, level, parent, right, root, sibling};
 use std::alloc::Global;
+use std::collections::BTreeSet;
 use std::test::Fail;
 
 #[test]
@@ -74,6 +75,70 @@ fn paths_and_resolutions(rt: HostRuntime) -> Result<(), Fail> {
             put_parent(alloc, &mut tree, 5, 0xd5, "", unmerged)?;
         }
         expect_text(&rt, list_of(alloc, asked, &tree, *index)?, wanted);
+    }
+    Ok(())
+}
+
+/// Whether the resolution of the node at a place has so many places beside these, or why there is none.
+fn length_text(
+    alloc: Global,
+    tree: &PublicTree,
+    place: u32,
+    without: &[u64],
+    len: usize,
+) -> Result<String, Fail> {
+    let mut left_out = BTreeSet::new(alloc);
+    for other in without {
+        left_out.insert(*other)?;
+    }
+    match tree.has_resolution_len(place, &left_out, len) {
+        Ok(answer) => Ok(format!(in alloc; "{answer}")?),
+        Err(error) => Ok(format!(in alloc; "{error}")?),
+    }
+}
+
+/// Of eight leaves, of which the first four are set, under one set parent, at place 5 and with an unmerged leaf, by the
+/// nodes alone and by the counts that are kept with hashes. The root's resolution is `[0, 2, 5, 6]`.
+#[test]
+fn resolution_lengths(rt: HostRuntime) -> Result<(), Fail> {
+    let alloc = rt.alloc();
+    const ROWS: &[(u32, &[u64], usize, &str)] = &[
+        (1, &[], 1, "false"),
+        (1, &[], 2, "true"),
+        (1, &[], 3, "false"),
+        (1, &[0, 2], 0, "true"),
+        (5, &[], 1, "false"),
+        (5, &[], 2, "true"),
+        (5, &[4], 2, "true"),
+        (5, &[5], 1, "true"),
+        (5, &[6], 0, "false"),
+        (5, &[6], 1, "true"),
+        (5, &[6], 2, "false"),
+        (6, &[], 1, "true"),
+        (7, &[], 4, "true"),
+        (7, &[0, 6, 8], 1, "false"),
+        (7, &[0, 6, 8], 2, "true"),
+        (7, &[0, 6, 8], 3, "false"),
+        (8, &[], 0, "true"),
+        (11, &[], 0, "true"),
+        (11, &[], 1, "false"),
+        (15, &[], 0, "the tree has no such node"),
+    ];
+    let mut tree = tree_of(alloc, 8, &[0, 1, 2, 3])?;
+    put_parent(alloc, &mut tree, 5, 0xd5, "", &[3])?;
+    let mut counted = tree.try_clone(alloc)?;
+    counted.reserve_hashes(alloc, HashKind::Sha256)?;
+    for (place, without, len, wanted) in ROWS {
+        expect_text(
+            &rt,
+            length_text(alloc, &tree, *place, without, *len)?,
+            wanted,
+        );
+        expect_text(
+            &rt,
+            length_text(alloc, &counted, *place, without, *len)?,
+            wanted,
+        );
     }
     Ok(())
 }

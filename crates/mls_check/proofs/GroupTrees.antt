@@ -9,8 +9,6 @@ use Rattle.mls_check.specs.GroupTree.{IsFollowed, HasTree, IsReadable, HasValidT
 use Rattle.mls_check.specs.Members.{Members, IsMemberFault}
 use Rattle.mls_check.specs.Signatures.{Meaning}
 use Rattle.mls_check.specs.Valid.{Valid, IsFirstTreeFault}
-use Rattle.mls_check.specs.declared.group_tree.GroupTreeFault.{GroupTreeFault}
-use Rattle.mls_check.specs.declared.group_tree.GroupTreeFault.TheVariants as faults
 use Rattle.mls_check.specs.declared.members.MemberFault.{MemberFault}
 use Rattle.mls_check.specs.declared.members.MemberFault.TheVariants as members
 use Rattle.mls_check.specs.declared.valid.TreeFault.{TreeFault}

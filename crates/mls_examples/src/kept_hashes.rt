@@ -179,6 +179,14 @@ pub(crate) fn accept_all<C: SignatureCheck>(
     Ok(said)
 }
 
+/// What a new follower says of messages that have to be accepted.
+fn accepted(alloc: Global, messages: &[&str]) -> Result<String, Fail> {
+    let mut follower = started(alloc, Trusting, GROUP_INFO)?;
+    let said = accept_all(alloc, &mut follower, messages);
+    drop(follower);
+    said
+}
+
 /// After a commit without a path, one with a path, one that adds a member beside a path, and a lone member's path
 /// without nodes.
 #[test]
@@ -191,16 +199,10 @@ fn followers_keep_each_hash(rt: HostRuntime) -> Result<(), Fail> {
     let alone = member_commit(alloc, 0, "", Some(("8", "0300", "")))?;
     let two = "proposal 419afc0a88fe171b793b00410d11c8121fb96fdfde7b5ced43d5912144a3a9f9; \
         commit 1; commit 2";
-    let rows: [(&[&str], &str); 3] = [
-        (&[PROPOSAL, COMMIT, renewed.as_str()], two),
-        (&[PROPOSAL, COMMIT, grown.as_str()], two),
-        (&[alone.as_str()], "commit 1"),
-    ];
-    for (messages, wanted) in &rows {
-        let mut follower = started(alloc, Trusting, GROUP_INFO)?;
-        let said = accept_all(alloc, &mut follower, messages);
-        drop(follower);
-        expect_text(&rt, said?, wanted);
-    }
+    let found = accepted(alloc, &[PROPOSAL, COMMIT, renewed.as_str()])?;
+    expect_text(&rt, found, two);
+    let found = accepted(alloc, &[PROPOSAL, COMMIT, grown.as_str()])?;
+    expect_text(&rt, found, two);
+    expect_text(&rt, accepted(alloc, &[alone.as_str()])?, "commit 1");
     Ok(())
 }

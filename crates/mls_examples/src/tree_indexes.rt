@@ -50,7 +50,11 @@ fn updated(alloc: Global, is_accepted: bool) -> Result<String, Fail> {
     let mut index = TreeIndex::of(alloc, &tree)?;
     let mut journal = Journal::new(alloc);
     let leaf = updated_leaf(alloc, 1)?;
-    journal.set_leaf(&mut tree, 1, Some(leaf_node(alloc, leaf.as_str())?))?;
+    let leaf = leaf_node(alloc, leaf.as_str())?;
+    if tree.leaf_count() < 2 {
+        return Err(Fail::from("a leaf 1"));
+    }
+    journal.set_leaf(&mut tree, 1, Some(leaf))?;
     index.enter(&tree, &[2])?;
     let entered = both(alloc, &index, &tree)?;
     if is_accepted {

@@ -1,4 +1,4 @@
--- What the steps of `signatures` ensure.
+-- What the steps of `signatures` ensure. For the code alone.
 use Rattle.std.specs.Prelude.{List, [], ℕ, Bool, Option, is_some, Result, ◌≡◌, ◌≢◌, ◌⊎◌}
 use Rattle.std.specs.Io.KnownBytes.{Appends}
 use Rattle.mls_wire.specs.Devices.{AppendsPrefix}

@@ -37,7 +37,7 @@ use std::mem;
 /// is right: each call that changes the tree empties the cells of the subtrees that it changes, and no other.
 ///
 /// A tree with cells also counts the leaves and the nodes set under each parent, and so tells its members, its blank leaves, a filtered
-/// direct path, how long a resolution is and whether its right half is empty without going through its nodes.
+/// direct path and whether its right half is empty without going through its nodes.
 #[derive(Debug, Drop)]
 pub struct PublicTree {
     tree: NodeArray,

@@ -1,4 +1,4 @@
--- Leaves that Updates and Removes concern, for a walk along a list of them.
+-- Leaves that are told of items, as those that Updates and Removes concern, for a walk along a list of them.
 use Rattle.std.proofs.Common.{◌≡◌, ◌≤◌, drop, ◌∙◌, ℕ, Bool, true, false, List, [], ◌∷◌, Option, Some, None, length, refl, sym, ap, arith, cond, BTreeSet}
 use Rattle.std.specs.Prelude.{◌==◌, ◌&&◌, ◌||◌, not}
 use Rattle.std.specs.List.{list_any}
@@ -8,26 +8,17 @@ use Rattle.std.proofs.lemmas.Bool.{false≢true}
 use Rattle.std.proofs.lemmas.List.{drop_all}
 use Rattle.std.proofs.lemmas.Bool.Decides.{nat_tests}
 use Rattle.mls_apply.specs.declared.item.ListItem.{ListItem}
-use Rattle.mls_apply.specs.ListRules.{concerned_leaf, is_leaf_number, concerns, concern_once}
+use Rattle.mls_apply.specs.ListRules.{is_leaf_number, tells, tells_once}
 
--- whether a leaf is one of those that f tells
+-- whether a leaf is one of those of g
 abbrev pub is_told : (ℕ → Bool) → Option ℕ → Bool
-is_told f None = false
-is_told f (Some i) = f i
+is_told g None = false
+is_told g (Some i) = g i
 
--- no Update or Remove concerns one of these leaves
-abbrev pub are_apart : (ℕ → Bool) → List ListItem → Bool
-are_apart f [] = true
-are_apart f (x ∷ xs) = not (is_told f (concerned_leaf x.sender x.proposal)) && are_apart f xs
-
--- a list is apart from no leaves
-pub are_apart-none : (f : ℕ → Bool) → ((i : ℕ) → f i ≡ false) → (xs : List ListItem) → are_apart f xs ≡ true
-are_apart-none f h [] = refl
-are_apart-none f h (x ∷ xs) = go (concerned_leaf x.sender x.proposal) (are_apart-none f h xs)
-  where
-    go : (c : Option ℕ) → are_apart f xs ≡ true → (not (is_told f c) && are_apart f xs) ≡ true
-    go None e = e
-    go (Some i) e = ap (λ b. not b && are_apart f xs) (h i) ∙ e
+-- f tells none of these leaves
+abbrev pub are_apart : (ListItem → Option ℕ) → (ℕ → Bool) → List ListItem → Bool
+are_apart f g [] = true
+are_apart f g (x ∷ xs) = not (is_told g (f x)) && are_apart f g xs
 
 -- a leaf is told besides
 regrouped : (p q a c : Bool) → (not (p || q) && (a && not c)) ≡ ((not q && a) && not (p || c))
@@ -37,24 +28,67 @@ regrouped true false false c = refl
 regrouped false true a c = refl
 regrouped false false a c = refl
 
-pub are_apart-more : (f g : ℕ → Bool) (i : ℕ) → ((j : ℕ) → g j ≡ ((j == i) || f j)) → (xs : List ListItem)
-    → are_apart g xs ≡ (are_apart f xs && not (concerns xs (Some i)))
-are_apart-more f g i h [] = refl
-are_apart-more f g i h (x ∷ xs) = go (concerned_leaf x.sender x.proposal) (are_apart-more f g i h xs)
-  where
-    rest : Bool
-    rest = concerns xs (Some i)
+-- one test is made before another
+joined : (a b c : Bool) → (a && (b && c)) ≡ ((a && b) && c)
+joined true b c = refl
+joined false b c = refl
 
-    go : (c : Option ℕ) → are_apart g xs ≡ (are_apart f xs && not (concerns xs (Some i)))
-        → (not (is_told g c) && are_apart g xs) ≡ ((not (is_told f c) && are_apart f xs) && not (is_leaf_number c i || concerns xs (Some i)))
-    go None e = e
-    go (Some j) e =
-        ap (λ b. not b && are_apart g xs) (h j) ∙ ap (λ b. not ((j == i) || f j) && b) e
-        ∙ regrouped (j == i) (f j) (are_apart f xs) (concerns xs (Some i))
+module _ (f : ListItem → Option ℕ) where
+  -- a list is apart from no leaves
+  are_apart-none : (g : ℕ → Bool) → ((i : ℕ) → g i ≡ false) → (xs : List ListItem) → are_apart f g xs ≡ true
+  are_apart-none g h [] = refl
+  are_apart-none g h (x ∷ xs) = go (f x) (are_apart-none g h xs)
+    where
+      go : (c : Option ℕ) → are_apart f g xs ≡ true → (not (is_told g c) && are_apart f g xs) ≡ true
+      go None e = e
+      go (Some i) e = ap (λ b. not b && are_apart f g xs) (h i) ∙ e
 
--- ---- a walk along the list, with the set of the leaves that were concerned
+  are_apart-more : (g k : ℕ → Bool) (i : ℕ) → ((j : ℕ) → k j ≡ ((j == i) || g j)) → (xs : List ListItem)
+      → are_apart f k xs ≡ (are_apart f g xs && not (tells f xs (Some i)))
+  are_apart-more g k i h [] = refl
+  are_apart-more g k i h (x ∷ xs) = go (f x) (are_apart-more g k i h xs)
+    where
+      go : (c : Option ℕ) → are_apart f k xs ≡ (are_apart f g xs && not (tells f xs (Some i)))
+          → (not (is_told k c) && are_apart f k xs) ≡ ((not (is_told g c) && are_apart f g xs) && not (is_leaf_number c i || tells f xs (Some i)))
+      go None e = e
+      go (Some j) e =
+          ap (λ b. not b && are_apart f k xs) (h j) ∙ ap (λ b. not ((j == i) || g j) && b) e
+          ∙ regrouped (j == i) (g j) (are_apart f g xs) (tells f xs (Some i))
 
--- a set tells a leaf
+  -- ---- a walk along the list, with the leaves that were told before
+
+  pub once-start : (g : ℕ → Bool) → ((i : ℕ) → g i ≡ false) → (xs : List ListItem) → tells_once f xs ≡ (are_apart f g xs && tells_once f xs)
+  once-start g none xs = sym (ap (λ b. b && tells_once f xs) (are_apart-none g none xs))
+
+  module _ (whole : Bool) (g : ℕ → Bool) (x : ListItem) (xs : List ListItem)
+      (known : whole ≡ (are_apart f g (x ∷ xs) && tells_once f (x ∷ xs))) where
+    -- no leaf is told
+    pub once-none : f x ≡ None → whole ≡ (are_apart f g xs && tells_once f xs)
+    once-none e = known ∙ ap (λ c. (not (is_told g c) && are_apart f g xs) && (not (tells f xs c) && tells_once f xs)) e
+
+    -- a leaf that was told before
+    pub once-met : (i : ℕ) → f x ≡ Some i → g i ≡ true → whole ≡ false
+    once-met i e m =
+        known
+        ∙ ap (λ c. (not (is_told g c) && are_apart f g xs) && (not (tells f xs c) && tells_once f xs)) e
+        ∙ ap (λ b. (not b && are_apart f g xs) && (not (tells f xs (Some i)) && tells_once f xs)) m
+
+    -- another leaf
+    pub once-new : (k : ℕ → Bool) (i : ℕ) → f x ≡ Some i → g i ≡ false → ((j : ℕ) → k j ≡ ((j == i) || g j)) → whole ≡ (are_apart f k xs && tells_once f xs)
+    once-new k i e m h =
+        known
+        ∙ ap (λ c. (not (is_told g c) && are_apart f g xs) && (not (tells f xs c) && tells_once f xs)) e
+        ∙ ap (λ b. (not b && are_apart f g xs) && (not (tells f xs (Some i)) && tells_once f xs)) m
+        ∙ joined (are_apart f g xs) (not (tells f xs (Some i))) (tells_once f xs)
+        ∙ ap (λ b. b && tells_once f xs) (sym (are_apart-more g k i h xs))
+
+  -- at the end of the list
+  pub once-all : (xs : List ListItem) (i : ℕ) (g : ℕ → Bool) → tells_once f xs ≡ (are_apart f g (drop i xs) && tells_once f (drop i xs))
+      → length xs ≤ i → true ≡ tells_once f xs
+  once-all xs i g known past = sym (known ∙ ap (λ ys. are_apart f g ys && tells_once f ys) (drop_all i xs past))
+
+-- ---- the leaves of a set
+
 equal_numbers : (i j : ℕ) → is_eq (nat_cmp i j) ≡ (j == i)
 equal_numbers i j = grind (arith, nat_tests)
 
@@ -62,52 +96,20 @@ either : (b c : Bool) → cond b true c ≡ (b || c)
 either true c = refl
 either false c = refl
 
+-- an empty set has none
+pub set-none : (set : BTreeSet ℕ) → IsEmpty set → (i : ℕ) → contains nat_cmp set i ≡ false
+set-none set e i = ap (λ ks. list_any (λ x. is_eq (nat_cmp i x)) ks) e
+
+-- a leaf enters a set
+pub set-more : (g k : ℕ → Bool) (i : ℕ) → ((j : ℕ) → k j ≡ cond (is_eq (nat_cmp i j)) true (g j)) → (j : ℕ) → k j ≡ ((j == i) || g j)
+set-more g k i h j = h j ∙ either (is_eq (nat_cmp i j)) (g j) ∙ ap (λ b. b || g j) (equal_numbers i j)
+
 -- what an insertion into a set answers of a new number
 pub unmet : (a b : Bool) → a ≡ not b → a ≡ true → b ≡ false
 unmet a true e f = absurd (false≢true (sym e ∙ f))
 unmet a false e f = refl
 
-pub once-start : (set : BTreeSet ℕ) → IsEmpty set → (xs : List ListItem)
-    → concern_once xs ≡ (are_apart (contains nat_cmp set) xs && concern_once xs)
-once-start set e xs =
-    sym (ap (λ b. b && concern_once xs)
-    (are_apart-none (contains nat_cmp set) (λ i. ap (λ ks. list_any (λ x. is_eq (nat_cmp i x)) ks) e) xs))
-
-module _ (whole : Bool) (f : ℕ → Bool) (x : ListItem) (xs : List ListItem)
-    (known : whole ≡ (are_apart f (x ∷ xs) && concern_once (x ∷ xs))) where
-  -- an Add
-  pub once-none : concerned_leaf x.sender x.proposal ≡ None → whole ≡ (are_apart f xs && concern_once xs)
-  unfolding concern_once
-  once-none e =
-      known
-      ∙ ap (λ c. (not (is_told f c) && are_apart f xs) && (not (concerns xs c) && concern_once xs)) e
-
-  -- a leaf that was concerned before
-  pub once-met : (i : ℕ) → concerned_leaf x.sender x.proposal ≡ Some i → f i ≡ true → whole ≡ false
-  unfolding concern_once
-  once-met i e m =
-      known
-      ∙ ap (λ c. (not (is_told f c) && are_apart f xs) && (not (concerns xs c) && concern_once xs)) e
-      ∙ ap (λ b. (not b && are_apart f xs) && (not (concerns xs (Some i)) && concern_once xs)) m
-
-  -- another leaf
-  pub once-new : (g : ℕ → Bool) (i : ℕ) → concerned_leaf x.sender x.proposal ≡ Some i → f i ≡ false
-      → ((j : ℕ) → g j ≡ cond (is_eq (nat_cmp i j)) true (f j)) → whole ≡ (are_apart g xs && concern_once xs)
-  unfolding concern_once
-  once-new g i e m h =
-      known
-      ∙ ap (λ c. (not (is_told f c) && are_apart f xs) && (not (concerns xs c) && concern_once xs)) e
-      ∙ ap (λ b. (not b && are_apart f xs) && (not (concerns xs (Some i)) && concern_once xs)) m
-      ∙ joined (are_apart f xs) (not (concerns xs (Some i))) (concern_once xs)
-      ∙ ap (λ b. b && concern_once xs)
-      (sym (are_apart-more f g i (λ j. h j ∙ either (is_eq (nat_cmp i j)) (f j) ∙ ap (λ b. b || f j) (equal_numbers i j)) xs))
-    where
-      joined : (a b c : Bool) → (a && (b && c)) ≡ ((a && b) && c)
-      joined true b c = refl
-      joined false b c = refl
-
--- at the end of the list
-pub once-all : (xs : List ListItem) (i : ℕ) (f : ℕ → Bool) → concern_once xs ≡ (are_apart f (drop i xs) && concern_once (drop i xs))
-    → length xs ≤ i → true ≡ concern_once xs
-unfolding concern_once
-once-all xs i f known past = sym (known ∙ ap (λ ys. are_apart f ys && concern_once ys) (drop_all i xs past))
+-- and of one that is there
+pub met : (a b : Bool) → a ≡ not b → a ≡ false → b ≡ true
+met a true e f = refl
+met a false e f = absurd (false≢true (sym f ∙ e))

@@ -1,13 +1,14 @@
 -- The outcome of a list, in the steps that the code takes.
-use Rattle.std.proofs.Common.{◌≡◌, ◌∙◌, ℕ, ◌+◌, List, [], ◌∷◌, length, true, false, Some, None, IsSome, refl, sym, ap}
+use Rattle.std.proofs.Common.{◌≡◌, ◌∙◌, ℕ, ◌+◌, ◌≤◌, List, [], ◌∷◌, length, true, false, Some, None, IsSome, refl, sym, ap, inl, inr, arith}
 use Rattle.std.specs.Prelude.{nat_le, if◌then◌else◌, is_some, option_and_then}
-use Rattle.std.proofs.lemmas.Bool.{false≢true, or_parts}
+use Rattle.std.proofs.lemmas.Bool.{cases_lt, false≢true, or_parts}
+use Rattle.std.proofs.lemmas.Bool.Decides.{nat_tests}
 use Rattle.mls_nodes.specs.Limits.{leaf_limit}
 use Rattle.mls_msgs.specs.declared.proposal.Proposal.{Proposal}
 use Rattle.mls_msgs.specs.declared.proposal.Proposal.TheVariants.{Add, Update, Remove, ContextExtensions}
 use Rattle.mls_tree.specs.Tree.{Tree, member_count}
 use Rattle.mls_apply.specs.ListRules.{concerned_leaf, has_concerned_leaf}
-use Rattle.mls_apply.specs.Outcome.{after_update, after_updates, after_remove, after_removes, after_adds, new_members, without_adds, with_members, outcome}
+use Rattle.mls_apply.specs.Outcome.{after_update, after_updates, after_remove, after_removes, after_adds, new_members, without_adds, with_members, outcome, LacksRoom}
 use Rattle.mls_apply.specs.declared.item.ListItem.{ListItem}
 
 -- an Update can't be applied
@@ -30,17 +31,31 @@ module _ (items : List ListItem) (t u v : Tree) (updated : after_updates items t
     unfolding outcome
     outcome-members = ap (option_and_then (with_members (new_members items))) without_adds-some
 
-    -- there is no room for the Adds
-    pub outcome-full : nat_le (member_count v + length (new_members items)) leaf_limit ≡ false → outcome items t ≡ None
+    -- there is room for the Adds
+    pub outcome-adds : member_count v + length (new_members items) ≤ leaf_limit → outcome items t ≡ after_adds (new_members items) v
     unfolding with_members
-    outcome-full e = outcome-members ∙ ap (λ b. if b then after_adds (new_members items) v else None) e
+    outcome-adds room =
+        let e : nat_le (member_count v + length (new_members items)) leaf_limit ≡ true = grind (arith, nat_tests) in
+        outcome-members ∙ ap (λ b. if b then after_adds (new_members items) v else None) e
 
-    -- there is room
-    pub outcome-adds : nat_le (member_count v + length (new_members items)) leaf_limit ≡ true → outcome items t ≡ after_adds (new_members items) v
-    unfolding with_members
-    outcome-adds e = outcome-members ∙ ap (λ b. if b then after_adds (new_members items) v else None) e
+    -- so it is where the list doesn't lack room
+    pub room_left : (LacksRoom items t → ⊥) → member_count v + length (new_members items) ≤ leaf_limit
+    room_left never =
+        elim (cases_lt leaf_limit (member_count v + length (new_members items))) [
+          | inl full ↦ absurd (never (record { tree = v; applied = without_adds-some; full = full }))
+          | inr room ↦ room
+        ]
 
--- ---- a list of Adds alone
+-- where it does, there is no outcome
+pub outcome-lacking : (items : List ListItem) (t : Tree) → LacksRoom items t → IsSome (without_adds items t) × (outcome items t ≡ None)
+unfolding outcome with_members
+outcome-lacking items t h =
+    let e : nat_le (member_count h.tree + length (new_members items)) leaf_limit ≡ false = (let full = h.full in grind (arith, nat_tests)) in (
+      ap is_some h.applied,
+      ap (option_and_then (with_members (new_members items))) h.applied ∙ ap (λ b. if b then after_adds (new_members items) h.tree else None) e,
+    )
+
+-- ---- a list without Updates and Removes
 
 adds_alone : (sender : ℕ) (p : Proposal) (t : Tree) → is_some (concerned_leaf sender p) ≡ false → (after_update sender p t ≡ Some t) × (after_remove p t ≡ Some t)
 adds_alone sender (Add k) t e = (refl, refl)
@@ -61,11 +76,3 @@ removes-no_leaf [] t e = refl
 removes-no_leaf (x ∷ xs) t e =
     let parts = or_parts (is_some (concerned_leaf x.sender x.proposal)) (has_concerned_leaf xs) e in
     ap (option_and_then (after_removes xs)) (adds_alone x.sender x.proposal t parts.0).1 ∙ removes-no_leaf xs t parts.1
-
--- it can't be applied where there is no room for them
-pub adds-no_room : (items : List ListItem) (t : Tree) → has_concerned_leaf items ≡ false → nat_le (member_count t + length (new_members items)) leaf_limit ≡ false
-    → IsSome (without_adds items t) × (outcome items t ≡ None)
-adds-no_room items t none full =
-    let updated = updates-no_leaf items t none in
-    let removed = removes-no_leaf items t none in
-    (without_adds-set items t t t updated removed, outcome-full items t t t updated removed full)

@@ -44,15 +44,23 @@ has_no_update_by committer items =
 unfoldable pub has_no_remove_of : ℕ → List ListItem → Bool
 has_no_remove_of committer items = not (list_any (λ x. is_leaf_number (removed_leaf x.proposal) committer) items)
 
--- whether a leaf is among those that Updates and Removes concern
-abbrev pub concerns : List ListItem → Option ℕ → Bool
-concerns items None = false
-concerns items (Some i) = list_any (λ x. is_leaf_number (concerned_leaf x.sender x.proposal) i) items
+-- the leaf that an item replaces or removes
+abbrev pub concerned_by : ListItem → Option ℕ
+concerned_by x = concerned_leaf x.sender x.proposal
+
+-- whether a leaf is among those that f tells of items
+abbrev pub tells : (ListItem → Option ℕ) → List ListItem → Option ℕ → Bool
+tells f items None = false
+tells f items (Some i) = list_any (λ x. is_leaf_number (f x) i) items
+
+-- f tells no leaf of two items
+abbrev pub tells_once : (ListItem → Option ℕ) → List ListItem → Bool
+tells_once f [] = true
+tells_once f (x ∷ xs) = not (tells f xs (f x)) && tells_once f xs
 
 -- no two Updates or Removes concern one leaf (12.2)
 unfoldable pub concern_once : List ListItem → Bool
-concern_once [] = true
-concern_once (x ∷ xs) = not (concerns xs (concerned_leaf x.sender x.proposal)) && concern_once xs
+concern_once items = tells_once concerned_by items
 
 -- whether a list has an Update or a Remove
 abbrev pub has_concerned_leaf : List ListItem → Bool

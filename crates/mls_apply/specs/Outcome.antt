@@ -1,6 +1,6 @@
 -- A tree after the proposals of a commit (RFC 9420, 12.3): the Updates of the list, then its Removes, then its Adds.
 -- What a list brings to the context's extensions, which comes before these, changes no tree.
-use Rattle.std.specs.Prelude.{ℕ, ◌+◌, nat_le, if◌then◌else◌, is_some, List, [], ◌∷◌, length, Option, Some, None, option_map, option_and_then}
+use Rattle.std.specs.Prelude.{◌≡◌, ℕ, ◌+◌, ◌<◌, nat_le, if◌then◌else◌, is_some, List, [], ◌∷◌, length, Option, Some, None, option_map, option_and_then}
 use Rattle.mls_nodes.specs.Limits.{leaf_limit}
 use Rattle.mls_nodes.specs.declared.leaf.LeafNode.{LeafNode}
 use Rattle.mls_msgs.specs.declared.proposal.Proposal.{Proposal}
@@ -79,3 +79,10 @@ with_members xs t = if nat_le (member_count t + length xs) leaf_limit then after
 -- the tree after the list (12.3), with the numbers of the added leaves in the order of the list
 unfoldable pub outcome : List ListItem → Tree → Option Grown
 outcome items t = option_and_then (with_members (new_members items)) (without_adds items t)
+
+-- the Updates and the Removes of a list can be applied, and with its Adds the group would then get more members than a
+-- tree has leaves
+pub record LacksRoom (items : List ListItem) (t : Tree) : Type 0 where
+  pub tree : Tree
+  pub applied : without_adds items t ≡ Some tree
+  pub full : leaf_limit < member_count tree + length (new_members items)

@@ -1,13 +1,13 @@
 //! The Adds of a commit's list (RFC 9420, 12.1.1).
 
-ghost use Rattle.std.specs.Prelude.{◌≡◌, ◌+◌, ◌<◌, ◌≤◌, ◌⊎◌, true, false, None, Some, Err, IfOk, IfErr, OnOk, length, nat_le};
+ghost use Rattle.std.specs.Prelude.{◌≡◌, ◌+◌, ◌<◌, ◌≤◌, ◌⊎◌, true, false, None, Some, Err, IfOk, IfErr, OnOk, length};
 ghost use Rattle.mls_nodes.specs.Limits.{leaf_limit};
 ghost use Rattle.mls_tree.specs.Tree.{leaf_count, member_count};
 ghost use Rattle.mls_tree.specs.Blanks.{first_blank_leaf, AreSetBelow};
 ghost use Rattle.mls_tree.specs.Changes.{added_leaf, grown_for, enter_unmerged, is_overfilled_above};
 ghost use Rattle.mls_tree.specs.Journals.{before};
 ghost use Rattle.mls_apply.specs.Outcome.{after_adds, grown, new_members};
-ghost use Rattle.mls_apply.specs.Adding.{is_add, is_overfull_add, Adds};
+ghost use Rattle.mls_apply.specs.Adding.{is_overfull_add, Adds};
 
 use crate::fault::ApplyFault;
 use crate::item::ListItem;
@@ -17,43 +17,6 @@ use mls_msgs::Proposal;
 use mls_nodes::LeafNode;
 use mls_tree::{Journal, PublicTree, TreeError};
 use std::alloc::Global;
-
-/// The most members that a group has.
-const MAX_MEMBERS: usize = 1_048_576;
-
-/// Whether an item is an Add.
-fn is_add(item: &ListItem) -> bool
-    ensures { result ≡ is_add item.now.proposal }
-{
-    match &item.proposal {
-        Proposal::Add(_) => true,
-        Proposal::Update(_) => false,
-        Proposal::Remove(_) => false,
-        Proposal::ContextExtensions(_) => false,
-    }
-}
-
-/// How many items are Adds.
-fn add_count(items: &[ListItem]) -> usize
-    ensures { result ≡ length (new_members items.now) }
-{
-    let mut count = 0;
-    for item in items {
-        if is_add(item) {
-            count += 1;
-        }
-    }
-    count
-}
-
-/// Whether a tree has room for the Adds of a list.
-pub(crate) fn has_room(tree: &PublicTree, items: &[ListItem]) -> bool
-    ensures { result
-        ≡ nat_le (member_count tree.now.tree + length (new_members items.now)) leaf_limit }
-{
-    let members = tree.member_count() as usize;
-    members <= MAX_MEMBERS && add_count(items) <= MAX_MEMBERS - members
-}
 
 /// The leaf that a new member gets: the leftmost blank one, or else the first of the half by which the tree then
 /// grows. The leaves before `start` are set.

@@ -2,7 +2,7 @@
 
 ghost use Rattle.std.specs.Prelude.{◌≡◌, ◌≢◌, ◌↔◌, Some, None, Err, IfOk, IfErr, OnOk};
 ghost use Rattle.std.specs.List.{list_any};
-ghost use Rattle.mls_apply.specs.ListRules.{is_leaf_number, replaced_leaf, removed_leaf, concerned_leaf};
+ghost use Rattle.mls_apply.specs.ListRules.{is_leaf_number, replaced_leaf, removed_leaf, concerned_by};
 ghost use Rattle.mls_apply.specs.ListRules.{has_concerned_leaf, concern_once, needs_path, list_refusal};
 
 use crate::extensions::{bring_once, has_extensions};
@@ -80,8 +80,8 @@ fn is_remove_of(item: &ListItem, member: u32) -> bool
 }
 
 /// The leaf that an item replaces or removes.
-fn concerned_leaf(item: &ListItem) -> Option<u32>
-    ensures { result ≡ concerned_leaf item.now.sender item.now.proposal }
+pub(crate) fn concerned_leaf(item: &ListItem) -> Option<u32>
+    ensures { result ≡ concerned_by item.now }
 {
     match &item.proposal {
         Proposal::Add(_) => None,
@@ -122,7 +122,7 @@ fn concern_once(alloc: Global, items: &[ListItem]) -> Result<bool, AllocError>
 }
 
 /// Whether some item is an Update or a Remove.
-pub(crate) fn has_concerned_leaf(items: &[ListItem]) -> bool
+fn has_concerned_leaf(items: &[ListItem]) -> bool
     ensures { result ≡ has_concerned_leaf items.now }
 {
     items.iter().any(|item| concerned_leaf(item).is_some())

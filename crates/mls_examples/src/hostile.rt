@@ -107,14 +107,13 @@ fn cut_messages_are_malformed(rt: HostRuntime) -> Result<(), Fail> {
 // ---- messages of which a bit is changed
 
 /// A message, and what a follower is told before it: the receipts and the group info from which it starts, and the
-/// messages that it takes first. A follower is handed so many changed messages, unless it takes one of them.
+/// messages that it takes first.
 #[derive(Clone, Copy)]
 struct Sent<'a> {
     receipts: &'a str,
     info: &'a str,
     before: &'a [&'a str],
     message: &'a str,
-    turns: usize,
 }
 
 /// The message with one bit changed.
@@ -125,75 +124,63 @@ fn changed(alloc: Global, message: &str, bit: usize) -> Result<Vec<u8>, Fail> {
     Ok(message)
 }
 
-/// The first of these bits that can be changed so that a follower takes the message all the same, with its answer. After
-/// each refusal the follower's state has to be the one before.
-fn taken_among(
+/// What a follower answers to a message, where it takes it. After a refusal its state has to be the one before.
+fn taken_by(
     alloc: Global,
     follower: &mut Follower<Listed>,
-    message: &str,
-    bits: Range<usize>,
-) -> Result<Option<(usize, Taken)>, Fail> {
+    message: &[u8],
+) -> Result<Option<Taken>, Fail> {
     let before = state_text(alloc, follower)?;
-    for bit in bits {
-        let message = changed(alloc, message, bit)?;
-        if let Ok(taken) = follower.take(message.as_slice()) {
-            return Ok(Some((bit, taken)));
-        }
-        let after = state_text(alloc, follower)?;
-        if before.as_str() != after.as_str() {
-            return Err(Fail::from("a refusal that changes nothing"));
-        }
+    if let Ok(taken) = follower.take(message) {
+        return Ok(Some(taken));
+    }
+    let after = state_text(alloc, follower)?;
+    if before.as_str() != after.as_str() {
+        return Err(Fail::from("a refusal that changes nothing"));
     }
     Ok(None)
 }
 
-/// Hands a follower what comes before the message, and then the message with some bits changed, one at a time.
+/// Hands a follower what comes before the message, and then the message with one bit changed.
 fn taken_after(
     alloc: Global,
     follower: &mut Follower<Listed>,
     sent: Sent,
-    bits: Range<usize>,
-) -> Result<Option<(usize, Taken)>, Fail> {
+    bit: usize,
+) -> Result<Option<Taken>, Fail> {
     for message in sent.before {
         let message = bytes(alloc, message)?;
         if follower.take(message.as_slice()).is_err() {
             return Err(Fail::from("what comes before the message"));
         }
     }
-    taken_among(alloc, follower, sent.message, bits)
+    let message = changed(alloc, sent.message, bit)?;
+    taken_by(alloc, follower, message.as_slice())
 }
 
 /// The same of a follower that is started for it.
-fn first_taken(
-    alloc: Global,
-    sent: Sent,
-    bits: Range<usize>,
-) -> Result<Option<(usize, Taken)>, Fail> {
+fn taken_afresh(alloc: Global, sent: Sent, bit: usize) -> Result<Option<Taken>, Fail> {
     let mut follower = started(alloc, listed(alloc, sent.receipts)?, sent.info)?;
-    let taken = taken_after(alloc, &mut follower, sent, bits);
+    let taken = taken_after(alloc, &mut follower, sent, bit);
     drop(follower);
     taken
 }
 
-/// The bits of a message that can be changed so that a follower takes it all the same, each with this answer.
-fn unjudged_bits(alloc: Global, sent: Sent, wanted: &str) -> Result<Vec<usize>, Fail> {
-    let size = (sent.message.len() / 2).saturating_mul(8);
+/// The bits of a message, of these bytes of it, that can be changed so that a fresh follower takes it all the same,
+/// each with this answer.
+fn unjudged_bits(
+    alloc: Global,
+    sent: Sent,
+    bytes: Range<usize>,
+    wanted: &str,
+) -> Result<Vec<usize>, Fail> {
     let mut unjudged = Vec::new(alloc);
-    let mut bit = 0;
-    for _ in 0..size {
-        if bit >= size {
-            return Ok(unjudged);
-        }
-        let end = bit.saturating_add(sent.turns.max(1)).min(size);
-        match first_taken(alloc, sent, bit..end)? {
-            Some((found, taken)) => {
-                if taken_text(alloc, taken)?.as_str() != wanted {
-                    return Err(Fail::from("the answer to the message itself"));
-                }
-                unjudged.push(found)?;
-                bit = found.saturating_add(1);
+    for bit in bytes.start.saturating_mul(8)..bytes.end.saturating_mul(8) {
+        if let Some(taken) = taken_afresh(alloc, sent, bit)? {
+            if taken_text(alloc, taken)?.as_str() != wanted {
+                return Err(Fail::from("the answer to the message itself"));
             }
-            None => bit = end,
+            unjudged.push(bit)?;
         }
     }
     Ok(unjudged)
@@ -228,9 +215,8 @@ fn a_changed_proposal_is_refused(rt: HostRuntime) -> Result<(), Fail> {
         info: GROUP_INFO,
         before: &[],
         message: PROPOSAL,
-        turns: 1,
     };
-    let unjudged = unjudged_bits(alloc, sent, taken.as_str())?;
+    let unjudged = unjudged_bits(alloc, sent, 0..75, taken.as_str())?;
     expect_bytes(&rt, alloc, unjudged, &[(74, 75)])
 }
 
@@ -249,16 +235,19 @@ fn a_changed_real_proposal_is_refused(rt: HostRuntime) -> Result<(), Fail> {
         info: FIFTH_INFO,
         before: &[],
         message,
-        turns: 1,
     };
-    let unjudged = unjudged_bits(rt.alloc(), sent, taken)?;
+    let unjudged = unjudged_bits(rt.alloc(), sent, 0..157, taken)?;
     expect_bytes(&rt, rt.alloc(), unjudged, &[(125, 157)])
 }
 
-/// Only the bits of the two tags at its end aren't judged, the confirmation tag and the membership tag, each behind its
-/// length.
-#[test]
-fn a_changed_real_commit_is_refused(rt: HostRuntime) -> Result<(), Fail> {
+/// Asserts that just the bits of some bytes aren't judged among these bytes of the real commit, each bit tried by a
+/// follower of its own, which knows the commit's proposal.
+fn expect_of_real_commit(
+    rt: &impl Abort,
+    alloc: Global,
+    bytes: Range<usize>,
+    runs: &[(usize, usize)],
+) -> Result<(), Fail> {
     let (proposal, message) = real_messages().ok_or("a commit")?;
     let before = [proposal];
     let sent = Sent {
@@ -266,8 +255,26 @@ fn a_changed_real_commit_is_refused(rt: HostRuntime) -> Result<(), Fail> {
         info: FIFTH_INFO,
         before: &before,
         message,
-        turns: 64,
     };
-    let unjudged = unjudged_bits(rt.alloc(), sent, "commit 6")?;
-    expect_bytes(&rt, rt.alloc(), unjudged, &[(463, 495), (496, 528)])
+    let unjudged = unjudged_bits(alloc, sent, bytes, "commit 6")?;
+    expect_bytes(rt, alloc, unjudged, runs)
+}
+
+/// Each bit of the commit's frame and list is judged, and of its path's leaf up to the leaf's source.
+#[test]
+fn a_real_commit_changed_in_its_front_is_refused(rt: HostRuntime) -> Result<(), Fail> {
+    expect_of_real_commit(&rt, rt.alloc(), 0..177, &[])
+}
+
+/// Each bit of the rest of its path is judged.
+#[test]
+fn a_real_commit_changed_in_its_path_is_refused(rt: HostRuntime) -> Result<(), Fail> {
+    expect_of_real_commit(&rt, rt.alloc(), 177..396, &[])
+}
+
+/// Behind the path only the bits of the two tags aren't judged, the confirmation tag and the membership tag, each
+/// behind its length.
+#[test]
+fn a_real_commit_changed_in_its_end_is_refused(rt: HostRuntime) -> Result<(), Fail> {
+    expect_of_real_commit(&rt, rt.alloc(), 396..528, &[(463, 495), (496, 528)])
 }

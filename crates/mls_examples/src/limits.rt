@@ -91,14 +91,23 @@ fn at_the_limit(alloc: Global, blank: u32, rows: &[(&str, &[u32])]) -> Result<St
     Ok(all)
 }
 
-/// In a full group an Add takes the leaf of a member that the list removes; where there is none, or no second one,
-/// the list is refused.
+/// In a full group an Add takes the leaf of a member that the list removes; where there is none, or one too few, the list
+/// is refused. One that removes a leaf twice is refused for that, however many Adds it has; leaves 5 and 65,541 are two.
 #[test]
 fn a_full_group_adds_whom_it_has_room_for(rt: HostRuntime) -> Result<(), Fail> {
     let remove = "01000300000005";
-    let rows = [("", [1].as_slice()), (remove, &[1]), (remove, &[1, 2])];
+    let rows = [
+        ("", [1].as_slice()),
+        (remove, &[1]),
+        (remove, &[1, 2]),
+        ("0100030000000501000300010005", &[1, 2, 3]),
+        ("0100030000000501000300000005", &[1, 2, 3]),
+    ];
     let too_many = "a tree has at most 1,048,576 leaves";
-    let wanted = format!(in rt.alloc(); "{too_many}; 1048576 1048576 [5]; {too_many}; ")?;
+    let wanted = format!(
+        in rt.alloc();
+        "{too_many}; 1048576 1048576 [5]; {too_many}; {too_many}; a leaf is not set; "
+    )?;
     expect_text(&rt, at_the_limit(rt.alloc(), 0, &rows)?, wanted.as_str());
     Ok(())
 }

@@ -4,17 +4,17 @@ use Rattle.std.specs.Ordering.{nat_cmp}
 use Rattle.std.specs.BTreeSet.{contains}
 use Rattle.std.proofs.lemmas.List.{drop_more}
 use Rattle.mls_apply.specs.declared.item.ListItem.{ListItem}
-use Rattle.mls_apply.specs.ListRules.{concern_once}
-use Rattle.mls_apply.proofs.Concerned.{are_apart, once-start, once-none, once-new, once-all, unmet}
+use Rattle.mls_apply.specs.ListRules.{concerned_by, tells_once, concern_once}
+use Rattle.mls_apply.proofs.Concerned.{are_apart, once-start, once-none, once-met, once-new, once-all, set-none, set-more, unmet, met}
 use Rattle.mls_apply.proofs.list.concern_once.Goals.{in-Some+in_ok-insert+else-not-branch, in_default}
 use Rattle.mls_apply.proofs.list.concern_once.Goals as goal
 
 -- the list is as its rest and the set say
 abbrev told : BTreeSet ℕ → List ListItem → Bool
-told set xs = are_apart (contains nat_cmp set) xs && concern_once xs
+told set xs = are_apart concerned_by (contains nat_cmp set) xs && tells_once concerned_by xs
 
 pub loop-item-init : goal.loop-item-init
-loop-item-init c = once-start c.new-concerned.result c.new-concerned.ensures.empty c.args.items.now
+loop-item-init c = once-start concerned_by (contains nat_cmp c.new-concerned.result) (set-none c.new-concerned.result c.new-concerned.ensures.empty) c.args.items.now
 
 pub loop-item-preserved : goal.loop-item-preserved
 loop-item-preserved c =
@@ -25,13 +25,27 @@ loop-item-preserved c =
     let known = c.loop-item.invariant ∙ ap (told set) (drop_more items c.loop-item.item-index x c.loop-item-test.true ∙ ap (λ y. y ∷ rest) (sym c.item-item.is)) in
     elim c.match-concerned_leaf.branch [
       | in-Some+in_ok-insert+else-not-branch w ↦
-          once-new (concern_once items) (contains nat_cmp set) x rest known (contains nat_cmp w.insert.new.self) w.in-Some.leaf (sym w.in-Some.ensures)
-          (unmet _ _ w.in_ok-insert.ensures.added w.if-not-branch.false) w.in_ok-insert.ensures.updates.0
+          once-new concerned_by (tells_once concerned_by items) (contains nat_cmp set) x rest known (contains nat_cmp w.insert.new.self) w.in-Some.leaf (sym w.in-Some.ensures)
+          (unmet _ _ w.in_ok-insert.ensures.added w.if-not-branch.false)
+          (set-more (contains nat_cmp set) (contains nat_cmp w.insert.new.self) w.in-Some.leaf w.in_ok-insert.ensures.updates.0)
           ∙ ap (λ s. told s rest) (sym w.concerned-is)
       | in_default w ↦
-          once-none (concern_once items) (contains nat_cmp set) x rest known (sym w.in_default.ensures)
+          once-none concerned_by (tells_once concerned_by items) (contains nat_cmp set) x rest known (sym w.in_default.ensures)
           ∙ ap (λ s. told s rest) (sym w.concerned-is)
     ]
 
+pub returns-then-not-branch : goal.returns-then-not-branch
+unfolding concern_once
+returns-then-not-branch c =
+    let items = c.args.items.now in
+    let x = c.item-item.result in
+    let rest = drop (c.loop-item.item-index + 1) items in
+    let set = c.loop-item.concerned in
+    let known = c.loop-item.invariant ∙ ap (told set) (drop_more items c.loop-item.item-index x c.loop-item-test.true ∙ ap (λ y. y ∷ rest) (sym c.item-item.is)) in
+    sym
+    (once-met concerned_by (tells_once concerned_by items) (contains nat_cmp set) x rest known c.in-Some.leaf (sym c.in-Some.ensures)
+    (met _ _ c.in_ok-insert.ensures.added c.if-not-branch.true))
+
 pub returns : goal.returns
-returns c = once-all c.args.items.now c.loop-item.item-index _ c.loop-item.invariant c.loop-item-test.false
+unfolding concern_once
+returns c = once-all concerned_by c.args.items.now c.loop-item.item-index (contains nat_cmp c.loop-item.concerned) c.loop-item.invariant c.loop-item-test.false

@@ -1,6 +1,6 @@
 use Rattle.std.proofs.Common.{◌≡◌, ◌+◌, ◌≤◌, drop, length}
 use Rattle.mls_apply.specs.Outcome.{new_members}
-use Rattle.mls_apply.proofs.adds.add_count.Given as goal
+use Rattle.mls_apply.proofs.room.add_count.Given as goal
 
 abbrev pub invariant-loop-item : goal.invariant-loop-item
 invariant-loop-item l = record {

@@ -1,8 +1,8 @@
 use Rattle.std.proofs.Common.{◌∙◌, ◌+◌, sym, ap, length, drop, arith}
 use Rattle.mls_apply.specs.Outcome.{new_members}
 use Rattle.mls_apply.proofs.Adding.{count-more, count-same, count-all}
-use Rattle.mls_apply.proofs.adds.add_count.Goals.{then-is_add, else-is_add}
-use Rattle.mls_apply.proofs.adds.add_count.Goals as goal
+use Rattle.mls_apply.proofs.room.add_count.Goals.{then-is_add, else-is_add}
+use Rattle.mls_apply.proofs.room.add_count.Goals as goal
 
 pub loop-item-preserved : goal.loop-item-preserved
 loop-item-preserved c =

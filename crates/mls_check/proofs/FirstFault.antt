@@ -1,6 +1,6 @@
 -- The fault of the leaves of a tree, as it is computed.
 use Rattle.std.proofs.Common.{◌≡◌, ◌≢◌, ◌↔◌, ℕ, zero, suc, ◌+◌, ◌<◌, ◌≤◌, Bool, true, false, List, [], ◌∷◌, Option, Some, None, inl, inr, refl, sym, ap, subst, ◌∙◌, arith}
-use Rattle.std.specs.Prelude.{if◌then◌else◌, option_map}
+use Rattle.std.specs.Prelude.{◌⊎◌, if◌then◌else◌, option_map}
 use Rattle.std.proofs.lemmas.Bool.{cases_lt, and_parts, false≢true}
 use Rattle.std.proofs.lemmas.Option.{same_Some, none-some}
 use Rattle.mls_nodes.specs.declared.leaf.LeafNode.{LeafNode}
@@ -117,7 +117,7 @@ module _ (G : Meaning) (suite : ℕ) (group_id : List ℕ) (required : RequiredC
   told OutOfMemory own h = absurd (own refl)
 
   abbrev Known : Type 0
-  Known = (f : MemberFault) × (computed ≡ Some f) × IsMemberFault G suite group_id required t f
+  Known = (f : MemberFault) × (f ≢ OutOfMemory) × (computed ≡ Some f) × IsMemberFault G suite group_id required t f
 
   passed : (k i : ℕ) → Fails k i → ((x : LeafNode) → member_rule G suite group_id required t k i x ≡ true) → ⊥
   passed k i f passes = false≢true (sym f.first.fails ∙ passes f.first.node)
@@ -125,11 +125,11 @@ module _ (G : Meaning) (suite : ℕ) (group_id : List ℕ) (required : RequiredC
   -- a rule that fails first is one of the five
   known : (k i : ℕ) → Fails k i → Known
   known zero i f = absurd (passed 0 i f (λ x. no_rule_zero G suite group_id required t i x))
-  known (suc zero) i f = (ExtensionUnlisted i, fault_1 i f, f)
-  known (suc (suc zero)) i f = (RequirementUnmet i, fault_2 i f, f)
-  known (suc (suc (suc zero))) i f = (CredentialUnsupported i, fault_3 i f, f)
-  known (suc (suc (suc (suc zero)))) i f = (SignatureKeyRepeated i, fault_4 i f, f)
-  known (suc (suc (suc (suc (suc zero))))) i f = (LeafSignature i, fault_5 i f, f)
+  known (suc zero) i f = (ExtensionUnlisted i, (λ e. cc), fault_1 i f, f)
+  known (suc (suc zero)) i f = (RequirementUnmet i, (λ e. cc), fault_2 i f, f)
+  known (suc (suc (suc zero))) i f = (CredentialUnsupported i, (λ e. cc), fault_3 i f, f)
+  known (suc (suc (suc (suc zero)))) i f = (SignatureKeyRepeated i, (λ e. cc), fault_4 i f, f)
+  known (suc (suc (suc (suc (suc zero))))) i f = (LeafSignature i, (λ e. cc), fault_5 i f, f)
   known (suc (suc (suc (suc (suc (suc k)))))) i f =
       absurd (passed (suc (suc (suc (suc (suc (suc k)))))) i f (λ x. no_rule G suite group_id required t (suc (suc (suc (suc (suc (suc k)))))) i x (omega arith)))
 
@@ -139,14 +139,23 @@ module _ (G : Meaning) (suite : ℕ) (group_id : List ℕ) (required : RequiredC
         | inl members ↦ absurd (none-some f (sym (faultless members) ∙ e))
         | inr fails ↦
             (let there = known fails.0 fails.1 fails.2 in
-            subst (λ (g : MemberFault). IsMemberFault G suite group_id required t g) (same_Some there.0 f (sym there.1 ∙ e)) there.2)
+            subst (λ (g : MemberFault). IsMemberFault G suite group_id required t g) (same_Some there.0 f (sym there.2 ∙ e)) there.3)
       ]
 
   computed-none : computed ≡ None → Members G suite group_id required t
   computed-none e =
       elim (Members-judged G suite group_id required t) [
         | inl members ↦ members
-        | inr fails ↦ (let there = known fails.0 fails.1 fails.2 in absurd (none-some there.0 (sym e ∙ there.1)))
+        | inr fails ↦ (let there = known fails.0 fails.1 fails.2 in absurd (none-some there.0 (sym e ∙ there.2)))
+      ]
+
+  -- the leaves are members, or some fault is told of them
+  pub Members-or_told : Members G suite group_id required t
+      ⊎ ((f : MemberFault) × (f ≢ OutOfMemory) × IsMemberFault G suite group_id required t f)
+  Members-or_told =
+      elim (Members-judged G suite group_id required t) [
+        | inl members ↦ inl members
+        | inr fails ↦ (let there = known fails.0 fails.1 fails.2 in inr (there.0, there.1, there.3))
       ]
 
 pub fault-first : (G : Meaning) (suite : ℕ) (group_id : List ℕ) (required : RequiredCapabilities) (t : Tree) (f : MemberFault)

@@ -30,7 +30,7 @@ module _ (G : Meaning) (c : GroupContext) (t : RatchetTree) (followed : IsFollow
     read : IsReadable c Own t required
     read = record { has_tree = there; requires = requires }
 
-    invalid : (fault : TreeFault) → fault ≢ trees.OutOfMemory → IsFirstTreeFault (hash_of c.cipher_suite) c.tree_hash t.tree fault → FailsValid c Own fault
+    pub invalid : (fault : TreeFault) → fault ≢ trees.OutOfMemory → IsFirstTreeFault (hash_of c.cipher_suite) c.tree_hash t.tree fault → FailsValid c Own fault
     invalid fault own first = record { tree = t; required = required; readable = read; own = own; first = first }
 
     pub tree_fails : (fault : TreeFault) → IsFirstTreeFault (hash_of c.cipher_suite) c.tree_hash t.tree fault → IsGroupTreeFault G c Own (tree_fault_of fault)
@@ -45,7 +45,7 @@ module _ (G : Meaning) (c : GroupContext) (t : RatchetTree) (followed : IsFollow
       judged : HasValidTree c Own t required
       judged = record { readable = read; valid = valid }
 
-      strangers : (fault : MemberFault) → fault ≢ members.OutOfMemory → IsMemberFault G c.cipher_suite c.group_id required t.tree fault → FailsMembers G c Own fault
+      pub strangers : (fault : MemberFault) → fault ≢ members.OutOfMemory → IsMemberFault G c.cipher_suite c.group_id required t.tree fault → FailsMembers G c Own fault
       strangers fault own first = record { tree = t; required = required; valid_tree = judged; own = own; first = first }
 
       pub members_fail : (fault : MemberFault) → IsMemberFault G c.cipher_suite c.group_id required t.tree fault → IsGroupTreeFault G c Own (member_fault_of fault)

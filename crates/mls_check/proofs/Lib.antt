@@ -36,3 +36,4 @@ pub mod SoundSubtrees
 pub mod Remaining
 pub mod Adding
 pub mod GroupTrees
+pub mod GroupTreeAnswers

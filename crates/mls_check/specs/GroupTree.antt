@@ -1,6 +1,6 @@
 -- How a group's context and the tree that goes with it are judged (RFC 9420, 12.4.3.1), in whatever way the tree is
 -- given: conditions in their order, and which of them fails first.
-use Rattle.std.specs.Prelude.{◌≡◌, ◌≢◌}
+use Rattle.std.specs.Prelude.{◌≡◌, ◌≢◌, ◌⊎◌}
 use Rattle.mls_nodes.specs.Requirements.{Requires, HasNoRequirements}
 use Rattle.mls_nodes.specs.declared.context.GroupContext.{GroupContext}
 use Rattle.mls_nodes.specs.declared.required_capabilities.RequiredCapabilities.{RequiredCapabilities}
@@ -95,3 +95,21 @@ member_fault_of (members.CredentialUnsupported index) = Member (members.Credenti
 member_fault_of (members.SignatureKeyRepeated index) = Member (members.SignatureKeyRepeated index)
 member_fault_of (members.LeafSignature index) = Member (members.LeafSignature index)
 member_fault_of members.OutOfMemory = OutOfMemory
+
+-- of a tree that is given by itself, in a group that is followed: what the group requires can be read, the tree is valid and its leaves are
+-- members, or one of the faults is there
+abbrev pub GroupTreeOrFault : Type 0
+GroupTreeOrFault = (G : Meaning) (c : GroupContext) (t : RatchetTree) → IsFollowed c
+    → ((required : RequiredCapabilities) × HasMembers G c (λ u. u ≡ t) t required)
+    ⊎ ((fault : GroupTreeFault) × (fault ≢ OutOfMemory) × IsGroupTreeFault G c (λ u. u ≡ t) fault)
+
+-- not both
+abbrev pub NoFaultOfGroupTree : Type 0
+NoFaultOfGroupTree = (G : Meaning) (c : GroupContext) (t : RatchetTree) (required : RequiredCapabilities) (fault : GroupTreeFault)
+    → HasMembers G c (λ u. u ≡ t) t required → IsGroupTreeFault G c (λ u. u ≡ t) fault → fault ≢ OutOfMemory → ⊥
+
+-- only one fault
+abbrev pub OneGroupTreeFault : Type 0
+OneGroupTreeFault = (G : Meaning) (c : GroupContext) (t : RatchetTree) (fault other : GroupTreeFault)
+    → fault ≢ OutOfMemory → other ≢ OutOfMemory → IsGroupTreeFault G c (λ u. u ≡ t) fault → IsGroupTreeFault G c (λ u. u ≡ t) other
+    → fault ≡ other

@@ -98,6 +98,28 @@ commit_readable committer known (entry ∷ es) items required all inline e =
 
 -- ---- the known proposals
 
+-- a commit leaves none
+tree-forgets : (u : State) (a : AuthenticatedParts) (t : Tree) (step : Step) → after_tree u a t ≡ Some step → step.state.known ≡ []
+tree-forgets u a t step e =
+    option_and_then_some (λ hash.
+    option_and_then (λ confirmed. option_map (committed u t hash confirmed) (interim_hash (hash_of u.context.cipher_suite) confirmed a.confirmation_tag))
+    (confirmed_hash (hash_of u.context.cipher_suite) u.interim a))
+    (tree_hash (hash_of u.context.cipher_suite) 0 t) step e
+    (λ hash f g.
+    option_and_then_some (λ confirmed. option_map (committed u t hash confirmed) (interim_hash (hash_of u.context.cipher_suite) confirmed a.confirmation_tag))
+    (confirmed_hash (hash_of u.context.cipher_suite) u.interim a) step g
+    (λ confirmed k l.
+    (let w = came_from (committed u t hash confirmed) (interim_hash (hash_of u.context.cipher_suite) confirmed a.confirmation_tag) step l in
+    sym (ap (λ (v : Step). v.state.known) w.2))))
+
+pub commit-forgets : (s : State) (a : AuthenticatedParts) (i : ℕ) (c : Commit) (step : Step) → after_commit s a i c ≡ Some step → step.state.known ≡ []
+commit-forgets s a i c step e =
+    option_and_then_some (after_tree (with_extensions s (extensions_after s.context.extensions (resolved i s.known c.proposals))) a) (commit_tree s i c) step e
+    (λ t f g. tree-forgets (with_extensions s (extensions_after s.context.extensions (resolved i s.known c.proposals))) a t step g)
+
+knows_none : (known : List KnownProposal) → known ≡ [] → AreReadable known
+knows_none known none = subst AreReadable (sym none) (All-nil (λ k. extends_validly k.proposal ≡ true))
+
 module _ (G : Meaning) (s : State) (all : AreReadable s.known) (required : RequiredCapabilities) where
   -- a proposal that is known now was judged
   offer-readable : (a : AuthenticatedParts) (i : ℕ) (p : Proposal) → AreKept (offer_rules G s a i p) → extends_validly p ≡ true
@@ -115,31 +137,12 @@ module _ (G : Meaning) (s : State) (all : AreReadable s.known) (required : Requi
       subst (λ (u : Step). AreReadable u.state.known) w.2
       (All-push (λ k. extends_validly k.proposal ≡ true) s.known (record { reference = w.0; sender = i; proposal = p }) all h)
 
-  -- a commit leaves none
-  tree-readable : (u : State) (a : AuthenticatedParts) (t : Tree) (step : Step) → after_tree u a t ≡ Some step → AreReadable step.state.known
-  tree-readable u a t step e =
-      option_and_then_some (λ hash.
-      option_and_then (λ confirmed. option_map (committed u t hash confirmed) (interim_hash (hash_of u.context.cipher_suite) confirmed a.confirmation_tag))
-      (confirmed_hash (hash_of u.context.cipher_suite) u.interim a))
-      (tree_hash (hash_of u.context.cipher_suite) 0 t) step e
-      (λ hash f g.
-      option_and_then_some (λ confirmed. option_map (committed u t hash confirmed) (interim_hash (hash_of u.context.cipher_suite) confirmed a.confirmation_tag))
-      (confirmed_hash (hash_of u.context.cipher_suite) u.interim a) step g
-      (λ confirmed k l.
-      (let w = came_from (committed u t hash confirmed) (interim_hash (hash_of u.context.cipher_suite) confirmed a.confirmation_tag) step l in
-      subst (λ (v : Step). AreReadable v.state.known) w.2 (All-nil (λ k. extends_validly k.proposal ≡ true)))))
-
-  commit-readable : (a : AuthenticatedParts) (i : ℕ) (c : Commit) (step : Step) → after_commit s a i c ≡ Some step → AreReadable step.state.known
-  commit-readable a i c step e =
-      option_and_then_some (after_tree (with_extensions s (extensions_after s.context.extensions (resolved i s.known c.proposals))) a) (commit_tree s i c) step e
-      (λ t f g. tree-readable (with_extensions s (extensions_after s.context.extensions (resolved i s.known c.proposals))) a t step g)
-
   module _ (a : AuthenticatedParts) (step : Step) where
     content-readable : (i : ℕ) (x : LeafNode) (content : Content) → AreKept (content_rules G s required a i x content) → after_content s a i content ≡ Some step
         → AreReadable step.state.known
     content-readable i x (contents.Application sent) kept e = absurd (refused kept)
     content-readable i x (contents.Proposal p) kept e = proposal-readable i p (reference_of s.context a) step (offer-readable a i p (passed kept).1) e
-    content-readable i x (contents.Commit c) kept e = commit-readable a i c step e
+    content-readable i x (contents.Commit c) kept e = knows_none step.state.known (commit-forgets s a i c step e)
 
     leaf-readable : (i : ℕ) (o : Option LeafNode) → AreKept (leaf_rules G s required a i o) → after_content s a i a.content.content ≡ Some step → AreReadable step.state.known
     leaf-readable i None kept e = absurd (refused kept)
@@ -174,4 +177,4 @@ run-readable G s (call ∷ calls) new all h = run-readable G h.0 calls new (take
 
 pub followers_readable : FollowersKnowReadable
 followers_readable G info handed first last calls start run =
-    run-readable G first calls last (subst (λ (u : State). AreReadable u.known) (sym start.state) (All-nil (λ k. extends_validly k.proposal ≡ true))) run
+    run-readable G first calls last (knows_none first.known (ap (λ (s : State). s.known) start.state)) run

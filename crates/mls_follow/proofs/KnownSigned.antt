@@ -1,0 +1,104 @@
+-- Each proposal that a follower knows is one that a member of its tree has signed over its context.
+use Rattle.std.proofs.Common.{◌≡◌, ◌∙◌, ℕ, List, [], ◌∷◌, Option, Some, None, Result, Ok, Err, refl, sym, ap, subst}
+use Rattle.std.specs.Prelude.{All, option_map}
+use Rattle.std.proofs.lemmas.List.Elements.{All-nil, All-push}
+use Rattle.std.proofs.lemmas.Option.{none-some}
+use Rattle.mls_nodes.specs.declared.leaf.LeafNode.{LeafNode}
+use Rattle.mls_nodes.specs.declared.required_capabilities.RequiredCapabilities.{RequiredCapabilities}
+use Rattle.mls_tree.specs.Tree.{leaf_at}
+use Rattle.mls_check.specs.Signatures.{Meaning}
+use Rattle.mls_msgs.specs.declared.authenticated.AuthenticatedParts.{AuthenticatedParts}
+use Rattle.mls_msgs.specs.declared.frame.Content.{Content}
+use Rattle.mls_msgs.specs.declared.frame.Content.TheVariants as contents
+use Rattle.mls_msgs.specs.declared.frame.Sender.{Sender}
+use Rattle.mls_msgs.specs.declared.frame.Sender.TheVariants as senders
+use Rattle.mls_msgs.specs.declared.message.Message.{Message}
+use Rattle.mls_msgs.specs.declared.message.Message.TheVariants as messages
+use Rattle.mls_msgs.specs.declared.proposal.Proposal.{Proposal}
+use Rattle.mls_apply.specs.declared.item.KnownProposal.{KnownProposal}
+use Rattle.mls_apply.specs.Rules.{first_failing}
+use Rattle.mls_apply.proofs.Merging.{came_from}
+use Rattle.mls_apply.proofs.RuleLists.{AreKept, passed, refused}
+use Rattle.mls_follow.specs.State.{State}
+use Rattle.mls_follow.specs.Order.{IsKnownSigned, AreKnownSigned, FollowersKnowSigned}
+use Rattle.mls_follow.specs.Rules.{content_rules, leaf_rules, sender_rules, frame_rules, message_rules, reference_of}
+use Rattle.mls_follow.specs.Next.{Step, after_proposal, after_content, after_sender, next}
+use Rattle.mls_follow.specs.Judging.{IsAcceptable, IsNext}
+use Rattle.mls_follow.specs.Runs.{Takes, Call, IsRun}
+use Rattle.mls_follow.specs.declared.refusal.Refusal.{Refusal}
+use Rattle.mls_follow.specs.declared.taken.Taken.{Taken}
+use Rattle.mls_follow.proofs.Answering.{one_message}
+use Rattle.mls_follow.proofs.KnownReadable.{commit-forgets}
+
+-- a state that knows none
+knows_none : (G : Meaning) (s : State) → s.known ≡ [] → AreKnownSigned G s
+knows_none G s none =
+    subst (λ (known : List KnownProposal). All (IsKnownSigned G s.context s.tree) known) (sym none)
+    (All-nil (IsKnownSigned G s.context s.tree))
+
+module _ (G : Meaning) (s : State) (all : AreKnownSigned G s) (required : RequiredCapabilities) where
+  proposal-signed : (i : ℕ) (p : Proposal) (o : Option (List ℕ)) (step : Step)
+      → ((reference : List ℕ) → o ≡ Some reference
+      → IsKnownSigned G s.context s.tree (record { reference = reference; sender = i; proposal = p }))
+      → option_map (after_proposal s i p) o ≡ Some step → AreKnownSigned G step.state
+  proposal-signed i p o step one e =
+      let w = came_from (after_proposal s i p) o step e in
+      subst (λ (u : Step). AreKnownSigned G u.state) w.2
+      (All-push (IsKnownSigned G s.context s.tree) s.known (record { reference = w.0; sender = i; proposal = p }) all (one w.0 w.1))
+
+  module _ (a : AuthenticatedParts) (step : Step) where
+    content-signed : (i : ℕ) (x : LeafNode) (content : Content)
+        → a.content.sender ≡ senders.Member i → leaf_at 0 s.tree i ≡ Some x → a.content.content ≡ content
+        → AreKept (content_rules G s required a i x content) → after_content s a i content ≡ Some step → AreKnownSigned G step.state
+    content-signed i x (contents.Application sent) sender set is kept e = absurd (refused kept)
+    content-signed i x (contents.Proposal p) sender set is kept e =
+        proposal-signed i p (reference_of s.context a) step
+        (λ reference told. record {
+          frame = a;
+          signer = x;
+          leaf = set;
+          sender = sender;
+          content = is;
+          reference = told;
+          signed = (passed kept).0;
+        }) e
+    content-signed i x (contents.Commit c) sender set is kept e = knows_none G step.state (commit-forgets s a i c step e)
+
+    leaf-signed : (i : ℕ) (o : Option LeafNode) → a.content.sender ≡ senders.Member i → leaf_at 0 s.tree i ≡ o
+        → AreKept (leaf_rules G s required a i o) → after_content s a i a.content.content ≡ Some step → AreKnownSigned G step.state
+    leaf-signed i None sender set kept e = absurd (refused kept)
+    leaf-signed i (Some x) sender set kept e = content-signed i x a.content.content sender set refl kept e
+
+    sender-signed : (sender : Sender) → a.content.sender ≡ sender → AreKept (sender_rules G s required a sender)
+        → after_sender s a sender ≡ Some step → AreKnownSigned G step.state
+    sender-signed (senders.Member i) is kept e = leaf-signed i (leaf_at 0 s.tree i) is refl kept e
+    sender-signed (senders.External j) is kept e = absurd (none-some step e)
+    sender-signed senders.NewMemberProposal is kept e = absurd (none-some step e)
+    sender-signed senders.NewMemberCommit is kept e = absurd (none-some step e)
+
+  step-signed : (m : Message) (step : Step) → first_failing (message_rules G s required m) ≡ None → next s m ≡ Some step
+      → AreKnownSigned G step.state
+  step-signed (messages.Public p) step kept e =
+      let frame : AreKept (frame_rules G s required p.auth) = record { none = kept } in
+      sender-signed p.auth step p.auth.content.sender refl (passed (passed frame).1).1 e
+  step-signed (messages.Unread w b) step kept e = absurd (none-some step e)
+  step-signed (messages.GroupInfo g) step kept e = absurd (none-some step e)
+  step-signed (messages.KeyPackage k) step kept e = absurd (none-some step e)
+
+module _ (G : Meaning) (s : State) (all : AreKnownSigned G s) (bytes : List ℕ) where
+  accepted-signed : (step : Step) → IsAcceptable G s bytes → IsNext s bytes step → AreKnownSigned G step.state
+  accepted-signed step a n =
+      step-signed G s all a.required a.message step a.kept
+      (ap (next s) (one_message a.message n.message bytes a.spelled n.spelled) ∙ n.after)
+
+  taken-signed : (answer : Result Taken Refusal) (new : State) → Takes G s bytes answer new → AreKnownSigned G new
+  taken-signed (Ok taken) new h = accepted-signed (record { taken = taken; state = new }) h.0 h.1
+  taken-signed (Err e) new h = subst (AreKnownSigned G) (sym h.0) all
+
+run-signed : (G : Meaning) (s : State) (calls : List Call) (new : State) → AreKnownSigned G s → IsRun G s calls new → AreKnownSigned G new
+run-signed G s [] new all h = subst (AreKnownSigned G) (sym h) all
+run-signed G s (call ∷ calls) new all h = run-signed G h.0 calls new (taken-signed G s all call.bytes call.answer h.0 h.1) h.2
+
+pub followers_signed : FollowersKnowSigned
+followers_signed G info handed first last calls start run =
+    run-signed G first calls last (knows_none G first (ap (λ (s : State). s.known) start.state)) run

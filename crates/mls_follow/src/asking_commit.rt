@@ -1,6 +1,8 @@
 //! The signatures of a commit behind its frame, asked about (RFC 9420, 12.4).
 
 ghost use Rattle.std.specs.Prelude.{◌≡◌, ◌++◌, Some, IfOk, OnOk, option_map};
+ghost use Rattle.std.specs.List.{list_all};
+ghost use Rattle.mls_apply.specs.Extensions.{brings_extensions};
 ghost use Rattle.mls_apply.specs.Items.{resolved};
 ghost use Rattle.mls_apply.specs.Outcome.{outcome, grown};
 ghost use Rattle.mls_follow.specs.GroupSeen.{group_state};
@@ -188,7 +190,27 @@ fn listed(
     }
 }
 
-/// Asks about the signatures of the leaves that a commit of a member brings, where its list has an outcome.
+/// Whether an item is a change of the context's extensions.
+fn brings_extensions(item: &ListItem) -> bool
+    ensures { result ≡ brings_extensions item.now }
+{
+    match &item.proposal {
+        Proposal::ContextExtensions(_) => true,
+        Proposal::Add(_) => false,
+        Proposal::Update(_) => false,
+        Proposal::Remove(_) => false,
+    }
+}
+
+/// Whether a list has no Add, no Update and no Remove: the tree after it is then the tree before.
+fn leaves_tree(items: &[ListItem]) -> bool
+    ensures { result ≡ list_all brings_extensions items.now }
+{
+    items.iter().all(|item| brings_extensions(item))
+}
+
+/// Asks about the signatures of the leaves that a commit of a member brings, where its list has an outcome. The tree is
+/// copied only where the list changes it.
 fn ask_outcome(
     alloc: Global,
     group: &Group,
@@ -201,6 +223,9 @@ fn ask_outcome(
         ++ asked_by_outcome group.now.context committer path.now items.now
         (outcome items.now group.now.tree.tree)) }
 {
+    if leaves_tree(items) {
+        return ask_path(alloc, &group.context, committer, path, asked);
+    }
     let Some(applied) = applied(alloc, &group.tree, items)? else {
         return Ok(());
     };

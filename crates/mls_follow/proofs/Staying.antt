@@ -14,8 +14,8 @@ use Rattle.mls_tree.specs.Changes.{put_leaf, clear_path, update, remove, grow, a
 use Rattle.mls_tree.proofs.Added.{leaf_at-add_at_other}
 use Rattle.mls_tree.proofs.FirstBlanks.{first_blank_leaf-leftmost}
 use Rattle.mls_tree.proofs.Trees.{leaf_count-positive}
-use Rattle.mls_tree.proofs.Kept.{leaf_at-put_leaf_other, leaf_at-change_above, leaf_at-shrink, leaf_at-grow}
-use Rattle.mls_apply.proofs.Leaves.{leaf_inside}
+use Rattle.mls_tree.proofs.Kept.{leaf_at-shrink, leaf_at-grow}
+use Rattle.mls_apply.proofs.Leaves.{leaf_inside, kept_beside}
 use Rattle.mls_apply.proofs.SoundOutcomes.{unless, where_so, mapped}
 use Rattle.mls_apply.specs.declared.item.ListItem.{ListItem}
 use Rattle.mls_apply.specs.Extensions.{bring_once}
@@ -31,8 +31,7 @@ other j i f e = grind (arith, nat_tests)
 
 -- another leaf is changed
 changed_other : (t : Tree) (i j : ℕ) (x : Option LeafNode) → IsSome (leaf_at 0 t j) → (j == i) ≡ false → leaf_at 0 (clear_path (put_leaf 0 t j x) j) i ≡ leaf_at 0 t i
-changed_other t i j x set away =
-    leaf_at-change_above (λ _. None) 0 (put_leaf 0 t j x) j i ∙ leaf_at-put_leaf_other 0 t j i x (omega arith) (omega (arith, leaf_inside t j set)) (other j i away)
+changed_other t i j x set away = kept_beside t j i x set (other j i away)
 
 either_false : (a b : Bool) → not (a || b) ≡ true → (a ≡ false) × (not b ≡ true)
 either_false true b e = absurd (false≢true e)

@@ -17,7 +17,7 @@ use Rattle.mls_tree.specs.Changes.{put_leaf, clear_path, update, remove, grow, a
 use Rattle.mls_tree.proofs.Choices.{below, from as past}
 use Rattle.mls_tree.proofs.Added.{leaf_at-add_at_other}
 use Rattle.mls_tree.proofs.FirstBlanks.{first_blank_leaf-leftmost}
-use Rattle.mls_tree.proofs.Kept.{leaf_at-put_leaf, leaf_at-put_leaf_other, leaf_at-change_above, leaf_at-shrink, leaf_at-grow}
+use Rattle.mls_tree.proofs.Kept.{leaf_at-shrink, leaf_at-grow}
 use Rattle.mls_tree.proofs.Trees.{leaf_count-positive}
 use Rattle.mls_check.proofs.Elements.{contains-head, contains-tail}
 use Rattle.mls_check.proofs.Leaves.{leaf_at-leaf, leaf_at-left, leaf_at-right}
@@ -26,23 +26,11 @@ use Rattle.mls_apply.specs.ListRules.{replaced_leaf}
 use Rattle.mls_apply.specs.Merge.{Handed, handed, merged_from}
 use Rattle.mls_apply.specs.Outcome.{Grown, grown, outcome, with_members, new_members, without_adds, after_leaf, after_adds, after_update, after_updates, after_remove, after_removes}
 use Rattle.mls_apply.specs.PathRules.{node_keys}
-use Rattle.mls_apply.proofs.Leaves.{leaf_inside}
+use Rattle.mls_apply.proofs.Leaves.{leaf_inside, kept_beside, put_there}
 use Rattle.mls_apply.proofs.Merging.{came_from}
 use Rattle.mls_apply.proofs.SoundOutcomes.{unless, where_so}
 use Rattle.mls_follow.specs.Rules.{resulting}
 use Rattle.mls_follow.specs.Wanted.{index_before, replaced_leaves, brought_leaves}
-
--- another leaf than the one that is replaced or made blank
-kept_beside : (t : Tree) (i j : ℕ) (y : Option LeafNode) → IsSome (leaf_at 0 t i) → j ≢ i → leaf_at 0 (clear_path (put_leaf 0 t i y) i) j ≡ leaf_at 0 t j
-kept_beside t i j y set away =
-    leaf_at-change_above (λ _. None) 0 (put_leaf 0 t i y) i j ∙ leaf_at-put_leaf_other 0 t i j y (omega arith) (omega (arith, leaf_inside t i set)) away
-
--- the one that is made blank
-made_blank : (t : Tree) (i j : ℕ) → IsSome (leaf_at 0 t i) → j ≡ i → leaf_at 0 (clear_path (put_leaf 0 t i None) i) j ≡ None
-made_blank t i j set same =
-    leaf_at-change_above (λ _. None) 0 (put_leaf 0 t i None) i j
-    ∙ ap (λ k. leaf_at 0 (put_leaf 0 t i None) k) same
-    ∙ leaf_at-put_leaf 0 t i None (omega arith) (omega (arith, leaf_inside t i set))
 
 module _ (j : ℕ) where
   index_later : (o : Option ℕ) (js : List ℕ) → Contains js j → Contains (index_before o js) j
@@ -101,7 +89,7 @@ module _ (j : ℕ) where
         let at : Stood (clear_path (put_leaf 0 t k None) k) =
         sym (leaf_at-shrink 0 (clear_path (put_leaf 0 t k None) k) j) ∙ same_tree (remove t k) u parts.1 set in
         elim (cases_eq j k) [
-          | inl same ↦ absurd (none-some x (sym (made_blank t k j parts.0 same) ∙ at))
+          | inl same ↦ absurd (none-some x (sym (put_there t k j None parts.0 same) ∙ at))
           | inr away ↦ sym (kept_beside t k j None parts.0 away) ∙ at
         ]
 

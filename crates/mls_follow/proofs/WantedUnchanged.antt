@@ -1,9 +1,8 @@
 -- A list that changes nothing but the context's extensions leaves the tree and brings no leaf, so the path's leaf alone is asked about.
 use Rattle.std.proofs.Common.{◌≡◌, ◌∙◌, ℕ, ◌+◌, ◌≤◌, List, [], ◌∷◌, Bool, true, false, Option, Some, ◌++◌, length, arith, refl, ap}
-use Rattle.std.specs.Prelude.{◌||◌, is_some, nat_le}
+use Rattle.std.specs.Prelude.{◌||◌, is_some}
 use Rattle.std.specs.List.{list_all}
 use Rattle.std.proofs.lemmas.Bool.{and_parts, false≢true}
-use Rattle.std.proofs.lemmas.Bool.Decides.{nat_tests}
 use Rattle.mls_nodes.specs.Limits.{leaf_limit}
 use Rattle.mls_nodes.specs.declared.context.GroupContext.{GroupContext}
 use Rattle.mls_nodes.specs.declared.leaf.LeafNode.{LeafNode}
@@ -64,11 +63,11 @@ none_replaced (x ∷ xs) e =
 
 -- ---- the tree after it, and what is asked about
 
-has_room : (t : RatchetTree) (count : ℕ) → count ≡ 0 → nat_le (member_count t.tree + count) leaf_limit ≡ true
+has_room : (t : RatchetTree) (count : ℕ) → count ≡ 0 → member_count t.tree + count ≤ leaf_limit
 has_room t count none =
     let few : member_count t.tree ≤ leaf_count t.tree = member_count-low t.tree in
     let low : leaf_count t.tree ≤ 1048576 = leaf_count-limit t in
-    grind (arith, nat_tests)
+    omega arith
 
 none_added : (t : Tree) → after_adds [] t ≡ Some (grown t [])
 unfolding after_adds

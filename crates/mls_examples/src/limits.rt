@@ -104,8 +104,7 @@ fn a_full_group_adds_whom_it_has_room_for(rt: HostRuntime) -> Result<(), Fail> {
         ("0100030000000501000300000005", &[1, 2, 3]),
     ];
     let too_many = "a tree has at most 1,048,576 leaves";
-    let wanted = format!(
-        in rt.alloc();
+    let wanted = format!(in rt.alloc();
         "{too_many}; 1048576 1048576 [5]; {too_many}; {too_many}; a leaf is not set; "
     )?;
     expect_text(&rt, at_the_limit(rt.alloc(), 0, &rows)?, wanted.as_str());

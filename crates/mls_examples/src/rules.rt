@@ -168,8 +168,9 @@ pub(crate) const PROPOSAL_RECEIPTS: &str =
     47c350198b187b8db3ec7885f5f8de0799a2ebdd4d7c97610b7b94d2af36410e\n\
     fd064fc6472edfe1ed558ad948a217e66423a65a87d59215cf027574c22d998a";
 
-/// A known proposal under another signature is another one, and its signature is judged. (No proposal is known and
-/// badly signed: its signature is part of its reference.)
+/// A known proposal under another signature is another one, and its signature is judged. No proposal is known and badly
+/// signed, since its signature is part of its reference; which of the two would be told is a law of `mls_follow`,
+/// `signatures_are_judged_first`.
 #[test]
 fn a_known_proposal_under_another_signature(rt: HostRuntime) -> Result<(), Fail> {
     let alloc = rt.alloc();

@@ -46,6 +46,9 @@ module _ (items : List ListItem) (t u v : Tree) (updated : after_updates items t
           | inr room ↦ room
         ]
 
+    pub outcome-room : (LacksRoom items t → ⊥) → outcome items t ≡ after_adds (new_members items) v
+    outcome-room never = outcome-adds (room_left never)
+
 -- where it does, there is no outcome
 pub outcome-lacking : (items : List ListItem) (t : Tree) → LacksRoom items t → IsSome (without_adds items t) × (outcome items t ≡ None)
 unfolding outcome with_members

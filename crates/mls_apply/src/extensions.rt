@@ -11,23 +11,11 @@ use mls_nodes::{Extensions, GroupContext};
 use mls_wire::{CodecFault, TryClone};
 use std::alloc::Global;
 
-/// Whether an item brings extensions to the context.
-fn brings_extensions(item: &ListItem) -> bool
-    ensures { result ≡ brings_extensions item.now }
-{
-    match &item.proposal {
-        Proposal::ContextExtensions(_) => true,
-        Proposal::Add(_) => false,
-        Proposal::Update(_) => false,
-        Proposal::Remove(_) => false,
-    }
-}
-
 /// Whether some item brings extensions to the context.
 pub(crate) fn has_extensions(items: &[ListItem]) -> bool
     ensures { result ≡ list_any brings_extensions items.now }
 {
-    items.iter().any(|item| brings_extensions(item))
+    items.iter().any(|item| item.brings_extensions())
 }
 
 /// Whether no two items bring extensions to the context.
@@ -36,7 +24,7 @@ pub(crate) fn bring_once(items: &[ListItem]) -> bool
 {
     let mut rest = items;
     while let Some((item, tail)) = rest.split_first() {
-        if brings_extensions(item) {
+        if item.brings_extensions() {
             return !has_extensions(tail);
         }
         rest = tail;

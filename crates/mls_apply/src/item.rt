@@ -18,6 +18,22 @@ pub struct ListItem {
     pub proposal: Proposal,
 }
 
+impl ListItem {
+    ghost use Rattle.mls_apply.specs.Extensions.{brings_extensions};
+
+    /// Whether it brings extensions to the group's context (RFC 9420, 12.1.7).
+    pub fn brings_extensions(&self) -> bool
+        ensures { result ≡ brings_extensions self.now }
+    {
+        match &self.proposal {
+            Proposal::ContextExtensions(_) => true,
+            Proposal::Add(_) => false,
+            Proposal::Update(_) => false,
+            Proposal::Remove(_) => false,
+        }
+    }
+}
+
 /// A proposal that a member sent in the present epoch.
 #[derive(Debug, Drop)]
 pub struct KnownProposal {

@@ -190,23 +190,11 @@ fn listed(
     }
 }
 
-/// Whether an item is a change of the context's extensions.
-fn brings_extensions(item: &ListItem) -> bool
-    ensures { result ≡ brings_extensions item.now }
-{
-    match &item.proposal {
-        Proposal::ContextExtensions(_) => true,
-        Proposal::Add(_) => false,
-        Proposal::Update(_) => false,
-        Proposal::Remove(_) => false,
-    }
-}
-
 /// Whether a list has no Add, no Update and no Remove: the tree after it is then the tree before.
 fn leaves_tree(items: &[ListItem]) -> bool
     ensures { result ≡ list_all brings_extensions items.now }
 {
-    items.iter().all(|item| brings_extensions(item))
+    items.iter().all(|item| item.brings_extensions())
 }
 
 /// Asks about the signatures of the leaves that a commit of a member brings, where its list has an outcome. The tree is

@@ -1,22 +1,18 @@
-use Rattle.std.proofs.Common.{◌≡◌, ◌∙◌}
-use Rattle.mls_apply.specs.Outcome.{outcome, after_adds, new_members}
-use Rattle.mls_apply.proofs.Outcomes.{without_adds-set, outcome-adds, room_left}
+use Rattle.std.proofs.Common.{◌∙◌}
+use Rattle.mls_apply.proofs.Outcomes.{without_adds-set, room_left, outcome-room}
 use Rattle.mls_apply.proofs.outcome.apply_items.Goals as goal
 
 pub apply_adds-requires : goal.apply_adds-requires
 apply_adds-requires c =
-    room_left c.args.items.now c.args.tree.now.tree c.apply_updates.new.tree.tree c.apply_removes.new.tree.tree c.in_ok-apply_updates.ensures.updated c.in_ok-apply_removes.ensures.removed c.requires
+    room_left c.args.items.now c.args.tree.now.tree c.apply_updates.new.tree.tree c.apply_removes.new.tree.tree
+    c.in_ok-apply_updates.ensures.updated c.in_ok-apply_removes.ensures.removed c.requires
 
 pub returns-clause-applied : goal.returns-clause-applied
 returns-clause-applied c =
-    let items = c.args.items.now in
-    let t = c.args.tree.now.tree in
-    let u = c.apply_updates.new.tree.tree in
-    let v = c.apply_removes.new.tree.tree in
-    let updated = c.in_ok-apply_updates.ensures.updated in
-    let removed = c.in_ok-apply_removes.ensures.removed in
-    let whole : outcome items t ≡ after_adds (new_members items) v = outcome-adds items t u v updated removed (room_left items t u v updated removed c.requires) in
-    rw whole c.apply_adds.ensures.added
+    rw
+    (outcome-room c.args.items.now c.args.tree.now.tree c.apply_updates.new.tree.tree c.apply_removes.new.tree.tree
+    c.in_ok-apply_updates.ensures.updated c.in_ok-apply_removes.ensures.removed c.requires)
+    c.apply_adds.ensures.added
 
 pub returns-clause-too_many_leaves : goal.returns-clause-too_many_leaves
 returns-clause-too_many_leaves c =
@@ -26,7 +22,4 @@ returns-clause-too_many_leaves c =
     let v = c.apply_removes.new.tree.tree in
     let updated = c.in_ok-apply_updates.ensures.updated in
     let removed = c.in_ok-apply_removes.ensures.removed in
-    λ told. (
-      without_adds-set items t u v updated removed,
-      outcome-adds items t u v updated removed (room_left items t u v updated removed c.requires) ∙ c.apply_adds.ensures.too_many_leaves told,
-    )
+    λ told. (without_adds-set items t u v updated removed, outcome-room items t u v updated removed c.requires ∙ c.apply_adds.ensures.too_many_leaves told)

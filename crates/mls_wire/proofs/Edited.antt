@@ -2,9 +2,9 @@
 use Rattle.std.proofs.Common.{◌≡◌, ℕ, zero, suc, ◌≤◌, List, [], ◌∷◌, ◌++◌, length, Option, Some, ap, ◌∙◌, arith, length-append}
 use Rattle.std.specs.Prelude.{IsSome, remove, option_map}
 use Rattle.std.proofs.lemmas.List.{take_all}
-use Rattle.mls_wire.specs.Spelling.{items, list}
-use Rattle.mls_wire.specs.Joined.{joined, join}
-use Rattle.mls_wire.specs.Sizes.{list_some, fits_all}
+use Rattle.mls_wire.specs.Encoding.{items, list}
+use Rattle.mls_wire.specs.EncodingConcat.{joined, join}
+use Rattle.mls_wire.specs.EncodedSizes.{list_some, fits_all}
 
 module _ {A : Type 0} (s : A → Option (List ℕ)) where
   -- the others have a spelling that is no longer

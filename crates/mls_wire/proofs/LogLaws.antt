@@ -1,15 +1,15 @@
 -- What comes next in a log is determined by its bytes.
 use Rattle.std.proofs.Common.{◌≡◌, ℕ, ◌+◌, ◌<◌, ◌≤◌, List, [], ◌∷◌, ◌++◌, length, take, drop, Option, Some, refl, sym, ap, subst, ◌∙◌, append_assoc, append-nil, arith, inl, inr, length-append, take-append-drop, take_at, drop_at}
 use Rattle.std.proofs.lemmas.List.{take-append-le, nil_from_length}
-use Rattle.mls_wire.specs.declared.record.LogStep.TheVariants as steps
+use Rattle.mls_wire.specs.declared.log.LogStep.TheVariants as steps
 use Rattle.mls_wire.specs.Input.{Input, at}
-use Rattle.mls_wire.specs.Spelling.{length_form, vector}
+use Rattle.mls_wire.specs.Encoding.{length_form, vector}
 use Rattle.mls_wire.specs.Parsing.{vector_at}
-use Rattle.mls_wire.specs.Joined.{joined}
-use Rattle.mls_wire.specs.Lengths.{length_below}
-use Rattle.mls_wire.specs.Steps.{some_is}
-use Rattle.mls_wire.specs.Vectors.{vector_exact}
-use Rattle.mls_wire.specs.Logs.{length_size, IsRecord, IsBadLength, IsCut, IsBreak, MeetsOnce}
+use Rattle.mls_wire.specs.EncodingConcat.{joined}
+use Rattle.mls_wire.specs.LengthsExact.{length_below}
+use Rattle.mls_wire.specs.OptionBind.{some_is}
+use Rattle.mls_wire.specs.VectorsExact.{vector_exact}
+use Rattle.mls_wire.specs.Logs.{length_size, IsRecord, IsBadLength, IsTruncatedRecord, IsBrokenAt, NextRecordIsDeterministic}
 use Rattle.mls_wire.proofs.Logs.{form_size}
 
 first_is : (a b : ℕ) (x y : List ℕ) → a ∷ x ≡ b ∷ y → a ≡ b
@@ -60,7 +60,7 @@ bad_no_record q r x y b bad made e =
     bad.none b (drop (length q) r) (subst (λ (z : List ℕ). IsRecord z b) (sym (prefix q r x y le e)) made)
 
 -- a log that ends inside a record does not begin with one
-cut_no_record : (q r y b : List ℕ) → IsCut q → IsRecord r b → q ++ [] ≡ r ++ y → ⊥
+cut_no_record : (q r y b : List ℕ) → IsTruncatedRecord q → IsRecord r b → q ++ [] ≡ r ++ y → ⊥
 cut_no_record q r y b cut made e =
     let whole : q ≡ r ++ y = sym (append-nil q) ∙ e in
     elim cut.stops [
@@ -75,7 +75,7 @@ cut_no_record q r y b cut made e =
     ]
 
 -- nor with a bad length
-cut_not_bad : (q r x : List ℕ) → IsBadLength q → IsCut r → q ++ x ≡ r ++ [] → ⊥
+cut_not_bad : (q r x : List ℕ) → IsBadLength q → IsTruncatedRecord r → q ++ x ≡ r ++ [] → ⊥
 cut_not_bad q r x bad cut e =
     let whole : q ++ x ≡ r = e ∙ append-nil r in
     elim cut.stops [
@@ -93,17 +93,17 @@ one_bad q r x y one two e =
     same_parts q r x y (one.whole ∙ (ap length_size first ∙ sym two.whole)) e
 
 -- a break begins with a byte
-break_some : (most : ℕ) (q : List ℕ) (left : Option (List ℕ)) → IsBreak most q left → 0 < length q
+break_some : (most : ℕ) (q : List ℕ) (left : Option (List ℕ)) → IsBrokenAt most q left → 0 < length q
 break_some most q left (inl h) = omega arith
 break_some most q left (inr (most_, inl bad)) = omega (arith, ap length bad.begins)
 break_some most q left (inr (most_, inr cut)) = omega (arith, ap length cut.0.begins)
 
-record_no_break : (most : ℕ) (r q x y b : List ℕ) → 0 < most → IsRecord r b → IsBreak most q (Some y) → q ++ y ≡ r ++ x → ⊥
+record_no_break : (most : ℕ) (r q x y b : List ℕ) → 0 < most → IsRecord r b → IsBrokenAt most q (Some y) → q ++ y ≡ r ++ x → ⊥
 record_no_break most r q x y b some made (inl h) e = omega (arith, some, h.0)
 record_no_break most r q x y b some made (inr (most_, inl bad)) e = bad_no_record q r y x b bad made e
 record_no_break most r q x y b some made (inr (most_, inr cut)) e = cut_no_record q r x b cut.0 made (ap (λ (z : List ℕ). q ++ z) (sym cut.1) ∙ e)
 
-one_break : (most : ℕ) (q r x y : List ℕ) → IsBreak most q (Some x) → IsBreak most r (Some y) → q ++ x ≡ r ++ y → x ≡ y
+one_break : (most : ℕ) (q r x y : List ℕ) → IsBrokenAt most q (Some x) → IsBrokenAt most r (Some y) → q ++ x ≡ r ++ y → x ≡ y
 one_break most q r x y (inl h) (inl k) e = same_parts q r x y (h.1 ∙ sym k.1) e
 one_break most q r x y (inl h) (inr k) e = absurd (omega (arith, h.0, k.0))
 one_break most q r x y (inr h) (inl k) e = absurd (omega (arith, h.0, k.0))
@@ -116,7 +116,7 @@ record_some : (r b : List ℕ) → IsRecord r b → 0 < length r
 record_some r b made = let h = record_head r b made in omega (arith, ap length h.2)
 
 -- what comes next
-pub meets_once : MeetsOnce
+pub meets_once : NextRecordIsDeterministic
 meets_once before after other most body more steps.Record steps.Record h k =
     let one = one_record h.1 k.1 after other body more h.3 k.3 (sym h.2 ∙ k.2) in
     (refl, one.1, λ e. one.0)

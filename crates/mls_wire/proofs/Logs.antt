@@ -2,19 +2,19 @@
 use Rattle.std.proofs.Common.{◌≡◌, ◌≢◌, ℕ, ◌+◌, ◌-◌, ◌/◌, ◌%◌, ◌<◌, ◌≤◌, List, [], ◌∷◌, ◌++◌, length, take, drop, replicate, Option, Some, None, refl, sym, ap, subst, ◌∙◌, append_assoc, append-nil, arith, ◌⊎◌, inl, inr, length-append, length-take-le, take-append-drop, take_at}
 use Rattle.std.specs.Prelude.{MatchOption, OnErr, IsErr, Result, Ok, Err}
 use Rattle.std.specs.Io.KnownBytes.{Consumes}
-use Rattle.mls_wire.specs.declared.record.LogStep.{LogStep}
-use Rattle.mls_wire.specs.declared.record.LogStep.TheVariants as steps
-use Rattle.mls_wire.specs.declared.record.RecordFault.{RecordFault}
+use Rattle.mls_wire.specs.declared.log.LogStep.{LogStep}
+use Rattle.mls_wire.specs.declared.log.LogStep.TheVariants as steps
+use Rattle.mls_wire.specs.declared.log.RecordFault.{RecordFault}
 use Rattle.std.proofs.lemmas.Bool.{lt-ltb, le-ltb}
 use Rattle.std.proofs.lemmas.List.{length-replicate, take_all, take-take, take-append-le}
 use Rattle.mls_wire.specs.Limits.{input_limit}
 use Rattle.mls_wire.specs.Input.{Input, at}
-use Rattle.mls_wire.specs.Spelling.{length_form, vector}
-use Rattle.mls_wire.specs.Joined.{joined, join}
+use Rattle.mls_wire.specs.Encoding.{length_form, vector}
+use Rattle.mls_wire.specs.EncodingConcat.{joined, join}
 use Rattle.mls_wire.specs.Parsing.{length_at}
-use Rattle.mls_wire.specs.Lengths.{length_cases, length_below, length_takes, length_exact}
-use Rattle.mls_wire.specs.Steps.{some_is}
-use Rattle.mls_wire.specs.Logs.{length_size, IsRecord, IsBadLength, IsCut, IsUndecided, Meets}
+use Rattle.mls_wire.specs.LengthsExact.{length_cases, length_below, length_takes, length_exact}
+use Rattle.mls_wire.specs.OptionBind.{some_is}
+use Rattle.mls_wire.specs.Logs.{length_size, IsRecord, IsBadLength, IsTruncatedRecord, IsIncomplete, ReadsRecord}
 
 size_1 : (b : ℕ) → b < 64 → length_size b ≡ 1
 unfolding length_size
@@ -55,7 +55,7 @@ nothing_short : (n : ℕ) (xs : List ℕ) → length xs ≡ n → 0 < n → xs �
 nothing_short n xs e lt none = omega (arith, ap length none)
 
 -- a length, and fewer bytes than it says
-pub body_cut : (n first : ℕ) (more got : List ℕ) → length_form n ≡ Some (first ∷ more) → n ≤ input_limit → length got < n → IsCut (first ∷ (more ++ got))
+pub body_cut : (n first : ℕ) (more got : List ℕ) → length_form n ≡ Some (first ∷ more) → n ≤ input_limit → length got < n → IsTruncatedRecord (first ∷ (more ++ got))
 body_cut n first more got e le lt =
     let head : List ℕ = first ∷ more in
     let rest : List ℕ = replicate (n - length got) 0 in
@@ -71,7 +71,7 @@ body_cut n first more got e le lt =
     }
 
 -- fewer bytes than the length has
-pub length_cut : (first : ℕ) (more : List ℕ) → length (first ∷ more) < length_size first → IsCut (first ∷ more)
+pub length_cut : (first : ℕ) (more : List ℕ) → length (first ∷ more) < length_size first → IsTruncatedRecord (first ∷ more)
 length_cut first more lt = record { first = first; more = more; begins = refl; stops = inl lt }
 
 same_front : (a b x y : List ℕ) → length a ≡ length b → a ++ x ≡ b ++ y → a ≡ b
@@ -155,7 +155,7 @@ OnErr-any (Ok x) p = tt
 OnErr-any (Err e) p = p
 
 -- what a fault meets, whatever it is
-pub meets_fault : (before after : Option (List ℕ)) (most : ℕ) (body read : List ℕ) (r : Result LogStep RecordFault) → IsErr r → Consumes before after read → IsUndecided most read → Meets before after most body r
+pub meets_fault : (before after : Option (List ℕ)) (most : ℕ) (body read : List ℕ) (r : Result LogStep RecordFault) → IsErr r → Consumes before after read → IsIncomplete most read → ReadsRecord before after most body r
 meets_fault before after most body read (Ok x) err taken cut = absurd cc
 meets_fault before after most body read (Err e) err taken cut = (read, taken, cut)
 
@@ -164,7 +164,7 @@ pub body_bytes : (n first : ℕ) (more body : List ℕ) → length_form n ≡ So
 body_bytes n first more body e le len = record_made (first ∷ more) body (ap length_form len ∙ e) (omega (arith, len))
 
 -- an answer that is no record says nothing of a body
-pub meets_kept : (before after : Option (List ℕ)) (most : ℕ) (old new : List ℕ) (r : Result LogStep RecordFault) → (r ≡ Ok steps.Record → ⊥) → Meets before after most old r → Meets before after most new r
+pub meets_kept : (before after : Option (List ℕ)) (most : ℕ) (old new : List ℕ) (r : Result LogStep RecordFault) → (r ≡ Ok steps.Record → ⊥) → ReadsRecord before after most old r → ReadsRecord before after most new r
 meets_kept before after most old new (Ok steps.Record) none h = absurd (none refl)
 meets_kept before after most old new (Ok steps.End) none h = h
 meets_kept before after most old new (Ok steps.Broken) none h = h

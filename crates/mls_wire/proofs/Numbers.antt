@@ -3,7 +3,7 @@ use Rattle.std.proofs.Common.{◌≡◌, ℕ, ◌<◌, ◌≤◌, List, length, 
 use Rattle.std.specs.Int.{Width, byte_len, from_be_bytes}
 use Rattle.mls_wire.specs.Input.{Input, skip}
 use Rattle.mls_wire.specs.Parsing.{number_at}
-use Rattle.mls_wire.specs.Numbers.{IsBytes, number_read, number_short}
+use Rattle.mls_wire.specs.IntegersExact.{IsBytes, number_read, number_short}
 
 -- too few bytes for a number of this width
 pub front_short : (i : Input) (count : ℕ) → length i.left < count → (w : Width) → byte_len w ≡ count → number_at w i ≡ None

@@ -4,10 +4,10 @@ use Rattle.std.specs.Prelude.{IsSome}
 use Rattle.mls_wire.specs.declared.fault.CodecFault.{CodecFault}
 use Rattle.mls_wire.specs.declared.fault.CodecFault.TheVariants as faults
 use Rattle.mls_wire.specs.Faults.{too_long_at}
-use Rattle.mls_wire.specs.Spelling.{length_form, vector}
-use Rattle.mls_wire.specs.Joined.{join, no_left}
-use Rattle.mls_wire.specs.Writing.{after, added, WritesPiece, PutsPiece}
-use Rattle.mls_wire.specs.Written.{after_then, after_is, grown}
+use Rattle.mls_wire.specs.Encoding.{length_form, vector}
+use Rattle.mls_wire.specs.EncodingConcat.{join, no_left}
+use Rattle.mls_wire.specs.WriteContracts.{after, added, WritesPiece, PutsPiece}
+use Rattle.mls_wire.specs.WriteSequences.{after_then, after_is, grown}
 
 -- an equal text
 pub WritesPiece-same : {A : Type 0} (a b : Option (List ℕ)) (old new : List ℕ) (r : Result A CodecFault) → a ≡ b → WritesPiece a old new r → WritesPiece b old new r

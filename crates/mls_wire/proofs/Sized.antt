@@ -4,12 +4,12 @@ use Rattle.std.specs.Prelude.{IsSome, IsTrue, is_some, ◌↔◌}
 use Rattle.mls_wire.specs.declared.fault.CodecFault.{CodecFault}
 use Rattle.mls_wire.specs.declared.fault.CodecFault.TheVariants as faults
 use Rattle.mls_wire.specs.Faults.{too_long_at}
-use Rattle.mls_wire.specs.Spelling.{length_form, vector, items, list}
-use Rattle.mls_wire.specs.Joined.{no_left}
-use Rattle.mls_wire.specs.Counting.{size}
-use Rattle.mls_wire.specs.Sizes.{sized_text, list_sized, counted_form}
-use Rattle.mls_wire.specs.Written.{after_then}
-use Rattle.mls_wire.specs.Writing.{after, Added, Puts, PutsPiece, WritesPiece, MakesPiece}
+use Rattle.mls_wire.specs.Encoding.{length_form, vector, items, list}
+use Rattle.mls_wire.specs.EncodingConcat.{no_left}
+use Rattle.mls_wire.specs.SaturatingSizes.{size}
+use Rattle.mls_wire.specs.EncodedSizes.{sized_text, list_sized, counted_form}
+use Rattle.mls_wire.specs.WriteSequences.{after_then}
+use Rattle.mls_wire.specs.WriteContracts.{after, Added, Puts, PutsPiece, WritesPiece, MakesPiece}
 use Rattle.mls_wire.proofs.Pieces.{some_has, vector_has}
 
 -- what has a size has a text

@@ -1,22 +1,24 @@
--- Devices that give and take bytes: what is written where one may fail, and devices in memory.
+-- Devices that give and take bytes: what a failed write may have written, and devices over memory. In contracts the
+-- bytes that a source has left, and the bytes that a sink holds, are `Some bytes`, or `None` if they are not known.
+-- Used by contracts.
 use Rattle.std.specs.Prelude.{ℕ, ◌+◌, ◌-◌, ◌≡◌, List, ◌++◌, length, min, Bool, false, ◌||◌, ◌&&◌, not, Option, Some, None, nat_eq}
 use Rattle.std.specs.Io.KnownBytes.{Appends}
 
--- what was written is a prefix of the text
+-- `AppendsPrefix old new text`: a prefix of `text` was written to a sink that held `old` and now holds `new`.
 abbrev pub AppendsPrefix : Option (List ℕ) → Option (List ℕ) → List ℕ → Type 0
 AppendsPrefix old new text = (part : List ℕ) × (more : List ℕ) × (text ≡ part ++ more) × Appends old new part
 
--- the number of the next call, counted from 1; the count stays at the greatest `usize`
+-- `next_call calls` is the number of the next call, counted from 1. It does not go beyond the greatest `usize`.
 abbrev pub next_call : ℕ → ℕ
 next_call calls = min (calls + 1) 18446744073709551615
 
--- whether the call of this number is the one at which a device is to fail
+-- `is_failing_call fails_at call`: the device fails at the call of this number.
 abbrev pub is_failing_call : Option ℕ → ℕ → Bool
 is_failing_call None call = false
 is_failing_call (Some n) call = nat_eq n call
 
--- A source over memory: the bytes that are left, the most that it gives at one call, the calls so far, the number of
--- the call at which it is to fail, and whether it has failed.
+-- The model of a source over memory: the bytes that are left, the most that it gives in one call, the number of calls
+-- so far, the number of the call at which it fails, and whether it has failed.
 pub record MemoryLeft : Type 0 where
   pub left : List ℕ
   pub piece : ℕ
@@ -24,16 +26,17 @@ pub record MemoryLeft : Type 0 where
   pub fails_at : Option ℕ
   pub is_failed : Bool
 
--- whether the next call fails
+-- `fails_to_pull s`: the next call of the source fails.
 abbrev pub fails_to_pull : MemoryLeft → Bool
 fails_to_pull s = s.is_failed || is_failing_call s.fails_at (next_call s.calls)
 
--- how many bytes the next call gives that does not fail, into so much room
+-- `pulled_count s room` is the number of bytes that the next call gives for a buffer of `room` bytes, if it does not
+-- fail.
 abbrev pub pulled_count : MemoryLeft → ℕ → ℕ
 pulled_count s room = min (min s.piece room) (length s.left)
 
--- A sink over memory: the bytes that it holds, the most that it can hold and the most that it takes at one call, the
--- calls so far, the number of the call at which it is to fail, and whether it has failed.
+-- The model of a sink over memory: the bytes that it holds, its capacity, the most that it takes in one call, the
+-- number of calls so far, the number of the call at which it fails, and whether it has failed.
 pub record MemoryHeld : Type 0 where
   pub held : List ℕ
   pub room : ℕ
@@ -42,10 +45,11 @@ pub record MemoryHeld : Type 0 where
   pub fails_at : Option ℕ
   pub is_failed : Bool
 
--- whether the next call fails, for so many bytes: also where there are some, and the sink is full
+-- `fails_to_push s count`: the next call of the sink fails for `count` bytes. It also fails if the sink is full and
+-- there are any.
 abbrev pub fails_to_push : MemoryHeld → ℕ → Bool
 fails_to_push s count = s.is_failed || is_failing_call s.fails_at (next_call s.calls) || (nat_eq (length s.held) s.room && not (nat_eq count 0))
 
--- how many bytes of so many the next call takes that does not fail
+-- `pushed_count s count` is the number of bytes, of `count`, that the next call takes, if it does not fail.
 abbrev pub pushed_count : MemoryHeld → ℕ → ℕ
 pushed_count s count = min (min s.piece count) (s.room - length s.held)

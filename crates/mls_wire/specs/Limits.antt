@@ -1,10 +1,10 @@
--- How long inputs and vectors may be.
+-- Limits of inputs and vectors. Used by contracts.
 use Rattle.std.specs.Prelude.{ℕ}
 
--- the most bytes that an input may have: 2 ^ 28, a limit of this library's own
+-- The most bytes of an input, 2 ^ 28: a limit of this library.
 abbrev pub input_limit : ℕ
 input_limit = 268435456
 
--- the most bytes that the content of a vector may have: 2 ^ 30 - 1 (RFC 9420, 2.1.2)
+-- The most bytes of the body of a vector, 2 ^ 30 - 1 (RFC 9420, 2.1.2).
 abbrev pub vector_limit : ℕ
 vector_limit = 1073741823

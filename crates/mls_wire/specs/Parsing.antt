@@ -1,5 +1,6 @@
--- What is spelled at the front of an input, as functions that find it, or find nothing: for proofs, which can compute
--- with them. Contracts speak of spellings; of public ones only `Decode::read`, which implementors prove, names these.
+-- Reading from left to right as functions of an input: each returns the value that is encoded at its front, or `None`.
+-- Only the contract of `Decode::read` and the definition `required_by` of `mls_nodes` name them. Theorems say that they
+-- agree with the encodings. Used by contracts.
 use Rattle.std.specs.Prelude.{◌≡◌, ℕ, zero, suc, ◌-◌, List, [], ◌∷◌, length, take, Bool, true, false, ◌&&◌, Option, Some, None, Result, Ok, Err, nat_lt, nat_eq, if◌then◌else◌}
 use Rattle.std.specs.Int.{Width, byte_len, from_be_bytes, w8, w16, w32}
 use Rattle.mls_wire.specs.declared.fault.WireFault.{WireFault}
@@ -7,27 +8,28 @@ use Rattle.mls_wire.specs.declared.fault.CodecFault.{CodecFault}
 use Rattle.mls_wire.specs.declared.fault.CodecFault.TheVariants as faults
 use Rattle.mls_wire.specs.Input.{Input, at, skip}
 
--- ---- answers
+-- ---- results of calls
 
--- a step, and then another by what it gave
+-- `o >>= f` is `f x` if `o` is `Some x`, else `None`.
 infixl 10 ◌>>=◌
 abbrev pub ◌>>=◌ : {A B : Type 0} → Option A → (A → Option B) → Option B
 (Some x) >>= f = f x
 None >>= f = None
 
--- What a call answered, by the function that finds: what it found, with the rest of the input; or nothing, and then
--- the input is unchanged.
+-- `Gives read old new result`: a call returned what `read` returns, with the rest of the input. On error `read` returns
+-- `None`, and the input is unchanged.
 abbrev pub Gives : {A : Type 0} → (Input → Option (A × Input)) → Input → Input → Result A WireFault → Type 0
 Gives read old new (Ok x) = read old ≡ Some (x, new)
 Gives read old new (Err f) = (read old ≡ None) × (new ≡ old)
 
--- the same of a call that takes memory
+-- `GivesOrFull read old new result`: as `Gives`, for a call that allocates.
 abbrev pub GivesOrFull : {A : Type 0} → (Input → Option (A × Input)) → Input → Input → Result A CodecFault → Type 0
 GivesOrFull read old new (Ok x) = read old ≡ Some (x, new)
 GivesOrFull read old new (Err (faults.Wire f)) = (read old ≡ None) × (new ≡ old)
 GivesOrFull read old new (Err faults.OutOfMemory) = new ≡ old
 
--- what a call answered that reads a whole input
+-- `Finds found result`: a call that reads a whole input returned what was found. On error nothing was, or the call ran
+-- out of memory.
 abbrev pub Finds : {A : Type 0} → Option A → Result A CodecFault → Type 0
 Finds found (Ok x) = found ≡ Some x
 Finds found (Err (faults.Wire f)) = found ≡ None
@@ -35,25 +37,25 @@ Finds found (Err faults.OutOfMemory) = Unit {0}
 
 -- ---- numbers and lengths
 
--- each of the numbers is within a byte
+-- `all_bytes xs`: each number is below 256.
 abbrev pub all_bytes : List ℕ → Bool
 all_bytes [] = true
 all_bytes (b ∷ bs) = nat_lt b 256 && all_bytes bs
 
--- an unsigned integer, the highest byte first (RFC 8446, 3.3)
+-- `number_at w i` is the unsigned integer at the front, the highest byte first (RFC 8446, 3.3).
 unfoldable pub number_at : Width → Input → Option (ℕ × Input)
 number_at w i =
     if nat_lt (length i.left) (byte_len w) then None
     else if all_bytes (take (byte_len w) i.left) then Some (from_be_bytes w (take (byte_len w) i.left), skip (byte_len w) i)
     else None
 
--- a longer form of a length: a number from low on, which is the length and by (RFC 9420, 2.1.2)
+-- `longer w low by i` is a length in a longer form: a number that is at least `low`, less `by` (RFC 9420, 2.1.2).
 abbrev pub longer : Width → ℕ → ℕ → Input → Option (ℕ × Input)
 longer w low by i = do
   n ← number_at w i
   if nat_lt n.0 low then None else Some (n.0 - by, n.1)
 
--- a length, in the form that its first byte tells (RFC 9420, 2.1.2)
+-- `length_at i` is the length at the front, in the form that its first byte determines (RFC 9420, 2.1.2).
 unfoldable pub length_at : Input → Option (ℕ × Input)
 length_at i = do
   first ← number_at w8 i
@@ -64,31 +66,31 @@ length_at i = do
 
 -- ---- vectors, optional values, lists
 
--- the body of a vector, at its offset (RFC 9420, 2.1.2)
+-- `body_at i` is the body of the vector at the front, at its offset (RFC 9420, 2.1.2).
 unfoldable pub body_at : Input → Option (Input × Input)
 body_at i = do
   n ← length_at i
   if nat_lt (length n.1.left) n.0 then None else Some (at n.1.offset (take n.0 n.1.left), skip n.0 n.1)
 
--- the bytes of a vector's body (RFC 9420, 2.1.2)
+-- `vector_at i` is the bytes of the body of the vector at the front (RFC 9420, 2.1.2).
 unfoldable pub vector_at : Input → Option (List ℕ × Input)
 vector_at i = do
   body ← body_at i
   Some (body.0.left, body.1)
 
--- the byte before an optional value (RFC 9420, 2.1.1)
+-- `flag_at i` is the byte before an optional value, as a Boolean (RFC 9420, 2.1.1).
 unfoldable pub flag_at : Input → Option (Bool × Input)
 flag_at i = do
   b ← number_at w8 i
   if nat_eq b.0 0 then Some (false, b.1) else if nat_eq b.0 1 then Some (true, b.1) else None
 
--- an optional value (RFC 9420, 2.1.1)
+-- `optional_at item_at i` is the optional value at the front (RFC 9420, 2.1.1).
 unfoldable pub optional_at : {A : Type 0} → (Input → Option (A × Input)) → Input → Option (Option A × Input)
 optional_at item_at i = do
   there ← flag_at i
   if there.0 then (item_at there.1 >>= λ x. Some (Some x.0, x.1)) else Some (None, there.1)
 
--- items up to the end, of which there are at most as many as the first number says
+-- `items_at item_at n i` is the items up to the end of the input, at most `n` of them.
 unfoldable pub items_at : {A : Type 0} → (Input → Option (A × Input)) → ℕ → Input → Option (List A)
 items_at item_at zero i = if nat_eq (length i.left) 0 then Some [] else None
 items_at item_at (suc n) i =
@@ -98,14 +100,14 @@ items_at item_at (suc n) i =
       xs ← items_at item_at n x.1
       Some (x.0 ∷ xs))
 
--- a list: a vector whose body is items up to its end (RFC 9420, 2.1.2)
+-- `list_at item_at i` is the list at the front: a vector whose body is items up to its end (RFC 9420, 2.1.2).
 unfoldable pub list_at : {A : Type 0} → (Input → Option (A × Input)) → Input → Option (List A × Input)
 list_at item_at i = do
   body ← body_at i
   xs ← items_at item_at (length body.0.left) body.0
   Some (xs, body.1)
 
--- the value that is all of the input
+-- `whole_at read bytes` is the value that is all of the bytes.
 abbrev pub whole_at : {A : Type 0} → (Input → Option (A × Input)) → List ℕ → Option A
 whole_at read bytes = do
   x ← read (at 0 bytes)

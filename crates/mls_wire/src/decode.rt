@@ -1,50 +1,53 @@
-//! Types that are read from bytes, and lists of them.
+//! Types that are decoded from bytes, and lists of them.
 
 ghost use Rattle.std.specs.Prelude.{◌≡◌, ◌<◌, ℕ, List, Option, Some, Err, length, IfOk, IsSome, IsTrue};
 ghost use Rattle.mls_wire.specs.Faults.{too_long_at};
 ghost use Rattle.mls_wire.specs.Input.{Input};
 ghost use Rattle.mls_wire.specs.Limits.{input_limit};
-ghost use Rattle.mls_wire.specs.Spelling.{items, list};
+ghost use Rattle.mls_wire.specs.Encoding.{items, list};
 ghost use Rattle.mls_wire.specs.Parsing.{GivesOrFull, Finds, whole_at, items_at, list_at};
-ghost use Rattle.mls_wire.specs.Reading.{Decodes, DecodesAll, DecodesInput, NoListTakes, seen};
-ghost use Rattle.mls_wire.specs.Exact.{IsExact, IsLong};
+ghost use Rattle.mls_wire.specs.ReadContracts.{Decodes, DecodesAll, DecodesInput, NoListHasSize, seen};
+ghost use Rattle.mls_wire.specs.ExactParsers.{IsExact, IsLong};
 
 use crate::fault::{CodecFault, WireFault, WireFaultKind};
 use crate::reader::Reader;
 use std::alloc::Global;
 
-/// The most bytes that one input has.
+/// The most bytes of one input.
 pub const MAX_INPUT: usize = 268435456;
 
-/// A type whose values are spelled in bytes, each by at most one list of them. What [`read_value`] and
-/// [`read_input`] answer is stated by `spelling` alone; `reading` is the same as a function, for the proofs of
-/// implementors, who read the fields of a value one after the other on a [`fork`](Reader::fork) of the reader.
+/// A type whose values have an encoding, which determines the value.
+///
+/// Contracts of [`read_value`] and [`read_input`] name the encoding only. `reading` is the same as a function of the
+/// input. Implementors need it for their proofs: they read the fields of a value one after the other on a
+/// [`fork`](Reader::fork) of the reader.
 pub trait Decode: Drop {
-    /// The bytes of a value, where it is within its limits.
+    /// The encoding of a value, if the value is within its limits.
     ghost spelling: { Self → Option (List ℕ) };
 
     /// The value at the front of an input.
     ghost reading: { Input → Option (Self × Input) };
 
-    /// Reads the value at the front; the reader then stands behind it. A refusal leaves the reader.
+    /// Reads the value at the front and moves the reader after it. On error the reader is unchanged.
     fn read(alloc: Global, reader: &mut Reader<'_>) -> Result<Self, CodecFault>
         ensures { GivesOrFull reading reader.old reader.new result };
 
-    /// Whether no list of values takes so many bytes, which a list of them then answers by `OddLength`.
+    /// Returns true only if no list of values has an encoding of this many bytes. A list is then refused as
+    /// `OddLength`.
     fn is_uneven(_len: usize) -> bool
-        ensures { IsTrue result → NoListTakes spelling _len }
+        ensures { IsTrue result → NoListHasSize spelling _len }
     {
         false
     }
 
-    /// What is read is spelled, and what is spelled is read.
+    /// The encoding and the reading function agree.
     ghost exact: { IsExact spelling reading };
 
-    /// A value takes one byte at least.
+    /// An encoding has at least one byte.
     ghost long: { IsLong spelling };
 }
 
-/// The values that all of the body spells, one after the other.
+/// Returns the values whose encodings are all of the body, one after the other.
 fn items_of<T: Decode>(alloc: Global, mut body: Reader<'_>) -> Result<Vec<T>, CodecFault>
     ensures { Finds
         (items_at T.reading (length body.entry.left) body.entry)
@@ -58,7 +61,7 @@ fn items_of<T: Decode>(alloc: Global, mut body: Reader<'_>) -> Result<Vec<T>, Co
     Ok(items)
 }
 
-/// The list at the front, as a function of the input.
+/// Returns the list at the front, as a function of the input.
 #[tactic(auto, unfolding(crate::specs::Parsing::list_at))]
 fn list_of<T: Decode>(alloc: Global, reader: &mut Reader<'_>) -> Result<Vec<T>, CodecFault>
     ensures { GivesOrFull (list_at T.reading) reader.old reader.new (seen (λ v. v.items) result) }
@@ -68,7 +71,7 @@ fn list_of<T: Decode>(alloc: Global, reader: &mut Reader<'_>) -> Result<Vec<T>, 
     if T::is_uneven(body.len()) {
         return Err(CodecFault::Wire(WireFault {
             kind: WireFaultKind::OddLength,
-            at: reader.offset(),
+            at: reader.place(),
         }));
     }
     let items = items_of(alloc, body)?;
@@ -88,15 +91,18 @@ pub(crate) fn read_list<T: Decode>(
     list_of(alloc, reader)
 }
 
-/// Reads the value at the front. It is refused for another cause than memory exactly where no value is spelled there;
-/// a refusal leaves the reader.
+/// Reads the value at the front and moves the reader after it.
+///
+/// # Errors
+///
+/// A wire fault if and only if no value is encoded there, or `OutOfMemory`. The reader is then unchanged.
 pub fn read_value<T: Decode>(alloc: Global, reader: &mut Reader<'_>) -> Result<T, CodecFault>
     ensures { Decodes T.spelling reader.old reader.new result }
 {
     T::read(alloc, reader)
 }
 
-/// The value that all of the bytes spell, as a function of the bytes.
+/// Returns the value whose encoding is all of the bytes, as a function of the bytes.
 fn whole<T: Decode>(alloc: Global, bytes: &[u8]) -> Result<T, CodecFault>
     ensures { Finds (whole_at T.reading bytes.now) result }
 {
@@ -106,15 +112,23 @@ fn whole<T: Decode>(alloc: Global, bytes: &[u8]) -> Result<T, CodecFault>
     Ok(value)
 }
 
-/// The value that all of the bytes spell. The faults are those of the value, and then `Trailing`.
+/// Returns the value whose encoding is all of the bytes.
+///
+/// # Errors
+///
+/// The faults of the value, then `Trailing` if bytes are left, or `OutOfMemory`.
 pub fn read_all_of<T: Decode>(alloc: Global, bytes: &[u8]) -> Result<T, CodecFault>
     ensures { DecodesAll T.spelling bytes.now result }
 {
     whole(alloc, bytes)
 }
 
-/// The value that all of an input spells. An input of more than [`MAX_INPUT`] bytes is `TooLong` at 0, whatever it
-/// holds and before any memory is taken.
+/// Returns the value whose encoding is all of an input.
+///
+/// # Errors
+///
+/// `TooLong` at 0 for an input of more than [`MAX_INPUT`] bytes, before anything is read or allocated. Then the faults
+/// of the value, `Trailing` if bytes are left, or `OutOfMemory`.
 pub fn read_input<T: Decode>(alloc: Global, bytes: &[u8]) -> Result<T, CodecFault>
     ensures spelled { DecodesInput T.spelling bytes.now result }
     ensures long { input_limit < length bytes.now → result ≡ Err (CodecFault.Wire (too_long_at 0)) }

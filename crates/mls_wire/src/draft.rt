@@ -1,22 +1,21 @@
-//! A value that is being written behind bytes that stand, and can be taken back.
+//! A write that can be undone.
 
 ghost use Rattle.std.specs.Prelude.{◌≡◌, ◌+◌, ◌++◌, ℕ, List, [], Option, Some, length};
 ghost use Rattle.std.specs.Int.{w8, w16, w32, w64};
 ghost use Rattle.mls_wire.specs.Faults.{too_long_at};
-ghost use Rattle.mls_wire.specs.Spelling.{number, length_form, vector, flag};
-ghost use Rattle.mls_wire.specs.Writing.{Added, PutsPiece};
+ghost use Rattle.mls_wire.specs.Encoding.{number, length_form, vector, flag};
+ghost use Rattle.mls_wire.specs.WriteContracts.{Added, PutsPiece};
 
 use crate::fault::{CodecFault, WireFault};
 use crate::writer::Writer;
 use std::alloc::Global;
 use std::marker::Model;
 
-/// Bytes that stand, and what was added to them. Its `put_..` calls are for implementors of
-/// [`Encode`](crate::Encode), which add the fields of a value one after the other; other callers write with a
-/// [`Writer`].
+/// Existing bytes, and what a write has added to them. The `put_..` calls are for implementors of
+/// [`Encode`](crate::Encode), which add the fields of a value one after the other. Other callers use a [`Writer`].
 ///
-/// A refused `put_..` leaves the bytes that stand, and perhaps a part of what was added: whoever made the draft takes
-/// that back with [`undo`](Draft::undo).
+/// After a failed `put_..` the existing bytes are unchanged, and a part may have been added. Whoever made the draft
+/// removes it with [`undo`](Draft::undo).
 #[derive(Drop)]
 pub struct Draft {
     written: Writer,
@@ -25,7 +24,7 @@ pub struct Draft {
 
 impl Model for Draft {
     ghost use Rattle.std.specs.Prelude.{◌≤◌, length};
-    ghost use Rattle.mls_wire.specs.Writing.{Added, added};
+    ghost use Rattle.mls_wire.specs.WriteContracts.{Added, added};
 
     ghost Value = { Added };
 
@@ -35,7 +34,7 @@ impl Model for Draft {
 }
 
 impl Draft {
-    /// A draft behind no bytes.
+    /// Returns a draft with no existing bytes.
     pub fn new(alloc: Global) -> Draft
         ensures kept { result.kept ≡ [] }
         ensures more { result.more ≡ [] }
@@ -46,7 +45,7 @@ impl Draft {
         }
     }
 
-    /// A draft behind these bytes.
+    /// Returns a draft whose existing bytes are these.
     pub fn after(bytes: Vec<u8>) -> Draft
         ensures kept { result.kept ≡ bytes.items }
         ensures more { result.more ≡ [] }
@@ -58,14 +57,14 @@ impl Draft {
         }
     }
 
-    /// The bytes that stood, and behind them what was added.
+    /// Returns the existing bytes followed by what was added.
     pub fn finish(self) -> Vec<u8>
         ensures { result.items ≡ self.kept ++ self.more }
     {
         self.written.into_bytes()
     }
 
-    /// The bytes that stood, without what was added.
+    /// Returns the existing bytes without what was added.
     pub fn undo(mut self) -> Vec<u8>
         ensures { result.items ≡ self.kept }
     {
@@ -73,7 +72,7 @@ impl Draft {
         self.written.into_bytes()
     }
 
-    /// The fault of a piece that is too long, at the number of bytes that are written.
+    /// Returns the fault of a piece that is too long, at the number of bytes written so far.
     pub(crate) fn too_long(&self) -> WireFault
         ensures { result ≡ too_long_at (length self.now.kept + length self.now.more) }
     {

@@ -1,10 +1,10 @@
-//! Types that are written as bytes, and lists of them.
+//! Types that are encoded as bytes, and lists of them.
 
 ghost use Rattle.std.specs.Prelude.{◌≡◌};
-ghost use Rattle.mls_wire.specs.Counting.{size};
-ghost use Rattle.mls_wire.specs.Spelling.{items, list};
-ghost use Rattle.mls_wire.specs.Reading.{seen};
-ghost use Rattle.mls_wire.specs.Writing.{MakesPiece, Puts, PutsPiece};
+ghost use Rattle.mls_wire.specs.SaturatingSizes.{size};
+ghost use Rattle.mls_wire.specs.Encoding.{items, list};
+ghost use Rattle.mls_wire.specs.ReadContracts.{seen};
+ghost use Rattle.mls_wire.specs.WriteContracts.{MakesPiece, Puts, PutsPiece};
 
 use crate::decode::Decode;
 use crate::draft::Draft;
@@ -13,21 +13,24 @@ use crate::size::size_of_items;
 use crate::writer::Writer;
 use std::alloc::Global;
 
-/// A type whose values are written as bytes.
+/// A type whose values can be encoded.
 pub trait Encode: Decode {
-    /// How many bytes the value takes, or [`usize::MAX`] if they are more; `None` exactly where it has no spelling,
-    /// being over a limit. It takes no memory.
+    /// Returns the length of the encoding in bytes, or [`usize::MAX`] if it is larger. `None` if and only if the value
+    /// has no encoding, being over a limit. Does not allocate.
     fn size(&self) -> Option<usize>
         ensures { result ≡ size (Self.spelling self.now) };
 
-    /// Adds the bytes of the value to a draft. A refusal for another cause than memory is `TooLong`, and comes only
-    /// where the value has no spelling. It may leave a part of the bytes there, which whoever made the draft takes
-    /// back.
+    /// Adds the encoding to a draft.
+    ///
+    /// # Errors
+    ///
+    /// `TooLong`, only if the value has no encoding, or `OutOfMemory`. A part may have been added, which whoever made
+    /// the draft removes.
     fn put(&self, alloc: Global, draft: &mut Draft) -> Result<(), CodecFault>
         ensures { Puts (Self.spelling self.now) draft.old draft.new result };
 }
 
-/// Adds the values, one after the other.
+/// Adds the encodings of the values, one after the other.
 fn put_items<T: Encode>(alloc: Global, values: &[T], draft: &mut Draft) -> Result<(), CodecFault>
     ensures { Puts (items T.spelling values.now) draft.old draft.new result }
 {
@@ -37,9 +40,12 @@ fn put_items<T: Encode>(alloc: Global, values: &[T], draft: &mut Draft) -> Resul
     Ok(())
 }
 
-/// Adds a list: its length in bytes, and its items (RFC 9420, 2.1.2). `TooLong`, at the number of bytes that stand,
-/// exactly where an item has no spelling, or they take more bytes than a vector's body may have; that is judged
-/// before memory is taken.
+/// Adds a list: its length in bytes, and its items (RFC 9420, 2.1.2).
+///
+/// # Errors
+///
+/// `TooLong`, at the number of bytes written so far, if and only if an item has no encoding, or the items have more
+/// bytes than the body of a vector may have. This is checked before anything is allocated. Or `OutOfMemory`.
 pub fn put_list<T: Encode>(alloc: Global, values: &[T], draft: &mut Draft) -> Result<(), CodecFault>
     ensures { PutsPiece (list T.spelling values.now) draft.old draft.new result }
 {
@@ -50,7 +56,11 @@ pub fn put_list<T: Encode>(alloc: Global, values: &[T], draft: &mut Draft) -> Re
     put_items(alloc, values, draft)
 }
 
-/// The bytes that spell a value. `TooLong` at 0 exactly where it has no spelling, being over a limit.
+/// Returns the encoding of a value.
+///
+/// # Errors
+///
+/// `TooLong` at 0 if and only if the value has no encoding, being over a limit, or `OutOfMemory`.
 pub fn bytes_of<T: Encode>(alloc: Global, value: &T) -> Result<Vec<u8>, CodecFault>
     ensures { MakesPiece (T.spelling value.now) (seen (λ v. v.items) result) }
 {

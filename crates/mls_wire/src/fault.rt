@@ -1,4 +1,4 @@
-//! Why bytes can't be read or a value not be written, and the failure of a device.
+//! Why bytes cannot be read or a value cannot be written, and the failure of a device.
 
 ghost use Rattle.std.specs.Prelude.{◌≡◌};
 ghost use Rattle.mls_wire.specs.declared.fault.CodecFault.TheVariants.{OutOfMemory, Wire};
@@ -6,34 +6,34 @@ ghost use Rattle.mls_wire.specs.declared.fault.CodecFault.TheVariants.{OutOfMemo
 use std::alloc::{AllocError, AllocFailed};
 use thiserror::Error;
 
-/// What is wrong with bytes, or with a value that was to be written.
+/// What is wrong with bytes, or with a value to be written.
 ///
-/// A vector is judged in this order: first byte missing (`Truncated`), `BadPrefix`, length bytes missing
+/// A vector is checked in this order: first byte missing (`Truncated`), `BadPrefix`, bytes of the length missing
 /// (`Truncated`), `NotShortest`, body missing (`Truncated`), `OddLength`.
 #[derive(Clone, Copy, Debug, PartialEq, Eq, Error)]
 pub enum WireFaultKind {
     /// The bytes end within an item.
     #[error("Truncated")]
     Truncated,
-    /// A length in a longer form than it needs (RFC 9420, 2.1.2).
+    /// A length is not in its shortest form (RFC 9420, 2.1.2).
     #[error("NotShortest")]
     NotShortest,
-    /// A length whose first byte is `c0` or more (RFC 9420, 2.1.2).
+    /// The first byte of a length is `c0` or more (RFC 9420, 2.1.2).
     #[error("BadPrefix")]
     BadPrefix,
-    /// A byte before an optional value that is neither 0 nor 1 (RFC 9420, 2.1.1).
+    /// The byte before an optional value is neither 0 nor 1 (RFC 9420, 2.1.1).
     #[error("BadOptional")]
     BadOptional,
-    /// A tag that names no variant which is read here.
+    /// A tag names no variant that is read here.
     #[error("BadTag {0}")]
     BadTag(u16),
-    /// The body of a list of `uint16` or `uint32` is no whole number of items.
+    /// The body of a list of `uint16` or `uint32` is not a whole number of items.
     #[error("OddLength")]
     OddLength,
-    /// Bytes are left behind the value.
+    /// Bytes are left after the value.
     #[error("Trailing")]
     Trailing,
-    /// A body, a list or an input is longer than its limit.
+    /// A body, a list or an input is over its limit.
     #[error("TooLong")]
     TooLong,
 }
@@ -44,19 +44,19 @@ pub enum WireFaultKind {
 pub struct WireFault {
     /// What is wrong.
     pub kind: WireFaultKind,
-    /// The offset, counted from the start of the outermost input, at which the smallest item begins that can't be
-    /// read: a vector begins at its length. `Trailing` stands at the first byte left, and the `TooLong` of a writer
-    /// at the number of bytes written so far.
+    /// The offset of the first byte of the smallest item that cannot be read, counted from the start of the outermost
+    /// input. A vector begins at its length. `Trailing` is at the first byte after the value, and the `TooLong` of a
+    /// writer at the number of bytes written so far.
     pub at: usize,
 }
 
-/// Why a call that may take memory was refused.
+/// The error of a call that may allocate.
 #[derive(Clone, Copy, Debug, PartialEq, Eq, Error)]
 pub enum CodecFault {
-    /// The bytes can't be read, or the value not be written.
+    /// The bytes cannot be read, or the value cannot be written.
     #[error(transparent)]
     Wire(WireFault),
-    /// There is no memory for the value or its bytes.
+    /// An allocation failed.
     #[error("out of memory")]
     OutOfMemory,
 }

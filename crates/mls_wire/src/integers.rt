@@ -1,11 +1,11 @@
-//! The unsigned integers of RFC 8446, 3.3, which RFC 9420 uses: as many bytes as they are wide, the highest first.
+//! The unsigned integers of RFC 8446, 3.3, which RFC 9420 uses: the highest byte first.
 
 ghost use Rattle.std.specs.Prelude.{◌↔◌, ◌≢◌, ◌%◌, IsTrue};
 ghost use Rattle.std.specs.Int.{w8, w16, w32, w64};
-ghost use Rattle.mls_wire.specs.Reading.{NoListTakes};
-ghost use Rattle.mls_wire.specs.Spelling.{number};
+ghost use Rattle.mls_wire.specs.ReadContracts.{NoListHasSize};
+ghost use Rattle.mls_wire.specs.Encoding.{number};
 ghost use Rattle.mls_wire.specs.Parsing.{number_at};
-ghost use Rattle.mls_wire.specs.Numbers.{number_exact, wide8, wide16, wide32, wide64, number_long};
+ghost use Rattle.mls_wire.specs.IntegersExact.{number_exact, wide8, wide16, wide32, wide64, number_long};
 
 use crate::decode::Decode;
 use crate::draft::Draft;
@@ -24,7 +24,7 @@ impl Decode for u16 {
     }
 
     fn is_uneven(len: usize) -> bool
-        ensures uneven { IsTrue result → NoListTakes (number w16) len }
+        ensures uneven { IsTrue result → NoListHasSize (number w16) len }
         ensures remainder { IsTrue result ↔ (len % 2 ≢ 0) }
     {
         len % 2 != 0
@@ -45,7 +45,7 @@ impl Decode for u32 {
     }
 
     fn is_uneven(len: usize) -> bool
-        ensures uneven { IsTrue result → NoListTakes (number w32) len }
+        ensures uneven { IsTrue result → NoListHasSize (number w32) len }
         ensures remainder { IsTrue result ↔ (len % 4 ≢ 0) }
     {
         len % 4 != 0

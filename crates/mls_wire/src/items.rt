@@ -1,7 +1,7 @@
 //! Lists that fit into one vector.
 
 ghost use Rattle.std.specs.Prelude.{◌≡◌, ◌↔◌, ◌<◌, ◌≤◌, IsSome, IsTrue, IfErr, MatchResult, OnErr, OnOk, insert, length, remove, slice_index_or};
-ghost use Rattle.mls_wire.specs.Spelling.{list};
+ghost use Rattle.mls_wire.specs.Encoding.{list};
 
 use crate::decode::{Decode, read_list};
 use crate::draft::Draft;
@@ -12,21 +12,21 @@ use crate::size::size_of_list;
 use std::alloc::{AllocFailed, Global};
 use std::marker::Model;
 
-/// Whether the values, one after the other, take no more bytes than the body of a vector may have (RFC 9420,
-/// 2.1.2). It goes over the values once.
+/// Returns whether the encodings of the values have together no more bytes than the body of a vector may have
+/// (RFC 9420, 2.1.2). It visits each value once.
 pub fn fits<T: Encode>(values: &[T]) -> bool
     ensures { IsTrue result ↔ IsSome (list T.spelling values.now) }
 {
     size_of_list(values).is_some()
 }
 
-/// A list that fits into one vector, so it has a spelling: its length in bytes, and its items (RFC 9420, 2.1.2).
+/// A list that fits into one vector, so it has an encoding: its length in bytes, and its items (RFC 9420, 2.1.2).
 #[derive(Debug)]
 pub struct Items<T: Encode> {
     items: Vec<T>,
 }
 
-// By hand, so that a drop is one call in the proofs of those who hold one.
+// Written out, so that a drop is one call in the proofs of its owners.
 impl<T: Encode> Drop for Items<T> {
     fn drop(self) {
         let Items { items: _ } = self;
@@ -35,7 +35,7 @@ impl<T: Encode> Drop for Items<T> {
 
 impl<T: Encode> Model for Items<T> {
     ghost use Rattle.std.specs.Prelude.{List, IsSome};
-    ghost use Rattle.mls_wire.specs.Spelling.{list};
+    ghost use Rattle.mls_wire.specs.Encoding.{list};
 
     ghost Value = { List T };
 
@@ -45,7 +45,7 @@ impl<T: Encode> Model for Items<T> {
 }
 
 impl<T: Encode> Items<T> {
-    /// The list of these items, which fit into one vector.
+    /// Returns the list of these items, which fit into one vector.
     pub(crate) fn of_fitting(items: Vec<T>) -> Items<T>
         requires { IsSome (list T.spelling items.items) }
         ensures { result ≡ items.items }
@@ -53,7 +53,7 @@ impl<T: Encode> Items<T> {
         Items { items }
     }
 
-    /// The list of these items, without taking memory. A list over the limit is handed back.
+    /// Returns the list of these items. Does not allocate. A list over the limit is returned as the error.
     pub fn new(items: Vec<T>) -> Result<Items<T>, Vec<T>>
         ensures { MatchResult result
             (λ made. made ≡ items.items)
@@ -74,8 +74,11 @@ impl<T: Encode> Items<T> {
         self.items.as_slice()
     }
 
-    /// Puts an item at an index, before those that stood from there on. The list with it must fit into one vector.
-    /// For want of memory the list stays, and the item comes back.
+    /// Inserts an item at an index. The list with it must fit into one vector.
+    ///
+    /// # Errors
+    ///
+    /// The item, if an allocation fails. The list is then unchanged.
     pub fn insert(&mut self, index: usize, item: T) -> Result<(), AllocFailed<T>>
         requires inside { index ≤ length self.old }
         requires fits { IsSome (list T.spelling self.old)
@@ -87,7 +90,7 @@ impl<T: Encode> Items<T> {
         self.items.insert(index, item)
     }
 
-    /// Takes out the item at an index. Those behind it move up. It takes no memory.
+    /// Removes the item at an index and returns it. Does not allocate.
     pub fn remove(&mut self, index: usize) -> T
         requires { index < length self.old }
         ensures value { result ≡ slice_index_or self.old index result }
@@ -98,9 +101,9 @@ impl<T: Encode> Items<T> {
 }
 
 impl<T: Encode> Decode for Items<T> {
-    ghost use Rattle.mls_wire.specs.Spelling.{list};
+    ghost use Rattle.mls_wire.specs.Encoding.{list};
     ghost use Rattle.mls_wire.specs.Parsing.{list_at};
-    ghost use Rattle.mls_wire.specs.Lists.{list_exact, list_long};
+    ghost use Rattle.mls_wire.specs.ListsExact.{list_exact, list_long};
 
     ghost spelling = { list T.spelling };
 

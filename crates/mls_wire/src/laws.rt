@@ -1,44 +1,44 @@
-//! What holds of the spellings themselves: bytes spell at most one value of a type, and no spelling is a proper
-//! prefix of another, so a reader that goes from left to right has no choice, nor has one that reads a log record by
-//! record. The functions here do nothing; their contracts are the laws.
+//! Theorems about encodings: bytes are the encoding of at most one value of a type, and no encoding is a proper prefix
+//! of another. So the result of reading from left to right is determined, and so is that of reading a log. The
+//! functions have an empty body; their contracts are the theorems.
 
 ghost use Rattle.std.specs.Int.{w8, w16, w32, w64};
-ghost use Rattle.mls_wire.specs.Logs.{MeetsOnce};
-ghost use Rattle.mls_wire.specs.Reading.{ReadsOnce};
-ghost use Rattle.mls_wire.specs.Spelling.{SpellsOnce, IsPrefixFree, IsUnambiguous, number, length_form, vector, flag};
-ghost use Rattle.mls_wire.specs.Writing.{WritesOnce, PutsOnce, MakesOnce};
+ghost use Rattle.mls_wire.specs.Logs.{NextRecordIsDeterministic};
+ghost use Rattle.mls_wire.specs.ReadContracts.{ReadIsDeterministic};
+ghost use Rattle.mls_wire.specs.Encoding.{IsInjective, IsPrefixFree, IsUniquelyDecodable, number, length_form, vector, flag};
+ghost use Rattle.mls_wire.specs.WriteContracts.{WriteIsDeterministic, PutIsDeterministic, MakeIsDeterministic};
 
 use crate::decode::Decode;
 
-/// The laws of every type that can be read. By the last of them what a call that reads gives is determined, the value
-/// and where the reader then stands.
+/// For every type that can be decoded: its encoding is injective and prefix-free, and the result of a read is
+/// determined.
 pub fn one_value<T: Decode>()
-    ensures once { SpellsOnce T.spelling }
+    ensures once { IsInjective T.spelling }
     ensures whole { IsPrefixFree T.spelling }
-    ensures reading { ReadsOnce T.spelling }
+    ensures reading { ReadIsDeterministic T.spelling }
 {}
 
-/// The laws of unsigned integers, lengths, vectors and the byte before an optional value (RFC 9420, 2.1).
+/// For unsigned integers, lengths, vectors and the byte before an optional value (RFC 9420, 2.1): bytes determine the
+/// value.
 pub fn primitives()
-    ensures uint8 { IsUnambiguous (number w8) }
-    ensures uint16 { IsUnambiguous (number w16) }
-    ensures uint32 { IsUnambiguous (number w32) }
-    ensures uint64 { IsUnambiguous (number w64) }
-    ensures length { IsUnambiguous length_form }
-    ensures vector { IsUnambiguous vector }
-    ensures optional { IsUnambiguous flag }
+    ensures uint8 { IsUniquelyDecodable (number w8) }
+    ensures uint16 { IsUniquelyDecodable (number w16) }
+    ensures uint32 { IsUniquelyDecodable (number w32) }
+    ensures uint64 { IsUniquelyDecodable (number w64) }
+    ensures length { IsUniquelyDecodable length_form }
+    ensures vector { IsUniquelyDecodable vector }
+    ensures optional { IsUniquelyDecodable flag }
 {}
 
-/// The law of logs: bytes that are known tell what comes next, where it ends, and the body of a record.
+/// For logs: known bytes determine what comes next, where it ends, and the body of a record.
 pub fn logs()
-    ensures { MeetsOnce }
+    ensures { NextRecordIsDeterministic }
 {}
 
-/// The law of all that is written: but for want of memory, what a call that writes, puts or makes a text answers is
-/// determined by the text and what stood before. So are all bytes after a call that writes, and those of a draft after
-/// a text was put there; a draft that refused a text only keeps what stood before.
+/// For writing: unless it runs out of memory, the result of a call that writes, puts or makes an encoding is
+/// determined. So are the bytes after a write, and those of a draft after a successful `put_..`.
 pub fn one_text()
-    ensures written { WritesOnce }
-    ensures put { PutsOnce }
-    ensures made { MakesOnce }
+    ensures written { WriteIsDeterministic }
+    ensures put { PutIsDeterministic }
+    ensures made { MakeIsDeterministic }
 {}

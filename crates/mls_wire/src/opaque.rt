@@ -1,12 +1,12 @@
-//! The bytes of a vector.
+//! The body of a vector.
 
 ghost use Rattle.std.specs.Prelude.{◌≡◌, ℕ, ◌≤◌, ◌<◌, List, Option, Err, length, MatchResult};
 ghost use Rattle.mls_wire.specs.Faults.{too_long_at};
 ghost use Rattle.mls_wire.specs.Input.{Input};
 ghost use Rattle.mls_wire.specs.Limits.{vector_limit};
-ghost use Rattle.mls_wire.specs.Spelling.{vector};
+ghost use Rattle.mls_wire.specs.Encoding.{vector};
 ghost use Rattle.mls_wire.specs.Parsing.{GivesOrFull, vector_at};
-ghost use Rattle.mls_wire.specs.Vectors.{vector_exact, vector_long};
+ghost use Rattle.mls_wire.specs.VectorsExact.{vector_exact, vector_long};
 
 use crate::decode::Decode;
 use crate::draft::Draft;
@@ -17,7 +17,7 @@ use crate::size::size_of_vector;
 use std::alloc::Global;
 use std::marker::Model;
 
-/// The most bytes that the body of a vector has (RFC 9420, 2.1.2).
+/// The most bytes of the body of a vector (RFC 9420, 2.1.2).
 pub const MAX_BODY: usize = 1073741823;
 
 /// The body of a vector, `opaque x<V>` (RFC 9420, 2.1.2): bytes, at most [`MAX_BODY`] of them.
@@ -26,7 +26,7 @@ pub struct Opaque {
     bytes: Vec<u8>,
 }
 
-// By hand, so that a drop is one call in the proofs of those who hold one.
+// Written out, so that a drop is one call in the proofs of its owners.
 impl Drop for Opaque {
     fn drop(self) {
         let Opaque { bytes: _ } = self;
@@ -45,7 +45,7 @@ impl Model for Opaque {
 }
 
 impl Opaque {
-    /// The bytes of a vector, without taking memory. A longer vector is handed back.
+    /// Returns the body of these bytes. Does not allocate. More bytes than the limit are returned as the error.
     pub fn new(bytes: Vec<u8>) -> Result<Opaque, Vec<u8>>
         ensures { MatchResult result
             (λ made. made ≡ bytes.items)
@@ -57,7 +57,11 @@ impl Opaque {
         Ok(Opaque { bytes })
     }
 
-    /// A copy of the bytes: `TooLong` at 0 for more of them than a vector's body may have.
+    /// Returns a copy of the bytes.
+    ///
+    /// # Errors
+    ///
+    /// `TooLong` at 0 for more bytes than the body of a vector may have, or `OutOfMemory`.
     pub fn copy(alloc: Global, bytes: &[u8]) -> Result<Opaque, CodecFault>
         ensures long { vector_limit < length bytes.now
             → result ≡ Err (CodecFault.Wire (too_long_at 0)) }
@@ -74,7 +78,7 @@ impl Opaque {
         Ok(Opaque { bytes })
     }
 
-    /// The bytes.
+    /// Returns the bytes.
     pub fn as_slice(&self) -> &[u8]
         ensures bytes { result.now ≡ self.now }
         ensures limit { length self.now ≤ vector_limit }

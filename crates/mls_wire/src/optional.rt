@@ -1,4 +1,4 @@
-//! Optional values: a byte that tells whether one follows, and the value (RFC 9420, 2.1.1).
+//! Optional values: a byte that says whether one follows, and the value (RFC 9420, 2.1.1).
 
 use crate::decode::Decode;
 use crate::draft::Draft;
@@ -9,9 +9,9 @@ use crate::size::add_sizes;
 use std::alloc::Global;
 
 impl<T: Decode> Decode for Option<T> {
-    ghost use Rattle.mls_wire.specs.Spelling.{optional};
+    ghost use Rattle.mls_wire.specs.Encoding.{optional};
     ghost use Rattle.mls_wire.specs.Parsing.{optional_at};
-    ghost use Rattle.mls_wire.specs.Optionals.{optional_exact, optional_long};
+    ghost use Rattle.mls_wire.specs.OptionalsExact.{optional_exact, optional_long};
 
     ghost spelling = { optional T.spelling };
 
@@ -35,7 +35,7 @@ impl<T: Decode> Decode for Option<T> {
 }
 
 impl<T: Encode> Encode for Option<T> {
-    #[tactic(auto, using(crate::specs::Sizes::sizes), unfolding(crate::specs::Spelling::optional))]
+    #[tactic(auto, using(crate::specs::EncodedSizes::sizes), unfolding(crate::specs::Encoding::optional))]
     fn size(&self) -> Option<usize> {
         match self {
             None => Some(1),
@@ -43,7 +43,7 @@ impl<T: Encode> Encode for Option<T> {
         }
     }
 
-    #[tactic(auto, using(crate::specs::Written::written), unfolding(crate::specs::Spelling::optional, crate::specs::Spelling::flag))]
+    #[tactic(auto, using(crate::specs::WriteSequences::written), unfolding(crate::specs::Encoding::optional, crate::specs::Encoding::flag))]
     fn put(&self, alloc: Global, draft: &mut Draft) -> Result<(), CodecFault> {
         match self {
             None => draft.put_optional(false),

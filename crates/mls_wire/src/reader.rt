@@ -4,19 +4,19 @@ ghost use Rattle.std.specs.Prelude.{◌≡◌, ◌+◌, ◌≤◌, ◌<◌, ◌�
 ghost use Rattle.std.specs.Int.{Width, w8, w16, w32, w64, byte_len, from_be_bytes};
 ghost use Rattle.mls_wire.specs.Faults.{trailing_at};
 ghost use Rattle.mls_wire.specs.Input.{Input, at, skip};
-ghost use Rattle.mls_wire.specs.Spelling.{number, length_form, vector, flag};
-ghost use Rattle.mls_wire.specs.Numbers.{IsBytes};
-ghost use Rattle.mls_wire.specs.Reading.{Reads, ReadsBody, seen};
+ghost use Rattle.mls_wire.specs.Encoding.{number, length_form, vector, flag};
+ghost use Rattle.mls_wire.specs.IntegersExact.{IsBytes};
+ghost use Rattle.mls_wire.specs.ReadContracts.{Reads, ReadsBody, seen};
 ghost use Rattle.mls_wire.specs.Parsing.{Gives, number_at, length_at, body_at, vector_at, flag_at};
 
 use crate::fault::{WireFault, WireFaultKind};
 use std::marker::Model;
 
-/// What is left of an input, and where it begins in the outermost input.
+/// What is left of an input, and its offset in the outermost input.
 ///
-/// Each `read_..` call gives the one value that is spelled at the front, and moves behind it. It is refused exactly
-/// where no value is spelled there, and then the offset stays. The fault stands at the first byte of the smallest
-/// item that can't be read.
+/// Each `read_..` call returns the value that is encoded at the front, and moves after it. It fails if and only if no
+/// value is encoded there, and then does not move. The offset of the fault is that of the first byte of the smallest
+/// item that cannot be read.
 #[derive(Drop)]
 pub struct Reader<'a> {
     offset: usize,
@@ -34,7 +34,7 @@ impl<'a> Model for Reader<'a> {
     ghost invariant = { λ r. r.offset + length r.left.now < 2 ^ 64 };
 }
 
-/// The first `count` bytes, and the others.
+/// Returns the first `count` bytes, and the others.
 fn cut(bytes: &[u8], count: usize) -> Option<(&[u8], &[u8])>
     ensures { MatchOption result
         (length bytes.now < count)
@@ -50,7 +50,7 @@ fn cut(bytes: &[u8], count: usize) -> Option<(&[u8], &[u8])>
 }
 
 impl<'a> Reader<'a> {
-    /// A reader of an outermost input, at offset 0.
+    /// Returns a reader of an outermost input, at offset 0.
     pub fn new(bytes: &'a [u8]) -> Reader<'a>
         ensures { result ≡ at 0 bytes.now }
     {
@@ -60,28 +60,28 @@ impl<'a> Reader<'a> {
         }
     }
 
-    /// How many bytes of the outermost input stand before what is left.
-    pub fn offset(&self) -> usize
+    /// Returns the offset: how many bytes of the outermost input are before what is left.
+    pub fn place(&self) -> usize
         ensures { result ≡ self.now.offset }
     {
         self.offset
     }
 
-    /// Whether nothing is left.
+    /// Returns whether nothing is left.
     pub fn at_end(&self) -> bool
         ensures { IsTrue result ↔ (self.now.left ≡ []) }
     {
         self.left.is_empty()
     }
 
-    /// How many bytes are left.
+    /// Returns how many bytes are left.
     pub(crate) fn len(&self) -> usize
         ensures { result ≡ length self.now.left }
     {
         self.left.len()
     }
 
-    /// A second reader of the same bytes, at the same offset.
+    /// Returns a second reader of the same bytes, at the same offset.
     pub fn fork(&self) -> Reader<'a>
         ensures { result ≡ self.now }
     {
@@ -91,7 +91,7 @@ impl<'a> Reader<'a> {
         }
     }
 
-    /// A fault of this kind, at the present offset.
+    /// Returns a fault of this kind, at the current offset.
     fn fault(&self, kind: WireFaultKind) -> WireFault
         ensures kind { result.kind ≡ kind }
         ensures offset { result.at ≡ self.now.offset }
@@ -102,7 +102,7 @@ impl<'a> Reader<'a> {
         }
     }
 
-    /// The next `count` bytes, where there are as many.
+    /// Returns the next `count` bytes, if there are as many.
     fn front(&mut self, count: usize) -> Option<&'a [u8]>
         ensures { MatchOption result
             ((self.new ≡ self.old)
@@ -117,7 +117,7 @@ impl<'a> Reader<'a> {
         Some(front)
     }
 
-    /// The function behind [`read_u8`](Reader::read_u8), which proofs of this crate know by what it computes.
+    /// Reads as [`read_u8`](Reader::read_u8). Proofs of this crate know what it computes.
     pub(crate) fn next_u8(&mut self) -> Result<u8, WireFault>
         ensures { Gives (number_at w8) self.old self.new result }
     {
@@ -127,7 +127,7 @@ impl<'a> Reader<'a> {
         Ok(bytes[0])
     }
 
-    /// The function behind [`read_u16`](Reader::read_u16).
+    /// Reads as [`read_u16`](Reader::read_u16).
     pub(crate) fn next_u16(&mut self) -> Result<u16, WireFault>
         ensures { Gives (number_at w16) self.old self.new result }
     {
@@ -137,7 +137,7 @@ impl<'a> Reader<'a> {
         Ok(u16::from_be_bytes([bytes[0], bytes[1]]))
     }
 
-    /// The function behind [`read_u32`](Reader::read_u32).
+    /// Reads as [`read_u32`](Reader::read_u32).
     pub(crate) fn next_u32(&mut self) -> Result<u32, WireFault>
         ensures { Gives (number_at w32) self.old self.new result }
     {
@@ -147,7 +147,7 @@ impl<'a> Reader<'a> {
         Ok(u32::from_be_bytes([bytes[0], bytes[1], bytes[2], bytes[3]]))
     }
 
-    /// The function behind [`read_u64`](Reader::read_u64).
+    /// Reads as [`read_u64`](Reader::read_u64).
     pub(crate) fn next_u64(&mut self) -> Result<u64, WireFault>
         ensures { Gives (number_at w64) self.old self.new result }
     {
@@ -159,7 +159,7 @@ impl<'a> Reader<'a> {
         ]))
     }
 
-    /// The function behind [`read_len`](Reader::read_len).
+    /// Reads as [`read_len`](Reader::read_len).
     #[tactic(auto, unfolding(crate::specs::Parsing::length_at))]
     pub(crate) fn next_len(&mut self) -> Result<usize, WireFault>
         ensures { Gives length_at self.old self.new result }
@@ -190,7 +190,7 @@ impl<'a> Reader<'a> {
         Err(self.fault(WireFaultKind::BadPrefix))
     }
 
-    /// A reader of the next `count` bytes.
+    /// Returns a reader of the next `count` bytes.
     fn split(&mut self, count: usize) -> Option<Reader<'a>>
         ensures { MatchOption result
             ((self.new ≡ self.old) × (length self.old.left < count))
@@ -211,7 +211,7 @@ impl<'a> Reader<'a> {
         Some(body)
     }
 
-    /// The function behind [`read_sub`](Reader::read_sub).
+    /// Reads as [`read_sub`](Reader::read_sub).
     #[tactic(auto, unfolding(crate::specs::Parsing::body_at))]
     pub(crate) fn next_sub(&mut self) -> Result<Reader<'a>, WireFault>
         ensures { Gives body_at self.old self.new result }
@@ -225,7 +225,7 @@ impl<'a> Reader<'a> {
         Ok(body)
     }
 
-    /// The function behind [`read_vec`](Reader::read_vec).
+    /// Reads as [`read_vec`](Reader::read_vec).
     #[tactic(auto, unfolding(crate::specs::Parsing::vector_at))]
     pub(crate) fn next_vec(&mut self) -> Result<&'a [u8], WireFault>
         ensures { Gives vector_at self.old self.new (seen (λ x. x.now) result) }
@@ -234,7 +234,7 @@ impl<'a> Reader<'a> {
         Ok(body.left)
     }
 
-    /// The function behind [`read_optional`](Reader::read_optional).
+    /// Reads as [`read_optional`](Reader::read_optional).
     #[tactic(auto, unfolding(crate::specs::Parsing::flag_at))]
     pub(crate) fn next_optional(&mut self) -> Result<bool, WireFault>
         ensures { Gives flag_at self.old self.new result }
@@ -249,7 +249,7 @@ impl<'a> Reader<'a> {
         Ok(flag)
     }
 
-    /// Refuses bytes that are left: `Trailing`, at the first of them.
+    /// Fails if bytes are left: `Trailing`, at the first of them.
     pub fn finish(&self) -> Result<(), WireFault>
         ensures { MatchResult result
             (λ _. self.now.left ≡ [])
@@ -262,61 +262,67 @@ impl<'a> Reader<'a> {
         }
     }
 
-    /// Reads a `uint8`. `Truncated` where no byte is left.
+    /// Reads a `uint8`. `Truncated` if no byte is left.
     pub fn read_u8(&mut self) -> Result<u8, WireFault>
         ensures { Reads (number w8) self.old self.new result }
     {
         self.next_u8()
     }
 
-    /// Reads a `uint16`, the high byte first. `Truncated` where fewer than two bytes are left.
+    /// Reads a `uint16`, the high byte first. `Truncated` if fewer than two bytes are left.
     pub fn read_u16(&mut self) -> Result<u16, WireFault>
         ensures { Reads (number w16) self.old self.new result }
     {
         self.next_u16()
     }
 
-    /// Reads a `uint32`, the highest byte first. `Truncated` where fewer than four bytes are left.
+    /// Reads a `uint32`, the highest byte first. `Truncated` if fewer than four bytes are left.
     pub fn read_u32(&mut self) -> Result<u32, WireFault>
         ensures { Reads (number w32) self.old self.new result }
     {
         self.next_u32()
     }
 
-    /// Reads a `uint64`, the highest byte first. `Truncated` where fewer than eight bytes are left.
+    /// Reads a `uint64`, the highest byte first. `Truncated` if fewer than eight bytes are left.
     pub fn read_u64(&mut self) -> Result<u64, WireFault>
         ensures { Reads (number w64) self.old self.new result }
     {
         self.next_u64()
     }
 
-    /// Reads a length alone, without asking for the body (RFC 9420, 2.1.2). The faults in this order: no first
-    /// byte (`Truncated`), a first byte from `c0` on (`BadPrefix`), a missing byte of a longer form (`Truncated`), a
-    /// form that is longer than needed (`NotShortest`).
+    /// Reads a length, without its body (RFC 9420, 2.1.2).
+    ///
+    /// # Errors
+    ///
+    /// In this order: no first byte (`Truncated`), a first byte of `c0` or more (`BadPrefix`), a missing byte of a
+    /// longer form (`Truncated`), a form that is not the shortest (`NotShortest`).
     pub fn read_len(&mut self) -> Result<usize, WireFault>
         ensures { Reads length_form self.old self.new result }
     {
         self.next_len()
     }
 
-    /// Reads a vector, `opaque x<V>`, and gives its body (RFC 9420, 2.1.2). The faults of its length come first,
-    /// then `Truncated` where the body is longer than what is left; each at the offset of the length.
+    /// Reads a vector, `opaque x<V>`, and returns its body (RFC 9420, 2.1.2).
+    ///
+    /// # Errors
+    ///
+    /// Those of its length, then `Truncated` if the body is longer than what is left; each at the offset of the length.
     pub fn read_vec(&mut self) -> Result<&'a [u8], WireFault>
         ensures { Reads vector self.old self.new (seen (λ x. x.now) result) }
     {
         self.next_vec()
     }
 
-    /// Reads the byte before an optional value: whether one follows (RFC 9420, 2.1.1). `BadOptional` where it is
-    /// neither 0 nor 1.
+    /// Reads the byte before an optional value, and returns whether one follows (RFC 9420, 2.1.1). `BadOptional` if it
+    /// is neither 0 nor 1.
     pub fn read_optional(&mut self) -> Result<bool, WireFault>
         ensures { Reads flag self.old self.new result }
     {
         self.next_optional()
     }
 
-    /// Reads a vector as [`read_vec`](Reader::read_vec) does, and gives a reader of its body, whose offsets are
-    /// counted on from the start of the outermost input.
+    /// Reads a vector as [`read_vec`](Reader::read_vec) does, and returns a reader of its body. Its offsets are counted
+    /// from the start of the outermost input.
     pub fn read_sub(&mut self) -> Result<Reader<'a>, WireFault>
         ensures { ReadsBody self.old self.new result }
     {

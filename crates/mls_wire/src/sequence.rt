@@ -1,4 +1,4 @@
-//! Lists that may be longer than a vector.
+//! Lists that may be too long for a vector.
 
 ghost use Rattle.std.specs.Prelude.{◌≡◌};
 
@@ -11,14 +11,14 @@ use crate::size::size_of_list;
 use std::alloc::Global;
 use std::marker::Model;
 
-/// A list of any number of items. It is spelled by its length in bytes, and its items (RFC 9420, 2.1.2); a list
-/// of more bytes than a vector's body may have has no spelling, and writing it is refused.
+/// A list of any number of items. Its encoding is its length in bytes, and its items (RFC 9420, 2.1.2). A list whose
+/// items have more bytes than the body of a vector may have has no encoding, and writing it fails.
 #[derive(Debug)]
 pub struct Sequence<T: Decode> {
     items: Vec<T>,
 }
 
-// By hand, so that a drop is one call in the proofs of those who hold one.
+// Written out, so that a drop is one call in the proofs of its owners.
 impl<T: Decode> Drop for Sequence<T> {
     fn drop(self) {
         let Sequence { items: _ } = self;
@@ -34,14 +34,14 @@ impl<T: Decode> Model for Sequence<T> {
 }
 
 impl<T: Decode> Sequence<T> {
-    /// The list of these items, without taking memory.
+    /// Returns the list of these items. Does not allocate.
     pub fn new(items: Vec<T>) -> Sequence<T>
         ensures { result ≡ items.items }
     {
         Sequence { items }
     }
 
-    /// The items.
+    /// Returns the items.
     pub fn as_slice(&self) -> &[T]
         ensures { result.now ≡ self.now }
     {
@@ -50,9 +50,9 @@ impl<T: Decode> Sequence<T> {
 }
 
 impl<T: Decode> Decode for Sequence<T> {
-    ghost use Rattle.mls_wire.specs.Spelling.{list};
+    ghost use Rattle.mls_wire.specs.Encoding.{list};
     ghost use Rattle.mls_wire.specs.Parsing.{list_at};
-    ghost use Rattle.mls_wire.specs.Lists.{list_exact, list_long};
+    ghost use Rattle.mls_wire.specs.ListsExact.{list_exact, list_long};
 
     ghost spelling = { list T.spelling };
 

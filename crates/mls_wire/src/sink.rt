@@ -10,14 +10,14 @@ use std::io::Write;
 
 /// A device that takes bytes.
 pub trait Sink: Drop {
-    /// The bytes that it holds, where they are known.
+    /// The bytes that it holds, if they are known.
     ghost written: { Self → Option (List ℕ) };
 
     /// Whether it has failed.
     ghost is_failed: { Self → Bool };
 
-    /// Takes bytes from the front of `bytes`, and answers how many: none only where `bytes` is empty. A device that
-    /// failed answers nothing but [`DeviceFault`].
+    /// Takes bytes from the front of `bytes`, and returns how many: 0 only if `bytes` is empty. A device that has
+    /// failed returns [`DeviceFault`].
     fn push(&mut self, bytes: &[u8]) -> Result<usize, DeviceFault>
         ensures bound { WritesAtMost result bytes.now }
         ensures bytes { WriteAppends (written self.old) (written self.new) result bytes.now }
@@ -25,13 +25,13 @@ pub trait Sink: Drop {
         ensures failed { is_failed self.new ≡ (is_failed self.old || is_err result) }
         ensures stays { is_failed self.old ≡ true → IsErr result };
 
-    /// Whether a call has answered [`DeviceFault`].
+    /// Returns whether a call has returned [`DeviceFault`].
     fn failed(&self) -> bool
         ensures { result ≡ is_failed self.now };
 }
 
-/// A sink over a writer of std. Any error of the writer is a failure of the sink, and so is a write that takes
-/// nothing of bytes which are not empty.
+/// A sink over a writer of std. Any error of the writer is a failure of the sink. So is a write that takes nothing
+/// although there are bytes.
 #[derive(Drop)]
 pub struct StdSink<W: Write + Drop> {
     writer: W,
@@ -39,7 +39,7 @@ pub struct StdSink<W: Write + Drop> {
 }
 
 impl<W: Write + Drop> StdSink<W> {
-    /// A sink that has not failed, behind the bytes that the writer holds.
+    /// Returns a sink over the writer, which has not failed.
     pub fn new(writer: W) -> StdSink<W>
         ensures written { ⟦<StdSink<W> as Sink>⟧.written result ≡ W.contents writer }
         ensures fresh { ⟦<StdSink<W> as Sink>⟧.is_failed result ≡ false }
@@ -74,7 +74,7 @@ impl<W: Write + Drop> Sink for StdSink<W> {
     }
 }
 
-/// Pushes all the bytes, in as few pieces as the sink takes. Where it fails, a part of them from the front was taken.
+/// Pushes all the bytes, in as few pieces as the sink takes. On error a prefix of them was taken.
 pub fn write_all<K: Sink>(sink: &mut K, bytes: &[u8]) -> Result<(), DeviceFault>
     ensures all { OnOk result (Appends (K.written sink.old) (K.written sink.new) bytes.now) }
     ensures part { OnErr result

@@ -1,23 +1,23 @@
-//! How many bytes values take, which is known before they are written.
+//! The length of encodings, which is known before they are written.
 //!
-//! A size is a count of bytes that stops at [`usize::MAX`], and `None` where there is no spelling.
+//! A size is a number of bytes, at most [`usize::MAX`], and `None` if there is no encoding.
 
 ghost use Rattle.std.specs.Prelude.{◌≡◌, List, ℕ, length};
-ghost use Rattle.mls_wire.specs.Spelling.{items, list, vector};
-ghost use Rattle.mls_wire.specs.Counting.{counted, joint_size, size};
+ghost use Rattle.mls_wire.specs.Encoding.{items, list, vector};
+ghost use Rattle.mls_wire.specs.SaturatingSizes.{counted, joint_size, size};
 
 use crate::encode::Encode;
 use crate::opaque::MAX_BODY;
 
-/// The size of two parts, one after the other.
-#[tactic(auto, unfolding(crate::specs::Counting::joint_size))]
+/// Returns the size of two parts, one after the other.
+#[tactic(auto, unfolding(crate::specs::SaturatingSizes::joint_size))]
 pub fn add_sizes(first: Option<usize>, second: Option<usize>) -> Option<usize>
     ensures { result ≡ joint_size first second }
 {
     Some(first?.saturating_add(second?))
 }
 
-/// The size of a vector whose body has this size (RFC 9420, 2.1.2).
+/// Returns the size of a vector whose body has this size (RFC 9420, 2.1.2).
 pub(crate) fn size_of_vector(body: usize) -> Option<usize>
     ensures { (s : List ℕ) → counted (length s) ≡ body → result ≡ size (vector s) }
 {
@@ -32,7 +32,7 @@ pub(crate) fn size_of_vector(body: usize) -> Option<usize>
     }
 }
 
-/// The size of the values, one after the other.
+/// Returns the size of the values, one after the other.
 pub(crate) fn size_of_items<T: Encode>(values: &[T]) -> Option<usize>
     ensures { result ≡ size (items T.spelling values.now) }
 {
@@ -43,7 +43,7 @@ pub(crate) fn size_of_items<T: Encode>(values: &[T]) -> Option<usize>
     Some(total)
 }
 
-/// The size of a list: its length in bytes, and its items (RFC 9420, 2.1.2).
+/// Returns the size of a list: its length in bytes, and its items (RFC 9420, 2.1.2).
 pub fn size_of_list<T: Encode>(values: &[T]) -> Option<usize>
     ensures { result ≡ size (list T.spelling values.now) }
 {

@@ -9,21 +9,21 @@ use std::io::Read;
 
 /// A device that gives bytes.
 pub trait Source: Drop {
-    /// The bytes still to come, where they are known.
+    /// The bytes that are left, if they are known.
     ghost left: { Self → Option (List ℕ) };
 
     /// Whether it has failed.
     ghost is_failed: { Self → Bool };
 
-    /// Puts bytes at the front of `into`, and answers how many: none only where `into` is empty, or at the end. A
-    /// device that failed answers nothing but [`DeviceFault`].
+    /// Puts bytes at the front of `into`, and returns how many: 0 only if `into` is empty, or at the end. A device that
+    /// has failed returns [`DeviceFault`].
     fn pull(&mut self, into: &mut [u8]) -> Result<usize, DeviceFault>
         ensures bound { ReadsAtMost result into.new }
         ensures bytes { ReadConsumes (left self.old) (left self.new) result into.new }
         ensures failed { is_failed self.new ≡ (is_failed self.old || is_err result) }
         ensures stays { is_failed self.old ≡ true → IsErr result };
 
-    /// Whether a call has answered [`DeviceFault`].
+    /// Returns whether a call has returned [`DeviceFault`].
     fn failed(&self) -> bool
         ensures { result ≡ is_failed self.now };
 }
@@ -36,7 +36,7 @@ pub struct StdSource<R: Read + Drop> {
 }
 
 impl<R: Read + Drop> StdSource<R> {
-    /// A source that has not failed, over the bytes that the reader has left.
+    /// Returns a source over the bytes that the reader has left, which has not failed.
     pub fn new(reader: R) -> StdSource<R>
         ensures left { ⟦<StdSource<R> as Source>⟧.left result ≡ R.remaining reader }
         ensures fresh { ⟦<StdSource<R> as Source>⟧.is_failed result ≡ false }
@@ -71,8 +71,8 @@ impl<R: Read + Drop> Source for StdSource<R> {
     }
 }
 
-/// Fills `into` from the front, as far as there are bytes, and answers how many there were. Where the source fails,
-/// the bytes that it gave before are lost.
+/// Fills `into` from the front, as far as there are bytes, and returns how many there were. If the source fails, the
+/// bytes that it gave before are lost.
 pub fn fill<S: Source>(source: &mut S, into: &mut [u8]) -> Result<usize, DeviceFault>
     ensures bound { IfOk result (λ n. n ≤ length into.new) }
     ensures bytes { IfOk result

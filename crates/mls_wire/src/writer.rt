@@ -3,8 +3,8 @@
 ghost use Rattle.std.specs.Prelude.{◌≡◌, ◌++◌, ℕ, List, [], Option, Some, length, take};
 ghost use Rattle.std.specs.Int.{w8, w16, w32, w64};
 ghost use Rattle.mls_wire.specs.Faults.{too_long_at};
-ghost use Rattle.mls_wire.specs.Spelling.{number, length_form, vector, flag};
-ghost use Rattle.mls_wire.specs.Writing.{WritesPiece};
+ghost use Rattle.mls_wire.specs.Encoding.{number, length_form, vector, flag};
+ghost use Rattle.mls_wire.specs.WriteContracts.{WritesPiece};
 
 use crate::draft::Draft;
 use crate::encode::Encode;
@@ -13,10 +13,10 @@ use std::alloc::{AllocError, Global};
 use std::marker::Model;
 use std::mem::replace;
 
-/// The bytes that were written so far. A refused write leaves them as they were.
+/// The bytes that were written so far. A failed write leaves them unchanged.
 ///
-/// Each call of `write_..` answers [`WireFaultKind::TooLong`], at the number of bytes written so far, exactly where
-/// the piece has no spelling within its limit.
+/// Each call of `write_..` fails as [`WireFaultKind::TooLong`], at the number of bytes written so far, if and only if
+/// the piece has no encoding within its limit.
 #[derive(Drop)]
 pub struct Writer {
     bytes: Vec<u8>,
@@ -31,7 +31,7 @@ impl Model for Writer {
 }
 
 impl Writer {
-    /// A writer with no bytes, which takes its memory from `alloc`.
+    /// Returns a writer with no bytes, which will allocate from `alloc`.
     pub fn new(alloc: Global) -> Writer
         ensures { result ≡ [] }
     {
@@ -40,50 +40,49 @@ impl Writer {
         }
     }
 
-    /// A writer that goes on behind these bytes.
+    /// Returns a writer that continues after these bytes.
     pub(crate) fn from_bytes(bytes: Vec<u8>) -> Writer
         ensures { result ≡ bytes.items }
     {
         Writer { bytes }
     }
 
-    /// The bytes written so far.
+    /// Returns the bytes written so far.
     pub fn bytes(&self) -> &[u8]
         ensures { result.now ≡ self.now }
     {
         self.bytes.as_slice()
     }
 
-    /// Gives the bytes away, without taking memory.
+    /// Returns the bytes. Does not allocate.
     pub fn into_bytes(self) -> Vec<u8>
         ensures { result.items ≡ self }
     {
         self.bytes
     }
 
-    /// Forgets the bytes and keeps their room, for a caller that uses one writer again and again.
+    /// Removes all bytes and preserves the capacity, for a caller that uses one writer again and again.
     pub fn clear(&mut self)
         ensures { self.new ≡ [] }
     {
         self.bytes.clear();
     }
 
-    /// Makes room for `more` bytes at once, so that the writer doesn't grow piece by piece. The bytes stay; room is
-    /// no part of what contracts see.
+    /// Reserves capacity for `more` bytes at once. The bytes are unchanged. Capacity is no part of the model.
     pub fn reserve(&mut self, more: usize) -> Result<(), AllocError>
         ensures { self.new ≡ self.old }
     {
         self.bytes.reserve(more)
     }
 
-    /// Keeps the first `count` bytes.
+    /// Removes all but the first `count` bytes.
     pub(crate) fn truncate(&mut self, count: usize)
         ensures { self.new ≡ take count self.old }
     {
         self.bytes.truncate(count);
     }
 
-    /// The fault of a piece that is too long, at the number of bytes written so far.
+    /// Returns the fault of a piece that is too long, at the number of bytes written so far.
     pub(crate) fn too_long(&self) -> WireFault
         ensures { result ≡ too_long_at (length self.now) }
     {
@@ -128,8 +127,8 @@ impl Writer {
         self.write_bytes(&n.to_be_bytes())
     }
 
-    /// Writes a length in the shortest of its three forms (RFC 9420, 2.1.2): one byte up to 63, two up to
-    /// 16,383, four up to 1,073,741,823. A greater length is `TooLong`.
+    /// Writes a length in the shortest of its three forms (RFC 9420, 2.1.2): one byte up to 63, two up to 16,383, four
+    /// up to 1,073,741,823. A greater length is `TooLong`.
     pub fn write_len(&mut self, n: usize) -> Result<(), CodecFault>
         ensures { WritesPiece (length_form n) self.old self.new result }
     {
@@ -160,9 +159,8 @@ impl Writer {
         }
     }
 
-    /// Writes the byte before an optional value (RFC 9420, 2.1.1): 1 where the value follows, 0 where there
-    /// is none.
-    #[tactic(auto, unfolding(crate::specs::Spelling::flag))]
+    /// Writes the byte before an optional value (RFC 9420, 2.1.1): 1 if the value follows, 0 if there is none.
+    #[tactic(auto, unfolding(crate::specs::Encoding::flag))]
     pub fn write_optional(&mut self, is_present: bool) -> Result<(), CodecFault>
         ensures { WritesPiece (flag is_present) self.old self.new result }
     {
@@ -173,7 +171,7 @@ impl Writer {
         }
     }
 
-    /// Writes a value. `TooLong` exactly where it has no spelling, which is judged before memory is taken.
+    /// Writes a value. `TooLong` if and only if it has no encoding, which is checked before anything is allocated.
     pub fn write<T: Encode>(&mut self, alloc: Global, value: &T) -> Result<(), CodecFault>
         ensures { WritesPiece (T.spelling value.now) self.old self.new result }
     {

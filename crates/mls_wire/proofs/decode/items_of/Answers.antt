@@ -1,6 +1,6 @@
 use Rattle.std.proofs.Common.{Err, refl}
 use Rattle.std.proofs.lemmas.Result.{err_from_is_err_and}
-use Rattle.mls_wire.specs.Loops.{shortens, items_go_on, items_fault, items_end}
+use Rattle.mls_wire.specs.ListLoops.{shortens, items_go_on, items_fault, items_end}
 use Rattle.mls_wire.proofs.decode.items_of.Goals as goal
 
 pub returns-in_err-item : goal.returns-in_err-item

@@ -1,6 +1,6 @@
 use Rattle.std.proofs.Common.{◌≡◌, length}
 use Rattle.mls_wire.specs.Parsing.{items_at}
-use Rattle.mls_wire.specs.Loops.{with_front}
+use Rattle.mls_wire.specs.ListLoops.{with_front}
 use Rattle.mls_wire.proofs.decode.items_of.Given as goal
 
 abbrev pub invariant-loop-body : goal.invariant-loop-body

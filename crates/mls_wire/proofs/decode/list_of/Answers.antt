@@ -1,6 +1,6 @@
 use Rattle.std.proofs.Common.{refl, sym, ap, ◌∙◌}
 use Rattle.mls_wire.specs.Parsing.{body_at}
-use Rattle.mls_wire.specs.Lists.{list_uneven}
+use Rattle.mls_wire.specs.ListsExact.{list_uneven}
 use Rattle.mls_wire.proofs.decode.list_of.Goals as goal
 
 pub returns-then-is_uneven : goal.returns-then-is_uneven

@@ -1,4 +1,4 @@
-use Rattle.mls_wire.specs.Answers.{DecodesAll-exact}
+use Rattle.mls_wire.specs.ExactReads.{DecodesAll-exact}
 use Rattle.mls_wire.proofs.decode.read_all_of.Goals as goal
 
 pub returns : goal.returns

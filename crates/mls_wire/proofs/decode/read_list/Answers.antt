@@ -1,4 +1,4 @@
-use Rattle.mls_wire.specs.Answers.{list_fits}
+use Rattle.mls_wire.specs.ExactReads.{list_fits}
 use Rattle.mls_wire.proofs.decode.read_list.Goals as goal
 
 pub returns-clause-fits : goal.returns-clause-fits

@@ -1,4 +1,4 @@
-use Rattle.mls_wire.specs.Answers.{Decodes-exact}
+use Rattle.mls_wire.specs.ExactReads.{Decodes-exact}
 use Rattle.mls_wire.proofs.decode.read_value.Goals as goal
 
 pub returns : goal.returns

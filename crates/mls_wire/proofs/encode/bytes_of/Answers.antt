@@ -1,7 +1,7 @@
 use Rattle.std.proofs.Common.{◌∙◌, ap, sym}
 use Rattle.std.proofs.lemmas.Result.{err_from_is_err_and}
-use Rattle.mls_wire.specs.Writing.{after}
-use Rattle.mls_wire.specs.Written.{after_nil}
+use Rattle.mls_wire.specs.WriteContracts.{after}
+use Rattle.mls_wire.specs.WriteSequences.{after_nil}
 use Rattle.mls_wire.proofs.Sized.{made_piece}
 use Rattle.mls_wire.proofs.encode.bytes_of.Goals as goal
 

@@ -1,6 +1,6 @@
 use Rattle.std.proofs.Common.{◌∙◌, refl}
 use Rattle.std.proofs.lemmas.Result.{err_from_is_err_and}
-use Rattle.mls_wire.specs.Written.{items_push, items_fails, items_all, nothing_put}
+use Rattle.mls_wire.specs.WriteSequences.{items_push, items_fails, items_all, nothing_put}
 use Rattle.mls_wire.proofs.encode.put_items.Goals as goal
 
 pub loop-value-init : goal.loop-value-init

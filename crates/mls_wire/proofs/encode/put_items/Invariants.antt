@@ -1,6 +1,6 @@
 use Rattle.std.proofs.Common.{◌≡◌, take, Some}
-use Rattle.mls_wire.specs.Spelling.{items}
-use Rattle.mls_wire.specs.Writing.{after}
+use Rattle.mls_wire.specs.Encoding.{items}
+use Rattle.mls_wire.specs.WriteContracts.{after}
 use Rattle.mls_wire.proofs.encode.put_items.Given as goal
 
 abbrev pub invariant-loop-value : goal.invariant-loop-value

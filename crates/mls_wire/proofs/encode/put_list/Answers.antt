@@ -1,6 +1,6 @@
 use Rattle.std.proofs.Common.{refl}
 use Rattle.std.proofs.lemmas.Result.{err_from_is_err_and}
-use Rattle.mls_wire.specs.Sizes.{list_none}
+use Rattle.mls_wire.specs.EncodedSizes.{list_none}
 use Rattle.mls_wire.proofs.Sized.{length_refused, items_behind}
 use Rattle.mls_wire.proofs.encode.put_list.Goals as goal
 

@@ -1,4 +1,4 @@
-use Rattle.mls_wire.specs.Laws as laws
+use Rattle.mls_wire.specs.ExactTheorems as laws
 use Rattle.mls_wire.proofs.laws.one_value.Goals as goal
 
 pub returns-clause-once : goal.returns-clause-once

@@ -1,5 +1,5 @@
 use Rattle.std.proofs.Common.{◌∙◌, ap, Some, ℕ}
-use Rattle.mls_wire.specs.Sizes.{size_nothing, size_added, size_refused, size_all}
+use Rattle.mls_wire.specs.EncodedSizes.{size_nothing, size_added, size_refused, size_all}
 use Rattle.mls_wire.proofs.size.size_of_items.Goals as goal
 
 pub loop-value-init : goal.loop-value-init

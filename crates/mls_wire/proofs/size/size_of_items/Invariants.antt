@@ -1,6 +1,6 @@
 use Rattle.std.proofs.Common.{◌≡◌, take, Some}
-use Rattle.mls_wire.specs.Spelling.{items}
-use Rattle.mls_wire.specs.Counting.{size}
+use Rattle.mls_wire.specs.Encoding.{items}
+use Rattle.mls_wire.specs.SaturatingSizes.{size}
 use Rattle.mls_wire.proofs.size.size_of_items.Given as goal
 
 abbrev pub invariant-loop-value : goal.invariant-loop-value

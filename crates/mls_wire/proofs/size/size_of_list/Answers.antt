@@ -1,6 +1,6 @@
 use Rattle.std.proofs.Common.{◌∙◌, ap, sym}
-use Rattle.mls_wire.specs.Counting.{size}
-use Rattle.mls_wire.specs.Sizes.{list_sized, list_none, no_size_of}
+use Rattle.mls_wire.specs.SaturatingSizes.{size}
+use Rattle.mls_wire.specs.EncodedSizes.{list_sized, list_none, no_size_of}
 use Rattle.mls_wire.proofs.size.size_of_list.Goals as goal
 
 pub returns-in_err-size_of_items : goal.returns-in_err-size_of_items

@@ -1,6 +1,6 @@
 use Rattle.std.proofs.Common.{refl, arith}
-use Rattle.mls_wire.specs.Lengths.{form_1, form_2, form_4}
-use Rattle.mls_wire.specs.Sizes.{size_short, size_long}
+use Rattle.mls_wire.specs.LengthsExact.{form_1, form_2, form_4}
+use Rattle.mls_wire.specs.EncodedSizes.{size_short, size_long}
 use Rattle.mls_wire.proofs.size.size_of_vector.Goals as goal
 
 pub returns-then-body-lt64 : goal.returns-then-body-lt64

@@ -1,6 +1,6 @@
 use Rattle.std.proofs.Common.{◌%◌, ◌≢◌, refl, arith}
 use Rattle.std.specs.Int.{w16}
-use Rattle.mls_wire.specs.Numbers.{items_width, wide16, is_odd}
+use Rattle.mls_wire.specs.IntegersExact.{items_width, wide16, is_odd}
 use Rattle.mls_wire.proofs.integers.U16Decode.is_uneven.Goals as goal
 
 pub returns-clause-uneven : goal.returns-clause-uneven

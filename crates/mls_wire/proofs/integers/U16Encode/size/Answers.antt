@@ -1,7 +1,7 @@
 use Rattle.std.proofs.Common.{arith}
 use Rattle.std.specs.Int.{w16}
-use Rattle.mls_wire.specs.Numbers.{wide16}
-use Rattle.mls_wire.specs.Sizes.{size_number}
+use Rattle.mls_wire.specs.IntegersExact.{wide16}
+use Rattle.mls_wire.specs.EncodedSizes.{size_number}
 use Rattle.mls_wire.proofs.integers.U16Encode.size.Goals as goal
 
 pub returns : goal.returns

@@ -1,7 +1,7 @@
 use Rattle.std.proofs.Common.{arith}
 use Rattle.std.specs.Int.{w8}
-use Rattle.mls_wire.specs.Numbers.{wide8}
-use Rattle.mls_wire.specs.Sizes.{size_number}
+use Rattle.mls_wire.specs.IntegersExact.{wide8}
+use Rattle.mls_wire.specs.EncodedSizes.{size_number}
 use Rattle.mls_wire.proofs.integers.U8Encode.size.Goals as goal
 
 pub returns : goal.returns

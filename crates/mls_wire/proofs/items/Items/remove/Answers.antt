@@ -1,5 +1,5 @@
 use Rattle.std.proofs.Common.{subst, sym, IsSome}
-use Rattle.mls_wire.specs.Spelling.{list}
+use Rattle.mls_wire.specs.Encoding.{list}
 use Rattle.mls_wire.proofs.Edited.{list_removed}
 use Rattle.mls_wire.proofs.items.Items.remove.Goals as goal
 

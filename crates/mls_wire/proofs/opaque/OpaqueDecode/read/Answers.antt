@@ -1,4 +1,4 @@
-use Rattle.mls_wire.specs.Vectors.{vector_exact, vector_within}
+use Rattle.mls_wire.specs.VectorsExact.{vector_exact, vector_within}
 use Rattle.mls_wire.proofs.opaque.OpaqueDecode.read.Goals as goal
 
 pub invariant_of-result : goal.invariant_of-result

@@ -1,5 +1,5 @@
-use Rattle.mls_wire.specs.Answers.{Reads-exact}
-use Rattle.mls_wire.specs.Lengths.{length_exact}
+use Rattle.mls_wire.specs.ExactReads.{Reads-exact}
+use Rattle.mls_wire.specs.LengthsExact.{length_exact}
 use Rattle.mls_wire.proofs.reader.Reader.read_len.Goals as goal
 
 pub returns : goal.returns

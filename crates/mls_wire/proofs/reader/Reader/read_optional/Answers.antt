@@ -1,5 +1,5 @@
-use Rattle.mls_wire.specs.Answers.{Reads-exact}
-use Rattle.mls_wire.specs.Optionals.{flag_exact}
+use Rattle.mls_wire.specs.ExactReads.{Reads-exact}
+use Rattle.mls_wire.specs.OptionalsExact.{flag_exact}
 use Rattle.mls_wire.proofs.reader.Reader.read_optional.Goals as goal
 
 pub returns : goal.returns

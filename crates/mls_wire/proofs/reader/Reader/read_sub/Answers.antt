@@ -1,4 +1,4 @@
-use Rattle.mls_wire.specs.Answers.{ReadsBody-exact}
+use Rattle.mls_wire.specs.ExactReads.{ReadsBody-exact}
 use Rattle.mls_wire.proofs.reader.Reader.read_sub.Goals as goal
 
 pub returns : goal.returns

@@ -1,6 +1,6 @@
 use Rattle.std.specs.Int.{w64}
-use Rattle.mls_wire.specs.Answers.{Reads-exact}
-use Rattle.mls_wire.specs.Numbers.{number_exact, wide64}
+use Rattle.mls_wire.specs.ExactReads.{Reads-exact}
+use Rattle.mls_wire.specs.IntegersExact.{number_exact, wide64}
 use Rattle.mls_wire.proofs.reader.Reader.read_u64.Goals as goal
 
 pub returns : goal.returns

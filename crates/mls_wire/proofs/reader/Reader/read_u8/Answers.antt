@@ -1,6 +1,6 @@
 use Rattle.std.specs.Int.{w8}
-use Rattle.mls_wire.specs.Answers.{Reads-exact}
-use Rattle.mls_wire.specs.Numbers.{number_exact, wide8}
+use Rattle.mls_wire.specs.ExactReads.{Reads-exact}
+use Rattle.mls_wire.specs.IntegersExact.{number_exact, wide8}
 use Rattle.mls_wire.proofs.reader.Reader.read_u8.Goals as goal
 
 pub returns : goal.returns

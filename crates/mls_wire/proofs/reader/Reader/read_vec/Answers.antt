@@ -1,6 +1,6 @@
-use Rattle.mls_wire.specs.Answers.{Reads-exact}
-use Rattle.mls_wire.specs.Vectors.{vector_exact}
-use Rattle.mls_wire.specs.Reading.{seen}
+use Rattle.mls_wire.specs.ExactReads.{Reads-exact}
+use Rattle.mls_wire.specs.VectorsExact.{vector_exact}
+use Rattle.mls_wire.specs.ReadContracts.{seen}
 use Rattle.mls_wire.proofs.reader.Reader.read_vec.Goals as goal
 
 pub returns : goal.returns

@@ -1,6 +1,6 @@
 use Rattle.std.proofs.Common.{◌∙◌, ap, refl, rules}
-use Rattle.mls_wire.specs.Written.{put_behind}
-use Rattle.mls_wire.specs.Sizes.{sized_none_text}
+use Rattle.mls_wire.specs.WriteSequences.{put_behind}
+use Rattle.mls_wire.specs.EncodedSizes.{sized_none_text}
 use Rattle.mls_wire.proofs.Sized.{sized_some, put_undone}
 use Rattle.mls_wire.proofs.writer.Writer.write.Goals as goal
 

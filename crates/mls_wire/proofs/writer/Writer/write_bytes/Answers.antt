@@ -1,4 +1,4 @@
-use Rattle.mls_wire.specs.Written.{after_some}
+use Rattle.mls_wire.specs.WriteSequences.{after_some}
 use Rattle.mls_wire.proofs.writer.Writer.write_bytes.Goals as goal
 
 pub returns : goal.returns

@@ -1,7 +1,7 @@
 use Rattle.std.proofs.Common.{sym, refl, arith, ◌∙◌}
 use Rattle.std.specs.Int.{w16, w32}
-use Rattle.mls_wire.specs.Numbers.{number_made, byte_made}
-use Rattle.mls_wire.specs.Lengths.{form_1, form_2, form_4, no_length}
+use Rattle.mls_wire.specs.IntegersExact.{number_made, byte_made}
+use Rattle.mls_wire.specs.LengthsExact.{form_1, form_2, form_4, no_length}
 use Rattle.mls_wire.proofs.Pieces.{WritesPiece-same}
 use Rattle.mls_wire.proofs.writer.Writer.write_len.Goals as goal
 

@@ -1,6 +1,6 @@
 use Rattle.std.proofs.Common.{ℕ, List, Some, sym, ap, ◌∙◌, arith}
 use Rattle.std.specs.Int.{w64}
-use Rattle.mls_wire.specs.Numbers.{number_made}
+use Rattle.mls_wire.specs.IntegersExact.{number_made}
 use Rattle.mls_wire.proofs.Pieces.{WritesPiece-same}
 use Rattle.mls_wire.proofs.writer.Writer.write_u64.Goals as goal
 

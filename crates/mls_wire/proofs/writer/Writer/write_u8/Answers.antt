@@ -1,5 +1,5 @@
 use Rattle.std.proofs.Common.{sym, arith}
-use Rattle.mls_wire.specs.Numbers.{byte_made}
+use Rattle.mls_wire.specs.IntegersExact.{byte_made}
 use Rattle.mls_wire.proofs.Pieces.{WritesPiece-same}
 use Rattle.mls_wire.proofs.writer.Writer.write_u8.Goals as goal
 

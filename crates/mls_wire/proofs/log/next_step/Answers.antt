@@ -1,0 +1,51 @@
+use Rattle.std.proofs.Common.{rules, arith, ◌≡◌, ◌<◌, List, ℕ, [], ◌∷◌, ◌++◌, length, inr}
+use Rattle.mls_wire.proofs.KnownBytes.{Consumes-trans}
+use Rattle.mls_wire.proofs.Logs.{meets_fault, body_cut, body_bytes}
+use Rattle.mls_wire.proofs.log.next_step.Goals as goal
+
+pub returns-in_err-size-clause-meets : goal.returns-in_err-size-clause-meets
+returns-in_err-size-clause-meets g c =
+    let first = rw c.in-Some.is at c.in_ok-first.ensures.byte in
+    let (more, taken, cut) = c.in_err-size.ensures.part in
+    let some : 0 < c.args.most = omega (arith, c.if-most-eq0.false) in
+    meets_fault _ _ _ _ (c.in-Some.first ∷ more) c.from_residual-in_err-size.result (search rules) (Consumes-trans _ _ _ (c.in-Some.first ∷ []) more first taken) (inr (some, cut))
+
+pub returns-in_default-2-clause-meets : goal.returns-in_default-2-clause-meets
+returns-in_default-2-clause-meets g c =
+    let first = rw c.in-Some.is at c.in_ok-first.ensures.byte in
+    let (more, taken, broken) = c.in_ok-size.ensures.size in
+    let some : 0 < c.args.most = omega (arith, c.if-most-eq0.false) in
+    (c.in-Some.first ∷ more, Consumes-trans _ _ _ (c.in-Some.first ∷ []) more first taken, inr (some, rw c.in_default-2.is at broken))
+
+pub returns-in_err-read_body-clause-meets : goal.returns-in_err-read_body-clause-meets
+returns-in_err-read_body-clause-meets g c =
+    let first = rw c.in-Some.is at c.in_ok-first.ensures.byte in
+    let (more, taken, sized) = c.in_ok-size.ensures.size in
+    let form = rw c.in-Some-2.is at sized in
+    let (got, short, body) = c.in_err-read_body.ensures.part in
+    let some : 0 < c.args.most = omega (arith, c.if-most-eq0.false) in
+    let begun = Consumes-trans _ _ _ (c.in-Some.first ∷ []) more first taken in
+    meets_fault _ _ _ _ (c.in-Some.first ∷ (more ++ got)) c.from_residual-in_err-read_body.result (search rules) (Consumes-trans _ _ _ (c.in-Some.first ∷ more) got begun body)
+    (inr (some, body_cut c.in-Some-2.size c.in-Some.first more got form.1 form.0 short))
+
+pub returns-then-len-size-clause-meets : goal.returns-then-len-size-clause-meets
+returns-then-len-size-clause-meets g c =
+    let first = rw c.in-Some.is at c.in_ok-first.ensures.byte in
+    let (more, taken, sized) = c.in_ok-size.ensures.size in
+    let form = rw c.in-Some-2.is at sized in
+    let got : List ℕ = c.read_body.new.body.items in
+    let short : length got < c.in-Some-2.size = omega (arith, c.if-len-size.true, c.len.ensures) in
+    let some : 0 < c.args.most = omega (arith, c.if-most-eq0.false) in
+    let begun = Consumes-trans _ _ _ (c.in-Some.first ∷ []) more first taken in
+    (c.in-Some.first ∷ (more ++ got), Consumes-trans _ _ _ (c.in-Some.first ∷ more) got begun c.in_ok-read_body.ensures.bytes, inr (some, inr (body_cut c.in-Some-2.size c.in-Some.first more got form.1 form.0 short, c.in_ok-read_body.ensures.end short)))
+
+pub returns-clause-meets : goal.returns-clause-meets
+returns-clause-meets g c =
+    let first = rw c.in-Some.is at c.in_ok-first.ensures.byte in
+    let (more, taken, sized) = c.in_ok-size.ensures.size in
+    let form = rw c.in-Some-2.is at sized in
+    let got : List ℕ = c.read_body.new.body.items in
+    let len : length got ≡ c.in-Some-2.size = omega (arith, c.if-len-size.false, c.len.ensures, c.in_ok-read_body.ensures.bound) in
+    let some : 0 < c.args.most = omega (arith, c.if-most-eq0.false) in
+    let begun = Consumes-trans _ _ _ (c.in-Some.first ∷ []) more first taken in
+    (some, c.in-Some.first ∷ (more ++ got), Consumes-trans _ _ _ (c.in-Some.first ∷ more) got begun c.in_ok-read_body.ensures.bytes, body_bytes c.in-Some-2.size c.in-Some.first more got form.1 form.0 len)

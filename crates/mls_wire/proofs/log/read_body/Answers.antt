@@ -1,0 +1,10 @@
+use Rattle.std.proofs.Common.{List, ℕ, ◌++◌, arith, length-append}
+use Rattle.mls_wire.proofs.KnownBytes.{Consumes-trans}
+use Rattle.mls_wire.proofs.Logs.{OnErr-any}
+use Rattle.mls_wire.proofs.log.read_body.Goals as goal
+
+pub returns-in_err-read_piece-clause-part : goal.returns-in_err-read_piece-clause-part
+returns-in_err-read_piece-clause-part g c =
+    let (more, short, taken) = c.in_err-read_piece.ensures.part in
+    let old : List ℕ = c.pieces.body.items in
+    OnErr-any c.from_residual.result (old ++ more, omega (arith, short, length-append old more, c.min-count.ensures, c.len-in-pieces.ensures, c.pieces-test.true), Consumes-trans _ _ _ _ _ c.pieces.invariant.0 taken)

@@ -1,13 +1,13 @@
 -- What is written into a draft that begins empty.
 use Rattle.std.proofs.Common.{◌≡◌, ◌∙◌, ◌++◌, ◌<◌, ◌≤◌, ℕ, List, [], length, Option, Some, None, Err, ap, arith}
 use Rattle.std.specs.Prelude.{IsSome}
-use Rattle.mls_wire.specs.Counting.{size}
+use Rattle.mls_wire.specs.SaturatingSizes.{size}
 use Rattle.mls_wire.specs.Faults.{too_long_at}
 use Rattle.mls_wire.specs.Limits.{vector_limit}
-use Rattle.mls_wire.specs.Spelling.{items, list, vector}
-use Rattle.mls_wire.specs.Sizes.{list_sized, size_long, sized_none_text, vector_some}
-use Rattle.mls_wire.specs.Writing.{after, Added, Puts, PutsPiece, MakesPiece}
-use Rattle.mls_wire.specs.Written.{after_nil, put_behind}
+use Rattle.mls_wire.specs.Encoding.{items, list, vector}
+use Rattle.mls_wire.specs.EncodedSizes.{list_sized, size_long, sized_none_text, vector_some}
+use Rattle.mls_wire.specs.WriteContracts.{after, Added, Puts, PutsPiece, MakesPiece}
+use Rattle.mls_wire.specs.WriteSequences.{after_nil, put_behind}
 use Rattle.mls_wire.specs.declared.fault.CodecFault.{CodecFault}
 use Rattle.mls_wire.specs.declared.fault.CodecFault.TheVariants as faults
 

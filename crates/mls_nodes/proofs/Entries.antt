@@ -4,25 +4,25 @@ use Rattle.std.proofs.Common.{◌≡◌, ℕ, suc, ◌+◌, ◌≤◌, ◌<◌, 
 use Rattle.std.proofs.lemmas.Bool.{leb-true, and_left, and_right, and_from, le-leb, lt-leb, eqb-true, and_parts}
 use Rattle.mls_wire.specs.Input.{Input, at}
 use Rattle.mls_wire.specs.Parsing.{number_at, flag_at, items_at, optional_at, body_at, ◌>>=◌}
-use Rattle.mls_wire.specs.Spelling.{optional, items, list, sized}
-use Rattle.mls_wire.specs.Loops.{with_front, Shortens, shortens, items_stop, items_go_on}
-use Rattle.mls_wire.specs.Optionals.{optional_exact, optional_long}
-use Rattle.mls_wire.specs.Lists.{items_some, items_take, items_again, sized_of, sized_parts}
-use Rattle.mls_wire.specs.Exact.{IsExact}
-use Rattle.mls_wire.specs.Steps.{bind_some, some_is, allowed}
-use Rattle.mls_wire.specs.Vectors.{body_takes, body_again}
-use Rattle.mls_nodes.specs.Exact.{node_exact}
-use Rattle.mls_nodes.specs.Value.{NodeValue, leaf_node, parent_node, entry_value}
+use Rattle.mls_wire.specs.Encoding.{optional, items, list, sized}
+use Rattle.mls_wire.specs.ListLoops.{with_front, Shortens, shortens, items_stop, items_go_on}
+use Rattle.mls_wire.specs.OptionalsExact.{optional_exact, optional_long}
+use Rattle.mls_wire.specs.ListsExact.{items_some, items_take, items_again, sized_of, sized_parts}
+use Rattle.mls_wire.specs.ExactParsers.{IsExact}
+use Rattle.mls_wire.specs.OptionBind.{bind_some, some_is, allowed}
+use Rattle.mls_wire.specs.VectorsExact.{body_takes, body_again}
+use Rattle.mls_nodes.specs.NodesExact.{node_exact}
+use Rattle.mls_nodes.specs.NodeModel.{NodeValue, leaf_node, parent_node, entry_value}
 use Rattle.mls_nodes.specs.Layout.{node}
-use Rattle.mls_nodes.specs.RatchetTree.{stands_at, stand_from, is_placed, ends_set, ratchet_tree}
+use Rattle.mls_nodes.specs.RatchetTreeEncoding.{stands_at, stand_from, is_placed, ends_set, ratchet_tree}
 use Rattle.std.specs.Prelude.{IfOk, IfErr}
 use Rattle.std.proofs.Common.{Vec, Global, zero, replicate, ◌*◌}
 use Rattle.std.proofs.lemmas.List.{map_push}
-use Rattle.mls_wire.specs.Reading.{seen}
-use Rattle.mls_nodes.specs.RatchetTree.{full_from, full_size, filled}
-use Rattle.mls_nodes.specs.Filled.{full_from-doubles}
+use Rattle.mls_wire.specs.ReadContracts.{seen}
+use Rattle.mls_nodes.specs.RatchetTreeEncoding.{full_from, full_size, filled}
+use Rattle.mls_nodes.specs.FilledTree.{full_from-doubles}
 use Rattle.mls_nodes.specs.Parsing.{node_at, node_in, leaf_at, parent_at, placed, tree_at, FindsNodes, GivesNode}
-use Rattle.mls_nodes.specs.Faults.{DecodesTree}
+use Rattle.mls_nodes.specs.RatchetTreeContracts.{DecodesTree}
 use Rattle.mls_nodes.specs.declared.leaf.LeafNode.{LeafNode}
 use Rattle.mls_nodes.specs.declared.parent.ParentNode.{ParentNode}
 use Rattle.mls_nodes.specs.declared.node.Node.{Node}

@@ -3,12 +3,12 @@ use Rattle.std.proofs.Common.{◌≡◌, ℕ, suc, ◌+◌, ◌*◌, ◌^◌, �
 use Rattle.std.proofs.lemmas.Bool.{cases_lt, le-leb}
 use Rattle.std.specs.Prelude.{option_map, IsSome}
 use Rattle.std.specs.Int.{w8, w16, w32, w64}
-use Rattle.mls_wire.specs.Spelling.{◌⊕◌, number, length_form, vector, sized, items, list}
-use Rattle.mls_wire.specs.Numbers.{wide8, wide16, wide32, wide64}
-use Rattle.mls_wire.specs.Lengths.{form_1, form_2, form_4}
-use Rattle.mls_wire.specs.Counting.{size}
-use Rattle.mls_wire.specs.Sizes.{some_size, number_size, size_push, fits_not, fits_none, sized_text, sized_none_text}
-use Rattle.mls_wire.specs.Written.{size_then, sized_makes}
+use Rattle.mls_wire.specs.Encoding.{◌⊕◌, number, length_form, vector, sized, items, list}
+use Rattle.mls_wire.specs.IntegersExact.{wide8, wide16, wide32, wide64}
+use Rattle.mls_wire.specs.LengthsExact.{form_1, form_2, form_4}
+use Rattle.mls_wire.specs.SaturatingSizes.{size}
+use Rattle.mls_wire.specs.EncodedSizes.{some_size, number_size, size_push, fits_not, fits_none, sized_text, sized_none_text}
+use Rattle.mls_wire.specs.WriteSequences.{size_then, sized_makes}
 use Rattle.mls_nodes.specs.declared.credential.Credential.TheVariants.{Basic, X509}
 use Rattle.mls_nodes.specs.declared.leaf_source.LeafSource.TheVariants.{KeyPackage, Update, Commit}
 use Rattle.mls_nodes.specs.declared.leaf_source.Lifetime.{Lifetime}
@@ -18,7 +18,7 @@ use Rattle.mls_nodes.specs.declared.parent.ParentNode.{ParentNode}
 use Rattle.mls_nodes.specs.declared.context.GroupContext.{GroupContext}
 use Rattle.mls_nodes.specs.Extension.{extension}
 use Rattle.mls_nodes.specs.Layout.{credential, codes, capabilities, lifetime, source, leaf, unsigned_leaf, unmerged, parent, group_context}
-use Rattle.mls_nodes.specs.Signed.{leaf_place, leaf_tbs}
+use Rattle.mls_nodes.specs.LeafNodeTBS.{leaf_place, leaf_tbs}
 
 -- a text has a length
 abbrev pub HasLength : Option (List ℕ) → ℕ → Type 0

@@ -4,3 +4,4 @@ pub mod Trimming
 pub mod Lengths
 pub mod Drafted
 pub mod RequiredOnce
+pub mod SendersOnce

@@ -4,11 +4,11 @@ use Rattle.std.specs.Prelude.{option_map, IsSome, insert, nat_lt}
 use Rattle.std.specs.Int.{w32, to_be_bytes}
 use Rattle.std.proofs.lemmas.List.{take_all}
 use Rattle.std.proofs.lemmas.List.Edits.{length-insert}
-use Rattle.mls_wire.specs.Spelling.{number, items, list}
-use Rattle.mls_wire.specs.Steps.{some_is, allowed}
-use Rattle.mls_wire.specs.Joined.{joined, join}
-use Rattle.mls_wire.specs.Numbers.{number_made, wide32}
-use Rattle.mls_wire.specs.Sizes.{list_some, fits_all}
+use Rattle.mls_wire.specs.Encoding.{number, items, list}
+use Rattle.mls_wire.specs.OptionBind.{some_is, allowed}
+use Rattle.mls_wire.specs.EncodingConcat.{joined, join}
+use Rattle.mls_wire.specs.IntegersExact.{number_made, wide32}
+use Rattle.mls_wire.specs.EncodedSizes.{list_some, fits_all}
 
 numbers_made : (xs : List ℕ) → ((i d : ℕ) → i < length xs → get_or xs i d < 4294967296) → (text : List ℕ) × (items (number w32) xs ≡ Some text) × (length text ≡ 4 * length xs)
 unfolding items

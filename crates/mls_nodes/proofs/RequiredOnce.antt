@@ -2,9 +2,9 @@
 use Rattle.std.proofs.Common.{◌≡◌, ℕ, List, [], Option, Some, None, Result, Ok, Err, refl, sym, ap, ◌∙◌}
 use Rattle.std.specs.Coded.{Coded-set, coded_ℕ, coded_list, coded_option}
 use Rattle.std.proofs.lemmas.Option.{same_Some}
-use Rattle.mls_wire.specs.Answers.{DecodesAll-exact}
+use Rattle.mls_wire.specs.ExactReads.{DecodesAll-exact}
 use Rattle.mls_wire.specs.Faults.{too_long_at}
-use Rattle.mls_wire.specs.Laws.{one_value}
+use Rattle.mls_wire.specs.ExactTheorems.{one_value}
 use Rattle.mls_wire.specs.Parsing.{Finds, whole_at}
 use Rattle.mls_wire.specs.declared.fault.CodecFault.{CodecFault}
 use Rattle.mls_wire.specs.declared.fault.CodecFault.TheVariants as faults
@@ -12,7 +12,7 @@ use Rattle.mls_nodes.specs.declared.context.GroupContext.{GroupContext}
 use Rattle.mls_nodes.specs.declared.required_capabilities.RequiredCapabilities.{RequiredCapabilities}
 use Rattle.mls_nodes.specs.Layout.{required_capabilities}
 use Rattle.mls_nodes.specs.Parsing.{required_capabilities_at}
-use Rattle.mls_nodes.specs.Exact.{required_capabilities_exact}
+use Rattle.mls_nodes.specs.NodesExact.{required_capabilities_exact}
 use Rattle.mls_nodes.specs.Requirements.{FindsRequirements, Requires, RequiresBy, extension_of, requirements_in, required_by}
 use Rattle.mls_nodes.specs.declared.extension.Extension.{Extension}
 

@@ -1,5 +1,5 @@
 -- Entries without the blanks at their end.
-use Rattle.mls_wire.specs.Laws.{unambiguous}
+use Rattle.mls_wire.specs.ExactTheorems.{unambiguous}
 use Rattle.std.proofs.Common.{◌≡◌, ◌≢◌, ◌↔◌, ℕ, ◌+◌, ◌-◌, ◌<◌, ◌≤◌, true, false, ◌&&◌, ◌⊎◌, inl, inr, List, [], ◌∷◌, ◌++◌, length, take, map, get_or, slice_get, Option, Some, None, Result, Ok, Err, refl, sym, ap, ◌∙◌, arith}
 use Rattle.std.proofs.lemmas.List.{map_push, take_more, drop_more, length-map, length-take, get_or-map}
 use Rattle.std.proofs.lemmas.Option.{get_or_from_slice_get, slice_get_within}
@@ -8,28 +8,28 @@ use Rattle.std.specs.Prelude.{is_some, IsSome}
 use Rattle.std.proofs.Common.{drop, subst, take-append-drop}
 use Rattle.mls_wire.specs.declared.fault.CodecFault.{CodecFault}
 use Rattle.mls_wire.specs.declared.fault.CodecFault.TheVariants as codec
-use Rattle.mls_wire.specs.Spelling.{list, optional}
-use Rattle.mls_wire.specs.Reading.{seen}
-use Rattle.mls_wire.specs.Writing.{MakesPiece}
+use Rattle.mls_wire.specs.Encoding.{list, optional}
+use Rattle.mls_wire.specs.ReadContracts.{seen}
+use Rattle.mls_wire.specs.WriteContracts.{MakesPiece}
 use Rattle.mls_wire.specs.declared.fault.WireFault.{WireFault}
 use Rattle.mls_wire.specs.Faults.{too_long_at}
-use Rattle.mls_nodes.specs.Faults.{node_fault, EncodesTree}
+use Rattle.mls_nodes.specs.RatchetTreeContracts.{node_fault, EncodesTree}
 use Rattle.mls_wire.specs.Parsing.{list_at, optional_at}
-use Rattle.mls_wire.specs.Steps.{allowed}
-use Rattle.mls_wire.specs.Lists.{list_exact}
-use Rattle.mls_wire.specs.Optionals.{optional_exact, optional_long}
-use Rattle.mls_nodes.specs.Filled.{ends_more, trimmed-filled}
-use Rattle.mls_wire.specs.Spelling.{IsUnambiguous}
+use Rattle.mls_wire.specs.OptionBind.{allowed}
+use Rattle.mls_wire.specs.ListsExact.{list_exact}
+use Rattle.mls_wire.specs.OptionalsExact.{optional_exact, optional_long}
+use Rattle.mls_nodes.specs.FilledTree.{ends_more, trimmed-filled}
+use Rattle.mls_wire.specs.Encoding.{IsUniquelyDecodable}
 use Rattle.mls_nodes.specs.Parsing.{node_at}
-use Rattle.mls_nodes.specs.Exact.{node_exact, tested_unambiguous}
-use Rattle.mls_nodes.specs.Writing.{FitsPlaces, WritesTree}
+use Rattle.mls_nodes.specs.NodesExact.{node_exact, tested_unambiguous}
+use Rattle.mls_nodes.specs.RatchetTreeWriting.{FitsPlaces, WritesTree}
 use Rattle.mls_nodes.proofs.Entries.{both_none, stand_push, stand_more}
 use Rattle.mls_nodes.specs.declared.node.Node.{Node}
 use Rattle.mls_nodes.specs.declared.fault.NodeFault.{NodeFault}
 use Rattle.mls_nodes.specs.declared.fault.NodeFault.TheVariants as nodes
-use Rattle.mls_nodes.specs.Value.{NodeValue, node_value, entry_value}
+use Rattle.mls_nodes.specs.NodeModel.{NodeValue, node_value, entry_value}
 use Rattle.mls_nodes.specs.Layout.{node}
-use Rattle.mls_nodes.specs.RatchetTree.{stands_at, stand_from, IsFirstMisplaced, ends_set, is_placed, ratchet_tree, before, trimmed, filled}
+use Rattle.mls_nodes.specs.RatchetTreeEncoding.{stands_at, stand_from, IsFirstMisplaced, ends_set, is_placed, ratchet_tree, before, trimmed, filled}
 
 pub trimmed-blank : (xs : List (Option NodeValue)) → trimmed (xs ++ None ∷ []) ≡ trimmed xs
 trimmed-blank [] = refl
@@ -194,7 +194,7 @@ module _ {A : Type 0} (view : A → List ℕ) where
 
 -- ---- laws
 
-pub ratchet_tree_unambiguous : IsUnambiguous ratchet_tree
+pub ratchet_tree_unambiguous : IsUniquelyDecodable ratchet_tree
 unfolding ratchet_tree
 ratchet_tree_unambiguous = tested_unambiguous (λ ns. is_placed ns && ends_set ns) (list (optional node))
     (unambiguous (list (optional node)) (list_at (optional_at node_at)) (list_exact (optional node) (optional_at node_at) (optional_exact node node_at node_exact) (optional_long node)))

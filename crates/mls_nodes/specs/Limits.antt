@@ -1,10 +1,10 @@
--- How large a ratchet tree may be.
+-- Limits of a ratchet tree. Used by contracts.
 use Rattle.std.specs.Prelude.{ℕ}
 
--- the most leaves of a tree: 2 ^ 20, a limit of this library's own
+-- The most leaves of a tree, 2 ^ 20: a limit of this library.
 abbrev pub leaf_limit : ℕ
 leaf_limit = 1048576
 
--- the most entries of a tree's array: the leaves and the parents of such a tree
+-- The most nodes of a tree: the leaves and the parents of a tree with that many leaves.
 abbrev pub entry_limit : ℕ
 entry_limit = 2097151

@@ -1,11 +1,12 @@
--- Reading nodes from left to right: for proofs alone. Of contracts only that of `Decode::read` names it.
+-- Reading nodes from left to right, as functions of the input. Only the contract of `Decode::read` and the definitions
+-- `required_by` and `senders_by` name them. Theorems say that they agree with the encodings. Used by contracts.
 use Rattle.std.specs.Prelude.{◌≡◌, ℕ, ◌%◌, List, length, ◌&&◌, Option, Some, None, Result, Ok, Err, nat_eq, nat_le, if◌then◌else◌}
 use Rattle.std.specs.Int.{w8, w16, w32, w64}
 use Rattle.mls_wire.specs.Input.{Input, at}
 use Rattle.mls_wire.specs.Parsing.{◌>>=◌, number_at, vector_at, list_at, body_at, items_at, optional_at}
 use Rattle.mls_nodes.specs.Limits.{leaf_limit}
-use Rattle.mls_nodes.specs.Value.{NodeValue, leaf_node, parent_node}
-use Rattle.mls_nodes.specs.RatchetTree.{is_placed, ends_set}
+use Rattle.mls_nodes.specs.NodeModel.{NodeValue, leaf_node, parent_node}
+use Rattle.mls_nodes.specs.RatchetTreeEncoding.{is_placed, ends_set}
 use Rattle.mls_nodes.specs.declared.credential.Credential.{Credential}
 use Rattle.mls_nodes.specs.declared.credential.Credential.TheVariants.{Basic, X509}
 use Rattle.mls_nodes.specs.declared.leaf_source.LeafSource.{LeafSource}
@@ -17,17 +18,18 @@ use Rattle.mls_nodes.specs.declared.leaf.LeafNode.{LeafNode}
 use Rattle.mls_nodes.specs.declared.parent.ParentNode.{ParentNode}
 use Rattle.mls_nodes.specs.declared.required_capabilities.RequiredCapabilities.{RequiredCapabilities}
 use Rattle.mls_nodes.specs.declared.context.GroupContext.{GroupContext}
+use Rattle.mls_nodes.specs.declared.senders.ExternalSender.{ExternalSender}
 use Rattle.mls_nodes.specs.declared.fault.NodeFault.{NodeFault}
 use Rattle.mls_nodes.specs.declared.fault.NodeFault.TheVariants as faults
 
--- an extension
+-- `extension_at i` is the extension at the front.
 unfoldable pub extension_at : Input → Option (Extension × Input)
 extension_at i = do
   kind ← number_at w16 i
   body ← vector_at kind.1
   Some (record { kind = kind.0; body = body.0 }, body.1)
 
--- a credential
+-- `credential_at i` is the credential at the front.
 unfoldable pub credential_at : Input → Option (Credential × Input)
 credential_at i = do
   kind ← number_at w16 i
@@ -35,11 +37,11 @@ credential_at i = do
       else if nat_eq kind.0 2 then (list_at vector_at kind.1 >>= λ x. Some (X509 x.0, x.1))
       else None
 
--- a list of codes
+-- `codes_at i` is the list of u16 at the front.
 abbrev pub codes_at : Input → Option (List ℕ × Input)
 codes_at i = list_at (number_at w16) i
 
--- capabilities
+-- `capabilities_at i` is the capabilities at the front.
 unfoldable pub capabilities_at : Input → Option (Capabilities × Input)
 capabilities_at i = do
   versions ← codes_at i
@@ -49,14 +51,14 @@ capabilities_at i = do
   credentials ← codes_at proposals.1
   Some (record { versions = versions.0; cipher_suites = cipher_suites.0; extensions = extensions.0; proposals = proposals.0; credentials = credentials.0 }, credentials.1)
 
--- a lifetime
+-- `lifetime_at i` is the lifetime at the front.
 unfoldable pub lifetime_at : Input → Option (Lifetime × Input)
 lifetime_at i = do
   not_before ← number_at w64 i
   not_after ← number_at w64 not_before.1
   Some (record { not_before = not_before.0; not_after = not_after.0 }, not_after.1)
 
--- where a leaf comes from
+-- `source_at i` is the source of a leaf node at the front.
 unfoldable pub source_at : Input → Option (LeafSource × Input)
 source_at i = do
   kind ← number_at w8 i
@@ -65,7 +67,7 @@ source_at i = do
       else if nat_eq kind.0 3 then (vector_at kind.1 >>= λ x. Some (Commit x.0, x.1))
       else None
 
--- a leaf node
+-- `leaf_at i` is the leaf node at the front.
 unfoldable pub leaf_at : Input → Option (LeafNode × Input)
 leaf_at i = do
   encryption_key ← vector_at i
@@ -88,13 +90,13 @@ leaf_at i = do
     signature.1,
   )
 
--- a list of unmerged leaves within its limit
+-- `unmerged_at i` is the list of unmerged leaves at the front, within its limit.
 unfoldable pub unmerged_at : Input → Option (List ℕ × Input)
 unmerged_at i = do
   leaves ← list_at (number_at w32) i
   if nat_le (length leaves.0) leaf_limit then Some (leaves.0, leaves.1) else None
 
--- a parent node
+-- `parent_at i` is the parent node at the front.
 unfoldable pub parent_at : Input → Option (ParentNode × Input)
 parent_at i = do
   encryption_key ← vector_at i
@@ -102,7 +104,7 @@ parent_at i = do
   unmerged ← unmerged_at parent_hash.1
   Some (record { encryption_key = encryption_key.0; parent_hash = parent_hash.0; unmerged = unmerged.0 }, unmerged.1)
 
--- a node
+-- `node_at i` is the node at the front.
 unfoldable pub node_at : Input → Option (NodeValue × Input)
 node_at i = do
   kind ← number_at w8 i
@@ -110,7 +112,7 @@ node_at i = do
       else if nat_eq kind.0 2 then (parent_at kind.1 >>= λ x. Some (parent_node x.0, x.1))
       else None
 
--- a node that may stand at a place, whose kind is judged before its body
+-- `node_in place i` is the node at the front, which may be at this node index. Its type is checked before its body.
 unfoldable pub node_in : ℕ → Input → Option (NodeValue × Input)
 node_in place i = do
   kind ← number_at w8 i
@@ -118,7 +120,7 @@ node_in place i = do
       else if nat_eq kind.0 2 && nat_eq (place % 2) 1 then (parent_at kind.1 >>= λ x. Some (parent_node x.0, x.1))
       else None
 
--- what a group requires
+-- `required_capabilities_at i` is the required capabilities at the front (RFC 9420, 11.1).
 unfoldable pub required_capabilities_at : Input → Option (RequiredCapabilities × Input)
 required_capabilities_at i = do
   extensions ← codes_at i
@@ -126,7 +128,14 @@ required_capabilities_at i = do
   credentials ← codes_at proposals.1
   Some (record { extensions = extensions.0; proposals = proposals.0; credentials = credentials.0 }, credentials.1)
 
--- a group context
+-- `external_sender_at i` is the external sender at the front.
+unfoldable pub external_sender_at : Input → Option (ExternalSender × Input)
+external_sender_at i = do
+  signature_key ← vector_at i
+  credential ← credential_at signature_key.1
+  Some (record { signature_key = signature_key.0; credential = credential.0 }, credential.1)
+
+-- `group_context_at i` is the GroupContext at the front.
 unfoldable pub group_context_at : Input → Option (GroupContext × Input)
 group_context_at i = do
   version ← number_at w16 i
@@ -149,25 +158,26 @@ group_context_at i = do
     extensions.1,
   )
 
--- those lists of entries whose entries may stand at their places
+-- `placed nodes` is the entries, if each may be at its node index.
 abbrev pub placed : Option (List (Option NodeValue)) → Option (List (Option NodeValue))
 placed None = None
 placed (Some nodes) = if is_placed nodes then Some nodes else None
 
--- the entries that all of the bytes give, up to the last that is set
+-- `tree_at bytes` is the entries of a ratchet_tree up to the last non-blank one, read from all of the bytes.
 unfoldable pub tree_at : List ℕ → Option (List (Option NodeValue))
 tree_at bytes = do
   body ← body_at (at 0 bytes)
   nodes ← placed (items_at (optional_at node_at) (length body.0.left) body.0)
   if ends_set nodes then (if nat_eq (length body.1.left) 0 then Some nodes else None) else None
 
--- what a call that looks for a tree answered
+-- `FindsNodes found result`: a call returned what was found. On error nothing was, or the call ran out of memory.
 abbrev pub FindsNodes : {A : Type 0} → Option A → Result A NodeFault → Type 0
 FindsNodes found (Ok x) = found ≡ Some x
 FindsNodes found (Err faults.OutOfMemory) = Unit {0}
 FindsNodes found (Err e) = found ≡ None
 
--- what a call that reads at the front of an input answered, after which nothing more is read where it failed
+-- `GivesNode read old new result`: a call returned what `read` returns, with the rest of the input. On error nothing is
+-- said of the rest.
 abbrev pub GivesNode : {A : Type 0} → (Input → Option (A × Input)) → Input → Input → Result A NodeFault → Type 0
 GivesNode read old new (Ok x) = read old ≡ Some (x, new)
 GivesNode read old new (Err faults.OutOfMemory) = Unit {0}

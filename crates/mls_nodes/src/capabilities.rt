@@ -1,4 +1,4 @@
-//! What a member's client can do (RFC 9420, 7.2).
+//! What a client supports (RFC 9420, 7.2).
 
 use crate::lists::Codes;
 use mls_wire::{CodecFault, Decode, Draft, Encode, Reader, TryClone, add_sizes};
@@ -11,15 +11,15 @@ pub struct Capabilities {
     pub versions: Codes,
     /// Cipher suites.
     pub cipher_suites: Codes,
-    /// Types of extensions.
+    /// Extension types.
     pub extensions: Codes,
-    /// Types of proposals.
+    /// Proposal types.
     pub proposals: Codes,
-    /// Types of credentials.
+    /// Credential types.
     pub credentials: Codes,
 }
 
-// By hand, so that a drop is one call in the proofs of those who hold one.
+// Written out, so that a drop is one call in the proofs of its owners.
 impl Drop for Capabilities {
     fn drop(self) {
         let Capabilities {
@@ -35,7 +35,7 @@ impl Drop for Capabilities {
 impl Decode for Capabilities {
     ghost use Rattle.mls_nodes.specs.Layout.{capabilities};
     ghost use Rattle.mls_nodes.specs.Parsing.{capabilities_at};
-    ghost use Rattle.mls_nodes.specs.Exact.{capabilities_exact, capabilities_long};
+    ghost use Rattle.mls_nodes.specs.NodesExact.{capabilities_exact, capabilities_long};
 
     ghost spelling = { capabilities };
 
@@ -65,7 +65,7 @@ impl Decode for Capabilities {
 }
 
 impl Encode for Capabilities {
-    #[tactic(auto, using(crate::specs::Sizes::sizes), unfolding(crate::specs::Layout::capabilities))]
+    #[tactic(auto, using(crate::specs::TagSizes::sizes), unfolding(crate::specs::Layout::capabilities))]
     fn size(&self) -> Option<usize> {
         add_sizes(
             self.versions.size(),
@@ -79,7 +79,7 @@ impl Encode for Capabilities {
         )
     }
 
-    #[tactic(auto, using(mls_wire::specs::Written::written), unfolding(crate::specs::Layout::capabilities))]
+    #[tactic(auto, using(mls_wire::specs::WriteSequences::written), unfolding(crate::specs::Layout::capabilities))]
     fn put(&self, alloc: Global, draft: &mut Draft) -> Result<(), CodecFault> {
         self.versions.put(alloc, draft)?;
         self.cipher_suites.put(alloc, draft)?;

@@ -1,10 +1,10 @@
-//! Group contexts (RFC 9420, 8.1).
+//! GroupContext (RFC 9420, 8.1).
 
 ghost use Rattle.std.specs.Prelude.{◌≡◌, ◌<◌, Err, length};
 ghost use Rattle.mls_wire.specs.Faults.{too_long_at};
 ghost use Rattle.mls_wire.specs.Limits.{input_limit};
-ghost use Rattle.mls_wire.specs.Reading.{Decodes, DecodesInput, seen};
-ghost use Rattle.mls_wire.specs.Writing.{MakesPiece, WritesPiece};
+ghost use Rattle.mls_wire.specs.ReadContracts.{Decodes, DecodesInput, seen};
+ghost use Rattle.mls_wire.specs.WriteContracts.{MakesPiece, WritesPiece};
 ghost use Rattle.mls_nodes.specs.Layout.{group_context};
 
 use crate::lists::Extensions;
@@ -14,7 +14,7 @@ use mls_wire::{
 };
 use std::alloc::Global;
 
-/// What the members of a group agree on in an epoch. Every version and cipher suite is kept, known or not.
+/// What the members of a group agree on in an epoch. Any version and cipher suite is stored, supported or not.
 #[derive(Debug)]
 pub struct GroupContext {
     /// The protocol version.
@@ -23,7 +23,7 @@ pub struct GroupContext {
     pub cipher_suite: u16,
     /// The group's id.
     pub group_id: Opaque,
-    /// How many commits the group has had.
+    /// The number of commits of the group.
     pub epoch: u64,
     /// The tree hash of the ratchet tree's root.
     pub tree_hash: Opaque,
@@ -33,7 +33,7 @@ pub struct GroupContext {
     pub extensions: Extensions,
 }
 
-// By hand, so that a drop is one call in the proofs of those who hold one.
+// Written out, so that a drop is one call in the proofs of its owners.
 impl Drop for GroupContext {
     fn drop(self) {
         let GroupContext {
@@ -50,7 +50,7 @@ impl Drop for GroupContext {
 
 impl Decode for GroupContext {
     ghost use Rattle.mls_nodes.specs.Parsing.{group_context_at};
-    ghost use Rattle.mls_nodes.specs.Exact.{group_context_exact, group_context_long};
+    ghost use Rattle.mls_nodes.specs.NodesExact.{group_context_exact, group_context_long};
 
     ghost spelling = { group_context };
 
@@ -84,12 +84,12 @@ impl Decode for GroupContext {
 }
 
 impl Encode for GroupContext {
-    #[tactic(auto, using(mls_wire::specs::Sizes::size_exact))]
+    #[tactic(auto, using(mls_wire::specs::EncodedSizes::size_exact))]
     fn size(&self) -> Option<usize> {
         Some(self.encoded_len() as usize)
     }
 
-    #[tactic(auto, using(mls_wire::specs::Written::written), unfolding(crate::specs::Layout::group_context))]
+    #[tactic(auto, using(mls_wire::specs::WriteSequences::written), unfolding(crate::specs::Layout::group_context))]
     fn put(&self, alloc: Global, draft: &mut Draft) -> Result<(), CodecFault> {
         draft.put_u16(self.version)?;
         draft.put_u16(self.cipher_suite)?;
@@ -115,15 +115,19 @@ impl TryClone for GroupContext {
     }
 }
 
-/// The group context at the front. A refusal leaves the reader.
+/// Reads the GroupContext at the front. On error the reader is unchanged.
 pub fn read_context(alloc: Global, reader: &mut Reader<'_>) -> Result<GroupContext, CodecFault>
     ensures { Decodes group_context reader.old reader.new result }
 {
     read_value(alloc, reader)
 }
 
-/// The group context that all of the bytes spell. More than [`MAX_INPUT`](mls_wire::MAX_INPUT) bytes are `TooLong` at
-/// 0; other bytes are refused for another cause than memory exactly where they spell none.
+/// Returns the GroupContext whose encoding is all of the bytes (RFC 9420, 8.1).
+///
+/// # Errors
+///
+/// `TooLong` at 0 for more than [`MAX_INPUT`](mls_wire::MAX_INPUT) bytes; another wire fault if and only if the bytes
+/// are no such encoding; or `OutOfMemory`.
 pub fn decode_context(alloc: Global, bytes: &[u8]) -> Result<GroupContext, CodecFault>
     ensures spelled { DecodesInput group_context bytes.now result }
     ensures long { input_limit < length bytes.now → result ≡ Err (CodecFault.Wire (too_long_at 0)) }
@@ -131,16 +135,23 @@ pub fn decode_context(alloc: Global, bytes: &[u8]) -> Result<GroupContext, Codec
     read_input(alloc, bytes)
 }
 
-/// The group context's bytes. `TooLong` at 0 exactly where it has no spelling, which is judged
-/// before memory is taken.
+/// Returns the encoding of the GroupContext.
+///
+/// # Errors
+///
+/// `TooLong` at 0 if and only if it has no encoding, which is checked before anything is allocated; or `OutOfMemory`.
 pub fn encode_context(alloc: Global, context: &GroupContext) -> Result<Vec<u8>, CodecFault>
     ensures { MakesPiece (group_context context.now) (seen (λ v. v.items) result) }
 {
     bytes_of(alloc, context)
 }
 
-/// Writes the group context at the end. `TooLong`, at the number of bytes written so far, exactly
-/// where it has no spelling, which is judged before memory is taken. A refusal leaves the bytes.
+/// Appends the encoding of the GroupContext.
+///
+/// # Errors
+///
+/// `TooLong`, at the number of bytes written so far, if and only if it has no encoding, which is checked before
+/// anything is allocated; or `OutOfMemory`. The bytes are then unchanged.
 pub fn write_context(
     alloc: Global,
     context: &GroupContext,

@@ -7,17 +7,17 @@ use mls_wire::{
 };
 use std::alloc::Global;
 
-/// Who a leaf says that its member is: type 1 or 2, a `u16`, and the body of that type. A credential
-/// of another type is `BadTag` where it begins, since its body can't be skipped.
+/// Who a member claims to be: type 1 or 2, a `u16`, and the body of that type. A credential of another type is `BadTag`
+/// at its offset, since its body cannot be skipped.
 #[derive(Debug)]
 pub enum Credential {
-    /// An identity, as bytes that the application knows.
+    /// An identity, as bytes that the application interprets.
     Basic(Opaque),
     /// X.509 certificates.
     X509(CertChain),
 }
 
-// By hand, so that a drop is one call in the proofs of those who hold one.
+// Written out, so that a drop is one call in the proofs of its owners.
 impl Drop for Credential {
     fn drop(self) {
         match self {
@@ -30,7 +30,7 @@ impl Drop for Credential {
 impl Decode for Credential {
     ghost use Rattle.mls_nodes.specs.Layout.{credential};
     ghost use Rattle.mls_nodes.specs.Parsing.{credential_at};
-    ghost use Rattle.mls_nodes.specs.Exact.{credential_exact, credential_long};
+    ghost use Rattle.mls_nodes.specs.NodesExact.{credential_exact, credential_long};
 
     ghost spelling = { credential };
 
@@ -45,7 +45,7 @@ impl Decode for Credential {
             kind => {
                 return Err(CodecFault::Wire(WireFault {
                     kind: WireFaultKind::BadTag(kind),
-                    at: reader.offset(),
+                    at: reader.place(),
                 }));
             }
         };
@@ -59,7 +59,7 @@ impl Decode for Credential {
 }
 
 impl Encode for Credential {
-    #[tactic(auto, using(crate::specs::Sizes::sizes), unfolding(crate::specs::Layout::credential))]
+    #[tactic(auto, using(crate::specs::TagSizes::sizes), unfolding(crate::specs::Layout::credential))]
     fn size(&self) -> Option<usize> {
         match self {
             Credential::Basic(identity) => add_sizes(Some(2), identity.size()),
@@ -67,7 +67,7 @@ impl Encode for Credential {
         }
     }
 
-    #[tactic(auto, using(mls_wire::specs::Written::written), unfolding(crate::specs::Layout::credential))]
+    #[tactic(auto, using(mls_wire::specs::WriteSequences::written), unfolding(crate::specs::Layout::credential))]
     fn put(&self, alloc: Global, draft: &mut Draft) -> Result<(), CodecFault> {
         match self {
             Credential::Basic(identity) => {

@@ -1,8 +1,8 @@
-//! Extensions of leaves and groups (RFC 9420, 7.2 and 13).
+//! Extensions of leaf nodes and groups (RFC 9420, 7.2 and 13).
 
-ghost use Rattle.mls_wire.specs.Spelling.{list};
-ghost use Rattle.mls_wire.specs.Reading.{Decodes};
-ghost use Rattle.mls_wire.specs.Writing.{WritesPiece};
+ghost use Rattle.mls_wire.specs.Encoding.{list};
+ghost use Rattle.mls_wire.specs.ReadContracts.{Decodes};
+ghost use Rattle.mls_wire.specs.WriteContracts.{WritesPiece};
 ghost use Rattle.mls_nodes.specs.Extension.{extension};
 
 use crate::lists::Extensions;
@@ -11,19 +11,19 @@ use mls_wire::{
 };
 use std::alloc::Global;
 
-/// An extension of any type: application_id 1, ratchet_tree 2, required_capabilities 3,
-/// external_pub 4, external_senders 5 and those that the standard doesn't know.
+/// An extension of any type: application_id 1, ratchet_tree 2, required_capabilities 3, external_pub 4,
+/// external_senders 5, and others.
 #[derive(Debug, Drop)]
 pub struct Extension {
     /// Its type.
     pub kind: u16,
-    /// Its data, not read any further.
+    /// Its data, which is not read any further.
     pub body: Opaque,
 }
 
 impl Decode for Extension {
     ghost use Rattle.mls_nodes.specs.Parsing.{extension_at};
-    ghost use Rattle.mls_nodes.specs.Exact.{extension_exact, extension_long};
+    ghost use Rattle.mls_nodes.specs.NodesExact.{extension_exact, extension_long};
 
     ghost spelling = { extension };
 
@@ -44,12 +44,12 @@ impl Decode for Extension {
 }
 
 impl Encode for Extension {
-    #[tactic(auto, using(crate::specs::Sizes::sizes), unfolding(crate::specs::Extension::extension))]
+    #[tactic(auto, using(crate::specs::TagSizes::sizes), unfolding(crate::specs::Extension::extension))]
     fn size(&self) -> Option<usize> {
         add_sizes(self.kind.size(), self.body.size())
     }
 
-    #[tactic(auto, using(mls_wire::specs::Written::written), unfolding(crate::specs::Extension::extension))]
+    #[tactic(auto, using(mls_wire::specs::WriteSequences::written), unfolding(crate::specs::Extension::extension))]
     fn put(&self, alloc: Global, draft: &mut Draft) -> Result<(), CodecFault> {
         draft.put_u16(self.kind)?;
         self.body.put(alloc, draft)
@@ -65,16 +65,19 @@ impl TryClone for Extension {
     }
 }
 
-/// The list of extensions at the front. A refusal leaves the reader.
+/// Reads the list of extensions at the front. On error the reader is unchanged.
 pub fn read_extensions(alloc: Global, reader: &mut Reader<'_>) -> Result<Extensions, CodecFault>
     ensures { Decodes (list extension) reader.old reader.new result }
 {
     read_value(alloc, reader)
 }
 
-/// Writes the list of extensions at the end. `TooLong`, at the number of bytes written so far,
-/// exactly where it has no spelling, which is judged before memory is taken. A refusal leaves the
-/// bytes.
+/// Appends the encoding of a list of extensions.
+///
+/// # Errors
+///
+/// `TooLong`, at the number of bytes written so far, if and only if it has no encoding, which is checked before
+/// anything is allocated; or `OutOfMemory`. The bytes are then unchanged.
 pub fn write_extensions(
     alloc: Global,
     extensions: &Extensions,

@@ -1,35 +1,35 @@
-//! Why a ratchet tree could not be read or written.
+//! Why a ratchet_tree cannot be decoded or encoded.
 
 use mls_wire::{CodecFault, WireFault};
 use std::alloc::{AllocError, AllocFailed};
 use thiserror::Error;
 
-/// Why a ratchet tree could not be read or written. Places count the entries of the tree from 0.
+/// Why a ratchet_tree cannot be decoded or encoded. The numbers are node indices.
 #[derive(Clone, Copy, Debug, PartialEq, Eq, Error)]
 pub enum NodeFault {
-    /// The bytes can't be read, or the tree is too long for one vector.
+    /// The bytes cannot be read, or the tree is too long for one vector.
     #[error(transparent)]
     Wire(WireFault),
-    /// A leaf at an odd place or a parent at an even one: the first such place.
+    /// A leaf is at an odd node index or a parent at an even one: the first such node index.
     #[error("a node of the wrong kind at place {0}")]
     WrongNodeKind(usize),
     /// The last entry is blank, and another one is not.
     #[error("the last entry is blank")]
     LastBlank,
-    /// No entry is set.
+    /// Every entry is blank.
     #[error("no entry is set")]
     EmptyTree,
-    /// More than 2,097,151 entries, those of 1,048,576 leaves.
+    /// There are more than 2,097,151 entries, those of 1,048,576 leaves.
     #[error("a tree has at most 2,097,151 nodes")]
     TooManyLeaves,
-    /// A growth was refused.
+    /// An allocation failed.
     #[error("out of memory")]
     OutOfMemory,
 }
 
 impl From<CodecFault> for NodeFault {
     ghost use Rattle.std.specs.Prelude.{◌≡◌};
-    ghost use Rattle.mls_nodes.specs.Faults.{node_fault};
+    ghost use Rattle.mls_nodes.specs.RatchetTreeContracts.{node_fault};
 
     ghost from_gives = { λ f e. e ≡ node_fault f };
 

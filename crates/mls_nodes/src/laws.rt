@@ -1,37 +1,41 @@
-//! Laws of the spellings: bytes tell values apart, and a tree that is filled up is the same tree.
+//! Theorems about the encodings: bytes determine the value, and a tree that is extended to a full one is the same tree.
 
 ghost use Rattle.std.specs.Prelude.{◌≡◌, ◌↔◌, ◌≤◌, ◌+◌, ◌-◌, ◌^◌, ℕ, List, Option, Some, None, length, take, drop, All};
-ghost use Rattle.mls_wire.specs.Spelling.{list, vector};
+ghost use Rattle.mls_wire.specs.Encoding.{list, vector};
 ghost use Rattle.mls_nodes.specs.Extension.{extension};
-ghost use Rattle.mls_nodes.specs.Layout.{credential, codes, capabilities, lifetime, source, leaf, unmerged, parent, node, required_capabilities, group_context};
-ghost use Rattle.mls_nodes.specs.RatchetTree.{ratchet_tree, trimmed, filled};
+ghost use Rattle.mls_nodes.specs.Layout.{credential, codes, capabilities, lifetime, source, leaf, unmerged, parent, node, required_capabilities, external_sender, group_context};
+ghost use Rattle.mls_nodes.specs.RatchetTreeEncoding.{ratchet_tree, trimmed, filled};
 ghost use Rattle.mls_nodes.specs.Requirements.{RequiresBy, required_by};
+ghost use Rattle.mls_nodes.specs.ExternalSenders.{HasSenders, senders_by};
 ghost use Rattle.mls_nodes.specs.declared.extension.Extension.{Extension};
+ghost use Rattle.mls_nodes.specs.declared.senders.ExternalSender.{ExternalSender};
 ghost use Rattle.mls_nodes.specs.declared.required_capabilities.RequiredCapabilities.{RequiredCapabilities};
-ghost use Rattle.mls_nodes.specs.Value.{NodeValue};
-ghost use Rattle.mls_wire.specs.Spelling.{IsUnambiguous};
+ghost use Rattle.mls_nodes.specs.NodeModel.{NodeValue};
+ghost use Rattle.mls_wire.specs.Encoding.{IsUniquelyDecodable};
 
-/// Of each type: one byte list spells at most one value, and no spelling is a proper prefix of another.
+/// For each type: bytes are the encoding of at most one value, and no encoding is a proper prefix of another.
 pub fn unambiguous()
-    ensures codes { IsUnambiguous codes }
-    ensures chain { IsUnambiguous (list vector) }
-    ensures credential { IsUnambiguous credential }
-    ensures capabilities { IsUnambiguous capabilities }
-    ensures extension { IsUnambiguous extension }
-    ensures extensions { IsUnambiguous (list extension) }
-    ensures lifetime { IsUnambiguous lifetime }
-    ensures source { IsUnambiguous source }
-    ensures leaf { IsUnambiguous leaf }
-    ensures unmerged { IsUnambiguous unmerged }
-    ensures parent { IsUnambiguous parent }
-    ensures node { IsUnambiguous node }
-    ensures requirements { IsUnambiguous required_capabilities }
-    ensures context { IsUnambiguous group_context }
-    ensures ratchet_tree { IsUnambiguous ratchet_tree }
+    ensures codes { IsUniquelyDecodable codes }
+    ensures chain { IsUniquelyDecodable (list vector) }
+    ensures credential { IsUniquelyDecodable credential }
+    ensures capabilities { IsUniquelyDecodable capabilities }
+    ensures extension { IsUniquelyDecodable extension }
+    ensures extensions { IsUniquelyDecodable (list extension) }
+    ensures lifetime { IsUniquelyDecodable lifetime }
+    ensures source { IsUniquelyDecodable source }
+    ensures leaf { IsUniquelyDecodable leaf }
+    ensures unmerged { IsUniquelyDecodable unmerged }
+    ensures parent { IsUniquelyDecodable parent }
+    ensures node { IsUniquelyDecodable node }
+    ensures requirements { IsUniquelyDecodable required_capabilities }
+    ensures external_sender { IsUniquelyDecodable external_sender }
+    ensures external_senders { IsUniquelyDecodable (list external_sender) }
+    ensures context { IsUniquelyDecodable group_context }
+    ensures ratchet_tree { IsUniquelyDecodable ratchet_tree }
 {}
 
-/// Filling up gives a tree's entries at the front, blanks behind them, and the least number
-/// 2^(d+1) - 1 of entries that is not below theirs; leaving out the blanks at the end takes it back.
+/// Extending to a full tree gives the entries of a tree at the front, blank ones after them, and the least number
+/// 2^(d+1) - 1 of entries that is not below theirs. Leaving out the blank ones at the end undoes it.
 pub fn filling()
     ensures full { (nodes : List (Option NodeValue))
         → (d : ℕ) × (length (filled nodes) ≡ 2 ^ (d + 1) - 1) }
@@ -47,9 +51,16 @@ pub fn filling()
         → trimmed (filled nodes) ≡ nodes }
 {}
 
-/// What a group with these extensions requires can be computed: the word that rules use tells it, and tells nothing
-/// where the extension's data spells no requirements.
+/// What a group with these extensions requires is a function of the extensions: `required_by` returns it, and `None` if
+/// the data is no encoding of required capabilities.
 pub fn requirements_are_told()
     ensures { (extensions : List Extension) (required : RequiredCapabilities)
         → (required_by extensions ≡ Some required) ↔ RequiresBy extensions required }
+{}
+
+/// The external senders of a group with these extensions are a function of the extensions: `senders_by` returns them,
+/// and `None` if the data is no encoding of a list of senders.
+pub fn senders_are_told()
+    ensures { (extensions : List Extension) (senders : List ExternalSender)
+        → (senders_by extensions ≡ Some senders) ↔ HasSenders extensions senders }
 {}

@@ -1,7 +1,7 @@
 //! Leaf nodes (RFC 9420, 7.2).
 
-ghost use Rattle.mls_wire.specs.Reading.{Decodes, DecodesAll, seen};
-ghost use Rattle.mls_wire.specs.Writing.{MakesPiece, Puts, WritesPiece};
+ghost use Rattle.mls_wire.specs.ReadContracts.{Decodes, DecodesAll, seen};
+ghost use Rattle.mls_wire.specs.WriteContracts.{MakesPiece, Puts, WritesPiece};
 ghost use Rattle.mls_nodes.specs.Layout.{leaf, unsigned_leaf};
 
 use crate::capabilities::Capabilities;
@@ -14,16 +14,16 @@ use mls_wire::{
 };
 use std::alloc::Global;
 
-/// A member of a group, as its leaf of the ratchet tree shows it.
+/// A member of a group, as its leaf of the ratchet tree shows it (RFC 9420, 7.2).
 #[derive(Debug)]
 pub struct LeafNode {
-    /// The public key that secrets are sent to.
+    /// The public key to which secrets are encrypted.
     pub encryption_key: Opaque,
     /// The public key under which the member signs.
     pub signature_key: Opaque,
-    /// Who the member says it is.
+    /// Who the member claims to be.
     pub credential: Credential,
-    /// What its client can do.
+    /// What its client supports.
     pub capabilities: Capabilities,
     /// How the leaf came into the tree.
     pub source: LeafSource,
@@ -33,7 +33,7 @@ pub struct LeafNode {
     pub signature: Opaque,
 }
 
-// By hand, so that a drop is one call in the proofs of those who hold one.
+// Written out, so that a drop is one call in the proofs of its owners.
 impl Drop for LeafNode {
     fn drop(self) {
         let LeafNode {
@@ -50,7 +50,7 @@ impl Drop for LeafNode {
 
 impl Decode for LeafNode {
     ghost use Rattle.mls_nodes.specs.Parsing.{leaf_at};
-    ghost use Rattle.mls_nodes.specs.Exact.{leaf_exact, leaf_long};
+    ghost use Rattle.mls_nodes.specs.NodesExact.{leaf_exact, leaf_long};
 
     ghost spelling = { leaf };
 
@@ -85,7 +85,7 @@ impl Decode for LeafNode {
 
 impl LeafNode {
     /// Adds the fields that are signed.
-    #[tactic(auto, using(mls_wire::specs::Written::written), unfolding(crate::specs::Layout::unsigned_leaf))]
+    #[tactic(auto, using(mls_wire::specs::WriteSequences::written), unfolding(crate::specs::Layout::unsigned_leaf))]
     pub(crate) fn put_unsigned(&self, alloc: Global, draft: &mut Draft) -> Result<(), CodecFault>
         ensures { Puts (unsigned_leaf self.now) draft.old draft.new result }
     {
@@ -99,12 +99,12 @@ impl LeafNode {
 }
 
 impl Encode for LeafNode {
-    #[tactic(auto, using(mls_wire::specs::Sizes::size_exact))]
+    #[tactic(auto, using(mls_wire::specs::EncodedSizes::size_exact))]
     fn size(&self) -> Option<usize> {
         Some(self.encoded_len() as usize)
     }
 
-    #[tactic(auto, using(mls_wire::specs::Written::written, crate::specs::Exact::leaf_signed))]
+    #[tactic(auto, using(mls_wire::specs::WriteSequences::written, crate::specs::NodesExact::leaf_signed))]
     fn put(&self, alloc: Global, draft: &mut Draft) -> Result<(), CodecFault> {
         self.put_unsigned(alloc, draft)?;
         self.signature.put(alloc, draft)
@@ -125,31 +125,41 @@ impl TryClone for LeafNode {
     }
 }
 
-/// The leaf node at the front. A refusal leaves the reader.
+/// Reads the leaf node at the front. On error the reader is unchanged.
 pub fn read_leaf(alloc: Global, reader: &mut Reader<'_>) -> Result<LeafNode, CodecFault>
     ensures { Decodes leaf reader.old reader.new result }
 {
     read_value(alloc, reader)
 }
 
-/// The leaf node that all of the bytes spell: refused for another cause than memory exactly where
-/// they spell none.
+/// Returns the leaf node whose encoding is all of the bytes (RFC 9420, 7.2).
+///
+/// # Errors
+///
+/// A wire fault if and only if the bytes are no such encoding, or `OutOfMemory`.
 pub fn decode_leaf(alloc: Global, bytes: &[u8]) -> Result<LeafNode, CodecFault>
     ensures { DecodesAll leaf bytes.now result }
 {
     read_all_of(alloc, bytes)
 }
 
-/// The leaf node's bytes. `TooLong` at 0 exactly where it has no spelling, which is judged
-/// before memory is taken.
+/// Returns the encoding of the leaf node.
+///
+/// # Errors
+///
+/// `TooLong` at 0 if and only if it has no encoding, which is checked before anything is allocated; or `OutOfMemory`.
 pub fn encode_leaf(alloc: Global, value: &LeafNode) -> Result<Vec<u8>, CodecFault>
     ensures { MakesPiece (leaf value.now) (seen (λ v. v.items) result) }
 {
     bytes_of(alloc, value)
 }
 
-/// Writes the leaf node at the end. `TooLong`, at the number of bytes written so far, exactly where
-/// it has no spelling, which is judged before memory is taken. A refusal leaves the bytes.
+/// Appends the encoding of the leaf node.
+///
+/// # Errors
+///
+/// `TooLong`, at the number of bytes written so far, if and only if it has no encoding, which is checked before
+/// anything is allocated; or `OutOfMemory`. The bytes are then unchanged.
 pub fn write_leaf(alloc: Global, value: &LeafNode, writer: &mut Writer) -> Result<(), CodecFault>
     ensures { WritesPiece (leaf value.now) writer.old writer.new result }
 {

@@ -6,7 +6,7 @@ use mls_wire::{
 };
 use std::alloc::Global;
 
-/// When a key package may be used, in seconds since the beginning of 1970.
+/// When a KeyPackage may be used, in seconds since the beginning of 1970.
 #[derive(Clone, Copy, Debug)]
 pub struct Lifetime {
     /// The first second of it.
@@ -15,21 +15,21 @@ pub struct Lifetime {
     pub not_after: u64,
 }
 
-/// How a leaf came into the tree: source 1, 2 or 3, a byte. Another source is `BadTag` where it begins.
+/// How a leaf came into the tree: source 1, 2 or 3, a byte. Another source is `BadTag` at its offset.
 #[derive(Debug)]
 pub enum LeafSource {
-    /// By a key package that was added.
+    /// By a KeyPackage that was added.
     KeyPackage(Lifetime),
-    /// By an update of its member.
+    /// By an Update of its member.
     Update,
-    /// By a commit of its member.
+    /// By a Commit of its member.
     Commit {
-        /// The parent hash of the leaf's parent, empty where it has none.
+        /// The parent hash of the next node on the direct path, empty if there is none.
         parent_hash: Opaque,
     },
 }
 
-// By hand, so that a drop is one call in the proofs of those who hold one.
+// Written out, so that a drop is one call in the proofs of its owners.
 impl Drop for LeafSource {
     fn drop(self) {
         match self {
@@ -43,7 +43,7 @@ impl Drop for LeafSource {
 impl Decode for Lifetime {
     ghost use Rattle.mls_nodes.specs.Layout.{lifetime};
     ghost use Rattle.mls_nodes.specs.Parsing.{lifetime_at};
-    ghost use Rattle.mls_nodes.specs.Exact.{lifetime_exact, lifetime_long};
+    ghost use Rattle.mls_nodes.specs.NodesExact.{lifetime_exact, lifetime_long};
 
     ghost spelling = { lifetime };
 
@@ -69,7 +69,7 @@ impl Decode for Lifetime {
 impl Decode for LeafSource {
     ghost use Rattle.mls_nodes.specs.Layout.{source};
     ghost use Rattle.mls_nodes.specs.Parsing.{source_at};
-    ghost use Rattle.mls_nodes.specs.Exact.{source_exact, source_long};
+    ghost use Rattle.mls_nodes.specs.NodesExact.{source_exact, source_long};
 
     ghost spelling = { source };
 
@@ -87,7 +87,7 @@ impl Decode for LeafSource {
             kind => {
                 return Err(CodecFault::Wire(WireFault {
                     kind: WireFaultKind::BadTag(u16::from(kind)),
-                    at: reader.offset(),
+                    at: reader.place(),
                 }));
             }
         };
@@ -101,12 +101,12 @@ impl Decode for LeafSource {
 }
 
 impl Encode for Lifetime {
-    #[tactic(auto, using(crate::specs::Sizes::sizes), unfolding(crate::specs::Layout::lifetime))]
+    #[tactic(auto, using(crate::specs::TagSizes::sizes), unfolding(crate::specs::Layout::lifetime))]
     fn size(&self) -> Option<usize> {
         add_sizes(self.not_before.size(), self.not_after.size())
     }
 
-    #[tactic(auto, using(mls_wire::specs::Written::written), unfolding(crate::specs::Layout::lifetime))]
+    #[tactic(auto, using(mls_wire::specs::WriteSequences::written), unfolding(crate::specs::Layout::lifetime))]
     fn put(&self, _alloc: Global, draft: &mut Draft) -> Result<(), CodecFault> {
         draft.put_u64(self.not_before)?;
         draft.put_u64(self.not_after)
@@ -114,7 +114,7 @@ impl Encode for Lifetime {
 }
 
 impl Encode for LeafSource {
-    #[tactic(auto, using(crate::specs::Sizes::sizes), unfolding(crate::specs::Layout::source))]
+    #[tactic(auto, using(crate::specs::TagSizes::sizes), unfolding(crate::specs::Layout::source))]
     fn size(&self) -> Option<usize> {
         match self {
             LeafSource::KeyPackage(lifetime) => add_sizes(Some(1), lifetime.size()),
@@ -123,7 +123,7 @@ impl Encode for LeafSource {
         }
     }
 
-    #[tactic(auto, using(mls_wire::specs::Written::written), unfolding(crate::specs::Layout::source))]
+    #[tactic(auto, using(mls_wire::specs::WriteSequences::written), unfolding(crate::specs::Layout::source))]
     fn put(&self, alloc: Global, draft: &mut Draft) -> Result<(), CodecFault> {
         match self {
             LeafSource::KeyPackage(lifetime) => {

@@ -1,40 +1,42 @@
-//! The nodes of MLS ratchet trees (RFC 9420, 5.3 and 7) as values and as bytes: credentials,
-//! leaf nodes, parent nodes and the ratchet tree that a group's members hand out.
+//! The nodes of MLS ratchet trees (RFC 9420, 5.3 and 7) as values and as bytes: credentials, leaf nodes, parent nodes
+//! and the ratchet_tree extension.
 //!
-//! Contracts speak of spellings: how a value is written in bytes stands in `specs/`, once for each type.
+//! Contracts name encodings, which `specs/` has once for each type.
 #![tactic(auto)]
 
 mod capabilities;
 mod context;
 mod credential;
+mod encoded_len;
 mod extension;
 mod fault;
 pub mod laws;
 mod leaf;
 mod leaf_source;
-mod length;
 mod lists;
 mod node;
 mod parent;
 mod ratchet_tree;
 mod required_capabilities;
-mod signed;
+mod senders;
+mod tbs;
 mod unmerged;
 
 pub use capabilities::Capabilities;
 pub use context::{GroupContext, decode_context, encode_context, read_context, write_context};
 pub use credential::Credential;
+pub use encoded_len::leaf_tbs_len;
 pub use extension::{Extension, read_extensions, write_extensions};
 pub use fault::NodeFault;
 pub use leaf::{LeafNode, decode_leaf, encode_leaf, read_leaf, write_leaf};
 pub use leaf_source::{LeafSource, Lifetime};
-pub use length::leaf_tbs_len;
-pub use lists::{CertChain, Codes, Extensions};
+pub use lists::{CertChain, Codes, Extensions, ExternalSenders};
 pub use node::Node;
 pub use parent::{ParentNode, write_parent};
 pub use ratchet_tree::{decode_ratchet_tree, encode_ratchet_tree};
 pub use required_capabilities::{
     RequiredCapabilities, find_extension, requirements, requirements_of,
 };
-pub use signed::{leaf_tbs, put_leaf_tbs};
+pub use senders::{ExternalSender, external_senders};
+pub use tbs::{leaf_tbs, put_leaf_tbs};
 pub use unmerged::{MAX_UNMERGED, Unmerged};

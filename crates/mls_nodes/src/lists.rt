@@ -1,11 +1,12 @@
-//! Lists that fit into one vector (RFC 9420, 2.1.2): their items take at most 1,073,741,823
-//! bytes, so each of them has a spelling.
+//! Lists that fit into one vector (RFC 9420, 2.1.2): their items have at most 1,073,741,823 bytes, so each of them has
+//! an encoding.
 
 use crate::extension::Extension;
+use crate::senders::ExternalSender;
 use mls_wire::{Items, Opaque};
 
-/// Codes of protocol versions, cipher suites, or types of extensions, proposals and credentials.
-/// Every `u16` is kept, known or not.
+/// Protocol versions, cipher suites, or types of extensions, proposals and credentials. Any `u16` is stored, known or
+/// not.
 pub type Codes = Items<u16>;
 
 /// A chain of certificates, the member's own first (RFC 9420, 5.3).
@@ -13,3 +14,6 @@ pub type CertChain = Items<Opaque>;
 
 /// Extensions of a leaf node or a group, in their order.
 pub type Extensions = Items<Extension>;
+
+/// External senders, in the order in which `sender_index` numbers them.
+pub type ExternalSenders = Items<ExternalSender>;

@@ -8,19 +8,19 @@ use crate::parent::ParentNode;
 use mls_wire::{CodecFault, TryClone};
 use std::alloc::Global;
 
-/// A node that is not blank. Contracts see it as a `NodeValue`, its parts and not where they lie.
+/// A non-blank node. The model is a `NodeValue`, its fields.
 #[derive(Debug, Drop)]
 pub enum Node {
-    /// A leaf, at an even place of the tree.
+    /// A leaf, at an even node index.
     Leaf(Box<LeafNode>),
-    /// A parent, at an odd one.
+    /// A parent, at an odd node index.
     Parent(Box<ParentNode>),
 }
 
 impl Node {
-    ghost use Rattle.mls_nodes.specs.Value.{node_value};
+    ghost use Rattle.mls_nodes.specs.NodeModel.{node_value};
 
-    /// The same node again. Only want of memory is answered.
+    /// Returns an equal node. The only error is `OutOfMemory`.
     pub fn try_clone(&self, alloc: Global) -> Result<Node, CodecFault>
         ensures same { IfOk result (λ node. node_value node ≡ node_value self.now) }
         ensures memory { IfErr result (λ e. e ≡ codec.OutOfMemory) }

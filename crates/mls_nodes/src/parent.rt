@@ -1,26 +1,26 @@
 //! Parent nodes (RFC 9420, 7.1).
 
-ghost use Rattle.mls_wire.specs.Writing.{WritesPiece};
+ghost use Rattle.mls_wire.specs.WriteContracts.{WritesPiece};
 ghost use Rattle.mls_nodes.specs.Layout.{parent};
 
 use crate::unmerged::Unmerged;
 use mls_wire::{CodecFault, Decode, Draft, Encode, Opaque, Reader, TryClone, Writer};
 use std::alloc::Global;
 
-/// A parent of the ratchet tree, whose secret the members under it share.
+/// A parent of the ratchet tree, whose private key the members below it share.
 #[derive(Debug, Drop)]
 pub struct ParentNode {
-    /// The public key that secrets are sent to.
+    /// The public key to which secrets are encrypted.
     pub encryption_key: Opaque,
-    /// The parent hash of the next parent above, empty where there is none.
+    /// The parent hash of the next parent above, empty if there is none.
     pub parent_hash: Opaque,
-    /// The leaves under it whose members don't know its secret.
+    /// The leaves below it whose members do not know its private key.
     pub unmerged: Unmerged,
 }
 
 impl Decode for ParentNode {
     ghost use Rattle.mls_nodes.specs.Parsing.{parent_at};
-    ghost use Rattle.mls_nodes.specs.Exact.{parent_exact, parent_long};
+    ghost use Rattle.mls_nodes.specs.NodesExact.{parent_exact, parent_long};
 
     ghost spelling = { parent };
 
@@ -46,12 +46,12 @@ impl Decode for ParentNode {
 }
 
 impl Encode for ParentNode {
-    #[tactic(auto, using(mls_wire::specs::Sizes::size_exact))]
+    #[tactic(auto, using(mls_wire::specs::EncodedSizes::size_exact))]
     fn size(&self) -> Option<usize> {
         Some(self.encoded_len() as usize)
     }
 
-    #[tactic(auto, using(mls_wire::specs::Written::written), unfolding(crate::specs::Layout::parent))]
+    #[tactic(auto, using(mls_wire::specs::WriteSequences::written), unfolding(crate::specs::Layout::parent))]
     fn put(&self, alloc: Global, draft: &mut Draft) -> Result<(), CodecFault> {
         self.encryption_key.put(alloc, draft)?;
         self.parent_hash.put(alloc, draft)?;
@@ -70,8 +70,12 @@ impl TryClone for ParentNode {
     }
 }
 
-/// Writes the parent node at the end. `TooLong`, at the number of bytes written so far, exactly
-/// where it has no spelling, which is judged before memory is taken. A refusal leaves the bytes.
+/// Appends the encoding of the parent node.
+///
+/// # Errors
+///
+/// `TooLong`, at the number of bytes written so far, if and only if it has no encoding, which is checked before
+/// anything is allocated; or `OutOfMemory`. The bytes are then unchanged.
 pub fn write_parent(
     alloc: Global,
     value: &ParentNode,

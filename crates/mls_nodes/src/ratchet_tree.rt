@@ -1,5 +1,5 @@
-//! The ratchet tree as members hand it out (RFC 9420, 12.4.3.3): the entries of the tree's
-//! array up to the last that is set, each blank or a node.
+//! The ratchet_tree extension (RFC 9420, 12.4.3.3): the entries of a tree up to the last non-blank one, each blank or a
+//! node.
 
 mod decode;
 mod encode;
@@ -7,5 +7,5 @@ mod encode;
 pub use decode::decode_ratchet_tree;
 pub use encode::encode_ratchet_tree;
 
-/// The most entries that a tree's array has, those of 1,048,576 leaves.
+/// The most entries of a tree, those of 1,048,576 leaves.
 const MAX_ENTRIES: usize = 2097151;

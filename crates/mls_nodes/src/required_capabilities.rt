@@ -11,21 +11,21 @@ use mls_wire::{
 };
 use std::alloc::Global;
 
-/// The type of the extension that holds a group's requirements.
+/// The extension type of required capabilities.
 const REQUIRED_CAPABILITIES: u16 = 3;
 
 /// What each member of a group has to support.
 #[derive(Debug)]
 pub struct RequiredCapabilities {
-    /// Types of extensions.
+    /// Extension types.
     pub extensions: Codes,
-    /// Types of proposals.
+    /// Proposal types.
     pub proposals: Codes,
-    /// Types of credentials.
+    /// Credential types.
     pub credentials: Codes,
 }
 
-// By hand, so that a drop is one call in the proofs of those who hold one.
+// Written out, so that a drop is one call in the proofs of its owners.
 impl Drop for RequiredCapabilities {
     fn drop(self) {
         let RequiredCapabilities {
@@ -39,7 +39,7 @@ impl Drop for RequiredCapabilities {
 impl Decode for RequiredCapabilities {
     ghost use Rattle.mls_nodes.specs.Layout.{required_capabilities};
     ghost use Rattle.mls_nodes.specs.Parsing.{required_capabilities_at};
-    ghost use Rattle.mls_nodes.specs.Exact.{required_capabilities_exact, required_capabilities_long};
+    ghost use Rattle.mls_nodes.specs.NodesExact.{required_capabilities_exact, required_capabilities_long};
 
     ghost spelling = { required_capabilities };
 
@@ -65,7 +65,7 @@ impl Decode for RequiredCapabilities {
 }
 
 impl Encode for RequiredCapabilities {
-    #[tactic(auto, using(crate::specs::Sizes::sizes), unfolding(crate::specs::Layout::required_capabilities))]
+    #[tactic(auto, using(crate::specs::TagSizes::sizes), unfolding(crate::specs::Layout::required_capabilities))]
     fn size(&self) -> Option<usize> {
         add_sizes(
             self.extensions.size(),
@@ -73,7 +73,7 @@ impl Encode for RequiredCapabilities {
         )
     }
 
-    #[tactic(auto, using(mls_wire::specs::Written::written), unfolding(crate::specs::Layout::required_capabilities))]
+    #[tactic(auto, using(mls_wire::specs::WriteSequences::written), unfolding(crate::specs::Layout::required_capabilities))]
     fn put(&self, alloc: Global, draft: &mut Draft) -> Result<(), CodecFault> {
         self.extensions.put(alloc, draft)?;
         self.proposals.put(alloc, draft)?;
@@ -91,7 +91,7 @@ impl TryClone for RequiredCapabilities {
     }
 }
 
-/// The data of the first extension of a type.
+/// Returns the data of the first extension of a type.
 pub fn find_extension(extensions: &[Extension], kind: u16) -> Option<&Opaque>
     ensures { MatchOption result
         (extension_of kind extensions.now ≡ None)
@@ -105,7 +105,7 @@ pub fn find_extension(extensions: &[Extension], kind: u16) -> Option<&Opaque>
     None
 }
 
-/// The empty list of codes.
+/// Returns the empty list of codes.
 fn no_codes(alloc: Global) -> Codes
     ensures { result ≡ [] }
 {
@@ -115,9 +115,12 @@ fn no_codes(alloc: Global) -> Codes
     }
 }
 
-/// What a group with these extensions requires: the data of the first one of type 3, and empty lists where
-/// there is none, which takes no memory. Refused for another cause than memory exactly where that data spells
-/// no requirements.
+/// Returns what a group with these extensions requires: the data of the first one of type 3, or empty lists if there is
+/// none, which does not allocate (RFC 9420, 11.1).
+///
+/// # Errors
+///
+/// A wire fault if and only if that data is no encoding of required capabilities, or `OutOfMemory`.
 pub fn requirements_of(
     alloc: Global,
     extensions: &Extensions,
@@ -134,7 +137,7 @@ pub fn requirements_of(
     }
 }
 
-/// What the group requires, by its context's extensions, as [`requirements_of`] says.
+/// Returns what the group requires by the extensions of its context, as [`requirements_of`].
 pub fn requirements(
     alloc: Global,
     context: &GroupContext,

@@ -9,10 +9,10 @@ use mls_wire::{
 use std::alloc::{AllocError, Global};
 use std::marker::Model;
 
-/// The most entries that a list of unmerged leaves has, as many as a tree has leaves.
+/// The most entries of a list of unmerged leaves, as many as a tree has leaves.
 pub const MAX_UNMERGED: usize = 1048576;
 
-/// The indices of the leaves under a parent whose members don't know its secret, at most [`MAX_UNMERGED`].
+/// The indices of the leaves below a parent whose members do not know its private key, at most [`MAX_UNMERGED`].
 #[derive(Debug, Drop)]
 pub struct Unmerged {
     leaves: Items<u32>,
@@ -30,7 +30,7 @@ impl Model for Unmerged {
 }
 
 impl Unmerged {
-    /// The list of these leaves. A list over the limit is handed back.
+    /// Returns the list of these leaves. A list over the limit is returned as the error.
     pub fn new(leaves: Vec<u32>) -> Result<Unmerged, Vec<u32>>
         ensures { MatchResult result
             (λ made. made ≡ leaves.items)
@@ -44,7 +44,7 @@ impl Unmerged {
         })
     }
 
-    /// The leaves in their order.
+    /// Returns the leaves in their order.
     pub fn as_slice(&self) -> &[u32]
         ensures items { result.now ≡ self.now }
         ensures limit { length self.now ≤ leaf_limit }
@@ -52,7 +52,7 @@ impl Unmerged {
         self.leaves.as_slice()
     }
 
-    /// Puts a leaf at an index of the list, before those that stood from there on. For want of memory the list stays.
+    /// Inserts a leaf at a position of the list. If an allocation fails, the list is unchanged.
     pub fn insert(&mut self, index: usize, leaf: u32) -> Result<(), AllocError>
         requires inside { index ≤ length self.old }
         requires room { length self.old < leaf_limit }
@@ -65,7 +65,7 @@ impl Unmerged {
         }
     }
 
-    /// Takes out the leaf at an index of the list. Those behind it move up. It takes no memory.
+    /// Removes the leaf at a position of the list and returns it. Does not allocate.
     pub fn remove(&mut self, index: usize) -> u32
         requires { index < length self.old }
         ensures value { result ≡ slice_index_or self.old index result }
@@ -78,13 +78,13 @@ impl Unmerged {
 impl Decode for Unmerged {
     ghost use Rattle.mls_nodes.specs.Layout.{unmerged};
     ghost use Rattle.mls_nodes.specs.Parsing.{unmerged_at};
-    ghost use Rattle.mls_nodes.specs.Exact.{unmerged_exact, unmerged_long};
+    ghost use Rattle.mls_nodes.specs.NodesExact.{unmerged_exact, unmerged_long};
 
     ghost spelling = { unmerged };
 
     ghost reading = { unmerged_at };
 
-    /// The list at the front. A list over the limit is `TooLong` at its offset.
+    /// Reads the list at the front. A list over the limit is `TooLong` at its offset.
     #[tactic(auto, unfolding(crate::specs::Parsing::unmerged_at))]
     fn read(alloc: Global, reader: &mut Reader<'_>) -> Result<Unmerged, CodecFault> {
         let mut ahead = reader.fork();
@@ -92,7 +92,7 @@ impl Decode for Unmerged {
         if leaves.as_slice().len() > MAX_UNMERGED {
             return Err(CodecFault::Wire(WireFault {
                 kind: WireFaultKind::TooLong,
-                at: reader.offset(),
+                at: reader.place(),
             }));
         }
         *reader = ahead;

@@ -1,14 +1,14 @@
-//! Reading a ratchet tree, one entry after the other.
+//! Decoding a ratchet_tree, one entry after the other.
 
 ghost use Rattle.std.specs.Prelude.{◌≡◌, ◌≤◌, ◌<◌, Err, map, length, IfOk, IfErr};
 ghost use Rattle.mls_wire.specs.Faults.{too_long_at};
 ghost use Rattle.mls_wire.specs.Limits.{input_limit};
 ghost use Rattle.mls_wire.specs.Parsing.{Gives, flag_at, body_at, items_at, optional_at};
-ghost use Rattle.mls_wire.specs.Reading.{seen};
+ghost use Rattle.mls_wire.specs.ReadContracts.{seen};
 ghost use Rattle.mls_nodes.specs.Limits.{entry_limit};
-ghost use Rattle.mls_nodes.specs.Value.{node_value, entry_value};
-ghost use Rattle.mls_nodes.specs.RatchetTree.{ends_set, full_size, filled};
-ghost use Rattle.mls_nodes.specs.Faults.{DecodesTree};
+ghost use Rattle.mls_nodes.specs.NodeModel.{node_value, entry_value};
+ghost use Rattle.mls_nodes.specs.RatchetTreeEncoding.{ends_set, full_size, filled};
+ghost use Rattle.mls_nodes.specs.RatchetTreeContracts.{DecodesTree};
 ghost use Rattle.mls_nodes.specs.Parsing.{node_at, node_in, placed, tree_at, FindsNodes, GivesNode};
 ghost use Rattle.mls_nodes.specs.declared.fault.NodeFault.TheVariants as faults;
 
@@ -20,26 +20,26 @@ use crate::ratchet_tree::MAX_ENTRIES;
 use mls_wire::{Decode, MAX_INPUT, Reader, WireFault, WireFaultKind};
 use std::alloc::Global;
 
-/// Whether an entry is set.
+/// Returns whether an entry is non-blank.
 fn read_presence(reader: &mut Reader<'_>) -> Result<bool, WireFault>
     ensures { Gives flag_at reader.old reader.new result }
 {
     reader.read_optional()
 }
 
-/// A reader of the body of the vector at the front.
+/// Returns a reader of the body of the vector at the front.
 fn read_body<'a>(reader: &mut Reader<'a>) -> Result<Reader<'a>, WireFault>
     ensures { Gives body_at reader.old reader.new result }
 {
     reader.read_sub()
 }
 
-/// The node of the entry at a place, whose kind is judged before its body is read.
+/// Reads the node of the entry at a node index. Its type is checked before its body is read.
 #[tactic(auto, unfolding(crate::specs::Parsing::node_in))]
 fn read_node(alloc: Global, place: usize, reader: &mut Reader<'_>) -> Result<Node, NodeFault>
     ensures { GivesNode (node_in place) reader.old reader.new (seen node_value result) }
 {
-    let at = reader.offset();
+    let at = reader.place();
     match u8::read(alloc, reader)? {
         1 if place % 2 == 0 => Ok(Node::Leaf(Box::new(alloc, LeafNode::read(alloc, reader)?)?)),
         2 if place % 2 == 1 => Ok(Node::Parent(Box::new(alloc, ParentNode::read(alloc, reader)?)?)),
@@ -51,7 +51,7 @@ fn read_node(alloc: Global, place: usize, reader: &mut Reader<'_>) -> Result<Nod
     }
 }
 
-/// The entry at a place.
+/// Reads the entry at a node index.
 #[tactic(auto, unfolding(mls_wire::specs::Parsing::optional_at))]
 fn read_entry(
     alloc: Global,
@@ -67,7 +67,7 @@ fn read_entry(
     Ok(Some(read_node(alloc, place, reader)?))
 }
 
-/// The entries of a tree, one after the other.
+/// Reads the entries of a tree, one after the other.
 fn read_entries(alloc: Global, mut body: Reader<'_>) -> Result<Vec<Option<Node>>, NodeFault>
     ensures { FindsNodes
         (placed (items_at (optional_at node_at) (length body.entry.left) body.entry))
@@ -85,7 +85,7 @@ fn read_entries(alloc: Global, mut body: Reader<'_>) -> Result<Vec<Option<Node>>
     Ok(entries)
 }
 
-/// Whether there is a last entry, and it is not blank.
+/// Returns whether there is a last entry, and it is non-blank.
 fn is_last_set(entries: &[Option<Node>]) -> bool
     ensures { result ≡ ends_set (map entry_value entries.now) }
 {
@@ -95,7 +95,7 @@ fn is_last_set(entries: &[Option<Node>]) -> bool
     }
 }
 
-/// The entries that all of the bytes spell, up to the last that is set.
+/// Returns the entries whose encoding is all of the bytes, up to the last non-blank one.
 #[tactic(auto, unfolding(crate::specs::Parsing::tree_at))]
 fn read_tree(alloc: Global, bytes: &[u8]) -> Result<Vec<Option<Node>>, NodeFault>
     ensures { FindsNodes (tree_at bytes.now) (seen (λ v. map entry_value v.items) result) }
@@ -113,7 +113,7 @@ fn read_tree(alloc: Global, bytes: &[u8]) -> Result<Vec<Option<Node>>, NodeFault
     Ok(entries)
 }
 
-/// How many entries the least full tree has that has room for so many.
+/// Returns the number of nodes of the least full tree that has at least `count`.
 fn full_size_of(count: usize) -> usize
     requires { count ≤ entry_limit }
     ensures { result ≡ full_size count }
@@ -125,7 +125,7 @@ fn full_size_of(count: usize) -> usize
     size
 }
 
-/// Puts blanks behind, up to a full tree.
+/// Appends blank entries, up to a full tree.
 fn fill(mut entries: Vec<Option<Node>>) -> Result<Vec<Option<Node>>, NodeFault>
     requires { length entries.items ≤ entry_limit }
     ensures full { IfOk result
@@ -140,13 +140,15 @@ fn fill(mut entries: Vec<Option<Node>>) -> Result<Vec<Option<Node>>, NodeFault>
     Ok(entries)
 }
 
-/// The tree that all of the bytes spell, with blanks behind it up to the least number 2^(d+1) - 1 of
-/// entries that is not below its own.
+/// Returns the tree whose encoding is all of the bytes (RFC 9420, 12.4.3.3), followed by blank entries up to the least
+/// number 2^(d+1) - 1 that is not below its own.
 ///
-/// An input of more than [`MAX_INPUT`] bytes is `TooLong` at 0. Then come the faults of the vector itself, those of
-/// the entries one after the other (`TooManyLeaves` as one begins at place 2,097,151, `WrongNodeKind` at a node's
-/// type, before its body is read), `EmptyTree` where no entry is set, `LastBlank`, and `Trailing` for bytes behind
-/// the vector.
+/// # Errors
+///
+/// In this order: `TooLong` at 0 for an input of more than [`MAX_INPUT`] bytes; the faults of the vector; those of the
+/// entries, one after the other; `EmptyTree` if every entry is blank; `LastBlank`; `Trailing` for bytes after the
+/// vector. `TooManyLeaves` is found where the entry with node index 2,097,151 begins, and `WrongNodeKind` at the type
+/// of a node, before its body is read. Or `OutOfMemory`.
 pub fn decode_ratchet_tree(alloc: Global, bytes: &[u8]) -> Result<Vec<Option<Node>>, NodeFault>
     ensures spelled { DecodesTree bytes.now (seen (λ v. map entry_value v.items) result) }
     ensures long { input_limit < length bytes.now → result ≡ Err (faults.Wire (too_long_at 0)) }

@@ -1,19 +1,19 @@
-//! Writing a ratchet tree.
+//! Encoding a ratchet_tree.
 
 ghost use Rattle.std.specs.Prelude.{◌≡◌, ◌≢◌, ◌↔◌, ◌≤◌, ◌<◌, ℕ, [], None, Some, Err, length, map, true, MatchResult};
-ghost use Rattle.mls_wire.specs.Counting.{size};
+ghost use Rattle.mls_wire.specs.SaturatingSizes.{size};
 ghost use Rattle.mls_wire.specs.Faults.{too_long_at};
 ghost use Rattle.mls_wire.specs.Limits.{vector_limit};
-ghost use Rattle.mls_wire.specs.Spelling.{items, list, optional};
-ghost use Rattle.mls_wire.specs.Reading.{seen};
-ghost use Rattle.mls_wire.specs.Writing.{MakesPiece, Puts, PutsPiece};
+ghost use Rattle.mls_wire.specs.Encoding.{items, list, optional};
+ghost use Rattle.mls_wire.specs.ReadContracts.{seen};
+ghost use Rattle.mls_wire.specs.WriteContracts.{MakesPiece, Puts, PutsPiece};
 ghost use Rattle.mls_wire.specs.declared.fault.WireFault.{WireFault};
 ghost use Rattle.mls_nodes.specs.Limits.{entry_limit};
-ghost use Rattle.mls_nodes.specs.Value.{node_value, entry_value};
+ghost use Rattle.mls_nodes.specs.NodeModel.{node_value, entry_value};
 ghost use Rattle.mls_nodes.specs.Layout.{node};
-ghost use Rattle.mls_nodes.specs.RatchetTree.{stands_at, trimmed, IsFirstMisplaced};
-ghost use Rattle.mls_nodes.specs.Faults.{EncodesTree};
-ghost use Rattle.mls_nodes.specs.Writing.{FitsPlaces, WritesTree};
+ghost use Rattle.mls_nodes.specs.RatchetTreeEncoding.{stands_at, trimmed, IsFirstMisplaced};
+ghost use Rattle.mls_nodes.specs.RatchetTreeContracts.{EncodesTree};
+ghost use Rattle.mls_nodes.specs.RatchetTreeWriting.{FitsPlaces, WritesTree};
 ghost use Rattle.mls_nodes.specs.declared.fault.NodeFault.TheVariants as faults;
 
 use crate::fault::NodeFault;
@@ -22,7 +22,7 @@ use crate::ratchet_tree::MAX_ENTRIES;
 use mls_wire::{CodecFault, Draft, Encode, MAX_BODY, WireFault, WireFaultKind, add_sizes};
 use std::alloc::Global;
 
-/// The entries without the blanks at their end.
+/// Returns the entries without the blank ones at the end.
 fn trim(entries: &[Option<Node>]) -> &[Option<Node>]
     ensures { map entry_value result.now ≡ trimmed (map entry_value entries.now) }
 {
@@ -33,7 +33,7 @@ fn trim(entries: &[Option<Node>]) -> &[Option<Node>]
     &entries[..count]
 }
 
-/// Whether an entry may stand at a place.
+/// Returns whether an entry may be at a node index.
 fn may_stand(place: usize, entry: &Option<Node>) -> bool
     ensures { result ≡ stands_at place (entry_value entry.now) }
 {
@@ -44,8 +44,8 @@ fn may_stand(place: usize, entry: &Option<Node>) -> bool
     }
 }
 
-/// Judges the entries' places and their number.
-fn judge_places(entries: &[Option<Node>]) -> Result<(), NodeFault>
+/// Checks the kinds and the number of the entries.
+fn check_node_kinds(entries: &[Option<Node>]) -> Result<(), NodeFault>
     ensures { FitsPlaces (map entry_value entries.now) result }
 {
     for place in 0..entries.len() {
@@ -60,7 +60,7 @@ fn judge_places(entries: &[Option<Node>]) -> Result<(), NodeFault>
 }
 
 /// Adds a node: its type, and its fields.
-#[tactic(auto, using(mls_wire::specs::Written::written), unfolding(crate::specs::Layout::node))]
+#[tactic(auto, using(mls_wire::specs::WriteSequences::written), unfolding(crate::specs::Layout::node))]
 fn put_node(alloc: Global, value: &Node, draft: &mut Draft) -> Result<(), CodecFault>
     ensures { Puts (node (node_value value.now)) draft.old draft.new result }
 {
@@ -76,8 +76,8 @@ fn put_node(alloc: Global, value: &Node, draft: &mut Draft) -> Result<(), CodecF
     }
 }
 
-/// Adds an entry: whether it is set, and the node.
-#[tactic(auto, using(mls_wire::specs::Written::written), unfolding(mls_wire::specs::Spelling::optional, mls_wire::specs::Spelling::flag))]
+/// Adds an optional entry.
+#[tactic(auto, using(mls_wire::specs::WriteSequences::written), unfolding(mls_wire::specs::Encoding::optional, mls_wire::specs::Encoding::flag))]
 fn put_entry(alloc: Global, entry: &Option<Node>, draft: &mut Draft) -> Result<(), CodecFault>
     ensures { Puts (optional node (entry_value entry.now)) draft.old draft.new result }
 {
@@ -90,8 +90,8 @@ fn put_entry(alloc: Global, entry: &Option<Node>, draft: &mut Draft) -> Result<(
     }
 }
 
-/// How many bytes a node takes, with its type.
-#[tactic(auto, using(crate::specs::Sizes::sizes), unfolding(crate::specs::Layout::node))]
+/// Returns the size of a node, with its type.
+#[tactic(auto, using(crate::specs::TagSizes::sizes), unfolding(crate::specs::Layout::node))]
 fn size_of_node(value: &Node) -> Option<usize>
     ensures { result ≡ size (node (node_value value.now)) }
 {
@@ -101,8 +101,8 @@ fn size_of_node(value: &Node) -> Option<usize>
     }
 }
 
-/// How many bytes an entry takes, with the byte that tells whether it is set.
-#[tactic(auto, using(mls_wire::specs::Sizes::sizes), unfolding(mls_wire::specs::Spelling::optional))]
+/// Returns the size of an optional entry.
+#[tactic(auto, using(mls_wire::specs::EncodedSizes::sizes), unfolding(mls_wire::specs::Encoding::optional))]
 fn size_of_entry(entry: &Option<Node>) -> Option<usize>
     ensures { result ≡ size (optional node (entry_value entry.now)) }
 {
@@ -112,7 +112,7 @@ fn size_of_entry(entry: &Option<Node>) -> Option<usize>
     }
 }
 
-/// How many bytes the entries take, one after the other.
+/// Returns the size of the entries, one after the other.
 fn size_of_entries(entries: &[Option<Node>]) -> Option<usize>
     ensures { result ≡ size (items (optional node) (map entry_value entries.now)) }
 {
@@ -123,7 +123,7 @@ fn size_of_entries(entries: &[Option<Node>]) -> Option<usize>
     Some(total)
 }
 
-/// How many bytes the entries take, if they fit into one vector. `TooLong` at 0 where they don't.
+/// Returns the size of the entries, if they fit into one vector. `TooLong` at 0 if they do not.
 fn size_of_body(entries: &[Option<Node>]) -> Result<usize, CodecFault>
     ensures { MatchResult result
         (λ body. (Some body ≡ size (items (optional node) (map entry_value entries.now)))
@@ -152,7 +152,7 @@ fn put_entries(alloc: Global, entries: &[Option<Node>], draft: &mut Draft) -> Re
     Ok(())
 }
 
-/// Adds the entries as one vector, whose body has this many bytes.
+/// Adds the entries as one vector, whose body has this size.
 fn put_vector(
     alloc: Global,
     entries: &[Option<Node>],
@@ -168,8 +168,8 @@ fn put_vector(
     put_entries(alloc, entries, draft)
 }
 
-/// The entries as one vector. `TooLong` at 0 exactly where they don't fit into one, which is judged
-/// before memory is taken.
+/// Returns the entries as one vector. `TooLong` at 0 if and only if they do not fit into one, which is checked before
+/// anything is allocated.
 fn bytes_of_entries(alloc: Global, entries: &[Option<Node>]) -> Result<Vec<u8>, CodecFault>
     ensures { MakesPiece
         (list (optional node) (map entry_value entries.now))
@@ -181,23 +181,24 @@ fn bytes_of_entries(alloc: Global, entries: &[Option<Node>]) -> Result<Vec<u8>, 
     Ok(draft.finish())
 }
 
-/// The bytes of entries without blanks at their end.
+/// Returns the encoding of entries without blank ones at the end.
 fn encode_trimmed(alloc: Global, entries: &[Option<Node>]) -> Result<Vec<u8>, NodeFault>
     ensures { WritesTree (map entry_value entries.now) (seen (λ v. v.items) result) }
 {
     if entries.is_empty() {
         return Err(NodeFault::EmptyTree);
     }
-    judge_places(entries)?;
+    check_node_kinds(entries)?;
     Ok(bytes_of_entries(alloc, entries)?)
 }
 
-/// The bytes of the tree with these entries, without the blanks at their end.
+/// Returns the encoding of the tree with these entries, without the blank ones at the end (RFC 9420, 12.4.3.3).
 ///
-/// `EmptyTree` where no entry is set; then, entry by entry, `TooManyLeaves` at place 2,097,151 and
-/// `WrongNodeKind` at the first node that may not stand at its place; then `TooLong` at 0 for a tree
-/// whose entries don't fit into one vector. All of these are judged before memory is taken, which is
-/// taken at once. `LastBlank` is no answer of this call.
+/// # Errors
+///
+/// In this order: `EmptyTree` if every entry is blank; then, entry by entry, `TooManyLeaves` at node index 2,097,151
+/// and `WrongNodeKind` at the first node that may not be there; then `TooLong` at 0 for entries that do not fit into
+/// one vector. All of these are checked before anything is allocated. Or `OutOfMemory`. Never `LastBlank`.
 pub fn encode_ratchet_tree(alloc: Global, nodes: &[Option<Node>]) -> Result<Vec<u8>, NodeFault>
     ensures encoded { EncodesTree (map entry_value nodes.now) (seen (λ v. v.items) result) }
     ensures empty { (result ≡ Err faults.EmptyTree) ↔ (trimmed (map entry_value nodes.now) ≡ []) }

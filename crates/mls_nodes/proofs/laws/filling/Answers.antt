@@ -1,4 +1,4 @@
-use Rattle.mls_nodes.specs.Filled.{filled-full, filled-room, filled-least, filled-front, filled-back}
+use Rattle.mls_nodes.specs.FilledTree.{filled-full, filled-room, filled-least, filled-front, filled-back}
 use Rattle.mls_nodes.proofs.Trimming.{tree_again_trimmed}
 use Rattle.mls_nodes.proofs.laws.filling.Goals as goal
 

@@ -1,10 +1,10 @@
-use Rattle.mls_wire.specs.Laws.{unambiguous}
-use Rattle.mls_wire.specs.Spelling.{list, vector}
+use Rattle.mls_wire.specs.ExactTheorems.{unambiguous}
+use Rattle.mls_wire.specs.Encoding.{list, vector}
 use Rattle.mls_wire.specs.Parsing.{list_at, vector_at}
 use Rattle.mls_nodes.specs.Extension.{extension}
-use Rattle.mls_nodes.specs.Layout.{credential, codes, capabilities, lifetime, source, leaf, unmerged, parent, node, required_capabilities, group_context}
-use Rattle.mls_nodes.specs.Parsing.{credential_at, codes_at, capabilities_at, extension_at, lifetime_at, source_at, leaf_at, unmerged_at, parent_at, node_at, required_capabilities_at, group_context_at}
-use Rattle.mls_nodes.specs.Exact.{codes_exact, chain_exact, credential_exact, capabilities_exact, extension_exact, extensions_exact, lifetime_exact, source_exact, leaf_exact, unmerged_exact, parent_exact, node_exact, required_capabilities_exact, group_context_exact}
+use Rattle.mls_nodes.specs.Layout.{credential, codes, capabilities, lifetime, source, leaf, unmerged, parent, node, required_capabilities, external_sender, group_context}
+use Rattle.mls_nodes.specs.Parsing.{credential_at, codes_at, capabilities_at, extension_at, lifetime_at, source_at, leaf_at, unmerged_at, parent_at, node_at, required_capabilities_at, external_sender_at, group_context_at}
+use Rattle.mls_nodes.specs.NodesExact.{codes_exact, chain_exact, credential_exact, capabilities_exact, extension_exact, extensions_exact, lifetime_exact, source_exact, leaf_exact, unmerged_exact, parent_exact, node_exact, required_capabilities_exact, external_sender_exact, external_senders_exact, group_context_exact}
 use Rattle.mls_nodes.proofs.Trimming.{ratchet_tree_unambiguous}
 use Rattle.mls_nodes.proofs.laws.unambiguous.Goals as goal
 
@@ -52,3 +52,9 @@ returns-clause-requirements c = unambiguous required_capabilities required_capab
 
 pub returns-clause-context : goal.returns-clause-context
 returns-clause-context c = unambiguous group_context group_context_at group_context_exact
+
+pub returns-clause-external_sender : goal.returns-clause-external_sender
+returns-clause-external_sender c = unambiguous external_sender external_sender_at external_sender_exact
+
+pub returns-clause-external_senders : goal.returns-clause-external_senders
+returns-clause-external_senders c = unambiguous (list external_sender) (list_at external_sender_at) external_senders_exact

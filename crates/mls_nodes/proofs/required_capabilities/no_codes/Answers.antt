@@ -1,7 +1,7 @@
 use Rattle.std.proofs.Common.{[], arith}
 use Rattle.std.specs.Int.{w16}
-use Rattle.mls_wire.specs.Spelling.{number}
-use Rattle.mls_wire.specs.Sizes.{fits_all, no_size}
+use Rattle.mls_wire.specs.Encoding.{number}
+use Rattle.mls_wire.specs.EncodedSizes.{fits_all, no_size}
 use Rattle.mls_nodes.proofs.required_capabilities.no_codes.Goals as goal
 
 pub unreachable-requires : goal.unreachable-requires

@@ -1,7 +1,7 @@
 use Rattle.std.proofs.Common.{◌≡◌, arith, ap, ◌∙◌, ◌++◌, ◌-◌, map, length, replicate, None, vec_len}
-use Rattle.mls_nodes.specs.Value.{entry_value}
-use Rattle.mls_nodes.specs.RatchetTree.{full_size}
-use Rattle.mls_nodes.specs.Filled.{full_size-enough}
+use Rattle.mls_nodes.specs.NodeModel.{entry_value}
+use Rattle.mls_nodes.specs.RatchetTreeEncoding.{full_size}
+use Rattle.mls_nodes.specs.FilledTree.{full_size-enough}
 use Rattle.mls_nodes.proofs.Entries.{blank_more, blanks_begin}
 use Rattle.mls_nodes.proofs.ratchet_tree.decode.fill.Goals as goal
 

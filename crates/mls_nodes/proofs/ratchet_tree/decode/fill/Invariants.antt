@@ -1,6 +1,6 @@
 use Rattle.std.proofs.Common.{◌≡◌, ◌≤◌, ◌-◌, ◌++◌, map, replicate, vec_len, None}
-use Rattle.mls_nodes.specs.Value.{entry_value}
-use Rattle.mls_nodes.specs.RatchetTree.{filled}
+use Rattle.mls_nodes.specs.NodeModel.{entry_value}
+use Rattle.mls_nodes.specs.RatchetTreeEncoding.{filled}
 use Rattle.mls_nodes.proofs.ratchet_tree.decode.fill.Given as goal
 
 abbrev pub invariant-loop-entries : goal.invariant-loop-entries

@@ -1,6 +1,6 @@
 use Rattle.std.proofs.Common.{arith, refl, sym, ◌∙◌}
-use Rattle.mls_nodes.specs.RatchetTree.{full_size}
-use Rattle.mls_nodes.specs.Filled.{full_from-stops}
+use Rattle.mls_nodes.specs.RatchetTreeEncoding.{full_size}
+use Rattle.mls_nodes.specs.FilledTree.{full_from-stops}
 use Rattle.mls_nodes.proofs.Entries.{one_step}
 use Rattle.mls_nodes.proofs.ratchet_tree.decode.full_size_of.Goals as goal
 

@@ -1,5 +1,5 @@
 use Rattle.std.proofs.Common.{◌≡◌, ◌≤◌, ◌-◌, ◌+◌, ◌*◌, ℕ}
-use Rattle.mls_nodes.specs.RatchetTree.{full_from, full_size}
+use Rattle.mls_nodes.specs.RatchetTreeEncoding.{full_from, full_size}
 use Rattle.mls_nodes.proofs.ratchet_tree.decode.full_size_of.Given as goal
 
 abbrev pub invariant-loop-size : goal.invariant-loop-size

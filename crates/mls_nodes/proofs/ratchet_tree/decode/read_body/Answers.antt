@@ -1,4 +1,4 @@
-use Rattle.mls_wire.specs.Answers.{Gives-body}
+use Rattle.mls_wire.specs.ExactReads.{Gives-body}
 use Rattle.mls_nodes.proofs.ratchet_tree.decode.read_body.Goals as goal
 
 pub returns : goal.returns

@@ -1,8 +1,8 @@
 use Rattle.std.proofs.Common.{◌≡◌, ◌≤◌, map, length, true, vec_len}
 use Rattle.mls_wire.specs.Parsing.{items_at, optional_at}
-use Rattle.mls_wire.specs.Loops.{with_front}
-use Rattle.mls_nodes.specs.Value.{entry_value}
-use Rattle.mls_nodes.specs.RatchetTree.{stand_from}
+use Rattle.mls_wire.specs.ListLoops.{with_front}
+use Rattle.mls_nodes.specs.NodeModel.{entry_value}
+use Rattle.mls_nodes.specs.RatchetTreeEncoding.{stand_from}
 use Rattle.mls_nodes.specs.Parsing.{node_at}
 use Rattle.mls_nodes.proofs.ratchet_tree.decode.read_entries.Given as goal
 

@@ -1,7 +1,7 @@
-use Rattle.mls_wire.specs.Spelling.{flag}
+use Rattle.mls_wire.specs.Encoding.{flag}
 use Rattle.mls_wire.specs.Parsing.{flag_at}
-use Rattle.mls_wire.specs.Optionals.{flag_exact}
-use Rattle.mls_wire.specs.Answers.{Gives-reads}
+use Rattle.mls_wire.specs.OptionalsExact.{flag_exact}
+use Rattle.mls_wire.specs.ExactReads.{Gives-reads}
 use Rattle.mls_nodes.proofs.ratchet_tree.decode.read_presence.Goals as goal
 
 pub returns : goal.returns

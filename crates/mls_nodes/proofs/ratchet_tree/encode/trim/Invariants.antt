@@ -1,6 +1,6 @@
 use Rattle.std.proofs.Common.{◌≡◌, ◌≤◌, map, take, length}
-use Rattle.mls_nodes.specs.Value.{entry_value}
-use Rattle.mls_nodes.specs.RatchetTree.{trimmed}
+use Rattle.mls_nodes.specs.NodeModel.{entry_value}
+use Rattle.mls_nodes.specs.RatchetTreeEncoding.{trimmed}
 use Rattle.mls_nodes.proofs.ratchet_tree.encode.trim.Given as goal
 
 abbrev pub invariant-loop-count : goal.invariant-loop-count

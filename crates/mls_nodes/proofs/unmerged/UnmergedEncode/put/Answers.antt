@@ -1,4 +1,4 @@
-use Rattle.mls_nodes.specs.Exact.{unmerged_is}
+use Rattle.mls_nodes.specs.NodesExact.{unmerged_is}
 use Rattle.mls_nodes.proofs.unmerged.UnmergedEncode.put.Goals as goal
 
 pub returns : goal.returns

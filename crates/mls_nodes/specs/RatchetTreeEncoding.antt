@@ -1,0 +1,68 @@
+-- The encoding of a ratchet_tree (RFC 9420, 12.4.3.3), and how it is extended to a full tree (Appendix C). Used by
+-- contracts.
+use Rattle.std.specs.Prelude.{◌≡◌, ℕ, take, zero, suc, ◌+◌, ◌-◌, ◌*◌, ◌%◌, List, [], ◌∷◌, ◌++◌, length, replicate, Bool, true, false, ◌&&◌, Option, Some, None, nat_eq, nat_le, slice_get, if◌then◌else◌}
+use Rattle.mls_wire.specs.Encoding.{list, optional}
+use Rattle.mls_nodes.specs.Limits.{entry_limit}
+use Rattle.mls_nodes.specs.NodeModel.{NodeValue, leaf_node, parent_node}
+use Rattle.mls_nodes.specs.Layout.{node}
+
+-- `stands_at place n`: the entry may be at this node index. Leaves are at even ones, parents at odd ones (RFC 9420,
+-- Appendix C).
+abbrev pub stands_at : ℕ → Option NodeValue → Bool
+stands_at place None = true
+stands_at place (Some (leaf_node l)) = nat_eq (place % 2) 0
+stands_at place (Some (parent_node p)) = nat_eq (place % 2) 1
+
+-- `stand_from place nodes`: each entry may be at its node index, the first one at `place`.
+abbrev pub stand_from : ℕ → List (Option NodeValue) → Bool
+stand_from place [] = true
+stand_from place (x ∷ xs) = stands_at place x && stand_from (place + 1) xs
+
+-- `is_set n`: there is an entry, and it is non-blank.
+abbrev pub is_set : Option (Option NodeValue) → Bool
+is_set (Some (Some n)) = true
+is_set (Some None) = false
+is_set None = false
+
+-- `ends_set nodes`: there is a last entry, and it is non-blank (RFC 9420, 12.4.3.3).
+abbrev pub ends_set : List (Option NodeValue) → Bool
+ends_set nodes = is_set (slice_get nodes (length nodes - 1))
+
+-- `is_placed nodes`: each entry may be at its node index, and there are no more than a tree of 1,048,576 leaves has.
+abbrev pub is_placed : List (Option NodeValue) → Bool
+is_placed nodes = stand_from 0 nodes && nat_le (length nodes) entry_limit
+
+-- `ratchet_tree nodes` is the encoding of the entries of a tree up to the last non-blank one, each at a node index of
+-- its kind (RFC 9420, 12.4.3.3).
+unfoldable pub ratchet_tree : List (Option NodeValue) → Option (List ℕ)
+ratchet_tree nodes = if is_placed nodes && ends_set nodes then list (optional node) nodes else None
+
+-- `IsFirstMisplaced nodes place`: `place` is the first node index whose entry may not be there.
+abbrev pub IsFirstMisplaced : List (Option NodeValue) → ℕ → Type 0
+IsFirstMisplaced nodes place = (stand_from 0 (take place nodes) ≡ true) × (x : Option NodeValue) × (slice_get nodes place ≡ Some x) × (stands_at place x ≡ false)
+
+-- `before x xs` is `xs` with `x` in front. A blank entry in front of nothing is left out.
+abbrev pub before : Option NodeValue → List (Option NodeValue) → List (Option NodeValue)
+before (Some n) xs = Some n ∷ xs
+before None (x ∷ xs) = None ∷ x ∷ xs
+before None [] = []
+
+-- `trimmed nodes` is the entries without the blank ones at the end (RFC 9420, 12.4.3.3).
+abbrev pub trimmed : List (Option NodeValue) → List (Option NodeValue)
+trimmed [] = []
+trimmed (x ∷ xs) = before x (trimmed xs)
+
+-- `full_from steps size count` is the first of size, 2 * size + 1, .. that is not below `count`, in at most this many
+-- steps.
+abbrev pub full_from : ℕ → ℕ → ℕ → ℕ
+full_from zero size count = size
+full_from (suc steps) size count = if nat_le count size then size else full_from steps (2 * size + 1) count
+
+-- `full_size count` is the number of nodes of the least full tree that has at least `count`: the first of 1, 3, 7, ..
+-- (RFC 9420, Appendix C).
+unfoldable pub full_size : ℕ → ℕ
+full_size count = full_from count 1 count
+
+-- `filled nodes` is the entries followed by blank ones, as many as a full tree has (RFC 9420, Appendix C and 12.4.3.3).
+abbrev pub filled : List (Option NodeValue) → List (Option NodeValue)
+filled nodes = nodes ++ replicate (full_size (length nodes) - length nodes) None

@@ -1,0 +1,186 @@
+//! The lengths of the encodings of nodes and GroupContext. Each has an encoding, since its fields are within their
+//! limits.
+
+ghost use Rattle.std.specs.Prelude.{◌≡◌, ◌≤◌, ◌+◌, ◌*◌, ◌^◌, Some, length, option_map};
+ghost use Rattle.mls_wire.specs.Limits.{vector_limit};
+ghost use Rattle.mls_wire.specs.Encoding.{length_form, items, list, vector};
+ghost use Rattle.mls_nodes.specs.Limits.{leaf_limit};
+ghost use Rattle.mls_nodes.specs.Layout.{capabilities, credential, group_context, leaf, parent, source, unmerged};
+ghost use Rattle.mls_nodes.specs.LeafNodeTBS.{leaf_place, leaf_tbs};
+
+use crate::capabilities::Capabilities;
+use crate::context::GroupContext;
+use crate::credential::Credential;
+use crate::leaf::LeafNode;
+use crate::leaf_source::LeafSource;
+use crate::parent::ParentNode;
+use mls_wire::{Encode, Items, Opaque};
+
+/// Returns the number of bytes of the length of a vector.
+fn length_of_prefix(body: u64) -> u64
+    requires { body ≤ vector_limit }
+    ensures length { option_map length (length_form body) ≡ Some result }
+    ensures small { result ≤ 4 }
+{
+    if body < 64 {
+        1
+    } else if body < 16384 {
+        2
+    } else {
+        4
+    }
+}
+
+/// Returns the length of the encoding of a vector.
+fn length_of_vector(bytes: &Opaque) -> u64
+    ensures length { option_map length (vector bytes.now) ≡ Some result }
+    ensures small { result ≤ vector_limit + 4 }
+{
+    let body = bytes.as_slice().len() as u64;
+    length_of_prefix(body) + body
+}
+
+/// Returns the length of the items of a list.
+fn length_of_items<T: Encode>(values: &Items<T>) -> u64
+    ensures length { option_map length (items T.spelling values.now) ≡ Some result }
+    ensures small { result ≤ vector_limit }
+{
+    let mut total = 0;
+    for value in values.as_slice() {
+        total += value.size().unwrap() as u64;
+    }
+    total
+}
+
+/// Returns the length of the encoding of a list.
+fn length_of_list<T: Encode>(values: &Items<T>) -> u64
+    ensures length { option_map length (list T.spelling values.now) ≡ Some result }
+    ensures small { result ≤ vector_limit + 4 }
+{
+    let body = length_of_items(values);
+    length_of_prefix(body) + body
+}
+
+/// Returns the length of the encoding of a list of unmerged leaves.
+fn length_of_unmerged(leaves: &[u32]) -> u64
+    requires { length leaves.now ≤ leaf_limit }
+    ensures length { option_map length (unmerged leaves.now) ≡ Some result }
+    ensures small { result ≤ 4 * leaf_limit + 4 }
+{
+    let body = 4 * leaves.len() as u64;
+    length_of_prefix(body) + body
+}
+
+/// Returns the length of the encoding of a credential.
+fn length_of_credential(value: &Credential) -> u64
+    ensures length { option_map length (credential value.now) ≡ Some result }
+    ensures small { result ≤ vector_limit + 6 }
+{
+    match value {
+        Credential::Basic(identity) => 2 + length_of_vector(identity),
+        Credential::X509(chain) => 2 + length_of_list(chain),
+    }
+}
+
+/// Returns the length of the encoding of capabilities.
+fn length_of_capabilities(value: &Capabilities) -> u64
+    ensures length { option_map length (capabilities value.now) ≡ Some result }
+    ensures small { result ≤ 5 * (vector_limit + 4) }
+{
+    let versions = length_of_list(&value.versions);
+    let cipher_suites = length_of_list(&value.cipher_suites);
+    let extensions = length_of_list(&value.extensions);
+    let proposals = length_of_list(&value.proposals);
+    let credentials = length_of_list(&value.credentials);
+    versions + cipher_suites + extensions + proposals + credentials
+}
+
+/// Returns the length of the encoding of the source of a leaf node.
+fn length_of_source(value: &LeafSource) -> u64
+    ensures length { option_map length (source value.now) ≡ Some result }
+    ensures small { result ≤ vector_limit + 5 }
+{
+    match value {
+        LeafSource::KeyPackage(lifetime) => {
+            let _not_before = lifetime.not_before;
+            let _not_after = lifetime.not_after;
+            17
+        }
+        LeafSource::Update => 1,
+        LeafSource::Commit { parent_hash } => 1 + length_of_vector(parent_hash),
+    }
+}
+
+impl LeafNode {
+    /// Returns the length of the encoding of the leaf node.
+    pub fn encoded_len(&self) -> u64
+        ensures length { option_map length (leaf self.now) ≡ Some result }
+        ensures small { result ≤ 2 ^ 40 }
+    {
+        let encryption_key = length_of_vector(&self.encryption_key);
+        let signature_key = length_of_vector(&self.signature_key);
+        let credential = length_of_credential(&self.credential);
+        let capabilities = length_of_capabilities(&self.capabilities);
+        let source = length_of_source(&self.source);
+        let extensions = length_of_list(&self.extensions);
+        let signature = length_of_vector(&self.signature);
+        encryption_key + signature_key + credential + capabilities + source + extensions + signature
+    }
+}
+
+impl ParentNode {
+    /// Returns the length of the encoding of the parent node.
+    pub fn encoded_len(&self) -> u64
+        ensures length { option_map length (parent self.now) ≡ Some result }
+        ensures small { result ≤ 2 ^ 40 }
+    {
+        let encryption_key = length_of_vector(&self.encryption_key);
+        let parent_hash = length_of_vector(&self.parent_hash);
+        let unmerged = length_of_unmerged(self.unmerged.as_slice());
+        encryption_key + parent_hash + unmerged
+    }
+}
+
+impl GroupContext {
+    /// Returns the length of the encoding of the GroupContext, which always has one.
+    pub fn encoded_len(&self) -> u64
+        ensures length { option_map length (group_context self.now) ≡ Some result }
+        ensures small { result ≤ 2 ^ 40 }
+    {
+        let _version = self.version;
+        let _cipher_suite = self.cipher_suite;
+        let _epoch = self.epoch;
+        let group_id = length_of_vector(&self.group_id);
+        let tree_hash = length_of_vector(&self.tree_hash);
+        let confirmed = length_of_vector(&self.confirmed);
+        let extensions = length_of_list(&self.extensions);
+        12 + group_id + tree_hash + confirmed + extensions
+    }
+}
+
+/// Returns the length of the group id and the leaf index in a LeafNodeTBS.
+fn length_of_place(source: &LeafSource, group_id: &Opaque, index: u32) -> u64
+    ensures length { option_map length (leaf_place source.now group_id.now index) ≡ Some result }
+    ensures small { result ≤ vector_limit + 8 }
+{
+    let _index = index;
+    match source {
+        LeafSource::KeyPackage(_) => 0,
+        LeafSource::Update | LeafSource::Commit { .. } => length_of_vector(group_id) + 4,
+    }
+}
+
+/// Returns the length of the LeafNodeTBS (RFC 9420, 7.2), before it is made. It always has an encoding.
+pub fn leaf_tbs_len(leaf: &LeafNode, group_id: &Opaque, index: u32) -> u64
+    ensures length { option_map length (leaf_tbs leaf.now group_id.now index) ≡ Some result }
+    ensures small { result ≤ 2 ^ 40 }
+{
+    let encryption_key = length_of_vector(&leaf.encryption_key);
+    let signature_key = length_of_vector(&leaf.signature_key);
+    let credential = length_of_credential(&leaf.credential);
+    let capabilities = length_of_capabilities(&leaf.capabilities);
+    let source = length_of_source(&leaf.source);
+    let extensions = length_of_list(&leaf.extensions);
+    let place = length_of_place(&leaf.source, group_id, index);
+    encryption_key + signature_key + credential + capabilities + source + extensions + place
+}

@@ -4,8 +4,8 @@ use Rattle.std.specs.Prelude.{MatchOption}
 use Rattle.std.proofs.lemmas.Bool.{cases_lt}
 use Rattle.mls_nodes.specs.declared.leaf.LeafNode.{LeafNode}
 use Rattle.mls_tree.specs.Tree.{Tree, height, leaf_count, leaf_at}
-use Rattle.mls_tree.specs.Blanks.{first_blank_leaf, IsFirstBlank, AllLeavesSet, AreSetBelow}
-use Rattle.mls_tree.specs.Changes.{blank_tree, grow, with_unmerged, enter_unmerged, number_or, grown_for, added_leaf, add_at, add}
+use Rattle.mls_tree.specs.BlankLeaves.{first_blank_leaf, IsFirstBlank, AllLeavesSet, AreSetBelow}
+use Rattle.mls_tree.specs.TreeOperations.{blank_tree, grow, with_unmerged, enter_unmerged, number_or, grown_for, added_leaf, add_at, add}
 use Rattle.mls_tree.proofs.Trees.{leaf_count-positive}
 use Rattle.mls_tree.proofs.Kept.{leaf_at-put_leaf, leaf_at-put_leaf_other, leaf_at-change_above, leaf_count-change_above, leaf_at-grow}
 use Rattle.mls_tree.proofs.FirstBlanks.{first_blank_leaf-leftmost}

@@ -5,8 +5,8 @@ use Rattle.std.proofs.lemmas.Bool.{cases_lt}
 use Rattle.std.proofs.lemmas.List.Elements.{All-nil, All-head, All-tail, All-push, All-pop, All-weaker}
 use Rattle.mls_nodes.specs.declared.parent.ParentNode.{ParentNode}
 use Rattle.mls_tree.specs.Tree.{Tree, leaf, branch, leaf_count, parent_entry, Subtree, subtree_at, entry_of, IsParentPlace}
-use Rattle.mls_tree.specs.Changes.{put_parent, change_parent, change_above}
-use Rattle.mls_tree.specs.Parts.{parent_of}
+use Rattle.mls_tree.specs.TreeOperations.{put_parent, change_parent, change_above}
+use Rattle.mls_tree.specs.NodeView.{parent_of}
 use Rattle.mls_tree.specs.Paths.{direct_path}
 use Rattle.mls_tree.proofs.Choices.{below, from, here, before, after}
 use Rattle.mls_tree.proofs.Trees.{leaf_count-positive}

@@ -1,5 +1,5 @@
 -- The places at which a tree differs from the tree before a change.
-use Rattle.std.proofs.Common.{◌≡◌, ◌≢◌, get_or, ℕ, zero, suc, ◌+◌, ◌*◌, ◌-◌, ◌/◌, ◌<◌, ◌≤◌, List, [], ◌∷◌, ◌++◌, drop, length, Option, Some, None, true, false, refl, sym, ap, ◌∙◌, subst, inl, inr, arith, unwrap_or, nat_lt}
+use Rattle.std.proofs.Common.{◌≡◌, ◌≢◌, get_or, ℕ, zero, suc, ◌+◌, ◌*◌, ◌-◌, ◌/◌, ◌<◌, ◌≤◌, List, [], ◌∷◌, ◌++◌, drop, length, Option, Some, None, true, false, refl, sym, ap, ◌∙◌, subst, inl, inr, arith, unwrap_or, nat_lt, Box, Global}
 use Rattle.std.specs.Prelude.{slice_get, ◌⊎◌, ◌==◌, if◌then◌else◌, option_map}
 use Rattle.std.specs.List.{list_any, range_with_len}
 use Rattle.std.proofs.lemmas.Bool.{cases_lt, cases_eq, cases_order}
@@ -12,12 +12,12 @@ use Rattle.mls_nodes.specs.declared.leaf.LeafNode.{LeafNode}
 use Rattle.mls_nodes.specs.declared.parent.ParentNode.{ParentNode}
 use Rattle.mls_tree.specs.Tree.{Tree, leaf, branch, height, leaf_count, leaves_at, listing, leaf_entry, parent_entry, node_at, Subtree, subtree_at, IsBranch, IsParent, IsPerfect}
 use Rattle.mls_tree.specs.RatchetTree.{HasShape, RatchetTree}
-use Rattle.mls_tree.specs.KeptTree.{KeptTree}
-use Rattle.mls_tree.specs.Changes.{put_leaf, put_parent, left_half, with_left, rejoined}
+use Rattle.mls_tree.specs.PublicTreeModel.{KeptTree}
+use Rattle.mls_tree.specs.TreeOperations.{put_leaf, put_parent, left_half, with_left, rejoined}
 use Rattle.mls_tree.specs.Journals.{taken_back, all_taken_back}
-use Rattle.mls_tree.specs.ChangedPlaces.{HaveSameNodesBut}
-use Rattle.mls_tree.specs.declared.journal.Former.{Former}
-use Rattle.mls_tree.specs.declared.journal.Former.TheVariants.{Leaf, Parent, Entered, Grown, Halved}
+use Rattle.mls_tree.specs.ChangedNodes.{AgreeExceptAt}
+use Rattle.mls_tree.specs.declared.journal.UndoEntry.{UndoEntry}
+use Rattle.mls_tree.specs.declared.journal.UndoEntry.TheVariants.{Leaf, Parent, Entered, Grown, Halved}
 use Rattle.mls_tree.proofs.Arrays.{slice_get-set_other}
 use Rattle.mls_tree.proofs.Choices.{false_no_true, below, from}
 use Rattle.mls_tree.proofs.Elsewhere.{put_parent-elsewhere}
@@ -32,7 +32,7 @@ use Rattle.mls_tree.proofs.Numbers.{leaves_at-positive, leaves_at-le, leaves_at-
 -- ---- lists of places
 
 -- what two lists name together
-pub same-append : (old mid new : Tree) (ps qs : List ℕ) → HaveSameNodesBut qs old mid → HaveSameNodesBut ps mid new → HaveSameNodesBut (ps ++ qs) old new
+pub same-append : (old mid new : Tree) (ps qs : List ℕ) → AgreeExceptAt qs old mid → AgreeExceptAt ps mid new → AgreeExceptAt (ps ++ qs) old new
 same-append old mid new ps qs a b p out = let e = or_none _ _ (sym (list_any-append (λ q. q == p) ps qs) ∙ out) in a p e.1 ∙ b p e.0
 
 is_one : (q p : ℕ) → p ≡ q → (q == p) ≡ true
@@ -66,7 +66,7 @@ range-pushed old mid new a n e pushed =
 
 -- ---- one node is replaced
 
-same-put_leaf : (t : Tree) (i : ℕ) (x : Option LeafNode) → i < leaf_count t → HaveSameNodesBut (2 * i ∷ []) (put_leaf 0 t i x) t
+same-put_leaf : (t : Tree) (i : ℕ) (x : Option LeafNode) → i < leaf_count t → AgreeExceptAt (2 * i ∷ []) (put_leaf 0 t i x) t
 same-put_leaf t i x inside p out =
     let away = not_one (2 * i) p ((or_none (2 * i == p) false out).0) in
     node_at-listing (put_leaf 0 t i x) p
@@ -82,7 +82,7 @@ parent_or_not : (o : Option Subtree) → IsParent o ⊎ (¬ IsParent o)
 parent_or_not None = inr (λ h. h)
 parent_or_not (Some s) = branch_or_not s.tree
 
-same-put_parent : (t : Tree) (q : ℕ) (x : Option ParentNode) → HaveSameNodesBut (q ∷ []) (put_parent 0 t q x) t
+same-put_parent : (t : Tree) (q : ℕ) (x : Option ParentNode) → AgreeExceptAt (q ∷ []) (put_parent 0 t q x) t
 same-put_parent t q x p out =
     let away = not_one q p ((or_none (q == p) false out).0) in
     elim (parent_or_not (subtree_at 0 t q)) [
@@ -112,12 +112,12 @@ left-entry l n r p away =
     ∙ sym (node_at-listing (branch l n r) p)
 
 same-left : (l : Tree) (n : Option ParentNode) (r : Tree) (a c : ℕ) → a ≡ 2 * leaf_count l - 1 → c ≡ 2 * leaf_count r
-    → HaveSameNodesBut (range_with_len a c) l (branch l n r)
+    → AgreeExceptAt (range_with_len a c) l (branch l n r)
 same-left l n r a c from count p out =
     left-entry l n r p (elim (outside a c p out) [ inl lt ↦ inl (omega arith) | inr ge ↦ inr (omega arith) ])
 
 same-right : (l : Tree) (n : Option ParentNode) (r : Tree) (a c : ℕ) → a ≡ 2 * leaf_count l - 1 → c ≡ 2 * leaf_count r
-    → HaveSameNodesBut (range_with_len a c) (branch l n r) l
+    → AgreeExceptAt (range_with_len a c) (branch l n r) l
 same-right l n r a c from count p out = sym (same-left l n r a c from count p out)
 
 halves-count : (l r : Tree) (n : Option ParentNode) → IsPerfect (branch l n r) → leaf_count l ≡ leaf_count r
@@ -125,7 +125,7 @@ halves-count l r n h = leaf_count-perfect l h.1 ∙ ap leaves_at h.0 ∙ sym (le
 
 -- ---- the shape of the tree before one change
 
-height-put_parent : (first : ℕ) (t : Tree) (p : ℕ) (x : Option ParentNode) → height (put_parent first t p x) ≡ height t
+pub height-put_parent : (first : ℕ) (t : Tree) (p : ℕ) (x : Option ParentNode) → height (put_parent first t p x) ≡ height t
 height-put_parent first (leaf _) p x = refl
 height-put_parent first (branch l n r) p x =
     either (λ t. height t ≡ suc (height l)) (p + 1 == 2 * (first + leaf_count l)) (branch l x r)
@@ -166,33 +166,33 @@ shape-rejoined t w s big =
       | inr away ↦ subst HasShape (sym (rejoined-not t w away)) s
     ]
 
-shape-before : (x : Former) (t : Tree) → HasShape t → HasShape (taken_back x t)
+shape-before : (x : UndoEntry) (t : Tree) → HasShape t → HasShape (taken_back x t)
 shape-before (Leaf i x) t s =
     either HasShape (nat_lt i (leaf_count t)) (put_leaf 0 t i (option_map (λ b. b.value) x)) t (shape-put_leaf t i (option_map (λ b. b.value) x) s) s
 shape-before (Parent p x) t s = shape-put_parent t p _ s
 shape-before (Entered p i) t s = shape-put_parent t p _ s
 shape-before Grown t s = shape-left_half t s
-shape-before (Halved whole) t s = shape-rejoined t whole.tree s whole.shape
+shape-before (Halved b) t s = shape-rejoined t b.value.tree s b.value.shape
 
 -- ---- what is told of one change
 
 -- the tree before a change of a tree of n leaves has m leaves; and the places that `new` names are those of `old` and each at which
 -- the change has done something
-pub record Tells (old new : List ℕ) (n m : ℕ) (x : Former) : Type 0 where
+pub record Tells (old new : List ℕ) (n m : ℕ) (x : UndoEntry) : Type 0 where
   pub count : (t : RatchetTree) → leaf_count t.tree ≡ n → leaf_count (taken_back x t.tree) ≡ m
-  pub places : (t : RatchetTree) (u : Tree) → leaf_count t.tree ≡ n → HaveSameNodesBut old t.tree u → HaveSameNodesBut new (taken_back x t.tree) u
+  pub places : (t : RatchetTree) (u : Tree) → leaf_count t.tree ≡ n → AgreeExceptAt old t.tree u → AgreeExceptAt new (taken_back x t.tree) u
 
 -- where places are added that tell of the change
-tells-added : (old new more : List ℕ) (n m : ℕ) (x : Former) → new ≡ old ++ more
-    → ((t : RatchetTree) → leaf_count t.tree ≡ n → (leaf_count (taken_back x t.tree) ≡ m) × HaveSameNodesBut more (taken_back x t.tree) t.tree) → Tells old new n m x
+tells-added : (old new more : List ℕ) (n m : ℕ) (x : UndoEntry) → new ≡ old ++ more
+    → ((t : RatchetTree) → leaf_count t.tree ≡ n → (leaf_count (taken_back x t.tree) ≡ m) × AgreeExceptAt more (taken_back x t.tree) t.tree) → Tells old new n m x
 tells-added old new more n m x pushed told = record {
   count = λ t e. (told t e).0;
   places = λ t u e same.
-      subst (λ ps. HaveSameNodesBut ps (taken_back x t.tree) u) (sym pushed) (same-append (taken_back x t.tree) t.tree u old more ((told t e).1) same);
+      subst (λ ps. AgreeExceptAt ps (taken_back x t.tree) u) (sym pushed) (same-append (taken_back x t.tree) t.tree u old more ((told t e).1) same);
 }
 
 -- where the change was none
-tells-none : (old new : List ℕ) (n : ℕ) (x : Former) → new ≡ old → ((t : RatchetTree) → leaf_count t.tree ≡ n → taken_back x t.tree ≡ t.tree) → Tells old new n n x
+tells-none : (old new : List ℕ) (n : ℕ) (x : UndoEntry) → new ≡ old → ((t : RatchetTree) → leaf_count t.tree ≡ n → taken_back x t.tree ≡ t.tree) → Tells old new n n x
 tells-none old new n x stays none = record {
   count = λ t e. ap leaf_count (none t e) ∙ e;
   places = λ t u e same p out. ap (λ v. node_at v p) (none t e) ∙ same p (ap (λ ps. list_any (λ q. q == p) ps) (sym stays) ∙ out);
@@ -206,7 +206,7 @@ module _ (old new : List ℕ) (n : ℕ) where
       let v = option_map (λ b. b.value) x in
       let put : taken_back (Leaf i x) t.tree ≡ put_leaf 0 t.tree i v = below i (leaf_count t.tree) (put_leaf 0 t.tree i v) t.tree (omega arith) in (
         ap leaf_count put ∙ leaf_count-put_leaf 0 t.tree i v ∙ e,
-        subst (λ w. HaveSameNodesBut (2 * i ∷ []) w t.tree) (sym put) (same-put_leaf t.tree i v (omega arith)),
+        subst (λ w. AgreeExceptAt (2 * i ∷ []) w t.tree) (sym put) (same-put_leaf t.tree i v (omega arith)),
       ))
 
   pub tells-no_leaf : (i : ℕ) (x : _) → n ≤ i → new ≡ old → Tells old new n n (Leaf i x)
@@ -230,7 +230,7 @@ pub tells-one : (old new : List ℕ) (n : ℕ) → n ≡ 1 → new ≡ old → T
 tells-one old new n one stays = subst (λ m. Tells old new n m Grown) one (tells-none old new n Grown stays (λ t e. no_half t.tree (e ∙ one)))
 
 half-told : (t : Tree) (n half : ℕ) → IsPerfect t → leaf_count t ≡ n → n ≢ 1 → half ≡ n / 2
-    → (leaf_count (left_half t) ≡ half) × HaveSameNodesBut (range_with_len (2 * half - 1) (2 * (n - half))) (left_half t) t
+    → (leaf_count (left_half t) ≡ half) × AgreeExceptAt (range_with_len (2 * half - 1) (2 * (n - half))) (left_half t) t
 half-told (leaf x) n half h e more at = absurd (more (sym e))
 half-told (branch l v r) n half h e more at =
     let level = halves-count l r v h in
@@ -262,52 +262,54 @@ height-up t w h k e =
           absurd (omega arith))
     ]
 
-pub tells-no_whole : (old new : List ℕ) (n : ℕ) (w : KeptTree) → leaf_count w.tree ≢ 2 * n → new ≡ old → Tells old new n n (Halved w)
-tells-no_whole old new n w away stays =
-    tells-none old new n (Halved w) stays
+pub tells-no_whole : (old new : List ℕ) (n : ℕ) (b : Box KeptTree Global) → leaf_count b.value.tree ≢ 2 * n → new ≡ old → Tells old new n n (Halved b)
+tells-no_whole old new n b away stays =
+    let w = b.value in
+    tells-none old new n (Halved b) stays
     (λ t e. rejoined-not t.tree w.tree (λ up. away (count-up t.tree w.tree t.shape.perfect w.shape.perfect up ∙ ap (λ k. 2 * k) e)))
 
 whole-told : (t w : Tree) (n : ℕ) → IsPerfect t → IsPerfect w → leaf_count t ≡ n → leaf_count w ≡ 2 * n → height t + 1 ≡ height w
-    → (leaf_count (with_left t w) ≡ leaf_count w) × HaveSameNodesBut (range_with_len (2 * n - 1) (2 * n)) (with_left t w) t
+    → (leaf_count (with_left t w) ≡ leaf_count w) × AgreeExceptAt (range_with_len (2 * n - 1) (2 * n)) (with_left t w) t
 whole-told t (leaf x) n h k e double up = absurd (omega arith)
 whole-told t (branch l v r) n h k e double up =
     let level = halves-count l r v k in
     (omega arith, same-right t v r (2 * n - 1) (2 * n) (omega arith) (omega arith))
 
-pub tells-halved : (old new : List ℕ) (n m : ℕ) (w : KeptTree) → m ≡ leaf_count w.tree → m ≡ 2 * n → new ≡ old ++ range_with_len (2 * n - 1) (2 * n) → Tells old new n m (Halved w)
-tells-halved old new n m w whole double pushed =
-    tells-added old new (range_with_len (2 * n - 1) (2 * n)) n m (Halved w) pushed
+pub tells-halved : (old new : List ℕ) (n m : ℕ) (b : Box KeptTree Global) → m ≡ leaf_count b.value.tree → m ≡ 2 * n → new ≡ old ++ range_with_len (2 * n - 1) (2 * n) → Tells old new n m (Halved b)
+tells-halved old new n m b whole double pushed =
+    let w = b.value in
+    tells-added old new (range_with_len (2 * n - 1) (2 * n)) n m (Halved b) pushed
     (λ t e.
     let up = height-up t.tree w.tree t.shape.perfect w.shape.perfect (omega arith) in
     let told = whole-told t.tree w.tree n t.shape.perfect w.shape.perfect e (omega arith) up in
     let fits = rejoined-fits t.tree w.tree up in (
       ap leaf_count fits ∙ told.0 ∙ sym whole,
-      subst (λ v. HaveSameNodesBut (range_with_len (2 * n - 1) (2 * n)) v t.tree) (sym fits) told.1,
+      subst (λ v. AgreeExceptAt (range_with_len (2 * n - 1) (2 * n)) v t.tree) (sym fits) told.1,
     ))
 
 -- ---- what is told of the last changes of a journal
 
 -- the tree before the changes xs has n leaves, and places tell of them all
-pub record AreToldOf (xs : List Former) (t : Tree) (places : List ℕ) (n : ℕ) : Type 0 where
+pub record AreToldOf (xs : List UndoEntry) (t : Tree) (places : List ℕ) (n : ℕ) : Type 0 where
   pub shape : HasShape (all_taken_back xs t)
   pub count : leaf_count (all_taken_back xs t) ≡ n
-  pub same : HaveSameNodesBut places (all_taken_back xs t) t
+  pub same : AgreeExceptAt places (all_taken_back xs t) t
 
-pub told-start : (all : List Former) (t : Tree) (places : List ℕ) (n : ℕ) → HasShape t → places ≡ [] → n ≡ leaf_count t → AreToldOf (drop (length all) all) t places n
+pub told-start : (all : List UndoEntry) (t : Tree) (places : List ℕ) (n : ℕ) → HasShape t → places ≡ [] → n ≡ leaf_count t → AreToldOf (drop (length all) all) t places n
 told-start all t places n s none count =
     subst (λ xs. AreToldOf xs t places n) (sym (drop_of_length-le all (omega arith))) (record { shape = s; count = sym count; same = λ p out. refl })
 
-pub told-positive : (xs : List Former) (t : Tree) (places : List ℕ) (n : ℕ) → AreToldOf xs t places n → 0 < n
+pub told-positive : (xs : List UndoEntry) (t : Tree) (places : List ℕ) (n : ℕ) → AreToldOf xs t places n → 0 < n
 told-positive xs t places n told = let e = told.count in omega (arith, leaf_count-positive (all_taken_back xs t))
 
-pub told-low : (xs : List Former) (t : Tree) (places : List ℕ) (n : ℕ) → AreToldOf xs t places n → n ≤ 1048576
+pub told-low : (xs : List UndoEntry) (t : Tree) (places : List ℕ) (n : ℕ) → AreToldOf xs t places n → n ≤ 1048576
 told-low xs t places n told =
     let u = all_taken_back xs t in
     let e = told.count in
     omega (arith, leaf_count-perfect u told.shape.perfect, leaves_at-low (height u) told.shape.low)
 
 -- the change before
-module _ (all : List Former) (i : ℕ) (x : Former) (t : Tree) (old : List ℕ) (n : ℕ) (told : AreToldOf (drop i all) t old n)
+module _ (all : List UndoEntry) (i : ℕ) (x : UndoEntry) (t : Tree) (old : List ℕ) (n : ℕ) (told : AreToldOf (drop i all) t old n)
     (some : 0 < i) (inside : i ≤ length all) (here : x ≡ get_or all (i - 1) x) where
   one_before : drop (i - 1) all ≡ x ∷ drop i all
   one_before =
@@ -316,7 +318,7 @@ module _ (all : List Former) (i : ℕ) (x : Former) (t : Tree) (old : List ℕ) 
 
   pub told-step : (new : List ℕ) (m : ℕ)
       → ((t : RatchetTree) → leaf_count t.tree ≡ n → leaf_count (taken_back x t.tree) ≡ m)
-      → ((t : RatchetTree) (u : Tree) → leaf_count t.tree ≡ n → HaveSameNodesBut old t.tree u → HaveSameNodesBut new (taken_back x t.tree) u)
+      → ((t : RatchetTree) (u : Tree) → leaf_count t.tree ≡ n → AgreeExceptAt old t.tree u → AgreeExceptAt new (taken_back x t.tree) u)
       → AreToldOf (drop (i - 1) all) t new m
   told-step new m count places =
       let u : RatchetTree = record { tree = all_taken_back (drop i all) t; shape = told.shape } in
@@ -324,5 +326,5 @@ module _ (all : List Former) (i : ℕ) (x : Former) (t : Tree) (old : List ℕ) 
       (record { shape = shape-before x u.tree told.shape; count = count u told.count; same = places u t told.count told.same })
 
 -- all changes
-pub told-all : (all : List Former) (i : ℕ) (t : Tree) (places : List ℕ) (n : ℕ) → AreToldOf (drop i all) t places n → i ≡ 0 → HaveSameNodesBut places (all_taken_back all t) t
-told-all all i t places n told first = subst (λ k. HaveSameNodesBut places (all_taken_back (drop k all) t) t) first told.same
+pub told-all : (all : List UndoEntry) (i : ℕ) (t : Tree) (places : List ℕ) (n : ℕ) → AreToldOf (drop i all) t places n → i ≡ 0 → AgreeExceptAt places (all_taken_back all t) t
+told-all all i t places n told first = subst (λ k. AgreeExceptAt places (all_taken_back (drop k all) t) t) first told.same

@@ -5,8 +5,8 @@ use Rattle.std.proofs.lemmas.Bool.{cases_order}
 use Rattle.mls_nodes.specs.declared.parent.ParentNode.{ParentNode}
 use Rattle.mls_nodes.specs.declared.node.Node.{Node}
 use Rattle.mls_tree.specs.Tree.{branch, leaf_count, leaves_at}
-use Rattle.mls_tree.specs.Array.{parent_part, tree_in, IsNoLeaf, IsNoParent, ChangesWithin}
-use Rattle.mls_tree.specs.Changes.{change_above}
+use Rattle.mls_tree.specs.NodeArray.{parent_part, tree_in, IsNoLeaf, IsNoParent, ChangesWithin}
+use Rattle.mls_tree.specs.TreeOperations.{change_above}
 use Rattle.mls_tree.proofs.Numbers.{leaves_at-positive}
 use Rattle.mls_tree.proofs.Choices.{below, from}
 use Rattle.mls_tree.proofs.Arrays.{tree_in-same, slice_get-set_same, slice_get-set_other}

@@ -8,11 +8,11 @@ use Rattle.std.proofs.lemmas.Nat.{pow_pos, pow_below}
 use Rattle.std.proofs.Math.Nat.{pow-le-pow_right}
 use Rattle.mls_tree.specs.Tree.{Tree, leaf, branch, height, leaf_count, leaves_at, IsPerfect, Subtree, subtree_at, root_place}
 use Rattle.mls_tree.specs.RatchetTree.{RatchetTree}
-use Rattle.mls_tree.specs.Places.{level_at, left_at, right_at, left_place, right_place, IsParentOf, AreSiblings, HasLevel}
+use Rattle.mls_tree.specs.NodeIndices.{level_at, left_at, right_at, left_place, right_place, IsParentOf, AreSiblings, HasLevel}
 use Rattle.mls_tree.proofs.Numbers.{leaves_at-positive, leaves_at-pow, leaves_at-low}
 use Rattle.mls_tree.proofs.Trees.{leaf_count-perfect, leaf_count-positive, along, subtree_at-stands, subtree_at-some, subtree_at-perfect, subtree_at-aligned, subtree_at-left, subtree_at-right, subtree_at-root, subtree_at-in_left, subtree_at-in_right, root_place-above, root_place-below}
-use Rattle.mls_tree.specs.Array.{ratchet_tree_in, height-tree_in, IsNoSize, IsNoLength}
-use Rattle.mls_tree.specs.Sizes.{IsPowerOfTwo}
+use Rattle.mls_tree.specs.NodeArray.{ratchet_tree_in, height-tree_in, IsNoSize, IsNoLength}
+use Rattle.mls_tree.specs.TreeSizes.{IsPowerOfTwo}
 use Rattle.mls_tree.specs.declared.error.TreeError.{TreeError}
 use Rattle.mls_tree.specs.declared.error.TreeError.TheVariants.{NoSuchNode, TooManyLeaves, BadShape, OutOfMemory}
 use Rattle.mls_tree.proofs.Arrays.{leaf_count-tree_in}

@@ -4,10 +4,10 @@ use Rattle.std.specs.Prelude.{if◌then◌else◌, is_some}
 use Rattle.mls_nodes.specs.declared.leaf.LeafNode.{LeafNode}
 use Rattle.mls_nodes.specs.declared.node.Node.{Node}
 use Rattle.mls_tree.specs.Tree.{Tree, leaf, branch, leaf_count, member_count, leaves_at}
-use Rattle.mls_tree.specs.Array.{tree_in}
-use Rattle.mls_tree.specs.declared.count.Count.{Count}
-use Rattle.mls_tree.specs.Blanks.{first_of, next_blank_leaf}
-use Rattle.mls_tree.specs.Counts.{AreCounts}
+use Rattle.mls_tree.specs.NodeArray.{tree_in}
+use Rattle.mls_tree.specs.declared.subtree_counts.Count.{Count}
+use Rattle.mls_tree.specs.BlankLeaves.{first_of, next_blank_leaf}
+use Rattle.mls_tree.specs.SubtreeCounts.{AreCounts}
 use Rattle.mls_tree.proofs.Choices.{below}
 use Rattle.mls_tree.proofs.Arrays.{leaf_count-tree_in}
 use Rattle.mls_tree.proofs.Walking.{tree_in-split}

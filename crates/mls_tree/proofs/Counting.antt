@@ -6,11 +6,11 @@ use Rattle.std.proofs.lemmas.Option.{slice_get-get_or, same_Some}
 use Rattle.mls_nodes.specs.declared.leaf.LeafNode.{LeafNode}
 use Rattle.mls_nodes.specs.declared.parent.ParentNode.{ParentNode}
 use Rattle.mls_nodes.specs.declared.node.Node.{Node}
-use Rattle.mls_tree.specs.declared.count.Count.{Count}
+use Rattle.mls_tree.specs.declared.subtree_counts.Count.{Count}
 use Rattle.mls_tree.specs.Tree.{Tree, leaf, branch, leaf_count, member_count, leaves_at}
-use Rattle.mls_tree.specs.Array.{parent_part, tree_in}
-use Rattle.mls_tree.specs.Changes.{put_leaf, put_parent, change_above, shrink, has_set_leaf, left_half}
-use Rattle.mls_tree.specs.Counts.{parent_weight, set_count, counted, AreCounts, AreBeside, IsKeptOutside}
+use Rattle.mls_tree.specs.NodeArray.{parent_part, tree_in}
+use Rattle.mls_tree.specs.TreeOperations.{put_leaf, put_parent, change_above, shrink, has_set_leaf, left_half}
+use Rattle.mls_tree.specs.SubtreeCounts.{parent_weight, set_count, counted, AreCounts, AreOutside, IsKeptOutside}
 use Rattle.mls_tree.proofs.Choices.{below, from, here, before, after}
 use Rattle.mls_tree.proofs.Trees.{leaf_count-positive}
 use Rattle.mls_tree.proofs.Arrays.{leaf_count-tree_in, slice_get-set_same, slice_get-set_other}
@@ -132,19 +132,19 @@ module _ (xs : List (Option Node)) (first half level : ℕ) (deep : level ≢ 0)
         (ap (λ v. slice_get v (first + half - 1)) at ∙ slice_get-set_same cs (first + half - 1) c (omega arith) ∙ ap (λ v. Some v) is)
 
   -- what stands beside a leaf, by the halves
-  pub beside-left : (cs : List Count) (i : ℕ) → i < first + half → AreBeside first (tree_in xs level first) i cs → AreBeside first near i cs × AreCounts (first + half) far cs
+  pub beside-left : (cs : List Count) (i : ℕ) → i < first + half → AreOutside first (tree_in xs level first) i cs → AreOutside first near i cs × AreCounts (first + half) far cs
   beside-left cs i lt ok =
-      let at = subst (λ t. AreBeside first t i cs) (tree_in-split xs first half level deep e) ok in
+      let at = subst (λ t. AreOutside first t i cs) (tree_in-split xs first half level deep e) ok in
       let n = near-count in
       let both = at.0 (omega arith) in
       (both.0, subst (λ k. AreCounts (first + k) far cs) near-count both.1)
 
-  pub beside-right : (cs : List Count) (i : ℕ) → first + half ≤ i → AreBeside first (tree_in xs level first) i cs → AreCounts first near cs × AreBeside (first + half) far i cs
+  pub beside-right : (cs : List Count) (i : ℕ) → first + half ≤ i → AreOutside first (tree_in xs level first) i cs → AreCounts first near cs × AreOutside (first + half) far i cs
   beside-right cs i ge ok =
-      let at = subst (λ t. AreBeside first t i cs) (tree_in-split xs first half level deep e) ok in
+      let at = subst (λ t. AreOutside first t i cs) (tree_in-split xs first half level deep e) ok in
       let n = near-count in
       let both = at.1 (omega arith) in
-      (both.0, subst (λ k. AreBeside (first + k) far i cs) near-count both.1)
+      (both.0, subst (λ k. AreOutside (first + k) far i cs) near-count both.1)
 
   -- a walk in one half keeps the other half's counts
   pub kept-far : (cs ds : List Count) → IsKeptOutside cs ds first (first + leaves_at (level - 1) - 1) → AreCounts (first + half) far cs → AreCounts (first + half) far ds
@@ -180,48 +180,48 @@ AreCounts-leaf xs first level cs z = subst (λ k. AreCounts first (tree_in xs k 
 
 -- ---- a change of the tree leaves what stands beside it
 
-pub beside : (first : ℕ) (t : Tree) (i : ℕ) (cs : List Count) → AreCounts first t cs → AreBeside first t i cs
+pub beside : (first : ℕ) (t : Tree) (i : ℕ) (cs : List Count) → AreCounts first t cs → AreOutside first t i cs
 beside first (leaf x) i cs ok = tt
 beside first (branch l n r) i cs ok =
     (λ lt. (beside first l i cs ok.0, ok.1), λ ge. (ok.0, beside (first + leaf_count l) r i cs ok.1))
 
 beside-in_left : (first : ℕ) (l v : Tree) (n : Option ParentNode) (r : Tree) (i : ℕ) (cs : List Count) → leaf_count v ≡ leaf_count l → i < first + leaf_count l
-    → AreBeside first v i cs → AreCounts (first + leaf_count l) r cs → AreBeside first (branch v n r) i cs
+    → AreOutside first v i cs → AreCounts (first + leaf_count l) r cs → AreOutside first (branch v n r) i cs
 beside-in_left first l v n r i cs c lt a b = (λ _. (a, subst (λ k. AreCounts (first + k) r cs) (sym c) b), λ ge. absurd (omega arith))
 
 beside-in_right : (first : ℕ) (l : Tree) (n : Option ParentNode) (v : Tree) (i : ℕ) (cs : List Count) → first + leaf_count l ≤ i
-    → AreCounts first l cs → AreBeside (first + leaf_count l) v i cs → AreBeside first (branch l n v) i cs
+    → AreCounts first l cs → AreOutside (first + leaf_count l) v i cs → AreOutside first (branch l n v) i cs
 beside-in_right first l n v i cs ge a b = (λ lt. absurd (omega arith), λ _. (a, b))
 
-pub beside-put_leaf : (first : ℕ) (t : Tree) (i : ℕ) (x : Option LeafNode) (cs : List Count) → AreCounts first t cs → AreBeside first (put_leaf first t i x) i cs
+pub beside-put_leaf : (first : ℕ) (t : Tree) (i : ℕ) (x : Option LeafNode) (cs : List Count) → AreCounts first t cs → AreOutside first (put_leaf first t i x) i cs
 beside-put_leaf first (leaf y) i x cs ok = tt
 beside-put_leaf first (branch l n r) i x cs ok =
     let m = first + leaf_count l in
     elim (cases_lt i m) [
       | inl lt ↦
-          subst (λ t. AreBeside first t i cs) (sym (below i m (branch (put_leaf first l i x) n r) (branch l n (put_leaf m r i x)) lt))
+          subst (λ t. AreOutside first t i cs) (sym (below i m (branch (put_leaf first l i x) n r) (branch l n (put_leaf m r i x)) lt))
           (beside-in_left first l (put_leaf first l i x) n r i cs (leaf_count-put_leaf first l i x) lt (beside-put_leaf first l i x cs ok.0) ok.1)
       | inr ge ↦
-          subst (λ t. AreBeside first t i cs) (sym (from i m (branch (put_leaf first l i x) n r) (branch l n (put_leaf m r i x)) ge))
+          subst (λ t. AreOutside first t i cs) (sym (from i m (branch (put_leaf first l i x) n r) (branch l n (put_leaf m r i x)) ge))
           (beside-in_right first l n (put_leaf m r i x) i cs ge ok.0 (beside-put_leaf m r i x cs ok.1))
     ]
 
 pub beside-change_above : (f : Option ParentNode → Option ParentNode) (first : ℕ) (t : Tree) (i : ℕ) (cs : List Count) → AreCounts first t cs
-    → AreBeside first (change_above f first t i) i cs
+    → AreOutside first (change_above f first t i) i cs
 beside-change_above f first (leaf y) i cs ok = tt
 beside-change_above f first (branch l n r) i cs ok =
     let m = first + leaf_count l in
     elim (cases_lt i m) [
       | inl lt ↦
-          subst (λ t. AreBeside first t i cs) (sym (below i m (branch (change_above f first l i) (f n) r) (branch l (f n) (change_above f m r i)) lt))
+          subst (λ t. AreOutside first t i cs) (sym (below i m (branch (change_above f first l i) (f n) r) (branch l (f n) (change_above f m r i)) lt))
           (beside-in_left first l (change_above f first l i) (f n) r i cs (leaf_count-change_above f first l i) lt (beside-change_above f first l i cs ok.0) ok.1)
       | inr ge ↦
-          subst (λ t. AreBeside first t i cs) (sym (from i m (branch (change_above f first l i) (f n) r) (branch l (f n) (change_above f m r i)) ge))
+          subst (λ t. AreOutside first t i cs) (sym (from i m (branch (change_above f first l i) (f n) r) (branch l (f n) (change_above f m r i)) ge))
           (beside-in_right first l (f n) (change_above f m r i) i cs ge ok.0 (beside-change_above f m r i cs ok.1))
     ]
 
 pub beside-put_parent : (first : ℕ) (t : Tree) (q : ℕ) (x : Option ParentNode) (i : ℕ) (cs : List Count) → i ≡ q / 2 → AreCounts first t cs
-    → AreBeside first (put_parent first t q x) i cs
+    → AreOutside first (put_parent first t q x) i cs
 beside-put_parent first (leaf y) q x i cs e ok = tt
 beside-put_parent first (branch l n r) q x i cs e ok =
     let m = first + leaf_count l in
@@ -230,13 +230,13 @@ beside-put_parent first (branch l n r) q x i cs e ok =
     let on_right = branch l n (put_parent m r q x) in
     elim (cases_order (q + 1) (2 * m)) [
       | inl at ↦
-          subst (λ t. AreBeside first t i cs) (sym (here (q + 1) (2 * m) (branch l x r) on_left on_right at))
+          subst (λ t. AreOutside first t i cs) (sym (here (q + 1) (2 * m) (branch l x r) on_left on_right at))
           (beside-in_left first l l x r i cs refl (omega arith) (beside first l i cs ok.0) ok.1)
       | inr (inl lt) ↦
-          subst (λ t. AreBeside first t i cs) (sym (before (q + 1) (2 * m) (branch l x r) on_left on_right lt))
+          subst (λ t. AreOutside first t i cs) (sym (before (q + 1) (2 * m) (branch l x r) on_left on_right lt))
           (beside-in_left first l (put_parent first l q x) n r i cs (leaf_count-put_parent first l q x) (omega arith) (beside-put_parent first l q x i cs e ok.0) ok.1)
       | inr (inr gt) ↦
-          subst (λ t. AreBeside first t i cs) (sym (after (q + 1) (2 * m) (branch l x r) on_left on_right gt))
+          subst (λ t. AreOutside first t i cs) (sym (after (q + 1) (2 * m) (branch l x r) on_left on_right gt))
           (beside-in_right first l n (put_parent m r q x) i cs (omega arith) ok.0 (beside-put_parent m r q x i cs e ok.1))
     ]
 

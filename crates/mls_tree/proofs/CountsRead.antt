@@ -3,13 +3,13 @@ use Rattle.std.proofs.Common.{◌≡◌, ◌≢◌, ℕ, ◌+◌, ◌-◌, ◌<�
 use Rattle.std.specs.Prelude.{◌||◌, ◌↔◌}
 use Rattle.std.proofs.lemmas.Bool.{cases_lt}
 use Rattle.mls_nodes.specs.declared.node.Node.{Node}
-use Rattle.mls_tree.specs.declared.count.Count.{Count}
+use Rattle.mls_tree.specs.declared.subtree_counts.Count.{Count}
 use Rattle.mls_tree.specs.Tree.{Tree, leaf, branch, leaf_count, member_count, leaves_at, Subtree, subtree_at}
-use Rattle.mls_tree.specs.Array.{tree_in}
-use Rattle.mls_tree.specs.Changes.{has_set_leaf, left_half}
+use Rattle.mls_tree.specs.NodeArray.{tree_in}
+use Rattle.mls_tree.specs.TreeOperations.{has_set_leaf, left_half}
 use Rattle.mls_tree.specs.Paths.{resolution}
-use Rattle.mls_tree.specs.Counts.{set_count, AreCounts}
-use Rattle.mls_tree.specs.CountsSeen.{AreCountsIfAny}
+use Rattle.mls_tree.specs.SubtreeCounts.{set_count, AreCounts}
+use Rattle.mls_tree.specs.CountsModel.{AreCountsIfAny}
 use Rattle.mls_tree.proofs.Choices.{is_less, not_less}
 use Rattle.mls_tree.proofs.Arrays.{leaf_count-tree_in}
 use Rattle.mls_tree.proofs.Trees.{along}

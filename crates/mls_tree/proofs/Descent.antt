@@ -4,7 +4,7 @@ use Rattle.std.proofs.Common.{◌≡◌, ℕ, ◌+◌, ◌*◌, ◌≤◌, ◌<�
 use Rattle.mls_nodes.specs.declared.parent.ParentNode.{ParentNode}
 use Rattle.mls_tree.specs.Tree.{Tree, height, Subtree, subtree_at, leaf_count}
 use Rattle.mls_tree.specs.RatchetTree.{RatchetTree}
-use Rattle.mls_tree.specs.Parts.{HasChildren}
+use Rattle.mls_tree.specs.NodeView.{HasChildren}
 use Rattle.mls_tree.proofs.Numbers.{leaves_at-low}
 use Rattle.mls_tree.proofs.Trees.{subtree_at-perfect, subtree_at-stands, root_place-below}
 use Rattle.mls_tree.proofs.Coordinates.{leaf_count-low}

@@ -3,7 +3,7 @@ use Rattle.std.proofs.Common.{◌≡◌, ℕ, ◌+◌, ◌*◌, Option, Some, re
 use Rattle.std.proofs.lemmas.Bool.{cases_order}
 use Rattle.mls_nodes.specs.declared.parent.ParentNode.{ParentNode}
 use Rattle.mls_tree.specs.Tree.{Tree, leaf, branch, leaf_count, Subtree, subtree_at, IsParent, IsParentPlace}
-use Rattle.mls_tree.specs.Changes.{put_parent}
+use Rattle.mls_tree.specs.TreeOperations.{put_parent}
 use Rattle.mls_tree.proofs.Choices.{here, before, after}
 
 elsewhere : (first : ℕ) (t : Tree) (p : ℕ) (x : Option ParentNode) → ¬ IsParent (subtree_at first t p) → put_parent first t p x ≡ t

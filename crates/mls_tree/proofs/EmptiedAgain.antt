@@ -6,9 +6,9 @@ use Rattle.std.proofs.lemmas.List.{set-set, set_comm}
 use Rattle.std.proofs.lemmas.List.Elements.{All-nil, All-cons, All-head, All-tail, All-push, All-pop, All-weaker, All-contains, All-contains_itself, Contains-push, Contains-push_cases, Contains-append_left}
 use Rattle.mls_nodes.specs.declared.parent.ParentNode.{ParentNode}
 use Rattle.mls_tree.specs.Tree.{Tree, leaf, branch, leaf_count}
-use Rattle.mls_tree.specs.Changes.{put_parent}
+use Rattle.mls_tree.specs.TreeOperations.{put_parent}
 use Rattle.mls_tree.specs.Paths.{direct_path}
-use Rattle.mls_tree.specs.Cells.{emptied, parents_from}
+use Rattle.mls_tree.specs.HashCache.{emptied, parents_from}
 use Rattle.mls_tree.proofs.Choices.{below, from, here, before, after}
 use Rattle.mls_tree.proofs.Trees.{leaf_count-positive}
 use Rattle.mls_tree.proofs.Kept.{leaf_count-put_parent}

@@ -10,8 +10,8 @@ use Rattle.std.proofs.lemmas.Bool.Decides.{nat_tests}
 use Rattle.std.proofs.lemmas.List.Elements.{All-nil, All-push, All-weaker}
 use Rattle.mls_nodes.specs.declared.parent.ParentNode.{ParentNode}
 use Rattle.mls_tree.specs.Tree.{Tree, leaf, branch, leaf_count, listing, parent_entry, IsParentPlace}
-use Rattle.mls_tree.specs.Changes.{put_parent, change_parent, insert_before, insert_number, without_number, with_unmerged, is_overfilled, is_overfilled_above}
-use Rattle.mls_tree.specs.Parts.{parent_of}
+use Rattle.mls_tree.specs.TreeOperations.{put_parent, change_parent, insert_before, insert_number, without_number, with_unmerged, is_overfilled, is_overfilled_above}
+use Rattle.mls_tree.specs.NodeView.{parent_of}
 use Rattle.mls_tree.specs.Paths.{direct_path}
 use Rattle.mls_tree.proofs.Choices.{below, from, here, before, after, same, other}
 use Rattle.mls_tree.proofs.Trees.{leaf_count-positive}
@@ -149,12 +149,12 @@ room-after i None room = refl
 room-after i (Some a) room = ap (λ xs. nat_lt leaf_limit (length xs)) (inserted-twice i a.unmerged (list_any (λ x. x == i) a.unmerged) refl) ∙ room
 
 -- the list of the parent at a place can take i
-abbrev pub HasRoom : ℕ → ℕ → Tree → ℕ → Type 0
-HasRoom i first t p = is_overfilled i (parent_at first t p) ≡ false
+abbrev pub HasCapacity : ℕ → ℕ → Tree → ℕ → Type 0
+HasCapacity i first t p = is_overfilled i (parent_at first t p) ≡ false
 
 -- a place of a parent whose list can
 abbrev IsRoomy : ℕ → ℕ → Tree → ℕ → Type 0
-IsRoomy i first t p = IsWithin first (leaf_count t) p × HasRoom i first t p
+IsRoomy i first t p = IsWithin first (leaf_count t) p × HasCapacity i first t p
 
 room-path : (first : ℕ) (t : Tree) (i : ℕ) → is_overfilled_above first t i ≡ false → All (IsRoomy i first t) (direct_path first t i)
 room-path first (leaf x) i room = All-nil _
@@ -187,24 +187,24 @@ room-path first (branch l n r) i room =
           (room-path m r i (sym (from i m (is_overfilled_above first l i) (is_overfilled_above m r i) ge) ∙ h.0))) root)
     ]
 
-pub room-start : (t : Tree) (i : ℕ) (places : List ℕ) → places ≡ direct_path 0 t i → is_overfilled_above 0 t i ≡ false → All (HasRoom i 0 t) places
+pub room-start : (t : Tree) (i : ℕ) (places : List ℕ) → places ≡ direct_path 0 t i → is_overfilled_above 0 t i ≡ false → All (HasCapacity i 0 t) places
 room-start t i places at room =
-    subst (All (HasRoom i 0 t)) (sym at) (All-weaker (IsRoomy i 0 t) (HasRoom i 0 t) (λ p w. w.1) (direct_path 0 t i) (room-path 0 t i room))
+    subst (All (HasCapacity i 0 t)) (sym at) (All-weaker (IsRoomy i 0 t) (HasCapacity i 0 t) (λ p w. w.1) (direct_path 0 t i) (room-path 0 t i room))
 
 -- i has entered one of them
-module _ (i : ℕ) (t u : Tree) (p : ℕ) (there : IsParentPlace t p) (room : HasRoom i 0 t p) (put : u ≡ change_parent (with_unmerged i) 0 t p) where
-  room-one : (q : ℕ) → HasRoom i 0 t q → HasRoom i 0 u q
+module _ (i : ℕ) (t u : Tree) (p : ℕ) (there : IsParentPlace t p) (room : HasCapacity i 0 t p) (put : u ≡ change_parent (with_unmerged i) 0 t p) where
+  room-one : (q : ℕ) → HasCapacity i 0 t q → HasCapacity i 0 u q
   room-one q h =
       let x = with_unmerged i (parent_at 0 t p) in
-      let after_same : HasRoom i 0 u p = ap (λ v. is_overfilled i (parent_at 0 v p)) put ∙ ap (is_overfilled i) (parent_at-put t p x there) ∙ room-after i (parent_at 0 t p) room in
+      let after_same : HasCapacity i 0 u p = ap (λ v. is_overfilled i (parent_at 0 v p)) put ∙ ap (is_overfilled i) (parent_at-put t p x there) ∙ room-after i (parent_at 0 t p) room in
       elim (cases_order q p) [
-        | inl at ↦ subst (HasRoom i 0 u) (sym at) after_same
+        | inl at ↦ subst (HasCapacity i 0 u) (sym at) after_same
         | inr (inl lt) ↦ ap (λ v. is_overfilled i (parent_at 0 v q)) put ∙ ap (is_overfilled i) (parent_at-put_other t p x there q (λ e. omega arith)) ∙ h
         | inr (inr gt) ↦ ap (λ v. is_overfilled i (parent_at 0 v q)) put ∙ ap (is_overfilled i) (parent_at-put_other t p x there q (λ e. omega arith)) ∙ h
       ]
 
-  pub room-step : (left : List ℕ) → All (HasRoom i 0 t) left → All (HasRoom i 0 u) left
-  room-step left h = All-weaker (HasRoom i 0 t) (HasRoom i 0 u) room-one left h
+  pub room-step : (left : List ℕ) → All (HasCapacity i 0 t) left → All (HasCapacity i 0 u) left
+  room-step left h = All-weaker (HasCapacity i 0 t) (HasCapacity i 0 u) room-one left h
 
 -- a blank parent that is taken out
 pub blank-stays : (t u : Tree) (p : ℕ) → IsParentPlace t p → None ≡ parent_at 0 t p → u ≡ put_parent 0 t p None → u ≡ t

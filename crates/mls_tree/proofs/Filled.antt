@@ -6,17 +6,17 @@ use Rattle.std.proofs.lemmas.List.{length-map}
 use Rattle.std.proofs.lemmas.Option.{slice_get-map}
 use Rattle.std.proofs.Math.Pow.{pow_mono}
 use Rattle.std.proofs.Math.Nat.{pow-suc}
-use Rattle.mls_wire.specs.Spelling.{list, optional}
-use Rattle.mls_wire.specs.Steps.{allowed}
+use Rattle.mls_wire.specs.Encoding.{list, optional}
+use Rattle.mls_wire.specs.OptionBind.{allowed}
 use Rattle.mls_nodes.specs.declared.node.Node.{Node}
 use Rattle.mls_nodes.specs.declared.node.Node.TheVariants.{Leaf, Parent}
-use Rattle.mls_nodes.specs.Value.{NodeValue, entry_value}
+use Rattle.mls_nodes.specs.NodeModel.{NodeValue, entry_value}
 use Rattle.mls_nodes.specs.Layout.{node}
-use Rattle.mls_nodes.specs.RatchetTree.{ratchet_tree, filled, full_size, is_placed, ends_set, stand_from, stands_at}
-use Rattle.mls_nodes.specs.Filled.{filled-full, filled-least}
+use Rattle.mls_nodes.specs.RatchetTreeEncoding.{ratchet_tree, filled, full_size, is_placed, ends_set, stand_from, stands_at}
+use Rattle.mls_nodes.specs.FilledTree.{filled-full, filled-least}
 use Rattle.mls_tree.specs.Tree.{leaves_at}
-use Rattle.mls_tree.specs.Array.{FitsPlace, IsArrayOf, ratchet_tree_in}
-use Rattle.mls_tree.specs.Sizes.{IsListing}
+use Rattle.mls_tree.specs.NodeArray.{FitsPlace, IsArrayOf, ratchet_tree_in}
+use Rattle.mls_tree.specs.TreeSizes.{IsListing}
 use Rattle.mls_tree.proofs.Arrays.{listing-array}
 use Rattle.mls_tree.proofs.Listings.{IsArrayOf-fits}
 use Rattle.mls_tree.proofs.Numbers.{leaves_at-pow}

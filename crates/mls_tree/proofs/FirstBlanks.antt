@@ -5,7 +5,7 @@ use Rattle.std.proofs.lemmas.Bool.{cases_lt, cases_order}
 use Rattle.mls_nodes.specs.declared.leaf.LeafNode.{LeafNode}
 use Rattle.mls_nodes.specs.declared.parent.ParentNode.{ParentNode}
 use Rattle.mls_tree.specs.Tree.{Tree, leaf, branch, leaf_count, leaf_at}
-use Rattle.mls_tree.specs.Blanks.{first_of, first_blank_leaf, next_blank_leaf, IsFirstBlank, AllLeavesSet, AreSetBelow}
+use Rattle.mls_tree.specs.BlankLeaves.{first_of, first_blank_leaf, next_blank_leaf, IsFirstBlank, AllLeavesSet, AreSetBelow}
 use Rattle.mls_tree.proofs.Choices.{below, from, same}
 
 -- the leaves from `first` and from `start` on and below `last` are set

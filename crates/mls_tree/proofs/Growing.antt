@@ -7,8 +7,8 @@ use Rattle.std.proofs.lemmas.List.{length-take}
 use Rattle.std.proofs.Math.ListN.{length-replicate}
 use Rattle.mls_nodes.specs.declared.node.Node.{Node}
 use Rattle.mls_tree.specs.Tree.{Tree, leaf, branch, height, leaves_at}
-use Rattle.mls_tree.specs.Array.{leaf_part, parent_part, tree_in, IsNoLeaf, IsNoParent, IsArrayOf, height-tree_in}
-use Rattle.mls_tree.specs.Changes.{blank_tree, grow}
+use Rattle.mls_tree.specs.NodeArray.{leaf_part, parent_part, tree_in, IsNoLeaf, IsNoParent, IsArrayOf, height-tree_in}
+use Rattle.mls_tree.specs.TreeOperations.{blank_tree, grow}
 use Rattle.mls_tree.proofs.Numbers.{leaves_at-positive}
 use Rattle.mls_tree.proofs.Arrays.{tree_in-same}
 

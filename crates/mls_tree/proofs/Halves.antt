@@ -5,7 +5,7 @@ use Rattle.std.proofs.lemmas.Option.{none-some, same_Some, option_and_then_some}
 use Rattle.mls_nodes.specs.declared.leaf.LeafNode.{LeafNode}
 use Rattle.mls_nodes.specs.declared.parent.ParentNode.{ParentNode}
 use Rattle.mls_tree.specs.Tree.{Tree, leaf, branch, leaf_count, Subtree, subtree_at, root_place, leaf_at, node_at, entry_of, parent_entry}
-use Rattle.mls_tree.specs.Places.{left_at, right_at, left_place, right_place}
+use Rattle.mls_tree.specs.NodeIndices.{left_at, right_at, left_place, right_place}
 use Rattle.mls_tree.proofs.Choices.{below, from, same}
 use Rattle.mls_tree.proofs.Trees.{along, subtree_at-left, subtree_at-right, subtree_at-stands, leaf_count-positive}
 

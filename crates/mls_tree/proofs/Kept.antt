@@ -6,7 +6,7 @@ use Rattle.mls_nodes.specs.declared.leaf.LeafNode.{LeafNode}
 use Rattle.mls_nodes.specs.declared.parent.ParentNode.{ParentNode}
 use Rattle.mls_tree.specs.Tree.{Tree, leaf, branch, height, leaf_count, leaves_at, leaf_at, IsPerfect}
 use Rattle.mls_tree.specs.RatchetTree.{HasShape}
-use Rattle.mls_tree.specs.Changes.{put_leaf, put_parent, change_above, has_set_leaf, shrink, blank_tree, grow}
+use Rattle.mls_tree.specs.TreeOperations.{put_leaf, put_parent, change_above, has_set_leaf, shrink, blank_tree, grow}
 use Rattle.mls_tree.proofs.Choices.{below, from, same, other}
 use Rattle.mls_tree.proofs.Trees.{leaf_count-perfect}
 use Rattle.mls_tree.proofs.Lookups.{leaf_at-past}

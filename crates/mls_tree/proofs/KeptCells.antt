@@ -1,24 +1,23 @@
 -- The cells of a tree stay those of the changed tree.
 use Rattle.std.proofs.Common.{◌≡◌, ℕ, zero, suc, ◌+◌, ◌*◌, ◌-◌, ◌∷◌, ◌<◌, ◌≤◌, List, [], ◌++◌, length, replicate, take, map, Result, Ok, Err, Option, Some, None, refl, sym, ap, subst, ◌∙◌, inl, inr, arith}
-use Rattle.std.specs.Prelude.{slice_get, option_and_then, IfSome, OnOk, OnErr}
+use Rattle.std.specs.Prelude.{slice_get, option_and_then, OnOk, OnErr}
 use Rattle.std.proofs.lemmas.Bool.{cases_lt}
 use Rattle.std.proofs.lemmas.List.{length-take-le, length-append, length-map, take_all, take-take}
 use Rattle.std.proofs.Math.ListN.{length-replicate}
 use Rattle.mls_nodes.specs.declared.leaf.LeafNode.{LeafNode}
 use Rattle.mls_nodes.specs.declared.parent.ParentNode.{ParentNode}
 use Rattle.mls_tree.specs.declared.hash_kind.HashKind.{HashKind}
-use Rattle.mls_tree.specs.declared.cells.Cells.{Cells}
+use Rattle.mls_tree.specs.declared.hash_cache.Cells.{Cells}
 use Rattle.mls_nodes.specs.declared.node.Node.{Node}
-use Rattle.mls_nodes.specs.Value.{entry_value}
+use Rattle.mls_nodes.specs.NodeModel.{entry_value}
 use Rattle.mls_tree.specs.Tree.{Tree, leaf, branch, height, leaf_count, leaves_at, listing, IsPerfect, Subtree, subtree_at}
 use Rattle.mls_tree.specs.TreeHash.{tree_hash}
-use Rattle.mls_tree.specs.Changes.{put_leaf, put_parent, change_above, shrink, has_set_leaf, left_half, grow, blank_tree, with_left, rejoined}
+use Rattle.mls_tree.specs.TreeOperations.{put_leaf, put_parent, change_above, shrink, has_set_leaf, left_half, grow, blank_tree}
 use Rattle.mls_tree.specs.Paths.{direct_path}
-use Rattle.mls_tree.specs.Cells.{emptied, parents_from, extended, hash_by, AreCells, AreCellsOf}
-use Rattle.mls_tree.specs.CellsSeen.{kind_in, cells_in, IsOfHeight}
+use Rattle.mls_tree.specs.HashCache.{emptied, parents_from, extended, hash_by, AreCells, AreCellsOf}
+use Rattle.mls_tree.specs.CacheModel.{kind_in, cells_in, IsOfHeight}
 use Rattle.mls_tree.proofs.Trees.{leaf_count-perfect, leaf_count-positive, length-listing, subtree_at-in_left}
 use Rattle.mls_tree.proofs.Kept.{either, leaf_count-put_leaf, leaf_count-put_parent, leaf_count-change_above, leaf_count-shrink, height-blank_tree, IsPerfect-blank_tree}
-use Rattle.mls_tree.proofs.Rejoining.{rejoined-fits}
 use Rattle.mls_tree.proofs.Growing.{slice_get-take, slice_get-take_past, slice_get-append_left, slice_get-fill}
 use Rattle.mls_tree.proofs.Emptying.{IsAway, AreCells-emptied, emptied-nothing, beside-put_leaf, beside-put_parent, beside-change_above}
 
@@ -118,21 +117,6 @@ pub cells-grow : (kind : Option HashKind) (t u : Tree) (cells new : List (Option
 cells-grow kind t u cells new perfect at =
     cells-extended kind t u (blank_tree (height t)) None cells new at
     (leaf_count-grown t (blank_tree (height t)) perfect (IsPerfect-blank_tree (height t)) (height-blank_tree (height t)))
-
--- the tree is put back into another one
-cells-with_left : (kind : Option HashKind) (t u w : Tree) (cells new : List (Option (List ℕ))) → IsPerfect t → IsPerfect w → height t + 1 ≡ height w → u ≡ with_left t w
-    → new ≡ extended kind cells → AreCellsOf kind t cells → AreCellsOf kind u new
-cells-with_left kind t u (leaf x) cells new a b e at is ok = absurd (omega arith)
-cells-with_left kind t u (branch l n r) cells new a b e at is ok =
-    cells-extended kind t u r n cells new at (leaf_count-grown t r a b.2 (let c : height l ≡ height r = b.0 in omega arith)) is ok
-
-pub cells-rejoined : (old held new : Option Cells) (t u w : Tree) → IsPerfect t → IsPerfect w → height t + 1 ≡ height w → u ≡ rejoined t w → held ≡ old
-    → IfSome new (λ c. (kind_in held ≡ Some c.kind) × (c.hashes.items ≡ extended (Some c.kind) (cells_in held)))
-    → AreCellsOf (kind_in old) t (cells_in old) → AreCellsOf (kind_in new) u (cells_in new)
-cells-rejoined old held None t u w a b e at same doubled ok = refl
-cells-rejoined old held (Some c) t u w a b e at same doubled ok =
-    cells-with_left (Some c.kind) t u w (cells_in held) c.hashes.items a b e (at ∙ rejoined-fits t w e) doubled.1
-    (subst (λ k. AreCellsOf k t (cells_in held)) doubled.0 (subst (λ o. AreCellsOf (kind_in o) t (cells_in o)) (sym same) ok))
 
 -- ---- a left part of the tree is left
 

@@ -4,18 +4,18 @@ use Rattle.std.specs.Prelude.{OnOk, OnErr}
 use Rattle.std.proofs.lemmas.List.{take_at}
 use Rattle.mls_nodes.specs.declared.leaf.LeafNode.{LeafNode}
 use Rattle.mls_nodes.specs.declared.parent.ParentNode.{ParentNode}
-use Rattle.mls_tree.specs.declared.count.Count.{Count}
-use Rattle.mls_tree.specs.declared.counts.Counts.{Counts}
+use Rattle.mls_tree.specs.declared.subtree_counts.Count.{Count}
+use Rattle.mls_tree.specs.declared.cached_counts.Counts.{Counts}
 use Rattle.mls_tree.specs.Tree.{Tree, leaf_count}
-use Rattle.mls_tree.specs.Changes.{put_leaf, put_parent, change_above, shrink, left_half}
-use Rattle.mls_tree.specs.Counts.{AreCounts, AreBeside}
-use Rattle.mls_tree.specs.CountsSeen.{AreCountsIn, AreBesideIn, AreFrontOf}
+use Rattle.mls_tree.specs.TreeOperations.{put_leaf, put_parent, change_above, shrink, left_half}
+use Rattle.mls_tree.specs.SubtreeCounts.{AreCounts, AreOutside}
+use Rattle.mls_tree.specs.CountsModel.{AreCountsIn, AreBesideIn, AreFrontOf}
 use Rattle.mls_tree.proofs.Kept.{leaf_count-put_leaf, leaf_count-put_parent, leaf_count-change_above, leaf_count-shrink}
 use Rattle.mls_tree.proofs.KeptCells.{leaf_count-left_half}
 use Rattle.mls_tree.proofs.Counting.{beside, beside-put_leaf, beside-put_parent, beside-change_above, AreCounts-left_half, AreCounts-shrink}
 
 module _ (counts : Option Counts) (t u : Tree) where
-  beside-in : (i : ℕ) → leaf_count u ≡ leaf_count t → ((c : Counts) → AreCounts 0 t c.list.items → AreBeside 0 u i c.list.items) → AreCountsIn counts t → AreBesideIn counts u i
+  beside-in : (i : ℕ) → leaf_count u ≡ leaf_count t → ((c : Counts) → AreCounts 0 t c.list.items → AreOutside 0 u i c.list.items) → AreCountsIn counts t → AreBesideIn counts u i
   beside-in i e f ok = by_counts counts ok
     where
       by_counts : (o : Option Counts) → AreCountsIn o t → AreBesideIn o u i
@@ -32,21 +32,21 @@ module _ (counts : Option Counts) (t u : Tree) where
   -- where a leaf is replaced
   pub counts-put_leaf : (i : ℕ) (x : Option LeafNode) → u ≡ put_leaf 0 t i x → AreCountsIn counts t → AreBesideIn counts u i
   counts-put_leaf i x at =
-      beside-in i (ap leaf_count at ∙ leaf_count-put_leaf 0 t i x) (λ c ok. subst (λ v. AreBeside 0 v i c.list.items) (sym at) (beside-put_leaf 0 t i x c.list.items ok))
+      beside-in i (ap leaf_count at ∙ leaf_count-put_leaf 0 t i x) (λ c ok. subst (λ v. AreOutside 0 v i c.list.items) (sym at) (beside-put_leaf 0 t i x c.list.items ok))
 
   -- where the parents above a leaf are changed
   pub counts-change_above : (f : Option ParentNode → Option ParentNode) (i : ℕ) → u ≡ change_above f 0 t i → AreCountsIn counts t → AreBesideIn counts u i
   counts-change_above f i at =
-      beside-in i (ap leaf_count at ∙ leaf_count-change_above f 0 t i) (λ c ok. subst (λ v. AreBeside 0 v i c.list.items) (sym at) (beside-change_above f 0 t i c.list.items ok))
+      beside-in i (ap leaf_count at ∙ leaf_count-change_above f 0 t i) (λ c ok. subst (λ v. AreOutside 0 v i c.list.items) (sym at) (beside-change_above f 0 t i c.list.items ok))
 
   -- where a parent is replaced
   pub counts-put_parent : (q i : ℕ) (x : Option ParentNode) → i ≡ q / 2 → u ≡ put_parent 0 t q x → AreCountsIn counts t → AreBesideIn counts u i
   counts-put_parent q i x e at =
-      beside-in i (ap leaf_count at ∙ leaf_count-put_parent 0 t q x) (λ c ok. subst (λ v. AreBeside 0 v i c.list.items) (sym at) (beside-put_parent 0 t q x i c.list.items e ok))
+      beside-in i (ap leaf_count at ∙ leaf_count-put_parent 0 t q x) (λ c ok. subst (λ v. AreOutside 0 v i c.list.items) (sym at) (beside-put_parent 0 t q x i c.list.items e ok))
 
   -- where no node is
   pub counts-same : (i : ℕ) → u ≡ t → AreCountsIn counts t → AreBesideIn counts u i
-  counts-same i at = beside-in i (ap leaf_count at) (λ c ok. subst (λ v. AreBeside 0 v i c.list.items) (sym at) (beside 0 t i c.list.items ok))
+  counts-same i at = beside-in i (ap leaf_count at) (λ c ok. subst (λ v. AreOutside 0 v i c.list.items) (sym at) (beside 0 t i c.list.items ok))
 
   -- where a parent is replaced, if the call isn't refused
   pub counts-if_put_parent : {A E : Type 0} (answer : Result A E) (q i : ℕ) (x : Option ParentNode) → i ≡ q / 2 → OnOk answer (u ≡ put_parent 0 t q x) → OnErr answer (u ≡ t)

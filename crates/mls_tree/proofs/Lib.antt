@@ -26,11 +26,14 @@ pub mod Replacing
 pub mod AlongPaths
 pub mod Entering
 pub mod TakenBack
+pub mod CellsBack
 pub mod ParentEntries
 pub mod Emptying
 pub mod LeafCounts
 pub mod Rejoining
 pub mod KeptCells
+pub mod HalfCells
+pub mod EmptyFronts
 pub mod EmptiedAgain
 pub mod ChangedPlaces
 pub mod Counting
@@ -39,4 +42,5 @@ pub mod CountsRead
 pub mod CountedBlanks
 pub mod TakingOff
 pub mod HashRows
+pub mod HashFronts
 pub mod HashLengths

@@ -4,12 +4,12 @@ use Rattle.std.specs.Prelude.{slice_get, slice_set}
 use Rattle.mls_nodes.specs.declared.parent.ParentNode.{ParentNode}
 use Rattle.mls_nodes.specs.declared.node.Node.{Node}
 use Rattle.mls_tree.specs.Tree.{leaf_count, leaves_at}
-use Rattle.mls_tree.specs.Array.{parent_part, tree_in}
+use Rattle.mls_tree.specs.NodeArray.{parent_part, tree_in}
 use Rattle.std.specs.Prelude.{◌==◌, if◌then◌else◌, Bool, true, false, ◌||◌, nat_lt}
 use Rattle.std.proofs.lemmas.Bool.{cases_lt}
 use Rattle.std.specs.List.{list_any}
-use Rattle.mls_tree.specs.Changes.{with_unmerged, insert_before, insert_number, is_overfilled, is_overfilled_above}
-use Rattle.mls_tree.specs.NewLists.{new_list, new_lists, with_new_list}
+use Rattle.mls_tree.specs.TreeOperations.{with_unmerged, insert_before, insert_number, is_overfilled, is_overfilled_above}
+use Rattle.mls_tree.specs.NewUnmergedLists.{new_list, new_lists, with_new_list}
 use Rattle.mls_tree.proofs.Choices.{below, from, not_less, is_less}
 use Rattle.mls_tree.proofs.Numbers.{leaves_at-positive}
 use Rattle.mls_tree.proofs.Arrays.{tree_in-same, slice_get-set_other}

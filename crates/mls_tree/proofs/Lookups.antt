@@ -6,12 +6,12 @@ use Rattle.std.proofs.lemmas.Option.{slice_get_past, slice_get_read}
 use Rattle.mls_nodes.specs.declared.leaf.LeafNode.{LeafNode}
 use Rattle.mls_nodes.specs.declared.parent.ParentNode.{ParentNode}
 use Rattle.mls_nodes.specs.declared.node.Node.{Node}
-use Rattle.mls_nodes.specs.Value.{entry_value, node_value}
+use Rattle.mls_nodes.specs.NodeModel.{entry_value, node_value}
 use Rattle.mls_tree.specs.Tree.{Tree, leaf, branch, height, leaf_count, leaves_at, Subtree, subtree_at, root_place, root_entry, leaf_at, node_at, entry_of, IsBranch, IsParent, IsParentPlace}
-use Rattle.mls_tree.specs.Changes.{put_leaf, put_parent}
-use Rattle.mls_tree.specs.Array.{leaf_part, parent_part, tree_in, IsNoLeaf, IsNoParent, IsArrayOf, height-tree_in}
+use Rattle.mls_tree.specs.TreeOperations.{put_leaf, put_parent}
+use Rattle.mls_tree.specs.NodeArray.{leaf_part, parent_part, tree_in, IsNoLeaf, IsNoParent, IsArrayOf, height-tree_in}
 use Rattle.mls_tree.specs.RatchetTree.{RatchetTree}
-use Rattle.mls_tree.specs.Places.{HasLevel}
+use Rattle.mls_tree.specs.NodeIndices.{HasLevel}
 use Rattle.mls_tree.specs.Paths.{resolution, resolution_at}
 use Rattle.mls_tree.proofs.Coordinates.{At, at_place}
 use Rattle.mls_tree.proofs.Numbers.{leaves_at-positive}

@@ -1,7 +1,7 @@
 -- How many leaves are set.
 use Rattle.std.proofs.Common.{◌≡◌, ◌+◌, List, [], ◌∷◌, ◌++◌, Option, Some, None, refl, arith}
 use Rattle.mls_nodes.specs.declared.parent.ParentNode.{ParentNode}
-use Rattle.mls_nodes.specs.Value.{NodeValue, leaf_node, parent_node}
+use Rattle.mls_nodes.specs.NodeModel.{NodeValue, leaf_node, parent_node}
 use Rattle.mls_tree.specs.Tree.{Tree, leaf, branch, listing, parent_entry, member_count, leaves_among}
 
 leaves_among-append : (xs ys : List (Option NodeValue)) → leaves_among (xs ++ ys) ≡ leaves_among xs + leaves_among ys

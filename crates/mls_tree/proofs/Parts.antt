@@ -5,8 +5,8 @@ use Rattle.std.proofs.lemmas.Option.{none-some, same_Some}
 use Rattle.mls_nodes.specs.declared.leaf.LeafNode.{LeafNode}
 use Rattle.mls_nodes.specs.declared.parent.ParentNode.{ParentNode}
 use Rattle.mls_tree.specs.Tree.{Tree, leaf, branch, height, Subtree, subtree_at, leaf_at, node_at, parent_entry}
-use Rattle.mls_tree.specs.Places.{level_at, left_at, right_at, left_place}
-use Rattle.mls_tree.specs.Parts.{HasChildren, parent_of}
+use Rattle.mls_tree.specs.NodeIndices.{level_at, left_at, right_at, left_place}
+use Rattle.mls_tree.specs.NodeView.{HasChildren, parent_of}
 use Rattle.mls_tree.proofs.Halves.{split, leaf_here}
 use Rattle.mls_tree.proofs.Trees.{subtree_at-stands, leaf_count-positive}
 

@@ -3,7 +3,7 @@ use Rattle.std.proofs.Common.{◌≡◌, ℕ, zero, suc, ◌+◌, ◌*◌, ◌-�
 use Rattle.std.specs.Prelude.{slice_get, ◌↔◌, ◌⊎◌}
 use Rattle.std.proofs.lemmas.Bool.{cases_lt, cases_order}
 use Rattle.mls_nodes.specs.declared.parent.ParentNode.{ParentNode}
-use Rattle.mls_nodes.specs.Value.{NodeValue}
+use Rattle.mls_nodes.specs.NodeModel.{NodeValue}
 use Rattle.mls_tree.specs.Tree.{Tree, leaf, branch, leaf_count, listing, leaf_entry, parent_entry, Subtree, subtree_at, root_place, root_entry, entry_of, node_at, leaf_at, IsBranch, IsParent, IsParentPlace}
 use Rattle.mls_tree.proofs.Choices.{below, from, same, other}
 use Rattle.mls_tree.proofs.Trees.{length-listing, leaf_count-positive, subtree_at-in_left, subtree_at-in_right, subtree_at-here, subtree_at-stands, subtree_at-some, subtree_at-none}

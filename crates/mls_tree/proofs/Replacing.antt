@@ -5,7 +5,7 @@ use Rattle.std.proofs.lemmas.Bool.{cases_lt, cases_order}
 use Rattle.mls_nodes.specs.declared.leaf.LeafNode.{LeafNode}
 use Rattle.mls_nodes.specs.declared.parent.ParentNode.{ParentNode}
 use Rattle.mls_tree.specs.Tree.{Tree, leaf, branch, leaf_count, listing, leaf_entry, parent_entry, subtree_at, IsParent, IsParentPlace}
-use Rattle.mls_tree.specs.Changes.{put_leaf, put_parent}
+use Rattle.mls_tree.specs.TreeOperations.{put_leaf, put_parent}
 use Rattle.mls_tree.proofs.Choices.{below, from, here, before, after, same, other}
 use Rattle.mls_tree.proofs.Trees.{length-listing, subtree_at-in_left, subtree_at-in_right}
 

@@ -1,16 +1,17 @@
 -- A change that is taken back leaves the tree as it was.
 use Rattle.std.proofs.Common.{◌≡◌, ℕ, ◌+◌, ◌*◌, ◌<◌, ◌≤◌, List, [], ◌∷◌, ◌++◌, Option, Some, None, refl, sym, ap, ◌∙◌, subst, inl, inr, arith, Box, Global}
-use Rattle.std.specs.Prelude.{option_map, Result, Ok, Err, OnOk, OnErr, IsErr}
+use Rattle.std.specs.Prelude.{option_map, Result, Ok, Err, OnOk, OnErr, IsErr, IsNone}
 use Rattle.std.proofs.lemmas.Bool.{cases_lt, cases_order}
 use Rattle.mls_nodes.specs.declared.leaf.LeafNode.{LeafNode}
 use Rattle.mls_nodes.specs.declared.parent.ParentNode.{ParentNode}
 use Rattle.mls_tree.specs.Tree.{Tree, leaf, branch, leaf_count, leaf_at, node_at, entry_of, Subtree, subtree_at, IsParent, IsParentPlace}
-use Rattle.mls_tree.specs.Changes.{put_leaf, put_parent, change_parent, without_unmerged, left_half, grow, rejoined}
-use Rattle.mls_tree.specs.Parts.{parent_of}
+use Rattle.mls_tree.specs.TreeOperations.{put_leaf, put_parent, change_parent, without_unmerged, left_half, grow, rejoined}
+use Rattle.mls_tree.specs.NodeView.{parent_of}
 use Rattle.mls_tree.specs.Journals.{taken_back, all_taken_back}
-use Rattle.mls_tree.specs.declared.journal.Former.{Former}
-use Rattle.mls_tree.specs.declared.journal.Former.TheVariants.{Leaf, Parent, Entered, Grown, Halved}
-use Rattle.mls_tree.specs.KeptTree.{KeptTree}
+use Rattle.mls_tree.specs.declared.journal.UndoEntry.{UndoEntry}
+use Rattle.mls_tree.specs.declared.journal.UndoEntry.TheVariants.{Leaf, Parent, Entered, Grown, Halved}
+use Rattle.mls_tree.specs.RatchetTree.{RatchetTree}
+use Rattle.mls_tree.specs.PublicTreeModel.{KeptTree}
 use Rattle.mls_tree.proofs.Elsewhere.{put_parent-elsewhere}
 use Rattle.mls_tree.proofs.Choices.{below, from, here, before, after, same}
 use Rattle.mls_tree.proofs.AlongPaths.{parent_of-entry}
@@ -85,25 +86,70 @@ put_parent-back first (branch l n r) p x h =
 -- ---- a list of changes
 
 -- the last change is taken back first
-pub taken_back-last : (xs : List Former) (x : Former) (t : Tree) → all_taken_back (xs ++ x ∷ []) t ≡ all_taken_back xs (taken_back x t)
+pub taken_back-last : (xs : List UndoEntry) (x : UndoEntry) (t : Tree) → all_taken_back (xs ++ x ∷ []) t ≡ all_taken_back xs (taken_back x t)
 taken_back-last [] x t = refl
 taken_back-last (y ∷ xs) x t = ap (taken_back y) (taken_back-last xs x t)
 
+-- ---- one change is taken back
+
+pub leaf-undone : (t u : Tree) (i : ℕ) (x : Option LeafNode) (node : Option (Box LeafNode Global)) → i < leaf_count t → u ≡ put_leaf 0 t i x
+    → option_map (λ b. b.value) node ≡ leaf_at 0 t i → taken_back (Leaf i node) u ≡ t
+leaf-undone t u i x node inside put former =
+    let c = leaf_count-put_leaf 0 t i x in
+    let e : leaf_count u ≡ leaf_count t = ap leaf_count put ∙ c in
+    below i (leaf_count u) (put_leaf 0 u i (option_map (λ b. b.value) node)) u (omega arith)
+    ∙ (λ k. put_leaf 0 (put k) i (former k))
+    ∙ put_leaf-back 0 t i x (omega arith) (omega arith)
+
+pub parent-undone : (t u : Tree) (p : ℕ) (x : Option ParentNode) (node : Option (Box ParentNode Global)) → IsParentPlace t p → u ≡ put_parent 0 t p x
+    → option_map (λ b. b.value) node ≡ parent_of (node_at t p) → taken_back (Parent p node) u ≡ t
+parent-undone t u p x node inside put former = (λ k. put_parent 0 (put k) p (former k)) ∙ put_parent-back 0 t p x inside
+
+-- the parent that is there is put
+put_parent-same : (first : ℕ) (t : Tree) (p : ℕ) → IsParent (subtree_at first t p) → put_parent first t p (parent_of (entry_of (subtree_at first t p))) ≡ t
+put_parent-same first (leaf y) p h = refl
+put_parent-same first (branch l n r) p h =
+    let m = first + leaf_count l in
+    let whole : Option Subtree = Some (record { first = first; tree = branch l n r }) in
+    let at_left = subtree_at first l p in
+    let at_right = subtree_at m r p in
+    elim (cases_order (p + 1) (2 * m)) [
+      | inl at ↦
+          (let e : subtree_at first (branch l n r) p ≡ whole = here (p + 1) (2 * m) whole at_left at_right at in
+          ap (λ o. put_parent first (branch l n r) p (parent_of (entry_of o))) e
+          ∙ ap (put_parent first (branch l n r) p) (parent_of-entry n)
+          ∙ here (p + 1) (2 * m) (branch l n r) (branch (put_parent first l p n) n r) (branch l n (put_parent m r p n)) at)
+      | inr (inl lt) ↦
+          (let e : subtree_at first (branch l n r) p ≡ at_left = before (p + 1) (2 * m) whole at_left at_right lt in
+          let v = parent_of (entry_of at_left) in
+          ap (λ o. put_parent first (branch l n r) p (parent_of (entry_of o))) e
+          ∙ before (p + 1) (2 * m) (branch l v r) (branch (put_parent first l p v) n r) (branch l n (put_parent m r p v)) lt
+          ∙ ap (λ w. branch w n r) (put_parent-same first l p (subst (λ o. IsParent o) e h)))
+      | inr (inr gt) ↦
+          (let e : subtree_at first (branch l n r) p ≡ at_right = after (p + 1) (2 * m) whole at_left at_right gt in
+          let v = parent_of (entry_of at_right) in
+          ap (λ o. put_parent first (branch l n r) p (parent_of (entry_of o))) e
+          ∙ after (p + 1) (2 * m) (branch l v r) (branch (put_parent first l p v) n r) (branch l n (put_parent m r p v)) gt
+          ∙ ap (λ w. branch l n w) (put_parent-same m r p (subst (λ o. IsParent o) e h)))
+    ]
+
+-- a blank parent that becomes blank
+pub blank-kept : (t u : Tree) (p : ℕ) (x node : Option (Box ParentNode Global)) → IsParentPlace t p → IsNone x → IsNone node → u ≡ put_parent 0 t p (option_map (λ b. b.value) x)
+    → option_map (λ b. b.value) node ≡ parent_of (node_at t p) → u ≡ t
+blank-kept t u p None None inside a b put former = put ∙ ap (put_parent 0 t p) former ∙ put_parent-same 0 t p inside
+blank-kept t u p None (Some n) inside a b put former = absurd (cc)
+blank-kept t u p (Some x) node inside a b put former = absurd (cc)
+
 -- ---- what a journal keeps of one change
 
-module _ (t u : Tree) (old room new : List Former) (reserved : room ≡ old) where
+module _ (t u : Tree) (old room new : List UndoEntry) (reserved : room ≡ old) where
   -- a leaf was replaced
   pub leaf-kept_back : (i : ℕ) (x : Option LeafNode) (node : Option (Box LeafNode Global)) → i < leaf_count t → u ≡ put_leaf 0 t i x
       → option_map (λ b. b.value) node ≡ leaf_at 0 t i → new ≡ room ++ Leaf i node ∷ [] → all_taken_back new u ≡ all_taken_back old t
   leaf-kept_back i x node inside put former pushed =
-      let c = leaf_count-put_leaf 0 t i x in
-      let e : leaf_count u ≡ leaf_count t = ap leaf_count put ∙ c in
       ap (λ xs. all_taken_back xs u) (pushed ∙ ap (λ xs. xs ++ Leaf i node ∷ []) reserved)
       ∙ taken_back-last old (Leaf i node) u
-      ∙ ap (all_taken_back old)
-      (below i (leaf_count u) (put_leaf 0 u i (option_map (λ b. b.value) node)) u (omega arith)
-      ∙ (λ k. put_leaf 0 (put k) i (former k))
-      ∙ put_leaf-back 0 t i x (omega arith) (omega arith))
+      ∙ ap (all_taken_back old) (leaf-undone t u i x node inside put former)
 
   -- a parent was replaced
   pub parent-kept_back : (p : ℕ) (x : Option ParentNode) (node : Option (Box ParentNode Global)) → IsParentPlace t p → u ≡ put_parent 0 t p x
@@ -111,9 +157,7 @@ module _ (t u : Tree) (old room new : List Former) (reserved : room ≡ old) whe
   parent-kept_back p x node inside put former pushed =
       ap (λ xs. all_taken_back xs u) (pushed ∙ ap (λ xs. xs ++ Parent p node ∷ []) reserved)
       ∙ taken_back-last old (Parent p node) u
-      ∙ ap (all_taken_back old)
-      ((λ k. put_parent 0 (put k) p (former k))
-      ∙ put_parent-back 0 t p x inside)
+      ∙ ap (all_taken_back old) (parent-undone t u p x node inside put former)
 
   -- a leaf's index entered a list
   pub entered-kept_back : (p i : ℕ) → change_parent (without_unmerged i) 0 u p ≡ t → new ≡ room ++ Entered p i ∷ [] → all_taken_back new u ≡ all_taken_back old t
@@ -130,23 +174,23 @@ module _ (t u : Tree) (old room new : List Former) (reserved : room ≡ old) whe
       ∙ ap (λ v. all_taken_back old (left_half v)) put
 
 -- a parent that is put, or refused since there is no place for one
-pub parent-put_back : {A E : Type 0} (r : Result A E) (t u : KeptTree) (p : ℕ) (x : Option ParentNode) → OnOk r (u.tree ≡ put_parent 0 t.tree p x) → OnErr r (u ≡ t)
+pub parent-put_back : {A E : Type 0} (r : Result A E) (t u : RatchetTree) (p : ℕ) (x : Option ParentNode) → OnOk r (u.tree ≡ put_parent 0 t.tree p x) → OnErr r (u ≡ t)
     → (IsErr r → ¬ IsParentPlace t.tree p) → u.tree ≡ put_parent 0 t.tree p x
 parent-put_back (Ok a) t u p x put stays none = put
-parent-put_back (Err e) t u p x put stays none = ap (λ (r : KeptTree). r.tree) stays ∙ sym (put_parent-elsewhere t.tree p x (none refl))
+parent-put_back (Err e) t u p x put stays none = ap (λ (r : RatchetTree). r.tree) stays ∙ sym (put_parent-elsewhere t.tree p x (none refl))
 
 -- the last change is taken back
-pub taken_back-step : (t u : Tree) (all rest : List Former) (x : Former) → all ≡ rest ++ x ∷ [] → u ≡ taken_back x t → all_taken_back rest u ≡ all_taken_back all t
+pub taken_back-step : (t u : Tree) (all rest : List UndoEntry) (x : UndoEntry) → all ≡ rest ++ x ∷ [] → u ≡ taken_back x t → all_taken_back rest u ≡ all_taken_back all t
 taken_back-step t u all rest x split e = ap (all_taken_back rest) e ∙ sym (taken_back-last rest x t) ∙ ap (λ xs. all_taken_back xs t) (sym split)
 
 -- all are
-pub taken_back-end : (t : Tree) (left : List Former) → left ≡ [] → all_taken_back left t ≡ t
+pub taken_back-end : (t : Tree) (left : List UndoEntry) → left ≡ [] → all_taken_back left t ≡ t
 taken_back-end t left e = ap (λ xs. all_taken_back xs t) e
 
 -- the tree was halved
-pub halved-kept_back : (t u : Tree) (whole : KeptTree) (old room new : List Former) → room ≡ old → rejoined u whole.tree ≡ t → new ≡ room ++ Halved whole ∷ []
+pub halved-kept_back : (t u : Tree) (b : Box KeptTree Global) (old room new : List UndoEntry) → room ≡ old → rejoined u b.value.tree ≡ t → new ≡ room ++ Halved b ∷ []
     → all_taken_back new u ≡ all_taken_back old t
-halved-kept_back t u whole old room new reserved back pushed =
-    ap (λ xs. all_taken_back xs u) (pushed ∙ ap (λ xs. xs ++ Halved whole ∷ []) reserved)
-    ∙ taken_back-last old (Halved whole) u
+halved-kept_back t u b old room new reserved back pushed =
+    ap (λ xs. all_taken_back xs u) (pushed ∙ ap (λ xs. xs ++ Halved b ∷ []) reserved)
+    ∙ taken_back-last old (Halved b) u
     ∙ ap (all_taken_back old) back

@@ -13,9 +13,9 @@ use Rattle.std.proofs.lemmas.Option.{none-some, same_Some}
 use Rattle.mls_nodes.specs.declared.parent.ParentNode.{ParentNode}
 use Rattle.mls_nodes.specs.declared.node.Node.{Node}
 use Rattle.mls_tree.specs.Tree.{leaves_at}
-use Rattle.mls_tree.specs.Array.{parent_part, tree_in}
-use Rattle.mls_tree.specs.Paths.{resolution, unmerged_places, count_beside}
-use Rattle.mls_tree.specs.Remainders.{taken_off}
+use Rattle.mls_tree.specs.NodeArray.{parent_part, tree_in}
+use Rattle.mls_tree.specs.Paths.{resolution, unmerged_places, count_not_in}
+use Rattle.mls_tree.specs.Subtraction.{taken_off}
 use Rattle.mls_tree.proofs.Choices.{below, from, is_less, not_less}
 use Rattle.mls_tree.proofs.Walking.{resolution-blank, resolution-set}
 
@@ -79,25 +79,25 @@ taken_off-one left (Some n) h = ap (λ v. Some v) h.1 ∙ sym (taken_off-rest le
 -- ---- how many places aren't left out
 
 module _ (s : BTreeSet ℕ) where
-  pub count_beside-append : (xs ys : List ℕ) → count_beside s (xs ++ ys) ≡ count_beside s xs + count_beside s ys
-  count_beside-append xs ys =
+  pub count_not_in-append : (xs ys : List ℕ) → count_not_in s (xs ++ ys) ≡ count_not_in s xs + count_not_in s ys
+  count_not_in-append xs ys =
       let p = λ (p : ℕ). not (contains nat_cmp s p) in
       ap length (filter-append p xs ys) ∙ length-append (filter p xs) (filter p ys)
 
-  pub count_beside-out : (p : ℕ) → contains nat_cmp s p ≡ true → count_beside s (p ∷ []) ≡ 0
-  count_beside-out p h = ap (λ b. length (cond (not b) (p ∷ []) [])) h
+  pub count_not_in-out : (p : ℕ) → contains nat_cmp s p ≡ true → count_not_in s (p ∷ []) ≡ 0
+  count_not_in-out p h = ap (λ b. length (cond (not b) (p ∷ []) [])) h
 
-  pub count_beside-in : (p : ℕ) → contains nat_cmp s p ≡ false → count_beside s (p ∷ []) ≡ 1
-  count_beside-in p h = ap (λ b. length (cond (not b) (p ∷ []) [])) h
+  pub count_not_in-in : (p : ℕ) → contains nat_cmp s p ≡ false → count_not_in s (p ∷ []) ≡ 1
+  count_not_in-in p h = ap (λ b. length (cond (not b) (p ∷ []) [])) h
 
   -- a place, and then others
-  pub taken-more : (left rest x : ℕ) (xs : List ℕ) → Some rest ≡ taken_off left (count_beside s (x ∷ [])) → taken_off left (count_beside s (x ∷ xs)) ≡ taken_off rest (count_beside s xs)
+  pub taken-more : (left rest x : ℕ) (xs : List ℕ) → Some rest ≡ taken_off left (count_not_in s (x ∷ [])) → taken_off left (count_not_in s (x ∷ xs)) ≡ taken_off rest (count_not_in s xs)
   taken-more left rest x xs h =
-      ap (taken_off left) (count_beside-append (x ∷ []) xs) ∙ taken_off-more left (count_beside s (x ∷ [])) (count_beside s xs) rest h
+      ap (taken_off left) (count_not_in-append (x ∷ []) xs) ∙ taken_off-more left (count_not_in s (x ∷ [])) (count_not_in s xs) rest h
 
-  pub taken-stopped : (left x : ℕ) (xs : List ℕ) → None ≡ taken_off left (count_beside s (x ∷ [])) → None ≡ taken_off left (count_beside s (x ∷ xs))
+  pub taken-stopped : (left x : ℕ) (xs : List ℕ) → None ≡ taken_off left (count_not_in s (x ∷ [])) → None ≡ taken_off left (count_not_in s (x ∷ xs))
   taken-stopped left x xs h =
-      taken_off-stopped left (count_beside s (x ∷ [])) (count_beside s xs) h ∙ ap (taken_off left) (sym (count_beside-append (x ∷ []) xs))
+      taken_off-stopped left (count_not_in s (x ∷ [])) (count_not_in s xs) h ∙ ap (taken_off left) (sym (count_not_in-append (x ∷ []) xs))
 
   -- the unmerged leaves from the k-th on: one that the tree has, and one that it doesn't have
   module _ (leaves : ℕ) (xs : List ℕ) (k x : ℕ) (inside : k < length xs) (at : x ≡ get_or xs k 0) where
@@ -116,36 +116,36 @@ module _ (s : BTreeSet ℕ) where
 
 module _ (xs : List (Option Node)) (first half level : ℕ) (deep : level ≢ 0) (e : half ≡ leaves_at (level - 1)) (leaves : ℕ) (s : BTreeSet ℕ) (left : ℕ) where
   pub taken-blank : parent_part (slice_get xs (2 * (first + half) - 1)) ≡ None → (rest : ℕ) (r : Option ℕ)
-      → Some rest ≡ taken_off left (count_beside s (resolution leaves first (tree_in xs (level - 1) first)))
-      → r ≡ taken_off rest (count_beside s (resolution leaves (first + half) (tree_in xs (level - 1) (first + half))))
-      → r ≡ taken_off left (count_beside s (resolution leaves first (tree_in xs level first)))
+      → Some rest ≡ taken_off left (count_not_in s (resolution leaves first (tree_in xs (level - 1) first)))
+      → r ≡ taken_off rest (count_not_in s (resolution leaves (first + half) (tree_in xs (level - 1) (first + half))))
+      → r ≡ taken_off left (count_not_in s (resolution leaves first (tree_in xs level first)))
   taken-blank none rest r l f =
-      f ∙ sym (taken_off-more left _ (count_beside s (resolution leaves (first + half) (tree_in xs (level - 1) (first + half)))) rest l)
-      ∙ ap (taken_off left) (sym (ap (count_beside s) (resolution-blank xs first half level deep e leaves none) ∙ count_beside-append s _ _))
+      f ∙ sym (taken_off-more left _ (count_not_in s (resolution leaves (first + half) (tree_in xs (level - 1) (first + half)))) rest l)
+      ∙ ap (taken_off left) (sym (ap (count_not_in s) (resolution-blank xs first half level deep e leaves none) ∙ count_not_in-append s _ _))
 
   pub taken-blank_stopped : parent_part (slice_get xs (2 * (first + half) - 1)) ≡ None
-      → None ≡ taken_off left (count_beside s (resolution leaves first (tree_in xs (level - 1) first)))
-      → None ≡ taken_off left (count_beside s (resolution leaves first (tree_in xs level first)))
+      → None ≡ taken_off left (count_not_in s (resolution leaves first (tree_in xs (level - 1) first)))
+      → None ≡ taken_off left (count_not_in s (resolution leaves first (tree_in xs level first)))
   taken-blank_stopped none l =
-      taken_off-stopped left _ (count_beside s (resolution leaves (first + half) (tree_in xs (level - 1) (first + half)))) l
-      ∙ ap (taken_off left) (sym (ap (count_beside s) (resolution-blank xs first half level deep e leaves none) ∙ count_beside-append s _ _))
+      taken_off-stopped left _ (count_not_in s (resolution leaves (first + half) (tree_in xs (level - 1) (first + half)))) l
+      ∙ ap (taken_off left) (sym (ap (count_not_in s) (resolution-blank xs first half level deep e leaves none) ∙ count_not_in-append s _ _))
 
   pub taken-set : (p : ParentNode) → parent_part (slice_get xs (2 * (first + half) - 1)) ≡ Some p → (ys : List ℕ) → ys ≡ p.unmerged → (rest : ℕ) (r : Option ℕ)
-      → Some rest ≡ taken_off left (count_beside s ((2 * (first + half) - 1) ∷ []))
-      → r ≡ taken_off rest (count_beside s (unmerged_places leaves ys))
-      → r ≡ taken_off left (count_beside s (resolution leaves first (tree_in xs level first)))
+      → Some rest ≡ taken_off left (count_not_in s ((2 * (first + half) - 1) ∷ []))
+      → r ≡ taken_off rest (count_not_in s (unmerged_places leaves ys))
+      → r ≡ taken_off left (count_not_in s (resolution leaves first (tree_in xs level first)))
   taken-set p some ys y rest r own f =
-      f ∙ ap (λ v. taken_off rest (count_beside s (unmerged_places leaves v))) y
-      ∙ sym (ap (λ v. taken_off left (count_beside s v)) (resolution-set xs first half level deep e leaves p some)
+      f ∙ ap (λ v. taken_off rest (count_not_in s (unmerged_places leaves v))) y
+      ∙ sym (ap (λ v. taken_off left (count_not_in s v)) (resolution-set xs first half level deep e leaves p some)
       ∙ taken-more s left rest (2 * (first + half) - 1) (unmerged_places leaves p.unmerged) own)
 
   pub taken-set_stopped : (p : ParentNode) → parent_part (slice_get xs (2 * (first + half) - 1)) ≡ Some p
-      → None ≡ taken_off left (count_beside s ((2 * (first + half) - 1) ∷ []))
-      → None ≡ taken_off left (count_beside s (resolution leaves first (tree_in xs level first)))
+      → None ≡ taken_off left (count_not_in s ((2 * (first + half) - 1) ∷ []))
+      → None ≡ taken_off left (count_not_in s (resolution leaves first (tree_in xs level first)))
   taken-set_stopped p some own =
       taken-stopped s left (2 * (first + half) - 1) (unmerged_places leaves p.unmerged) own
-      ∙ ap (λ v. taken_off left (count_beside s v)) (sym (resolution-set xs first half level deep e leaves p some))
+      ∙ ap (λ v. taken_off left (count_not_in s v)) (sym (resolution-set xs first half level deep e leaves p some))
 
 -- nothing is taken off for a subtree with an empty resolution
-pub taken-empty : (s : BTreeSet ℕ) (left : ℕ) (ps : List ℕ) → ps ≡ [] → Some left ≡ taken_off left (count_beside s ps)
-taken-empty s left ps h = taken_off-none left ∙ ap (λ v. taken_off left (count_beside s v)) (sym h)
+pub taken-empty : (s : BTreeSet ℕ) (left : ℕ) (ps : List ℕ) → ps ≡ [] → Some left ≡ taken_off left (count_not_in s ps)
+taken-empty s left ps h = taken_off-none left ∙ ap (λ v. taken_off left (count_not_in s v)) (sym h)

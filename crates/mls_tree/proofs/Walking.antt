@@ -7,7 +7,7 @@ use Rattle.std.proofs.lemmas.Option.{slice_get_read}
 use Rattle.mls_nodes.specs.declared.parent.ParentNode.{ParentNode}
 use Rattle.mls_nodes.specs.declared.node.Node.{Node}
 use Rattle.mls_tree.specs.Tree.{Tree, leaf, branch, height, leaf_count, leaves_at, IsPerfect, root_place}
-use Rattle.mls_tree.specs.Array.{leaf_part, parent_part, tree_in}
+use Rattle.mls_tree.specs.NodeArray.{leaf_part, parent_part, tree_in}
 use Rattle.mls_tree.specs.Paths.{resolution, direct_path, copath, filtered_direct_path, unmerged_places, where_resolved}
 use Rattle.mls_tree.proofs.Choices.{below, from}
 use Rattle.mls_tree.proofs.Trees.{leaf_count-perfect}

@@ -1,23 +1,24 @@
-//! Blank nodes: those that a tree grows by, the path of a leaf made blank, and the search for a leaf that is not.
+//! Blank nodes: the nodes a tree is extended by, the path of a leaf made blank, and the search for a non-blank leaf.
 //!
-//! Each walk is over a subtree given by its height `level` and the index of its first leaf `first`, and goes at most 20 halves deep.
+//! Each walk is over a subtree, given by its height `level` and the index of its first leaf `first`. The depth of
+//! recursion is at most 20.
 ghost use Rattle.std.specs.Prelude.{◌≡◌, ℕ, ◌≤◌, ◌+◌, ◌*◌, ◌-◌, ◌++◌, None, length, replicate, OnOk, OnErr, option_copied};
 ghost use Rattle.std.specs.Vec.{VecUnchanged};
 ghost use Rattle.mls_nodes.specs.Limits.{leaf_limit};
 ghost use Rattle.mls_tree.specs.Tree.{leaves_at};
-ghost use Rattle.mls_tree.specs.Array.{tree_in, ChangesWithin};
-ghost use Rattle.mls_tree.specs.Changes.{change_above, has_set_leaf};
-ghost use Rattle.mls_tree.specs.Blanks.{next_blank_leaf};
-ghost use Rattle.mls_tree.specs.Counts.{AreCounts};
-ghost use Rattle.mls_tree.specs.CountsSeen.{AreCountsIfAny};
+ghost use Rattle.mls_tree.specs.NodeArray.{tree_in, ChangesWithin};
+ghost use Rattle.mls_tree.specs.TreeOperations.{change_above, has_set_leaf};
+ghost use Rattle.mls_tree.specs.BlankLeaves.{next_blank_leaf};
+ghost use Rattle.mls_tree.specs.SubtreeCounts.{AreCounts};
+ghost use Rattle.mls_tree.specs.CountsModel.{AreCountsIfAny};
 
-use crate::count::{Count, count_of};
 use crate::entries::as_leaf;
-use crate::sizes::leaves_of;
+use crate::subtree_counts::{Count, count_of};
+use crate::tree_size::leaves_of;
 use mls_nodes::Node;
 use std::alloc::AllocError;
 
-/// Blanks the parents above a leaf of the subtree.
+/// Makes blank the parents above a leaf of the subtree.
 pub(crate) fn blank_above(nodes: &mut [Option<Node>], level: u32, first: u32, leaf: u32)
     requires low { level ≤ 20 }
     requires inside { first + leaves_at level ≤ leaf_limit }
@@ -39,7 +40,7 @@ pub(crate) fn blank_above(nodes: &mut [Option<Node>], level: u32, first: u32, le
     }
 }
 
-/// Whether a leaf of the subtree is set.
+/// Returns whether a leaf of the subtree is non-blank.
 pub(crate) fn has_set_leaf(nodes: &[Option<Node>], level: u32, first: u32) -> bool
     requires low { level ≤ 20 }
     requires inside { first + leaves_at level ≤ leaf_limit }
@@ -56,7 +57,7 @@ pub(crate) fn has_set_leaf(nodes: &[Option<Node>], level: u32, first: u32) -> bo
     has_set_leaf(nodes, level - 1, middle)
 }
 
-/// The same, by the counts of the subtree's parents where there are any.
+/// As `has_set_leaf`. Uses the counts of the subtree's parents, if there are any.
 pub(crate) fn counts_set_leaf(
     nodes: &[Option<Node>],
     counts: Option<&[Count]>,
@@ -75,8 +76,8 @@ pub(crate) fn counts_set_leaf(
     }
 }
 
-/// The leftmost blank leaf of the subtree whose index is not below `start`, by the counts of the subtree's parents. Goes down two paths
-/// at most, since a part whose leaves are all set is left at once.
+/// Returns the index of the leftmost blank leaf of the subtree from `start` on, by the counts of the subtree's parents.
+/// Descends at most two paths: a subtree without a blank leaf is passed by.
 pub(crate) fn counted_blank_leaf(
     nodes: &[Option<Node>],
     counts: &[Count],
@@ -107,7 +108,7 @@ pub(crate) fn counted_blank_leaf(
     counted_blank_leaf(nodes, counts, level - 1, middle, start)
 }
 
-/// Adds blank entries at the end.
+/// Appends `count` blank entries.
 pub(crate) fn push_blanks(nodes: &mut Vec<Option<Node>>, count: u32) -> Result<(), AllocError>
     ensures ok { OnOk result (nodes.new.items ≡ nodes.old.items ++ replicate count None) }
     ensures err { OnErr result (VecUnchanged nodes.old nodes.new) }

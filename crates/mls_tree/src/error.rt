@@ -1,23 +1,23 @@
-//! Why a call on a tree was refused.
+//! Errors of calls on a tree.
 
 use std::alloc::{AllocError, AllocFailed};
 use thiserror::Error;
 
-/// Why a call on a tree was refused: what a `PublicTree` can't do, or no such tree. The tree is then as it was before the call.
-/// (Why a tree that is there isn't valid is told by `TreeFault` of `mls_check`.)
+/// Why a call on a tree failed. The tree is unchanged. (For why a tree is not valid, see `TreeFault` of `mls_check`.)
 #[derive(Clone, Copy, Debug, PartialEq, Eq, Error)]
 pub enum TreeError {
-    /// The tree has no such leaf or place, or a parent was asked for at the place of a leaf.
+    /// The tree has no such leaf or node, or the node index of a leaf was given for a parent.
     #[error("the tree has no such node")]
     NoSuchNode,
-    /// The tree would get more than 1,048,576 leaves, or a parent's list of unmerged leaves more than 1,048,576 entries: one that doesn't
-    /// have the leaf's index has as many already.
+    /// The tree would have more than 1,048,576 leaves, or a parent's list of unmerged leaves more than 1,048,576
+    /// entries.
     #[error("a tree has at most 1,048,576 leaves")]
     TooManyLeaves,
-    /// A number of leaves is no power of two, a number of nodes is not `2 * n - 1` for one, or a node is of the wrong kind for its place.
+    /// A number of leaves is no power of two, a number of nodes is not `2 * n - 1` for a power of two `n`, or a node is
+    /// of the wrong kind for its node index.
     #[error("the nodes form no tree")]
     BadShape,
-    /// An allocation was refused.
+    /// An allocation failed.
     #[error("out of memory")]
     OutOfMemory,
 }

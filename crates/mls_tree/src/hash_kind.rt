@@ -1,8 +1,8 @@
-//! Kinds of hash functions.
+//! The hash functions of a tree's cache.
 ghost use Rattle.std.specs.Prelude.{◌≡◌, ◌≤◌};
-ghost use Rattle.mls_tree.specs.Cells.{hash_len};
+ghost use Rattle.mls_tree.specs.HashCache.{hash_len};
 
-/// A hash function by which a tree keeps the hashes of its subtrees: one of those that the cipher suites hash with (RFC 9420, 17.1).
+/// A hash function that a tree's cache stores hashes of: one of those of the cipher suites (RFC 9420, 17.1).
 #[derive(Clone, Copy, Debug, PartialEq, Eq)]
 pub enum HashKind {
     /// SHA-256.
@@ -14,7 +14,7 @@ pub enum HashKind {
 }
 
 impl HashKind {
-    /// How many bytes a hash by this function has.
+    /// Returns the length of a hash in bytes.
     pub(crate) fn hash_len(self) -> usize
         ensures length { result ≡ hash_len self }
         ensures limit { result ≤ 64 }

@@ -1,4 +1,4 @@
-//! Hashes of one length as they are stored in large numbers: by their bytes alone, one after the other.
+//! Many hashes of one length, stored as their bytes one after the other.
 
 ghost use Rattle.std.specs.Prelude.{◌≡◌, ◌+◌, ◌≤◌, ◌<◌, ◌^◌, ◌++◌, IfOk, OnOk, OnErr, Some, length, take, drop, replicate, slice_get, slice_range, slice_set};
 ghost use Rattle.std.specs.Vec.{vec_len, vec_capacity};
@@ -9,7 +9,7 @@ use std::marker::Model;
 
 /// Hashes of one length.
 ///
-/// Contracts see it as that length, its width, and the list of the hashes.
+/// Contracts see the length of a hash, `width`, and the list of hashes.
 #[derive(Debug, Drop)]
 pub struct HashList {
     width: usize,
@@ -27,7 +27,7 @@ impl Model for HashList {
     ghost invariant = { λ s. FillsBytes s.width s.count s.bytes.items };
 }
 
-/// The bytes from one index up to another.
+/// Returns the bytes from `start` up to `end`.
 fn part(bytes: &[u8], start: usize, end: usize) -> &[u8]
     requires order { start ≤ end }
     requires inside { end ≤ length bytes.now }
@@ -36,7 +36,7 @@ fn part(bytes: &[u8], start: usize, end: usize) -> &[u8]
     &bytes[start..end]
 }
 
-/// Puts bytes over those from an index on.
+/// Overwrites the bytes from `start` on with those of `part`.
 fn put_part(bytes: &mut [u8], start: usize, part: &[u8])
     requires { start + length part.now ≤ length bytes.old }
     ensures { let rest = drop (length part.now) (drop start bytes.old) in
@@ -45,7 +45,7 @@ fn put_part(bytes: &mut [u8], start: usize, part: &[u8])
     bytes[start..start + part.len()].copy_from_slice(part);
 }
 
-/// The hash value with these bytes.
+/// Creates the hash that has these bytes.
 fn value_of(bytes: &[u8]) -> HashValue
     requires { length bytes.now ≤ 64 }
     ensures { result ≡ bytes.now }
@@ -53,7 +53,7 @@ fn value_of(bytes: &[u8]) -> HashValue
     HashValue::new(bytes).unwrap()
 }
 
-// Adds so many zeros at the end, for which there is room.
+// Appends `count` zero bytes, for which there is capacity.
 fn push_zeros(bytes: &mut Vec<u8>, count: usize)
     requires { vec_len bytes.old + count ≤ vec_capacity bytes.old }
     ensures { bytes.new.items ≡ bytes.old.items ++ replicate count 0 }
@@ -64,7 +64,7 @@ fn push_zeros(bytes: &mut Vec<u8>, count: usize)
 }
 
 impl HashList {
-    /// As many hashes of this width as are wanted. What they are is not said.
+    /// Creates `count` hashes of `width` bytes. Their values are unspecified.
     pub fn blank(alloc: Global, count: usize, width: usize) -> Result<HashList, AllocError>
         requires count { count < 2 ^ 32 }
         requires width { width ≤ 64 }
@@ -79,7 +79,7 @@ impl HashList {
         })
     }
 
-    /// The width.
+    /// Returns the length of a hash in bytes.
     pub fn width(&self) -> usize
         ensures width { result ≡ self.now.width }
         ensures limit { result ≤ 64 }
@@ -87,7 +87,7 @@ impl HashList {
         self.width
     }
 
-    /// The hash at a place of the list.
+    /// Returns the hash at an index, which must be in bounds.
     pub fn at(&self, place: u32) -> HashValue
         requires { place < length self.now.hashes }
         ensures { slice_get self.now.hashes place ≡ Some result }
@@ -96,7 +96,7 @@ impl HashList {
         value_of(part(self.bytes.as_slice(), start, start + self.width))
     }
 
-    /// The hash at a place. `None` past the end.
+    /// Returns the hash at an index. `None` if the index is out of bounds.
     pub fn get(&self, place: u32) -> Option<HashValue>
         ensures { result ≡ slice_get self.now.hashes place }
     {
@@ -107,7 +107,7 @@ impl HashList {
         }
     }
 
-    /// Puts a hash at a place.
+    /// Replaces the hash at an index, which must be in bounds.
     pub fn put(&mut self, place: u32, hash: &HashValue)
         requires place { place < length self.old.hashes }
         requires width { length hash.now ≡ self.old.width }
@@ -118,6 +118,33 @@ impl HashList {
         put_part(self.bytes.as_mut_slice(), start, hash.as_slice());
     }
 
+    /// The first so many hashes again.
+    pub(crate) fn front(&self, alloc: Global, count: usize) -> Result<HashList, AllocError>
+        requires { count ≤ length self.now.hashes }
+        ensures { IfOk result (λ l. l
+            ≡ record self.now { hashes = take count self.now.hashes }) }
+    {
+        let bytes = part(self.bytes.as_slice(), 0, count * self.width).to_vec(alloc)?;
+        Ok(HashList {
+            width: self.width,
+            count,
+            bytes,
+        })
+    }
+
+    /// Puts the first so many hashes of another list over those here.
+    pub(crate) fn put_front(&mut self, front: &HashList, count: usize)
+        requires there { count ≤ length front.now.hashes }
+        requires place { count ≤ length self.old.hashes }
+        requires width { front.now.width ≡ self.old.width }
+        ensures { self.new ≡ record self.old {
+          hashes = take count front.now.hashes ++ drop count self.old.hashes;
+        } }
+    {
+        let front = part(front.bytes.as_slice(), 0, count * self.width);
+        put_part(self.bytes.as_mut_slice(), 0, front);
+    }
+
     /// How many hashes there are.
     pub(crate) fn len(&self) -> usize
         ensures { result ≡ length self.now.hashes }
@@ -125,7 +152,7 @@ impl HashList {
         self.count
     }
 
-    /// Adds so many hashes at the end. What they are is not said.
+    /// Appends `more` hashes. Their values are unspecified.
     pub(crate) fn lengthen(&mut self, more: usize) -> Result<(), AllocError>
         requires more { more ≤ length self.old.hashes + 1 }
         requires count { length self.old.hashes + more < 2 ^ 64 }
@@ -143,7 +170,7 @@ impl HashList {
         Ok(())
     }
 
-    /// A copy.
+    /// Returns a copy.
     pub fn try_clone(&self, alloc: Global) -> Result<HashList, AllocError>
         ensures { IfOk result (λ l. l ≡ self.now) }
     {

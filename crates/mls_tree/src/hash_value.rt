@@ -1,15 +1,15 @@
-//! Values of a hash function.
+//! Hashes.
 ghost use Rattle.std.specs.Prelude.{◌≡◌, ◌↔◌, ◌≤◌, ◌<◌, length, IsNone, IfOk, IfSome};
 
 use mls_wire::{CodecFault, Opaque};
 use std::alloc::{AllocError, Global};
 use std::marker::Model;
 
-/// The most bytes that a hash value has.
+/// The greatest length of a hash in bytes.
 const MAX_BYTES: usize = 64;
 
-/// The value of a hash function: at most 64 bytes, as many as the longest hash of a cipher suite has (RFC 9420, 17.1), kept in place.
-/// Contracts see it as its bytes.
+/// A hash of at most 64 bytes, stored inline. (The longest hash of a cipher suite has 64 bytes: RFC 9420, 17.1.)
+/// Contracts see the bytes.
 #[derive(Clone, Copy, Debug, PartialEq, Eq)]
 pub struct HashValue {
     bytes: [u8; 64],
@@ -32,7 +32,7 @@ impl Model for HashValue {
 }
 
 impl HashValue {
-    /// The value with these bytes. None where there are more than 64. Takes no memory.
+    /// Creates a hash. `None` if there are more than 64 bytes. Does not allocate.
     pub fn new(bytes: &[u8]) -> Option<HashValue>
         ensures value { IfSome result (λ h. h ≡ bytes.now) }
         ensures too_long { IsNone result ↔ (64 < length bytes.now) }
@@ -49,7 +49,7 @@ impl HashValue {
         })
     }
 
-    /// The bytes, at most 64.
+    /// Returns the bytes, at most 64.
     pub fn as_slice(&self) -> &[u8]
         ensures bytes { result.now ≡ self.now }
         ensures limit { length self.now ≤ 64 }
@@ -57,7 +57,7 @@ impl HashValue {
         &self.bytes[..self.len as usize]
     }
 
-    /// The bytes as the body of a vector, by which values hold a hash.
+    /// Returns the bytes as an `Opaque`, the type that nodes and messages store a hash in.
     pub fn to_opaque(&self, alloc: Global) -> Result<Opaque, AllocError>
         ensures { IfOk result (λ body. body ≡ self.now) }
     {

@@ -3,17 +3,20 @@
 //! A large tree is changed where it stands, and not on a copy of it, and judged then: each call here changes the tree
 //! and keeps what it replaced. The changes are either kept, or taken back, the last one first, which takes no memory
 //! and can't be refused.
-ghost use Rattle.std.specs.Prelude.{◌≡◌, ◌<◌, ◌-◌, ◌*◌, ◌∷◌, ◌↔◌, ◌⊎◌, take, false, Err, IfOk, IfErr, OnOk, OnErr, option_map};
+ghost use Rattle.std.specs.Prelude.{◌≡◌, ◌<◌, ◌-◌, ◌*◌, ◌∷◌, ◌↔◌, ◌⊎◌, take, false, Err, IfOk, IfErr, OnOk, OnErr, Option, option_map};
 ghost use Rattle.mls_nodes.specs.Limits.{leaf_limit};
 ghost use Rattle.mls_tree.specs.Tree.{leaf_count, node_at, IsParentPlace};
-ghost use Rattle.mls_tree.specs.Changes.{put_leaf, put_parent, change_parent, clear_path, with_unmerged, enter_unmerged, is_overfilled, IsOverfull, grow, shrink};
+ghost use Rattle.mls_tree.specs.TreeOperations.{put_leaf, put_parent, change_parent, clear_path, with_unmerged, enter_unmerged, is_overfilled, IsOverfull, grow, shrink};
 ghost use Rattle.mls_tree.specs.Paths.{direct_path};
-ghost use Rattle.mls_tree.specs.Parts.{parent_of};
-ghost use Rattle.mls_tree.specs.Cells.{emptied, extended, parents_from};
-ghost use Rattle.mls_tree.specs.Journals.{taken_back, before, TellsNothing};
-ghost use Rattle.mls_tree.specs.ChangedPlaces.{HaveSameNodesBut};
+ghost use Rattle.mls_tree.specs.NodeView.{parent_of};
+ghost use Rattle.mls_tree.specs.HashCache.{emptied, extended, parents_from};
+ghost use Rattle.mls_tree.specs.Journals.{taken_back, before, cells_back, cells_before, IsEntryOfKind, IsOfKind, TellsNothing};
+ghost use Rattle.mls_tree.specs.CellChanges.{CellsAgreeExceptAt};
+ghost use Rattle.mls_tree.specs.PublicTreeModel.{KeptTree};
+ghost use Rattle.mls_tree.specs.declared.hash_kind.HashKind.{HashKind};
+ghost use Rattle.mls_tree.specs.ChangedNodes.{AgreeExceptAt};
 
-use crate::changed_places::push_changed;
+use crate::changed_nodes::push_changed;
 use crate::error::TreeError;
 use crate::public_tree::PublicTree;
 use mls_nodes::{LeafNode, ParentNode};
@@ -22,7 +25,7 @@ use std::mem;
 
 /// What a change of a tree replaced.
 #[derive(Drop)]
-pub(crate) enum Former {
+pub(crate) enum UndoEntry {
     /// A leaf.
     Leaf {
         index: u32,
@@ -33,15 +36,15 @@ pub(crate) enum Former {
         place: u32,
         node: Option<Box<ParentNode>>,
     },
-    /// The list of unmerged leaves of the parent at a place, which didn't have the index of this leaf.
+    /// The unmerged leaves of a parent, which did not contain this leaf index.
     Entered {
         place: u32,
         index: u32,
     },
-    /// A tree half as large.
+    /// The tree, which has been extended.
     Grown,
     /// A tree twice as large, whose left half has been taken out of it.
-    Halved(PublicTree),
+    Halved(Box<PublicTree>),
 }
 
 /// What the changes of a tree have replaced, in the order of the changes. It is made beside a tree, and from then on
@@ -49,37 +52,63 @@ pub(crate) enum Former {
 /// Contracts see a journal by the tree before these changes, `before`, which no call but `take_back` and `keep`
 /// changes, whether it is refused or not. A call that is refused for want of memory may have changed a part of what
 /// it is to change, where this is said of it; the journal has kept that part. Each call empties the cells that the
-/// tree's own call of that name empties, and taking back those of what it puts back.
+/// tree's own call of that name empties, and taking back those of what it puts back: `cells_before` are the cells that
+/// the tree then has. A half that was taken away keeps its cells, where it has the kind of hashes that the tree has when
+/// it comes back (`IsOfKind`), which is so where nothing but the calls here has changed the kind.
+///
+/// A change takes an entry of the journal for each node that it replaces, and none where a blank one stays blank.
 #[derive(Drop)]
 pub struct Journal {
-    formers: Vec<Former>,
+    formers: Vec<UndoEntry>,
 }
 
-/// Takes back a change that replaced this.
-fn take_back(tree: &mut PublicTree, former: Former)
-    ensures { tree.new.tree ≡ taken_back former tree.old.tree }
+/// Takes back the change that replaced `former`.
+fn take_back(tree: &mut PublicTree, former: UndoEntry)
+    ensures tree { tree.new.tree ≡ taken_back former tree.old.tree }
+    ensures kind { IsEntryOfKind tree.old.kind former → tree.new.kind ≡ tree.old.kind }
+    ensures cells { IsEntryOfKind tree.old.kind former → tree.new.cells
+        ≡ cells_back former tree.old.tree tree.old.cells }
 {
     match former {
-        Former::Leaf { index, node } => drop(tree.set_leaf(index, node)),
-        Former::Parent { place, node } => drop(tree.put_parent(place, node)),
-        Former::Entered { place, index } => tree.leave_at(place, index),
-        Former::Grown => tree.cut(),
-        Former::Halved(whole) => tree.rejoin(whole),
+        UndoEntry::Leaf { index, node } => drop(tree.set_leaf(index, node)),
+        UndoEntry::Parent { place, node } => tree.restore_parent(place, node),
+        UndoEntry::Entered { place, index } => tree.leave_at(place, index),
+        UndoEntry::Grown => tree.cut(),
+        UndoEntry::Halved(whole) => tree.rejoin(Box::into_inner(whole)),
     }
 }
 
+// A box for a tree, with a small one in it.
+fn new_box(alloc: Global) -> Result<Box<PublicTree>, AllocError> {
+    let Ok(tree) = PublicTree::blank(alloc, 1) else {
+        return Err(AllocError);
+    };
+    Ok(Box::new(alloc, tree)?)
+}
+
+// Puts another tree into a box.
+fn put_in(slot: Box<PublicTree>, tree: PublicTree) -> Box<PublicTree>
+    ensures { result.value ≡ tree }
+{
+    let mut slot = slot;
+    *slot = tree;
+    slot
+}
+
 impl Journal {
-    /// A journal of no changes. Takes no memory.
+    /// Creates an empty journal. Does not allocate.
     pub fn new(alloc: Global) -> Journal
-        ensures { TellsNothing result }
+        ensures nothing { TellsNothing result }
+        ensures halves { (kind : Option HashKind) → IsOfKind kind result }
+        ensures cells { (t : KeptTree) → cells_before result t ≡ t.cells }
     {
         Journal {
             formers: Vec::new(alloc),
         }
     }
 
-    /// Replaces a leaf of the tree, by a blank one for None: `put_leaf` in the definitions. For want of memory the tree
-    /// stays.
+    /// Replaces a leaf of the tree; `None` makes it blank. Called `put_leaf` in the definitions. If memory runs out,
+    /// the tree is unchanged.
     pub fn set_leaf(
         &mut self,
         tree: &mut PublicTree,
@@ -94,14 +123,17 @@ impl Journal {
         ensures kind { tree.new.kind ≡ tree.old.kind }
         ensures cells { OnOk result (tree.new.cells
             ≡ emptied tree.old.cells (2 * index ∷ direct_path 0 tree.old.tree index)) }
+        ensures halves { IsOfKind tree.old.kind self.old → IsOfKind tree.old.kind self.new }
+        ensures cells_back { CellsAgreeExceptAt (2 * index ∷ direct_path 0 tree.old.tree index)
+            (cells_before self.old tree.old) (cells_before self.new tree.new) }
     {
         self.formers.try_reserve(1)?;
         let node = tree.replace_leaf(index, leaf);
-        self.formers.push_reserved(Former::Leaf { index, node });
+        self.formers.push_reserved(UndoEntry::Leaf { index, node });
         Ok(())
     }
 
-    /// Replaces the parent at a place of the tree, by a blank one for None. For want of memory the tree stays.
+    /// Replaces the parent at node index `place`; `None` makes it blank. If memory runs out, the tree is unchanged.
     pub fn put_parent(
         &mut self,
         tree: &mut PublicTree,
@@ -116,15 +148,23 @@ impl Journal {
         ensures kind { tree.new.kind ≡ tree.old.kind }
         ensures cells { OnOk result (tree.new.cells
             ≡ emptied tree.old.cells (parents_from 0 tree.old.tree place)) }
+        ensures halves { IsOfKind tree.old.kind self.old → IsOfKind tree.old.kind self.new }
+        ensures cells_back { CellsAgreeExceptAt (parents_from 0 tree.old.tree place)
+            (cells_before self.old tree.old) (cells_before self.new tree.new) }
     {
         self.formers.try_reserve(1)?;
+        let stays_blank = parent.is_none();
         let node = tree.replace_parent(place, parent);
-        self.formers.push_reserved(Former::Parent { place, node });
+        if stays_blank && node.is_none() {
+            return Ok(());
+        }
+        self.formers
+            .push_reserved(UndoEntry::Parent { place, node });
         Ok(())
     }
 
-    /// Makes the parents above a leaf of the tree blank (RFC 9420, 12.1.2 and 12.1.3): `clear_path` in the definitions.
-    /// The leaf stays. Where memory runs out, some of the parents are blank.
+    /// Makes blank the parents above a leaf (RFC 9420, 12.1.2 and 12.1.3), but not the leaf. Called `clear_path` in the
+    /// definitions. If memory runs out, some of the parents may be blank.
     pub fn blank_path(
         &mut self,
         alloc: Global,
@@ -137,6 +177,9 @@ impl Journal {
         ensures kind { tree.new.kind ≡ tree.old.kind }
         ensures cells { OnOk result (tree.new.cells
             ≡ emptied tree.old.cells (direct_path 0 tree.old.tree index)) }
+        ensures halves { IsOfKind tree.old.kind self.old → IsOfKind tree.old.kind self.new }
+        ensures cells_back { CellsAgreeExceptAt (direct_path 0 tree.old.tree index)
+            (cells_before self.old tree.old) (cells_before self.new tree.new) }
     {
         let mut places = match tree.direct_path(alloc, index) {
             Ok(places) => places,
@@ -150,7 +193,8 @@ impl Journal {
         Ok(())
     }
 
-    // Puts a leaf's index into the list of the parent at a place, unless that is blank or its list has the index.
+    // Adds a leaf index to the unmerged leaves of the parent at node index `place`, unless the parent is blank or has
+    // that leaf index.
     fn enter(&mut self, tree: &mut PublicTree, place: u32, index: u32) -> Result<(), AllocError>
         requires there { IsParentPlace tree.old.tree place }
         requires room { is_overfilled index (parent_of (node_at tree.old.tree place)) ≡ false }
@@ -160,18 +204,26 @@ impl Journal {
         ensures kind { tree.new.kind ≡ tree.old.kind }
         ensures cells { OnOk result (tree.new.cells
             ≡ emptied tree.old.cells (parents_from 0 tree.old.tree place)) }
+        ensures halves { IsOfKind tree.old.kind self.old → IsOfKind tree.old.kind self.new }
+        ensures cells_back { CellsAgreeExceptAt (parents_from 0 tree.old.tree place)
+            (cells_before self.old tree.old) (cells_before self.new tree.new) }
     {
         self.formers.try_reserve(1)?;
-        if tree.enter_at(place, index)? {
-            self.formers.push_reserved(Former::Entered { place, index });
+        if tree.insert_unmerged_at(place, index)? {
+            self.formers
+                .push_reserved(UndoEntry::Entered { place, index });
         }
         Ok(())
     }
 
-    /// Puts a leaf's index into the list of unmerged leaves of each set parent above it, before the first entry that
-    /// is not less (RFC 9420, 12.1.1), in place: `enter_unmerged` in the definitions. A list that has the index stays.
-    /// `TooManyLeaves` where a list without the index has 1,048,576 entries, which is judged before any memory is taken.
-    /// Where memory runs out, some of the lists have the index.
+    /// Adds a leaf index to the unmerged leaves of each non-blank parent above the leaf (RFC 9420, 12.1.1), in place,
+    /// before the first entry that is not less. A list that has the leaf index is unchanged. Called `enter_unmerged` in
+    /// the definitions.
+    ///
+    /// # Errors
+    ///
+    /// `TooManyLeaves` if a list without the leaf index has 1,048,576 entries; this is checked before anything is
+    /// allocated. If memory runs out, some of the lists may have the leaf index.
     pub fn add_unmerged(
         &mut self,
         alloc: Global,
@@ -188,6 +240,9 @@ impl Journal {
             ↔ IsOverfull tree.old.tree index }
         ensures else_memory { IfErr result
             (λ e. (e ≡ TreeError.TooManyLeaves) ⊎ (e ≡ TreeError.OutOfMemory)) }
+        ensures halves { IsOfKind tree.old.kind self.old → IsOfKind tree.old.kind self.new }
+        ensures cells_back { CellsAgreeExceptAt (direct_path 0 tree.old.tree index)
+            (cells_before self.old tree.old) (cells_before self.new tree.new) }
     {
         if tree.is_overfull(index) {
             return Err(TreeError::TooManyLeaves);
@@ -200,9 +255,13 @@ impl Journal {
         Ok(())
     }
 
-    /// Doubles the tree, which becomes the left half of one whose other nodes are blank (RFC 9420, 7.7): `grow` in the
-    /// definitions. `TooManyLeaves` where the tree has 1,048,576 leaves, which is judged before any memory is taken. A
-    /// refusal leaves the tree.
+    /// Extends the tree (RFC 9420, 7.7): the tree becomes the left subtree of one twice as large, whose other nodes are
+    /// blank. Called `grow` in the definitions.
+    ///
+    /// # Errors
+    ///
+    /// `TooManyLeaves` if the tree has 1,048,576 leaves; this is checked before anything is allocated. If the call
+    /// fails, the tree is unchanged.
     pub fn extend(&mut self, tree: &mut PublicTree) -> Result<(), TreeError>
         ensures ok { OnOk result (tree.new.tree ≡ grow tree.old.tree) }
         ensures stays { OnErr result (tree.new ≡ tree.old) }
@@ -213,43 +272,51 @@ impl Journal {
             ↔ (leaf_count tree.old.tree ≡ leaf_limit) }
         ensures else_memory { IfErr result
             (λ e. (e ≡ TreeError.TooManyLeaves) ⊎ (e ≡ TreeError.OutOfMemory)) }
+        ensures halves { IsOfKind tree.old.kind self.old → IsOfKind tree.old.kind self.new }
+        ensures cells_back { cells_before self.new tree.new ≡ cells_before self.old tree.old }
     {
         if tree.leaf_count() == 1_048_576 {
             return Err(TreeError::TooManyLeaves);
         }
         self.formers.try_reserve(1)?;
         tree.extend()?;
-        self.formers.push_reserved(Former::Grown);
+        self.formers.push_reserved(UndoEntry::Grown);
         Ok(())
     }
 
-    /// Takes the left half of the tree for as long as there is one and the right half has no set leaf (RFC 9420,
-    /// 7.7): `shrink` in the definitions. The right halves are kept, with the parents above. Where memory runs out, the
-    /// tree has been halved some of these times.
+    /// Truncates the tree (RFC 9420, 7.7): replaces it by its left subtree as long as its right subtree has no
+    /// non-blank leaf. Called `shrink` in the definitions. The journal stores the right subtrees and the roots. If
+    /// memory runs out, the tree may have been halved some of these times.
     pub fn truncate(&mut self, alloc: Global, tree: &mut PublicTree) -> Result<(), AllocError>
         ensures shrunk { OnOk result (tree.new.tree ≡ shrink tree.old.tree) }
         ensures before { before self.new tree.new.tree ≡ before self.old tree.old.tree }
         ensures kind { tree.new.kind ≡ tree.old.kind }
         ensures cells { OnOk result (tree.new.cells
             ≡ take (2 * leaf_count tree.new.tree - 1) tree.old.cells) }
+        ensures halves { IsOfKind tree.old.kind self.old → IsOfKind tree.old.kind self.new }
+        ensures cells_back { CellsAgreeExceptAt (direct_path 0 tree.old.tree 0)
+            (cells_before self.old tree.old) (cells_before self.new tree.new) }
     {
         while tree.can_be_halved() {
             self.formers.try_reserve(1)?;
+            let slot = new_box(alloc)?;
             let left = tree.take_left(alloc)?;
             let whole = mem::replace(tree, left);
-            self.formers.push_reserved(Former::Halved(whole));
+            let whole = put_in(slot, whole);
+            self.formers.push_reserved(UndoEntry::Halved(whole));
         }
         Ok(())
     }
 
-    /// The places at which the changes have replaced a node, and all those that a doubling has added or a halving has
-    /// taken away (RFC 9420, Appendix C): at each other place the tree has the node, or none, that the tree before
-    /// has there. `tree` is the one that was changed with this journal; the contract holds for every tree all the same.
-    /// A place may stand in the list more than once. Time and memory go with the number of changes, and with the
-    /// sizes of the halves that were added or taken away.
+    /// Returns the node indices at which the changes replaced a node, and all those that extending added or truncating
+    /// removed (RFC 9420, Appendix C). At every other node index the tree is as before the changes.
+    ///
+    /// `tree` is the tree that was changed with this journal. (The contract holds for every tree.) A node index may
+    /// occur more than once. Time and memory are proportional to the number of changes and to the sizes of the subtrees
+    /// that were added or removed.
     pub fn changed_places(&self, alloc: Global, tree: &PublicTree) -> Result<Vec<u32>, AllocError>
         ensures { IfOk result (λ places.
-            HaveSameNodesBut places.items (before self.now tree.now.tree) tree.now.tree) }
+            AgreeExceptAt places.items (before self.now tree.now.tree) tree.now.tree) }
     {
         let mut places = Vec::new(alloc);
         let mut leaves = tree.leaf_count();
@@ -261,20 +328,27 @@ impl Journal {
         Ok(places)
     }
 
-    /// Takes back all changes, the last one first: the tree is the one before them, and the journal has none. It
-    /// takes no memory.
+    /// Takes back all changes in reverse order. The tree is then the one before the changes, and the journal is empty.
+    /// Does not allocate.
     pub fn take_back(&mut self, tree: &mut PublicTree)
         ensures tree { tree.new.tree ≡ before self.old tree.old.tree }
         ensures nothing { TellsNothing self.new }
+        ensures kind { IsOfKind tree.old.kind self.old → tree.new.kind ≡ tree.old.kind }
+        ensures cells { IsOfKind tree.old.kind self.old → tree.new.cells
+            ≡ cells_before self.old tree.old }
+        ensures halves { (kind : Option HashKind) → IsOfKind kind self.new }
+        ensures kept_cells { (t : KeptTree) → cells_before self.new t ≡ t.cells }
     {
         while let Some(former) = self.formers.pop() {
             take_back(tree, former);
         }
     }
 
-    /// Keeps all changes: what they replaced ends here, and they can't be taken back any more. It takes no memory.
+    /// Keeps all changes. They can't be taken back after this. Does not allocate.
     pub fn keep(&mut self)
-        ensures { TellsNothing self.new }
+        ensures nothing { TellsNothing self.new }
+        ensures halves { (kind : Option HashKind) → IsOfKind kind self.new }
+        ensures cells { (t : KeptTree) → cells_before self.new t ≡ t.cells }
     {
         self.formers.clear();
     }

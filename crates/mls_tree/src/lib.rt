@@ -1,44 +1,46 @@
-//! Ratchet trees of RFC 9420, 4.1, 7.7 and Appendix C: the arithmetic of places, and `PublicTree`, a tree of public nodes kept
-//! as one array, which may keep the hashes of its subtrees. Contracts see a `PublicTree` as a recursive tree (`specs/Tree.antt`), and
-//! beside it the list of these hashes (`specs/KeptTree.antt`); the array is private to this crate.
+//! Ratchet trees (RFC 9420, 4.1, 7.7 and Appendix C): the arithmetic of node indices, and `PublicTree`, the public
+//! nodes of a group as one array, with an optional cache of tree hashes.
 //!
-//! Nodes are named by their places in the listing of the tree from left to right: leaf `i` stands at place `2 * i`, parents stand at odd
-//! places, and the root of a tree of `n` leaves at `n - 1`.
+//! Contracts see a `PublicTree` as a recursive tree (`specs/Tree.antt`) with the list of cached hashes
+//! (`specs/PublicTreeModel.antt`). The array is private to this crate.
+//!
+//! Nodes are named by their node indices, which the code calls `place`. Leaf `i` has the node index `2 * i`, parents
+//! have odd ones, and the root of a tree of `n` leaves has `n - 1`.
 #![tactic(auto)]
 
 mod blanks;
-mod cell_changes;
-mod cells;
-mod changed_places;
-mod count;
-mod counts;
+mod cache_slots;
+mod cache_update;
+mod cached_counts;
+mod changed_nodes;
 mod decode;
 mod entries;
 mod error;
-mod exchange;
-mod hash_cells;
+mod hash_cache;
 mod hash_kind;
 mod hash_list;
 mod hash_value;
 mod journal;
 pub mod laws;
+mod leaf_split;
 mod node_array;
-mod part;
+mod node_view;
 mod paths;
 mod places;
 mod public_tree;
 mod resolution;
 mod resolution_len;
-mod sizes;
-mod split;
-mod unmerged;
+mod subtree_counts;
+mod swap_prefix;
+mod tree_size;
+mod unmerged_leaves;
 
 pub use error::TreeError;
 pub use hash_kind::HashKind;
 pub use hash_list::HashList;
 pub use hash_value::HashValue;
 pub use journal::Journal;
-pub use part::Part;
+pub use leaf_split::split_leaves;
+pub use node_view::Part;
 pub use places::{left, level, parent, right, root, sibling};
 pub use public_tree::PublicTree;
-pub use split::split_leaves;

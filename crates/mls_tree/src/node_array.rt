@@ -1,38 +1,38 @@
-//! The nodes of a tree, kept as one array.
+//! The nodes of a tree as one array.
 ghost use Rattle.std.specs.Prelude.{◌≡◌, ℕ, ◌+◌, ◌≤◌, ◌<◌, ◌==◌, length, IfOk, IfErr, IfSome, Err, MatchOption, OnOk, OnErr, IsOk, IsErr, ◌↔◌, ◌⊎◌, None, Some, false, map, option_map, option_copied};
 ghost use Rattle.std.specs.Bool.{OnTrue, OnFalse};
 ghost use Rattle.mls_nodes.specs.Limits.{leaf_limit};
-ghost use Rattle.mls_nodes.specs.Value.{entry_value, node_value};
+ghost use Rattle.mls_nodes.specs.NodeModel.{entry_value, node_value};
 ghost use Rattle.mls_tree.specs.Tree.{leaf_count, member_count, height, listing, node_at, leaf_at, IsBranch, IsParentPlace};
-ghost use Rattle.mls_tree.specs.Paths.{direct_path, copath, filtered_direct_path, resolution_at, count_beside};
-ghost use Rattle.mls_tree.specs.Blanks.{first_blank_leaf, next_blank_leaf, IsFirstBlank, AllLeavesSet};
-ghost use Rattle.mls_tree.specs.Changes.{put_leaf, put_parent, clear_path, change_parent, with_unmerged, without_unmerged, enter_unmerged, is_overfilled, is_overfilled_above, IsOverfull, shrink, blank_tree, grow, left_half, rejoined};
-ghost use Rattle.mls_tree.specs.Parts.{parent_of};
-ghost use Rattle.mls_tree.specs.Sizes.{IsPowerOfTwo, IsTooLong, IsListing};
-ghost use Rattle.mls_tree.specs.Counts.{counted, AreCounts, AreBeside};
-ghost use Rattle.mls_tree.specs.CountsSeen.{AreCountsIfAny};
+ghost use Rattle.mls_tree.specs.Paths.{direct_path, copath, filtered_direct_path, resolution_at, count_not_in};
+ghost use Rattle.mls_tree.specs.BlankLeaves.{first_blank_leaf, next_blank_leaf, IsFirstBlank, AllLeavesSet};
+ghost use Rattle.mls_tree.specs.TreeOperations.{put_leaf, put_parent, clear_path, change_parent, with_unmerged, without_unmerged, enter_unmerged, is_overfilled, is_overfilled_above, IsOverfull, shrink, blank_tree, grow, left_half, rejoined};
+ghost use Rattle.mls_tree.specs.NodeView.{parent_of};
+ghost use Rattle.mls_tree.specs.TreeSizes.{IsPowerOfTwo, IsTooLong, IsListing};
+ghost use Rattle.mls_tree.specs.SubtreeCounts.{counted, AreCounts, AreOutside};
+ghost use Rattle.mls_tree.specs.CountsModel.{AreCountsIfAny};
 
 use crate::blanks::{blank_above, counted_blank_leaf, counts_set_leaf, push_blanks};
-use crate::count::{Count, count_all, count_of, recount};
 use crate::entries::{
     all_fit, as_leaf, clone_entries, count_leaves, into_leaf, into_parent, leaf_entry, parent_entry,
 };
 use crate::error::TreeError;
-use crate::exchange::swap_front;
 use crate::paths::{push_copath, push_direct_path, push_filtered_direct_path};
 use crate::places::level_inside;
 use crate::resolution::push_resolution;
 use crate::resolution_len::take_resolution;
-use crate::sizes::{height_of, height_of_length, leaves_of};
-use crate::unmerged::{enter, is_overfilled_above, leave, push_new_lists, put_lists};
+use crate::subtree_counts::{Count, count_all, count_of, recount};
+use crate::swap_prefix::swap_prefix;
+use crate::tree_size::{height_of, height_of_length, leaves_of};
+use crate::unmerged_leaves::{enter, is_overfilled_above, leave, push_new_lists, put_lists};
 use mls_nodes::{LeafNode, Node, ParentNode};
 use std::alloc::{AllocError, Global};
 use std::collections::BTreeSet;
 use std::marker::Model;
 use std::mem;
 
-/// The nodes of a tree of 1 to 1,048,576 leaves, a power of two, in the order of their places (RFC 9420, Appendix C). Contracts see a
-/// ratchet tree. A call that is refused leaves it as it was.
+/// The nodes of a tree of 1 to 1,048,576 leaves, a power of two, by rising node index (RFC 9420, Appendix C). Contracts
+/// see a ratchet tree. If a call fails, the nodes are unchanged.
 #[derive(Debug, Drop)]
 pub(crate) struct NodeArray {
     nodes: Vec<Option<Node>>,
@@ -42,7 +42,7 @@ pub(crate) struct NodeArray {
 
 impl Model for NodeArray {
     ghost use Rattle.mls_tree.specs.RatchetTree.{RatchetTree, ratchet_tree_coded};
-    ghost use Rattle.mls_tree.specs.Array.{ratchet_tree_in, IsArrayOf};
+    ghost use Rattle.mls_tree.specs.NodeArray.{ratchet_tree_in, IsArrayOf};
 
     ghost Value = { RatchetTree };
 
@@ -54,9 +54,13 @@ impl Model for NodeArray {
 }
 
 impl NodeArray {
-    /// The tree of these nodes, in the order of their places (RFC 9420, Appendix C). A vector that holds no tree comes back: with
-    /// `BadShape` where its length is not `2 * n - 1` for a power of two `n`, then with `TooManyLeaves` where `n` is above 1,048,576, then
-    /// with `BadShape` where a parent stands at an even place or a leaf at an odd one. Takes no memory.
+    /// Creates the tree of these nodes, by rising node index (RFC 9420, Appendix C). Does not allocate.
+    ///
+    /// # Errors
+    ///
+    /// The vector is returned with the first that applies: `BadShape` if its length is not `2 * n - 1` for a power of
+    /// two `n`; `TooManyLeaves` if `n` is above 1,048,576; `BadShape` if a parent is at an even index or a leaf at an
+    /// odd one.
     pub(crate) fn from_nodes(
         nodes: Vec<Option<Node>>,
     ) -> Result<NodeArray, (TreeError, Vec<Option<Node>>)>
@@ -79,8 +83,11 @@ impl NodeArray {
         Ok(NodeArray { nodes, height })
     }
 
-    /// The tree of so many leaves with no set node. `BadShape` where `leaves` is no power of two, else `TooManyLeaves` where it is above
-    /// 1,048,576.
+    /// Creates a tree of `leaves` leaves, all of whose nodes are blank.
+    ///
+    /// # Errors
+    ///
+    /// `BadShape` if `leaves` is no power of two, else `TooManyLeaves` if it is above 1,048,576.
     pub(crate) fn blank(alloc: Global, leaves: u32) -> Result<NodeArray, TreeError>
         ensures leaves { IfOk result (λ t. leaf_count t.tree ≡ leaves) }
         ensures blank { IfOk result (λ t. t.tree ≡ blank_tree (height t.tree)) }
@@ -98,7 +105,7 @@ impl NodeArray {
         Ok(NodeArray { nodes, height })
     }
 
-    /// How many halvings lead to a leaf.
+    /// Returns the height of the tree.
     pub(crate) fn height(&self) -> u32
         ensures value { result ≡ height self.now.tree }
         ensures low { result ≤ 20 }
@@ -106,21 +113,21 @@ impl NodeArray {
         self.height
     }
 
-    /// How many leaves the tree has, blank ones among them.
+    /// Returns the number of leaves, blank ones included.
     pub(crate) fn leaf_count(&self) -> u32
         ensures { result ≡ leaf_count self.now.tree }
     {
         leaves_of(self.height)
     }
 
-    /// How many leaves are set: the members of the group.
+    /// Returns the number of non-blank leaves: the members of the group.
     pub(crate) fn member_count(&self) -> u32
         ensures { result ≡ member_count self.now.tree }
     {
         count_leaves(self.nodes.as_slice()) as u32
     }
 
-    /// The count of the tree, by those of its parents.
+    /// Returns the count of the whole tree, by the counts of its parents.
     pub(crate) fn total(&self, counts: &[Count]) -> Count
         requires count { length counts.now + 1 ≡ leaf_count self.now.tree }
         requires counts { AreCounts 0 self.now.tree counts.now }
@@ -129,10 +136,10 @@ impl NodeArray {
         count_of(self.nodes.as_slice(), counts, self.height, 0)
     }
 
-    /// Sets the counts of the parents above a leaf, where the others are right.
+    /// Sets the counts of the parents above a leaf. The other counts must be right.
     pub(crate) fn recount(&self, counts: &mut [Count], leaf: u32)
         requires count { length counts.old + 1 ≡ leaf_count self.now.tree }
-        requires beside { AreBeside 0 self.now.tree leaf counts.old }
+        requires beside { AreOutside 0 self.now.tree leaf counts.old }
         ensures count { length counts.new ≡ length counts.old }
         ensures counts { AreCounts 0 self.now.tree counts.new }
     {
@@ -148,14 +155,14 @@ impl NodeArray {
         count_all(self.nodes.as_slice(), counts, self.height, 0);
     }
 
-    /// All nodes, in the order of their places.
+    /// Returns all nodes, by rising node index.
     pub(crate) fn nodes(&self) -> &[Option<Node>]
         ensures { map entry_value result.now ≡ listing self.now.tree }
     {
         self.nodes.as_slice()
     }
 
-    /// The node at a place. None where it is blank or the tree has no such place.
+    /// Returns the node at node index `place`. `None` if it is blank or there is none.
     pub(crate) fn node(&self, place: u32) -> Option<&Node>
         ensures { option_map (λ n. node_value n.now) result ≡ node_at self.now.tree place }
     {
@@ -165,7 +172,7 @@ impl NodeArray {
         }
     }
 
-    /// The leaf of an index. None where it is blank or the tree has no such leaf.
+    /// Returns a leaf by its leaf index. `None` if it is blank or there is none.
     pub(crate) fn leaf(&self, index: u32) -> Option<&LeafNode>
         ensures { option_copied result ≡ leaf_at 0 self.now.tree index }
     {
@@ -175,7 +182,8 @@ impl NodeArray {
         }
     }
 
-    /// The index of the leftmost blank leaf, by the counts of the tree's parents where there are any. None where all leaves are set.
+    /// Returns the leaf index of the leftmost blank leaf. `None` if every leaf is non-blank. Uses the counts of the
+    /// tree's parents, if there are any.
     pub(crate) fn first_blank_leaf(&self, counts: Option<&[Count]>) -> Option<u32>
         requires { AreCountsIfAny (option_copied counts) 0 self.now.tree }
         ensures first { result ≡ first_blank_leaf 0 self.now.tree }
@@ -185,8 +193,8 @@ impl NodeArray {
         self.next_blank_leaf(counts, 0)
     }
 
-    /// The index of the leftmost blank leaf among those from `start` on, by the counts of the tree's parents where there are any. None
-    /// where all of them are set, or the tree has no leaf `start`.
+    /// Returns the leaf index of the leftmost blank leaf from `start` on. `None` if there is none. Uses the counts of
+    /// the tree's parents, if there are any.
     pub(crate) fn next_blank_leaf(&self, counts: Option<&[Count]>, start: u32) -> Option<u32>
         requires { AreCountsIfAny (option_copied counts) 0 self.now.tree }
         ensures { result ≡ next_blank_leaf start 0 self.now.tree }
@@ -199,7 +207,7 @@ impl NodeArray {
         }
     }
 
-    // The same, leaf by leaf.
+    // As `next_blank_leaf`, leaf by leaf.
     fn search_blank_leaf(&self, start: u32) -> Option<u32>
         ensures { result ≡ next_blank_leaf start 0 self.now.tree }
     {
@@ -211,7 +219,8 @@ impl NodeArray {
         None
     }
 
-    /// The places of the parents above a leaf, the lowest first (RFC 9420, 4.1.2). `NoSuchNode` where the tree has no such leaf.
+    /// Returns the direct path of a leaf, lowest node first (RFC 9420, 4.1.2). `NoSuchNode` if the tree has no such
+    /// leaf.
     pub(crate) fn direct_path(&self, alloc: Global, leaf: u32) -> Result<Vec<u32>, TreeError>
         ensures places { IfOk result (λ v. v.items ≡ direct_path 0 self.now.tree leaf) }
         ensures no_such_node { (result ≡ Err TreeError.NoSuchNode)
@@ -227,8 +236,7 @@ impl NodeArray {
         Ok(out)
     }
 
-    /// The places of the siblings of a leaf and of each node above it but the root, the lowest first (RFC 9420, 4.1.2). `NoSuchNode`
-    /// where the tree has no such leaf.
+    /// Returns the copath of a leaf, lowest node first (RFC 9420, 4.1.2). `NoSuchNode` if the tree has no such leaf.
     pub(crate) fn copath(&self, alloc: Global, leaf: u32) -> Result<Vec<u32>, TreeError>
         ensures places { IfOk result (λ v. v.items ≡ copath 0 self.now.tree leaf) }
         ensures no_such_node { (result ≡ Err TreeError.NoSuchNode)
@@ -244,8 +252,8 @@ impl NodeArray {
         Ok(out)
     }
 
-    /// The places of those parents above a leaf whose child on the copath has a resolution that is not empty, the lowest first (RFC 9420,
-    /// 4.1.2), by the counts of the tree's parents where there are any. `NoSuchNode` where the tree has no such leaf.
+    /// Returns the filtered direct path of a leaf, lowest node first (RFC 9420, 4.1.2). `NoSuchNode` if the tree has no
+    /// such leaf. Uses the counts of the tree's parents, if there are any.
     pub(crate) fn filtered_direct_path(
         &self,
         alloc: Global,
@@ -269,8 +277,8 @@ impl NodeArray {
         Ok(out)
     }
 
-    /// The places of the resolution of the node at a place (RFC 9420, 4.1.1): a set node and its unmerged leaves, or of a blank one what
-    /// its children resolve to. An unmerged leaf that the tree does not have is left out. `NoSuchNode` where the tree has no such place.
+    /// Returns the resolution of the node at node index `place` (RFC 9420, 4.1.1). Unmerged leaves that the tree
+    /// doesn't have are left out. `NoSuchNode` if the tree has no such node.
     pub(crate) fn resolution(&self, alloc: Global, place: u32) -> Result<Vec<u32>, TreeError>
         ensures places { IfOk result (λ v. resolution_at self.now.tree place ≡ Some v.items) }
         ensures no_such_node { (result ≡ Err TreeError.NoSuchNode)
@@ -288,9 +296,11 @@ impl NodeArray {
         Ok(out)
     }
 
-    /// Whether the resolution of the node at a place (RFC 9420, 4.1.1) has so many places beside those in `without`. Takes no memory, and
-    /// goes no further than it finds `len` places and those of `without`; where there are counts of the tree's parents, it passes by the
-    /// parts that have no set node. `NoSuchNode` where the tree has no such place.
+    /// Returns whether the resolution of the node at node index `place` (RFC 9420, 4.1.1) has exactly `len` nodes
+    /// besides those in `without`. `NoSuchNode` if the tree has no such node.
+    ///
+    /// Does not allocate, and stops as soon as it finds one node more. If there are counts of the tree's parents,
+    /// subtrees of blank nodes are passed by.
     pub(crate) fn has_resolution_len(
         &self,
         counts: Option<&[Count]>,
@@ -300,7 +310,7 @@ impl NodeArray {
     ) -> Result<bool, TreeError>
         requires { AreCountsIfAny (option_copied counts) 0 self.now.tree }
         ensures answer { IfOk result (λ b. IfSome (resolution_at self.now.tree place)
-            (λ ps. b ≡ (count_beside without.now ps == len))) }
+            (λ ps. b ≡ (count_not_in without.now ps == len))) }
         ensures no_such_node { (result ≡ Err TreeError.NoSuchNode)
             ↔ (resolution_at self.now.tree place ≡ None) }
         ensures else_no_such { IfErr result (λ e. e ≡ TreeError.NoSuchNode) }
@@ -317,7 +327,7 @@ impl NodeArray {
         }
     }
 
-    /// A tree with the same nodes.
+    /// Returns a copy.
     pub(crate) fn try_clone(&self, alloc: Global) -> Result<NodeArray, AllocError>
         ensures { IfOk result (λ t. t ≡ self.now) }
     {
@@ -330,7 +340,7 @@ impl NodeArray {
         })
     }
 
-    /// Replaces a leaf, by a blank one for None. `NoSuchNode` where the tree has no such leaf; the leaf handed in then comes back.
+    /// Replaces a leaf; `None` makes it blank. If the tree has no such leaf, returns `NoSuchNode` and the given leaf.
     pub(crate) fn set_leaf(
         &mut self,
         index: u32,
@@ -349,8 +359,8 @@ impl NodeArray {
         Ok(())
     }
 
-    /// Replaces the parent at a place, by a blank one for None. `NoSuchNode` where the tree has no such place or it is that of a leaf; the
-    /// parent handed in then comes back.
+    /// Replaces the parent at node index `place`; `None` makes it blank. If the tree has no such parent, returns
+    /// `NoSuchNode` and the given parent.
     pub(crate) fn put_parent(
         &mut self,
         place: u32,
@@ -369,7 +379,7 @@ impl NodeArray {
         Ok(())
     }
 
-    /// Replaces a leaf, by a blank one for None, and hands out the one that stood there. Takes no memory.
+    /// Replaces a leaf, and returns the former one; `None` makes it blank. Does not allocate.
     pub(crate) fn replace_leaf(
         &mut self,
         index: u32,
@@ -384,7 +394,7 @@ impl NodeArray {
         into_leaf(former)
     }
 
-    /// Replaces a parent, by a blank one for None, and hands out the one that stood there. Takes no memory.
+    /// Replaces a parent, and returns the former one; `None` makes it blank. Does not allocate.
     pub(crate) fn replace_parent(
         &mut self,
         place: u32,
@@ -399,7 +409,8 @@ impl NodeArray {
         into_parent(former)
     }
 
-    /// Makes the parents above a leaf blank (RFC 9420, 12.1.2 and 12.1.3). The leaf stays. `NoSuchNode` where the tree has no such leaf.
+    /// Makes blank the parents above a leaf (RFC 9420, 12.1.2 and 12.1.3), but not the leaf. `NoSuchNode` if the tree
+    /// has no such leaf.
     pub(crate) fn blank_path(&mut self, index: u32) -> Result<(), TreeError>
         ensures ok { OnOk result (self.new.tree ≡ clear_path self.old.tree index) }
         ensures err { OnErr result (self.new ≡ self.old) }
@@ -415,9 +426,14 @@ impl NodeArray {
         Ok(())
     }
 
-    /// Puts a leaf's index into the list of unmerged leaves of each set parent above it, before the first entry that is not less (RFC 9420,
-    /// 12.1.1). A list that has the index stays. `NoSuchNode` where the tree has no such leaf, else `TooManyLeaves` where a list without
-    /// the index has 1,048,576 entries: both are judged before any memory is taken. All new lists are made before one is put in place.
+    /// Adds a leaf index to the unmerged leaves of each non-blank parent above the leaf (RFC 9420, 12.1.1), before the
+    /// first entry that is not less. A list that has the leaf index is unchanged. All new lists are made before one is
+    /// put in place.
+    ///
+    /// # Errors
+    ///
+    /// `NoSuchNode` if the tree has no such leaf, else `TooManyLeaves` if a list without the leaf index has 1,048,576
+    /// entries. Both are checked before anything is allocated.
     pub(crate) fn add_unmerged(&mut self, alloc: Global, index: u32) -> Result<(), TreeError>
         ensures ok { OnOk result (self.new.tree ≡ enter_unmerged self.old.tree index) }
         ensures err { OnErr result (self.new ≡ self.old) }
@@ -443,16 +459,16 @@ impl NodeArray {
         Ok(())
     }
 
-    /// Whether the list of a set parent above a leaf is full and doesn't have the leaf's index.
+    /// Returns whether a non-blank parent above a leaf has a full list of unmerged leaves without this leaf index.
     pub(crate) fn is_overfull(&self, index: u32) -> bool
         ensures { result ≡ is_overfilled_above 0 self.now.tree index }
     {
         is_overfilled_above(self.nodes.as_slice(), self.height, 0, index)
     }
 
-    /// Puts a leaf's index into the list of the parent at a place, in place, unless that is blank or its list has the
-    /// index. Tells whether the list has changed.
-    pub(crate) fn enter_at(&mut self, place: u32, index: u32) -> Result<bool, AllocError>
+    /// Adds a leaf index to the unmerged leaves of the parent at node index `place`, in place, unless the parent is
+    /// blank or has that leaf index. Returns whether the list has changed.
+    pub(crate) fn insert_unmerged_at(&mut self, place: u32, index: u32) -> Result<bool, AllocError>
         requires there { IsParentPlace self.old.tree place }
         requires room { is_overfilled index (parent_of (node_at self.old.tree place)) ≡ false }
         ensures entered { OnOk result
@@ -470,7 +486,8 @@ impl NodeArray {
         changed
     }
 
-    /// Takes a leaf's index out of the list of the parent at a place, where there is one that has it. Takes no memory.
+    /// Removes a leaf index from the unmerged leaves of the parent at node index `place`, if it is there. Does not
+    /// allocate.
     pub(crate) fn leave_at(&mut self, place: u32, index: u32)
         ensures { self.new.tree ≡ change_parent (without_unmerged index) 0 self.old.tree place }
     {
@@ -484,7 +501,7 @@ impl NodeArray {
         self.replace_parent(place, Some(parent));
     }
 
-    /// Takes the left half of the tree, where there is one. Takes no memory.
+    /// Replaces the tree by its left subtree, if it has one. Does not allocate.
     pub(crate) fn cut(&mut self)
         ensures { self.new.tree ≡ left_half self.old.tree }
     {
@@ -496,7 +513,8 @@ impl NodeArray {
         self.height = below;
     }
 
-    /// Whether the tree has halves, and the right one has no set leaf, by the counts of the tree's parents where there are any.
+    /// Returns whether the tree has a right subtree without a non-blank leaf. Uses the counts of the tree's parents, if
+    /// there are any.
     pub(crate) fn can_be_halved(&self, counts: Option<&[Count]>) -> bool
         requires { AreCountsIfAny (option_copied counts) 0 self.now.tree }
         ensures halves { OnTrue result (IsBranch self.now.tree) }
@@ -511,8 +529,8 @@ impl NodeArray {
         !counts_set_leaf(self.nodes.as_slice(), counts, below, leaves_of(below))
     }
 
-    /// Takes the left half of the tree for as long as there is one and the right half has no set leaf (RFC 9420, 7.7), by the counts of
-    /// the tree's parents where there are any. Takes no memory.
+    /// Truncates the tree (RFC 9420, 7.7): replaces it by its left subtree as long as its right subtree has no
+    /// non-blank leaf. Does not allocate. Uses the counts of the tree's parents, if there are any.
     pub(crate) fn truncate(&mut self, counts: Option<&[Count]>)
         requires { AreCountsIfAny (option_copied counts) 0 self.old.tree }
         ensures { self.new.tree ≡ shrink self.old.tree }
@@ -522,7 +540,7 @@ impl NodeArray {
         }
     }
 
-    /// Takes the left half out of the tree, which has blank nodes there then.
+    /// Takes out and returns the left subtree. The tree has blank nodes in its place.
     pub(crate) fn take_left(&mut self, alloc: Global) -> Result<NodeArray, AllocError>
         requires { IsBranch self.old.tree }
         ensures left { IfOk result (λ l. l.tree ≡ left_half self.old.tree) }
@@ -532,7 +550,7 @@ impl NodeArray {
         let below = self.height - 1;
         let mut nodes = Vec::new(alloc);
         push_blanks(&mut nodes, 2 * leaves_of(below) - 1)?;
-        swap_front(&mut self.nodes, &mut nodes);
+        swap_prefix(&mut self.nodes, &mut nodes);
         let left = NodeArray {
             nodes,
             height: below,
@@ -540,20 +558,20 @@ impl NodeArray {
         Ok(left)
     }
 
-    /// Puts the tree in the place of the left half of another one, and that one in its place. A tree of another
-    /// height stays. Takes no memory.
+    /// Replaces the left subtree of `whole` by this tree, and this tree by the result. A tree of another height is
+    /// unchanged. Does not allocate.
     pub(crate) fn rejoin(&mut self, mut whole: NodeArray)
         ensures { self.new.tree ≡ rejoined self.old.tree whole.tree }
     {
         if self.height + 1 != whole.height {
             return;
         }
-        swap_front(&mut whole.nodes, &mut self.nodes);
+        swap_prefix(&mut whole.nodes, &mut self.nodes);
         *self = whole;
     }
 
-    /// Doubles the tree, which becomes the left half of one whose other nodes are blank (RFC 9420, 7.7). `TooManyLeaves` where the tree has
-    /// 1,048,576 leaves.
+    /// Extends the tree (RFC 9420, 7.7): it becomes the left subtree of one twice as large, whose other nodes are
+    /// blank. `TooManyLeaves` if the tree has 1,048,576 leaves.
     pub(crate) fn extend(&mut self) -> Result<(), TreeError>
         ensures ok { OnOk result (self.new.tree ≡ grow self.old.tree) }
         ensures err { OnErr result (self.new ≡ self.old) }

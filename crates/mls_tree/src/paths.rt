@@ -1,20 +1,21 @@
-//! Walks that collect the places of a path from a leaf to the root (RFC 9420, 4.1.2), the lowest first.
+//! Walks that collect the node indices of a path from a leaf to the root (RFC 9420, 4.1.2), lowest node first.
 //!
-//! Each walks a subtree given by its height `level` and the index of its first leaf `first`, and goes at most 20 halves deep.
+//! Each walk is over a subtree, given by its height `level` and the index of its first leaf `first`. The depth of
+//! recursion is at most 20.
 ghost use Rattle.std.specs.Prelude.{◌≡◌, ℕ, ◌≤◌, ◌+◌, ◌*◌, ◌-◌, ◌++◌, length, OnOk, option_copied};
 ghost use Rattle.mls_nodes.specs.Limits.{leaf_limit};
 ghost use Rattle.mls_tree.specs.Tree.{Tree, height, leaves_at, IsPerfect};
-ghost use Rattle.mls_tree.specs.Array.{tree_in};
+ghost use Rattle.mls_tree.specs.NodeArray.{tree_in};
 ghost use Rattle.mls_tree.specs.Paths.{direct_path, copath, filtered_direct_path};
-ghost use Rattle.mls_tree.specs.CountsSeen.{AreCountsIfAny};
+ghost use Rattle.mls_tree.specs.CountsModel.{AreCountsIfAny};
 
-use crate::count::Count;
 use crate::resolution::counts_resolution;
-use crate::sizes::leaves_of;
+use crate::subtree_counts::Count;
+use crate::tree_size::leaves_of;
 use mls_nodes::Node;
 use std::alloc::AllocError;
 
-/// Adds the places of the parents above a leaf of the subtree.
+/// Appends the direct path of a leaf in the subtree.
 pub(crate) fn push_direct_path(
     out: &mut Vec<u32>,
     level: u32,
@@ -40,7 +41,7 @@ pub(crate) fn push_direct_path(
     Ok(())
 }
 
-// The place of the root of the subtree.
+// Returns the node index of the subtree's root.
 fn root_of(level: u32, first: u32) -> u32
     requires low { level ≤ 20 }
     requires inside { first + leaves_at level ≤ leaf_limit }
@@ -49,7 +50,7 @@ fn root_of(level: u32, first: u32) -> u32
     2 * first + leaves_of(level) - 1
 }
 
-/// Adds the places of the roots of the halves away from a leaf of the subtree.
+/// Appends the copath of a leaf in the subtree.
 pub(crate) fn push_copath(
     out: &mut Vec<u32>,
     level: u32,
@@ -76,8 +77,8 @@ pub(crate) fn push_copath(
     Ok(())
 }
 
-/// Adds the places of those parents above a leaf of the subtree whose half away from it has a resolution that is not empty, by the
-/// counts of the subtree's parents where there are any.
+/// Appends the filtered direct path of a leaf in the subtree. Uses the counts of the subtree's parents, if there are
+/// any.
 pub(crate) fn push_filtered_direct_path(
     out: &mut Vec<u32>,
     nodes: &[Option<Node>],

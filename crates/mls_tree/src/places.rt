@@ -1,13 +1,14 @@
-//! The arithmetic of places (RFC 9420, Appendix C), on a place and the number of leaves of its tree. Leaf `i` stands at `2 * i`, the
-//! root at the number of leaves less one, and a node's level is the number of trailing one bits of its place.
+//! The arithmetic of node indices (RFC 9420, Appendix C), given a node index and the number of leaves of its tree. Leaf
+//! `i` has the node index `2 * i`, the root the number of leaves minus one. The level of a node is the number of
+//! trailing one bits of its node index.
 ghost use Rattle.std.specs.Prelude.{◌≡◌, ◌≢◌, ℕ, MatchOption, Some, None};
 ghost use Rattle.mls_tree.specs.RatchetTree.{RatchetTree};
 ghost use Rattle.mls_tree.specs.Tree.{leaf_count, root_place};
-ghost use Rattle.mls_tree.specs.Places.{level_at, left_at, right_at, IsParentOf, AreSiblings, HasLevel, IsOutside};
+ghost use Rattle.mls_tree.specs.NodeIndices.{level_at, left_at, right_at, IsParentOf, AreSiblings, HasLevel, IsOutside};
 
-use crate::sizes::{height_of, leaves_of};
+use crate::tree_size::{height_of, leaves_of};
 
-/// The place of the root of a tree of so many leaves. None where `leaves` is no power of two from 1 to 1,048,576.
+/// Returns the node index of the root. `None` if `leaves` is no power of two from 1 to 1,048,576.
 pub fn root(leaves: u32) -> Option<u32>
     ensures found { (t : RatchetTree) → leaf_count t.tree ≡ leaves
         → result ≡ Some (root_place 0 t.tree) }
@@ -19,7 +20,7 @@ pub fn root(leaves: u32) -> Option<u32>
     }
 }
 
-/// The level of a place, where a tree of so many leaves has it.
+/// Returns the level of a node index that a tree of `leaves` leaves has.
 pub(crate) fn level_inside(place: u32, leaves: u32) -> Option<u32>
     ensures { MatchOption result (IsOutside place leaves) (λ level. HasLevel place leaves level) }
 {
@@ -35,8 +36,8 @@ pub(crate) fn level_inside(place: u32, leaves: u32) -> Option<u32>
     }
 }
 
-/// The level of a place: 0 for a leaf, and one more than its children's for a parent. None where `leaves` is no power of two from 1 to
-/// 1,048,576, or the tree of so many leaves has no such place.
+/// Returns the level of a node: 0 for a leaf, and one more than its children's for a parent. `None` if `leaves` is no
+/// power of two from 1 to 1,048,576, or a tree of `leaves` leaves has no such node index.
 pub fn level(place: u32, leaves: u32) -> Option<u32>
     ensures found { (t : RatchetTree) → leaf_count t.tree ≡ leaves
         → result ≡ level_at t.tree place }
@@ -48,7 +49,7 @@ pub fn level(place: u32, leaves: u32) -> Option<u32>
     }
 }
 
-/// The place of a parent's left child. None also where `level` is, and for a leaf.
+/// Returns the node index of a parent's left child. `None` for a leaf, and where [`level`] is `None`.
 pub fn left(place: u32, leaves: u32) -> Option<u32>
     ensures found { (t : RatchetTree) → leaf_count t.tree ≡ leaves → result ≡ left_at t.tree place }
     ensures no_tree { ((t : RatchetTree) → leaf_count t.tree ≢ leaves) → result ≡ None }
@@ -60,7 +61,7 @@ pub fn left(place: u32, leaves: u32) -> Option<u32>
     Some(place - leaves_of(level - 1))
 }
 
-/// The place of a parent's right child. None also where `level` is, and for a leaf.
+/// Returns the node index of a parent's right child. `None` for a leaf, and where [`level`] is `None`.
 pub fn right(place: u32, leaves: u32) -> Option<u32>
     ensures found { (t : RatchetTree) → leaf_count t.tree ≡ leaves
         → result ≡ right_at t.tree place }
@@ -73,7 +74,7 @@ pub fn right(place: u32, leaves: u32) -> Option<u32>
     Some(place + leaves_of(level - 1))
 }
 
-/// The place of the parent of a node. None also where `level` is, and for the root.
+/// Returns the node index of a node's parent. `None` for the root, and where [`level`] is `None`.
 pub fn parent(place: u32, leaves: u32) -> Option<u32>
     ensures found { (t : RatchetTree) → leaf_count t.tree ≡ leaves
         → MatchOption result ((q : ℕ) → ¬ IsParentOf t.tree q place)
@@ -91,7 +92,7 @@ pub fn parent(place: u32, leaves: u32) -> Option<u32>
     }
 }
 
-/// The place of the other child of a node's parent. None also where `level` is, and for the root.
+/// Returns the node index of a node's sibling. `None` for the root, and where [`level`] is `None`.
 pub fn sibling(place: u32, leaves: u32) -> Option<u32>
     ensures found { (t : RatchetTree) → leaf_count t.tree ≡ leaves
         → MatchOption result ((u : ℕ) → ¬ AreSiblings t.tree place u)

@@ -1,26 +1,27 @@
-//! The public tree of a group: its nodes, and the hashes of subtrees that it keeps.
+//! The public tree of a group: its nodes, and a cache of the tree hashes of its subtrees.
 ghost use Rattle.std.specs.Prelude.{◌≡◌, ◌≢◌, ◌≤◌, ◌<◌, ◌-◌, ◌*◌, ◌∷◌, ◌==◌, [], length, take, replicate, IfOk, IfErr, IfSome, Err, MatchOption, OnOk, OnErr, IsOk, IsErr, ◌↔◌, ◌⊎◌, None, Some, false, map, option_map, option_copied, slice_get, slice_set, IsSome};
 ghost use Rattle.std.specs.Bool.{OnTrue, OnFalse};
+ghost use Rattle.mls_tree.specs.CellChanges.{rejoined_cells, CellsAgreeExceptAt};
 ghost use Rattle.mls_nodes.specs.Limits.{leaf_limit};
-ghost use Rattle.mls_nodes.specs.Value.{entry_value, node_value};
+ghost use Rattle.mls_nodes.specs.NodeModel.{entry_value, node_value};
 ghost use Rattle.mls_tree.specs.Tree.{leaf_count, member_count, height, listing, node_at, leaf_at, IsBranch, IsParentPlace};
-ghost use Rattle.mls_tree.specs.Paths.{direct_path, copath, filtered_direct_path, resolution_at, count_beside};
-ghost use Rattle.mls_tree.specs.Blanks.{first_blank_leaf, next_blank_leaf, IsFirstBlank, AllLeavesSet};
-ghost use Rattle.mls_tree.specs.Changes.{put_leaf, put_parent, clear_path, change_parent, with_unmerged, without_unmerged, enter_unmerged, is_overfilled, is_overfilled_above, IsOverfull, shrink, blank_tree, grow, left_half, rejoined};
-ghost use Rattle.mls_tree.specs.Parts.{parent_of};
-ghost use Rattle.mls_tree.specs.Sizes.{IsPowerOfTwo, IsTooLong, IsListing};
-ghost use Rattle.mls_tree.specs.Cells.{emptied, empty_count, extended, parents_from, hash_in, IsRightHash, AreAllFilled};
+ghost use Rattle.mls_tree.specs.Paths.{direct_path, copath, filtered_direct_path, resolution_at, count_not_in};
+ghost use Rattle.mls_tree.specs.BlankLeaves.{first_blank_leaf, next_blank_leaf, IsFirstBlank, AllLeavesSet};
+ghost use Rattle.mls_tree.specs.TreeOperations.{put_leaf, put_parent, clear_path, change_parent, with_unmerged, without_unmerged, enter_unmerged, is_overfilled, is_overfilled_above, IsOverfull, shrink, blank_tree, grow, left_half, rejoined};
+ghost use Rattle.mls_tree.specs.NodeView.{parent_of};
+ghost use Rattle.mls_tree.specs.TreeSizes.{IsPowerOfTwo, IsTooLong, IsListing};
+ghost use Rattle.mls_tree.specs.HashCache.{emptied, empty_count, extended, parents_from, hash_in, IsRightHash, AreAllFilled};
 
-use crate::cell_changes::{
-    clone_cells, double, double_in_place, empty_leaf, empty_parents, empty_path, reserve_double,
-    truncate,
+use crate::cache_update::{
+    clone_cells, clone_front, double, empty_front, empty_leaf, empty_parents, empty_path,
+    join_cells, reserve_double, truncate,
 };
-use crate::cells::Cells;
-use crate::counts::{
+use crate::cached_counts::{
     Counts, clone_counts, count_anew, count_in_place, counts_in, recount, reserve_counts,
     truncate_counts,
 };
 use crate::error::TreeError;
+use crate::hash_cache::Cells;
 use crate::hash_kind::HashKind;
 use crate::hash_value::HashValue;
 use crate::node_array::NodeArray;
@@ -30,14 +31,16 @@ use std::collections::BTreeSet;
 use std::marker::Model;
 use std::mem;
 
-/// The public tree of a group (RFC 9420, 4.1.1): a perfect binary tree of 1 to 1,048,576 leaves, a power of two, whose leaves and parents
-/// are each blank or set. A call that is refused leaves the tree as it was.
+/// The public tree of a group (RFC 9420, 4.1.1): a perfect binary tree of 1 to 1,048,576 leaves, a power of two, whose
+/// leaves and parents may be blank. If a call fails, the tree is unchanged.
 ///
-/// It may keep, beside its nodes, a cell for the tree hash of the subtree at each place (RFC 9420, 7.8). A cell is empty, or the hash in it
-/// is right: each call that changes the tree empties the cells of the subtrees that it changes, and no other.
+/// The tree may have a cache: a slot per node for the tree hash of the subtree there (RFC 9420, 7.8). A slot is empty
+/// or its hash is right. Each call that changes the tree empties the slots of the subtrees that it changes, and no
+/// others.
 ///
-/// A tree with cells also counts the leaves and the nodes set under each parent, and so tells its members, its blank leaves, a filtered
-/// direct path and whether its right half is empty without going through its nodes.
+/// A tree with a cache also counts the non-blank leaves and nodes under each parent. With these counts it finds the
+/// number of members, the blank leaves, a filtered direct path, and whether its right subtree is empty, without a walk
+/// over its nodes.
 #[derive(Debug, Drop)]
 pub struct PublicTree {
     tree: NodeArray,
@@ -46,10 +49,10 @@ pub struct PublicTree {
 }
 
 impl Model for PublicTree {
-    ghost use Rattle.mls_tree.specs.KeptTree.{KeptTree, kept_tree_coded};
-    ghost use Rattle.mls_tree.specs.Cells.{AreCellsOf};
-    ghost use Rattle.mls_tree.specs.CellsSeen.{kind_in, cells_in};
-    ghost use Rattle.mls_tree.specs.CountsSeen.{AreCountsIn};
+    ghost use Rattle.mls_tree.specs.PublicTreeModel.{KeptTree, kept_tree_coded};
+    ghost use Rattle.mls_tree.specs.HashCache.{AreCellsOf};
+    ghost use Rattle.mls_tree.specs.CacheModel.{kind_in, cells_in};
+    ghost use Rattle.mls_tree.specs.CountsModel.{AreCountsIn};
 
     ghost Value = { KeptTree };
 
@@ -62,9 +65,14 @@ impl Model for PublicTree {
 }
 
 impl PublicTree {
-    /// The tree of these nodes, in the order of their places (RFC 9420, Appendix C). A vector that holds no tree comes back: with
-    /// `BadShape` where its length is not `2 * n - 1` for a power of two `n`, then with `TooManyLeaves` where `n` is above 1,048,576, then
-    /// with `BadShape` where a parent stands at an even place or a leaf at an odd one. Takes no memory.
+    /// Creates the tree of these nodes, by rising node index (RFC 9420, Appendix C). Does not allocate. The tree has no
+    /// cache.
+    ///
+    /// # Errors
+    ///
+    /// The vector is returned with the first that applies: `BadShape` if its length is not `2 * n - 1` for a power of
+    /// two `n`; `TooManyLeaves` if `n` is above 1,048,576; `BadShape` if a parent is at an even index or a leaf at an
+    /// odd one.
     pub fn from_nodes(
         nodes: Vec<Option<Node>>,
     ) -> Result<PublicTree, (TreeError, Vec<Option<Node>>)>
@@ -87,8 +95,11 @@ impl PublicTree {
         })
     }
 
-    /// The tree of so many leaves with no set node. `BadShape` where `leaves` is no power of two, else `TooManyLeaves` where it is above
-    /// 1,048,576. The tree has no cells.
+    /// Creates a tree of `leaves` leaves, all of whose nodes are blank. The tree has no cache.
+    ///
+    /// # Errors
+    ///
+    /// `BadShape` if `leaves` is no power of two, else `TooManyLeaves` if it is above 1,048,576.
     pub fn blank(alloc: Global, leaves: u32) -> Result<PublicTree, TreeError>
         ensures leaves { IfOk result (λ t. leaf_count t.tree ≡ leaves) }
         ensures blank { IfOk result (λ t. t.tree ≡ blank_tree (height t.tree)) }
@@ -110,14 +121,14 @@ impl PublicTree {
         })
     }
 
-    /// How many leaves the tree has, blank ones among them.
+    /// Returns the number of leaves, blank ones included.
     pub fn leaf_count(&self) -> u32
         ensures { result ≡ leaf_count self.now.tree }
     {
         self.tree.leaf_count()
     }
 
-    /// How many leaves are set: the members of the group.
+    /// Returns the number of non-blank leaves: the members of the group.
     pub fn member_count(&self) -> u32
         ensures { result ≡ member_count self.now.tree }
     {
@@ -127,28 +138,28 @@ impl PublicTree {
         }
     }
 
-    /// All nodes, in the order of their places.
+    /// Returns all nodes, by rising node index.
     pub fn nodes(&self) -> &[Option<Node>]
         ensures { map entry_value result.now ≡ listing self.now.tree }
     {
         self.tree.nodes()
     }
 
-    /// The node at a place. None where it is blank or the tree has no such place.
+    /// Returns the node at node index `place`. `None` if it is blank or there is none.
     pub fn node(&self, place: u32) -> Option<&Node>
         ensures { option_map (λ n. node_value n.now) result ≡ node_at self.now.tree place }
     {
         self.tree.node(place)
     }
 
-    /// The leaf of an index. None where it is blank or the tree has no such leaf.
+    /// Returns a leaf by its leaf index. `None` if it is blank or there is none.
     pub fn leaf(&self, index: u32) -> Option<&LeafNode>
         ensures { option_copied result ≡ leaf_at 0 self.now.tree index }
     {
         self.tree.leaf(index)
     }
 
-    /// The index of the leftmost blank leaf. None where all leaves are set.
+    /// Returns the leaf index of the leftmost blank leaf. `None` if every leaf is non-blank.
     pub fn first_blank_leaf(&self) -> Option<u32>
         ensures first { result ≡ first_blank_leaf 0 self.now.tree }
         ensures leftmost { MatchOption result (AllLeavesSet self.now.tree)
@@ -157,15 +168,15 @@ impl PublicTree {
         self.tree.first_blank_leaf(counts_in(&self.counts))
     }
 
-    /// The index of the leftmost blank leaf among those from `start` on. None where all of them are set, or the tree has
-    /// no leaf `start`.
+    /// Returns the leaf index of the leftmost blank leaf from `start` on. `None` if there is none.
     pub fn next_blank_leaf(&self, start: u32) -> Option<u32>
         ensures { result ≡ next_blank_leaf start 0 self.now.tree }
     {
         self.tree.next_blank_leaf(counts_in(&self.counts), start)
     }
 
-    /// The places of the parents above a leaf, the lowest first (RFC 9420, 4.1.2). `NoSuchNode` where the tree has no such leaf.
+    /// Returns the direct path of a leaf, lowest node first (RFC 9420, 4.1.2). `NoSuchNode` if the tree has no such
+    /// leaf.
     pub fn direct_path(&self, alloc: Global, leaf: u32) -> Result<Vec<u32>, TreeError>
         ensures places { IfOk result (λ v. v.items ≡ direct_path 0 self.now.tree leaf) }
         ensures no_such_node { (result ≡ Err TreeError.NoSuchNode)
@@ -176,8 +187,7 @@ impl PublicTree {
         self.tree.direct_path(alloc, leaf)
     }
 
-    /// The places of the siblings of a leaf and of each node above it but the root, the lowest first (RFC 9420, 4.1.2). `NoSuchNode`
-    /// where the tree has no such leaf.
+    /// Returns the copath of a leaf, lowest node first (RFC 9420, 4.1.2). `NoSuchNode` if the tree has no such leaf.
     pub fn copath(&self, alloc: Global, leaf: u32) -> Result<Vec<u32>, TreeError>
         ensures places { IfOk result (λ v. v.items ≡ copath 0 self.now.tree leaf) }
         ensures no_such_node { (result ≡ Err TreeError.NoSuchNode)
@@ -188,8 +198,8 @@ impl PublicTree {
         self.tree.copath(alloc, leaf)
     }
 
-    /// The places of those parents above a leaf whose child on the copath has a resolution that is not empty, the lowest first (RFC 9420,
-    /// 4.1.2). `NoSuchNode` where the tree has no such leaf.
+    /// Returns the filtered direct path of a leaf, lowest node first (RFC 9420, 4.1.2). `NoSuchNode` if the tree has no
+    /// such leaf.
     pub fn filtered_direct_path(&self, alloc: Global, leaf: u32) -> Result<Vec<u32>, TreeError>
         ensures places { IfOk result
             (λ v. v.items ≡ filtered_direct_path (leaf_count self.now.tree) 0 self.now.tree leaf) }
@@ -202,8 +212,8 @@ impl PublicTree {
             .filtered_direct_path(alloc, counts_in(&self.counts), leaf)
     }
 
-    /// The places of the resolution of the node at a place (RFC 9420, 4.1.1): a set node and its unmerged leaves, or of a blank one what
-    /// its children resolve to. An unmerged leaf that the tree does not have is left out. `NoSuchNode` where the tree has no such place.
+    /// Returns the resolution of the node at node index `place` (RFC 9420, 4.1.1). Unmerged leaves that the tree
+    /// doesn't have are left out. `NoSuchNode` if the tree has no such node.
     pub fn resolution(&self, alloc: Global, place: u32) -> Result<Vec<u32>, TreeError>
         ensures places { IfOk result (λ v. resolution_at self.now.tree place ≡ Some v.items) }
         ensures no_such_node { (result ≡ Err TreeError.NoSuchNode)
@@ -214,9 +224,11 @@ impl PublicTree {
         self.tree.resolution(alloc, place)
     }
 
-    /// Whether the resolution of the node at a place (RFC 9420, 4.1.1) has so many places beside those in `without`. Takes no memory, and
-    /// goes no further than it finds `len` places and those of `without`; in a tree with cells it passes by the parts that have no set
-    /// node. `NoSuchNode` where the tree has no such place.
+    /// Returns whether the resolution of the node at node index `place` (RFC 9420, 4.1.1) has exactly `len` nodes
+    /// besides those in `without`. `NoSuchNode` if the tree has no such node.
+    ///
+    /// Does not allocate, and stops as soon as it finds one node more. With a cache, subtrees of blank nodes are passed
+    /// by.
     pub fn has_resolution_len(
         &self,
         place: u32,
@@ -224,7 +236,7 @@ impl PublicTree {
         len: usize,
     ) -> Result<bool, TreeError>
         ensures answer { IfOk result (λ b. IfSome (resolution_at self.now.tree place)
-            (λ ps. b ≡ (count_beside without.now ps == len))) }
+            (λ ps. b ≡ (count_not_in without.now ps == len))) }
         ensures no_such_node { (result ≡ Err TreeError.NoSuchNode)
             ↔ (resolution_at self.now.tree place ≡ None) }
         ensures else_no_such { IfErr result (λ e. e ≡ TreeError.NoSuchNode) }
@@ -233,7 +245,7 @@ impl PublicTree {
             .has_resolution_len(counts_in(&self.counts), place, without, len)
     }
 
-    /// The hash function by which the tree keeps hashes of its subtrees. None where it keeps none.
+    /// Returns the hash function of the cache. `None` if the tree has no cache.
     pub fn hash_kind(&self) -> Option<HashKind>
         ensures { result ≡ self.now.kind }
     {
@@ -243,7 +255,7 @@ impl PublicTree {
         }
     }
 
-    /// How many cells are empty: 0 where there are none.
+    /// Returns the number of empty cache slots: 0 without a cache.
     pub fn empty_cells(&self) -> u32
         ensures count { result ≡ empty_count self.now.cells }
         ensures most { result < 2 * leaf_count self.now.tree }
@@ -257,7 +269,7 @@ impl PublicTree {
         }
     }
 
-    /// The hash that is kept of the subtree at a place. None where its cell is empty, or there is none.
+    /// Returns the cached hash of the subtree at node index `place`. `None` if its slot is empty or there is none.
     pub fn kept_hash(&self, place: u32) -> Option<HashValue>
         ensures kept { result ≡ hash_in (slice_get self.now.cells place) }
         ensures right { IfSome result (IsRightHash self.now.kind self.now.tree place) }
@@ -268,8 +280,8 @@ impl PublicTree {
         }
     }
 
-    /// Gives each place an empty cell for hashes of this kind, where the tree has no cells or cells of another kind, and counts the set
-    /// leaves and nodes. Else it changes nothing.
+    /// Creates a cache of empty slots for hashes of this kind, and counts the non-blank leaves and nodes. Does nothing
+    /// if the tree has a cache of this kind.
     pub fn reserve_hashes(&mut self, alloc: Global, kind: HashKind) -> Result<(), AllocError>
         ensures tree { self.new.tree ≡ self.old.tree }
         ensures kind { OnOk result (self.new.kind ≡ Some kind) }
@@ -289,7 +301,7 @@ impl PublicTree {
         Ok(())
     }
 
-    /// Fills the cell of a place with the hash of the subtree there. Takes no memory.
+    /// Fills the cache slot at node index `place` with the hash of the subtree there. Does not allocate.
     pub fn keep_hash(&mut self, place: u32, hash: HashValue)
         requires { IsRightHash self.old.kind self.old.tree place hash }
         ensures tree { self.new.tree ≡ self.old.tree }
@@ -303,7 +315,7 @@ impl PublicTree {
         cells.put(place, hash);
     }
 
-    /// A tree with the same nodes.
+    /// Returns a tree with the same nodes and cache.
     pub fn try_clone(&self, alloc: Global) -> Result<PublicTree, AllocError>
         ensures { IfOk result (λ t. t ≡ self.now) }
     {
@@ -317,8 +329,12 @@ impl PublicTree {
         })
     }
 
-    /// Replaces a leaf, by a blank one for None: `put_leaf` in the definitions. `NoSuchNode` where the tree has no such leaf; the leaf
-    /// handed in then comes back. The cells of the leaf and of the parents above it are emptied.
+    /// Replaces a leaf; `None` makes it blank. Called `put_leaf` in the definitions. Empties the cache slots of the
+    /// leaf and of the parents above it.
+    ///
+    /// # Errors
+    ///
+    /// `NoSuchNode`, with the given leaf, if the tree has no such leaf.
     pub fn set_leaf(
         &mut self,
         index: u32,
@@ -340,8 +356,12 @@ impl PublicTree {
         Ok(())
     }
 
-    /// Replaces the parent at a place, by a blank one for None. `NoSuchNode` where the tree has no such place or it is that of a leaf; the
-    /// parent handed in then comes back. Its cell and those of the parents above it are emptied.
+    /// Replaces the parent at node index `place`; `None` makes it blank. Empties its cache slot and those of the
+    /// parents above it.
+    ///
+    /// # Errors
+    ///
+    /// `NoSuchNode`, with the given parent, if the tree has no such node or it is a leaf.
     pub fn put_parent(
         &mut self,
         place: u32,
@@ -363,7 +383,7 @@ impl PublicTree {
         Ok(())
     }
 
-    /// Replaces a leaf, by a blank one for None, and hands out the one that stood there. Takes no memory.
+    /// Replaces a leaf, and returns the former one; `None` makes it blank. Does not allocate.
     pub(crate) fn replace_leaf(
         &mut self,
         index: u32,
@@ -384,7 +404,7 @@ impl PublicTree {
         former
     }
 
-    /// Replaces a parent, by a blank one for None, and hands out the one that stood there. Takes no memory.
+    /// Replaces a parent, and returns the former one; `None` makes it blank. Does not allocate.
     pub(crate) fn replace_parent(
         &mut self,
         place: u32,
@@ -405,8 +425,8 @@ impl PublicTree {
         former
     }
 
-    /// Makes the parents above a leaf blank (RFC 9420, 12.1.2 and 12.1.3): `clear_path` in the definitions. The leaf stays. `NoSuchNode`
-    /// where the tree has no such leaf. The cells of these parents are emptied.
+    /// Makes blank the parents above a leaf (RFC 9420, 12.1.2 and 12.1.3), but not the leaf. Called `clear_path` in the
+    /// definitions. Empties the cache slots of these parents. `NoSuchNode` if the tree has no such leaf.
     pub fn blank_path(&mut self, index: u32) -> Result<(), TreeError>
         ensures ok { OnOk result (self.new.tree ≡ clear_path self.old.tree index) }
         ensures err { OnErr result (self.new ≡ self.old) }
@@ -424,10 +444,15 @@ impl PublicTree {
         Ok(())
     }
 
-    /// Puts a leaf's index into the list of unmerged leaves of each set parent above it, before the first entry that is not less (RFC 9420,
-    /// 12.1.1): `enter_unmerged` in the definitions. A list that has the index stays. `NoSuchNode` where the tree has no such leaf, else
-    /// `TooManyLeaves` where a list without the index has 1,048,576 entries: both are judged before any memory is taken. All new lists
-    /// are made before one is put in place. The cells of all parents above the leaf are emptied.
+    /// Adds a leaf index to the unmerged leaves of each non-blank parent above the leaf (RFC 9420, 12.1.1), before the
+    /// first entry that is not less. A list that has the leaf index is unchanged. Called `enter_unmerged` in the
+    /// definitions. All new lists are made before one is put in place. Empties the cache slots of all parents above the
+    /// leaf.
+    ///
+    /// # Errors
+    ///
+    /// `NoSuchNode` if the tree has no such leaf, else `TooManyLeaves` if a list without the leaf index has 1,048,576
+    /// entries. Both are checked before anything is allocated.
     pub fn add_unmerged(&mut self, alloc: Global, index: u32) -> Result<(), TreeError>
         ensures ok { OnOk result (self.new.tree ≡ enter_unmerged self.old.tree index) }
         ensures err { OnErr result (self.new ≡ self.old) }
@@ -450,7 +475,7 @@ impl PublicTree {
         Ok(())
     }
 
-    /// Empties the cells of the parents above a leaf.
+    /// Empties the cache slots of the parents above a leaf.
     pub(crate) fn empty_path(&mut self, index: u32)
         ensures tree { self.new.tree ≡ self.old.tree }
         ensures kind { self.new.kind ≡ self.old.kind }
@@ -461,16 +486,17 @@ impl PublicTree {
         empty_path(&mut self.cells, level, index);
     }
 
-    /// Whether the list of a set parent above a leaf is full and doesn't have the leaf's index.
+    /// Returns whether a non-blank parent above a leaf has a full list of unmerged leaves without this leaf index.
     pub(crate) fn is_overfull(&self, index: u32) -> bool
         ensures { result ≡ is_overfilled_above 0 self.now.tree index }
     {
         self.tree.is_overfull(index)
     }
 
-    /// Puts a leaf's index into the list of the parent at a place, in place, unless that is blank or its list has the
-    /// index. Tells whether the list has changed. The cell of the place and those of the parents above it are emptied.
-    pub(crate) fn enter_at(&mut self, place: u32, index: u32) -> Result<bool, AllocError>
+    /// Adds a leaf index to the unmerged leaves of the parent at node index `place`, in place, unless the parent is
+    /// blank or has that leaf index. Returns whether the list has changed. Empties the cache slots of the parent and of
+    /// those above it.
+    pub(crate) fn insert_unmerged_at(&mut self, place: u32, index: u32) -> Result<bool, AllocError>
         requires there { IsParentPlace self.old.tree place }
         requires room { is_overfilled index (parent_of (node_at self.old.tree place)) ≡ false }
         ensures entered { OnOk result
@@ -484,15 +510,33 @@ impl PublicTree {
             ≡ emptied self.old.cells (parents_from 0 self.old.tree place) }
     {
         let level = self.tree.height();
-        let changed = self.tree.enter_at(place, index);
+        let changed = self.tree.insert_unmerged_at(place, index);
         empty_parents(&mut self.cells, level, place);
         recount(&mut self.counts, &self.tree, place / 2);
         changed
     }
 
+    /// Puts a parent back at a place, where there is one. Takes no memory.
+    pub(crate) fn restore_parent(&mut self, place: u32, parent: Option<Box<ParentNode>>)
+        ensures put { self.new.tree
+            ≡ put_parent 0 self.old.tree place (option_map (λ b. b.value) parent) }
+        ensures kind { self.new.kind ≡ self.old.kind }
+        ensures cells { self.new.cells
+            ≡ emptied self.old.cells (parents_from 0 self.old.tree place) }
+    {
+        let level = self.tree.height();
+        drop(self.tree.put_parent(place, parent));
+        empty_parents(&mut self.cells, level, place);
+        recount(&mut self.counts, &self.tree, place / 2);
+    }
+
     /// Takes a leaf's index out of the list of the parent at a place, where there is one that has it. Takes no memory.
     pub(crate) fn leave_at(&mut self, place: u32, index: u32)
-        ensures { self.new.tree ≡ change_parent (without_unmerged index) 0 self.old.tree place }
+        ensures left { self.new.tree
+            ≡ change_parent (without_unmerged index) 0 self.old.tree place }
+        ensures kind { self.new.kind ≡ self.old.kind }
+        ensures cells { self.new.cells
+            ≡ emptied self.old.cells (parents_from 0 self.old.tree place) }
     {
         let level = self.tree.height();
         self.tree.leave_at(place, index);
@@ -500,9 +544,12 @@ impl PublicTree {
         recount(&mut self.counts, &self.tree, place / 2);
     }
 
-    /// Takes the left half of the tree, where there is one. Takes no memory.
+    /// Replaces the tree by its left subtree, if it has one. Does not allocate.
     pub(crate) fn cut(&mut self)
-        ensures { self.new.tree ≡ left_half self.old.tree }
+        ensures half { self.new.tree ≡ left_half self.old.tree }
+        ensures kind { self.new.kind ≡ self.old.kind }
+        ensures cells { self.new.cells
+            ≡ take (2 * leaf_count (left_half self.old.tree) - 1) self.old.cells }
     {
         self.tree.cut();
         let count = self.tree.nodes().len();
@@ -510,7 +557,7 @@ impl PublicTree {
         truncate_counts(&mut self.counts, self.tree.leaf_count());
     }
 
-    /// Whether the tree has halves, and the right one has no set leaf.
+    /// Returns whether the tree has a right subtree without a non-blank leaf.
     pub(crate) fn can_be_halved(&self) -> bool
         ensures halves { OnTrue result (IsBranch self.now.tree) }
         ensures smaller { OnTrue result
@@ -521,8 +568,9 @@ impl PublicTree {
         self.tree.can_be_halved(counts_in(&self.counts))
     }
 
-    /// Takes the left half of the tree for as long as there is one and the right half has no set leaf (RFC 9420, 7.7, which calls it
-    /// truncating): `shrink` in the definitions. Takes no memory. The cells of the places that remain stay as they are.
+    /// Truncates the tree (RFC 9420, 7.7): replaces it by its left subtree as long as its right subtree has no
+    /// non-blank leaf. Called `shrink` in the definitions. Does not allocate. The cache slots of the remaining nodes
+    /// are unchanged.
     pub fn truncate(&mut self)
         ensures tree { self.new.tree ≡ shrink self.old.tree }
         ensures kind { self.new.kind ≡ self.old.kind }
@@ -534,7 +582,7 @@ impl PublicTree {
         truncate_counts(&mut self.counts, self.tree.leaf_count());
     }
 
-    /// Takes the left half out of the tree, which has blank nodes there then, and no cells. The left half has those of its places.
+    /// Takes the left half out of the tree, which has blank nodes and empty cells there then. The left half has those of its places.
     pub(crate) fn take_left(&mut self, alloc: Global) -> Result<PublicTree, AllocError>
         requires { IsBranch self.old.tree }
         ensures left { IfOk result (λ l. l.tree ≡ left_half self.old.tree) }
@@ -543,10 +591,17 @@ impl PublicTree {
         ensures cells { IfOk result
             (λ l. l.cells ≡ take (2 * leaf_count l.tree - 1) self.old.cells) }
         ensures err { OnErr result (self.new ≡ self.old) }
+        ensures rest_kind { OnOk result (self.new.kind ≡ self.old.kind) }
+        ensures count { IfOk result (λ l. length self.old.cells
+            ≡ length (rejoined_cells l.tree l.cells self.new.tree self.new.cells)) }
+        ensures again { IfOk result (λ l. CellsAgreeExceptAt
+            ((leaf_count self.old.tree - 1) ∷ []) self.old.cells
+            (rejoined_cells l.tree l.cells self.new.tree self.new.cells)) }
     {
+        let count = self.tree.leaf_count() - 1;
+        let cells = clone_front(alloc, &self.cells, count as usize)?;
         let left = self.tree.take_left(alloc)?;
-        let mut cells = mem::replace(&mut self.cells, None);
-        truncate(&mut cells, left.nodes().len());
+        empty_front(&mut self.cells, count);
         let mut counts = mem::replace(&mut self.counts, None);
         truncate_counts(&mut counts, left.leaf_count());
         Ok(PublicTree {
@@ -557,10 +612,13 @@ impl PublicTree {
     }
 
     /// Puts the tree in the place of the left half of another one, and that one in its place. A tree of another
-    /// height stays. The tree's cells stay, where there is room for those of the other half, which are empty. Takes no
+    /// height stays. The tree's cells stay, and those of the other half, where both keep hashes of one kind. Takes no
     /// memory.
     pub(crate) fn rejoin(&mut self, whole: PublicTree)
-        ensures { self.new.tree ≡ rejoined self.old.tree whole.tree }
+        ensures tree { self.new.tree ≡ rejoined self.old.tree whole.tree }
+        ensures kind { whole.kind ≡ self.old.kind → self.new.kind ≡ self.old.kind }
+        ensures cells { whole.kind ≡ self.old.kind → self.new.cells
+            ≡ rejoined_cells self.old.tree self.old.cells whole.tree whole.cells }
     {
         if self.tree.height() + 1 != whole.tree.height() {
             return;
@@ -568,13 +626,13 @@ impl PublicTree {
         let cells = mem::replace(&mut self.cells, None);
         let counts = mem::replace(&mut self.counts, None);
         self.tree.rejoin(whole.tree);
-        self.cells = double_in_place(cells);
+        self.cells = join_cells(cells, whole.cells);
         self.counts = count_in_place(counts, &self.tree);
     }
 
-    /// Doubles the tree, which becomes the left half of one whose other nodes are blank (RFC 9420, 7.7, which calls it extending): `grow` in
-    /// the definitions. `TooManyLeaves` where the tree has 1,048,576 leaves. The cells stay, and the new places get empty ones, where there
-    /// are cells.
+    /// Extends the tree (RFC 9420, 7.7): it becomes the left subtree of one twice as large, whose other nodes are
+    /// blank. Called `grow` in the definitions. The cache slots are unchanged, those of new nodes empty.
+    /// `TooManyLeaves` if the tree has 1,048,576 leaves.
     pub fn extend(&mut self) -> Result<(), TreeError>
         ensures ok { OnOk result (self.new.tree ≡ grow self.old.tree) }
         ensures err { OnErr result (self.new ≡ self.old) }
@@ -584,6 +642,8 @@ impl PublicTree {
             (λ e. (e ≡ TreeError.TooManyLeaves) ⊎ (e ≡ TreeError.OutOfMemory)) }
         ensures kind { self.new.kind ≡ self.old.kind }
         ensures cells { OnOk result (self.new.cells ≡ extended self.old.kind self.old.cells) }
+        ensures front { OnOk result
+            (take (2 * leaf_count self.old.tree - 1) self.new.cells ≡ self.old.cells) }
     {
         if self.tree.leaf_count() == 1_048_576 {
             return Err(TreeError::TooManyLeaves);

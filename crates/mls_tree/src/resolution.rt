@@ -1,20 +1,21 @@
 //! Walks that collect the resolution of a subtree (RFC 9420, 4.1.1).
 //!
-//! Each walks a subtree given by its height `level` and the index of its first leaf `first`, and goes at most 20 halves deep.
+//! Each walk is over a subtree, given by its height `level` and the index of its first leaf `first`. The depth of
+//! recursion is at most 20.
 ghost use Rattle.std.specs.Prelude.{◌≡◌, ◌≢◌, ℕ, ◌≤◌, ◌+◌, ◌*◌, [], ◌++◌, length, OnOk, IsTrue, ◌↔◌, option_copied};
 ghost use Rattle.mls_nodes.specs.Limits.{leaf_limit};
 ghost use Rattle.mls_tree.specs.Tree.{leaves_at};
-ghost use Rattle.mls_tree.specs.Array.{tree_in};
+ghost use Rattle.mls_tree.specs.NodeArray.{tree_in};
 ghost use Rattle.mls_tree.specs.Paths.{resolution, unmerged_places};
-ghost use Rattle.mls_tree.specs.CountsSeen.{AreCountsIfAny};
+ghost use Rattle.mls_tree.specs.CountsModel.{AreCountsIfAny};
 
-use crate::count::{Count, count_of};
 use crate::entries::{as_leaf, as_parent};
-use crate::sizes::leaves_of;
+use crate::subtree_counts::{Count, count_of};
+use crate::tree_size::leaves_of;
 use mls_nodes::Node;
 use std::alloc::AllocError;
 
-// Adds the places of unmerged leaves, without those that the tree does not have.
+// Appends the node indices of unmerged leaves, without those that the tree doesn't have.
 fn push_unmerged(out: &mut Vec<u32>, leaves: u32, unmerged: &[u32]) -> Result<(), AllocError>
     requires { leaves ≤ leaf_limit }
     ensures { OnOk result (out.new.items ≡ out.old.items ++ unmerged_places leaves unmerged.now) }
@@ -27,7 +28,7 @@ fn push_unmerged(out: &mut Vec<u32>, leaves: u32, unmerged: &[u32]) -> Result<()
     Ok(())
 }
 
-/// Adds the places of the resolution of the subtree, of a tree of so many leaves.
+/// Appends the resolution of the subtree. `leaves` is the number of leaves of the whole tree.
 pub(crate) fn push_resolution(
     out: &mut Vec<u32>,
     nodes: &[Option<Node>],
@@ -62,7 +63,7 @@ pub(crate) fn push_resolution(
     Ok(())
 }
 
-/// Whether the subtree's resolution is not empty.
+/// Returns whether the resolution of the subtree is not empty.
 pub(crate) fn has_resolution(nodes: &[Option<Node>], level: u32, first: u32) -> bool
     requires low { level ≤ 20 }
     requires inside { first + leaves_at level ≤ leaf_limit }
@@ -83,7 +84,7 @@ pub(crate) fn has_resolution(nodes: &[Option<Node>], level: u32, first: u32) -> 
     has_resolution(nodes, level - 1, middle)
 }
 
-/// The same, by the counts of the subtree's parents where there are any.
+/// As `has_resolution`. Uses the counts of the subtree's parents, if there are any.
 pub(crate) fn counts_resolution(
     nodes: &[Option<Node>],
     counts: Option<&[Count]>,

@@ -1,24 +1,25 @@
-//! A walk that counts the places of the resolution of a subtree (RFC 9420, 4.1.1), and no further than it is asked to.
+//! A walk that counts the nodes of the resolution of a subtree (RFC 9420, 4.1.1) up to a given number.
 //!
-//! It walks a subtree given by its height `level` and the index of its first leaf `first`, and goes at most 20 halves deep. Each step is
-//! handed how many places are left to be found, and answers how many are left then, or None as soon as it finds one more.
+//! The walk is over a subtree, given by its height `level` and the index of its first leaf `first`. The depth of
+//! recursion is at most 20. Each step gets the number of nodes still to be found, `left`, and returns what then
+//! remains, or `None` as soon as it finds one node more.
 ghost use Rattle.std.specs.Prelude.{◌≡◌, ℕ, ◌≤◌, ◌+◌, ◌*◌, ◌∷◌, [], length, IsTrue, option_copied};
 ghost use Rattle.mls_nodes.specs.Limits.{leaf_limit};
 ghost use Rattle.mls_tree.specs.Tree.{leaves_at};
-ghost use Rattle.mls_tree.specs.Array.{tree_in};
-ghost use Rattle.mls_tree.specs.Paths.{resolution, unmerged_places, count_beside};
-ghost use Rattle.mls_tree.specs.Remainders.{taken_off};
-ghost use Rattle.mls_tree.specs.CountsSeen.{AreCountsIfAny};
+ghost use Rattle.mls_tree.specs.NodeArray.{tree_in};
+ghost use Rattle.mls_tree.specs.Paths.{resolution, unmerged_places, count_not_in};
+ghost use Rattle.mls_tree.specs.Subtraction.{taken_off};
+ghost use Rattle.mls_tree.specs.CountsModel.{AreCountsIfAny};
 
-use crate::count::{Count, count_of};
 use crate::entries::{as_leaf, as_parent};
-use crate::sizes::leaves_of;
+use crate::subtree_counts::{Count, count_of};
+use crate::tree_size::leaves_of;
 use mls_nodes::Node;
 use std::collections::BTreeSet;
 
-// Takes one off for a place, unless it is left out.
+// Subtracts one for the node at `place`, unless it is in `without`.
 fn take_one(without: &BTreeSet<u64>, place: u32, left: usize) -> Option<usize>
-    ensures { result ≡ taken_off left (count_beside without.now (place ∷ [])) }
+    ensures { result ≡ taken_off left (count_not_in without.now (place ∷ [])) }
 {
     if without.contains(&u64::from(place)) {
         return Some(left);
@@ -26,7 +27,7 @@ fn take_one(without: &BTreeSet<u64>, place: u32, left: usize) -> Option<usize>
     left.checked_sub(1)
 }
 
-// Takes one off for each place of unmerged leaves that the tree has, unless it is left out.
+// Subtracts one for each unmerged leaf that the tree has, unless it is in `without`.
 fn take_unmerged(
     without: &BTreeSet<u64>,
     leaves: u32,
@@ -35,7 +36,7 @@ fn take_unmerged(
 ) -> Option<usize>
     requires { leaves ≤ leaf_limit }
     ensures { result
-        ≡ taken_off left (count_beside without.now (unmerged_places leaves unmerged.now)) }
+        ≡ taken_off left (count_not_in without.now (unmerged_places leaves unmerged.now)) }
 {
     for leaf in unmerged {
         if *leaf < leaves {
@@ -45,7 +46,7 @@ fn take_unmerged(
     Some(left)
 }
 
-// Whether there are counts of the subtree's parents, and they tell that no node of it is set.
+// Returns whether there are counts of the subtree's parents and they say that all its nodes are blank.
 fn is_counted_empty(
     nodes: &[Option<Node>],
     counts: Option<&[Count]>,
@@ -65,8 +66,8 @@ fn is_counted_empty(
     }
 }
 
-/// Takes one off for each place of the resolution of the subtree, of a tree of so many leaves, unless it is left out. Passes by each part
-/// that has no set node, where the counts of the subtree's parents tell so.
+/// Subtracts one for each node of the subtree's resolution, unless it is in `without`. `leaves` is the number of leaves
+/// of the whole tree. Passes by subtrees of blank nodes, if there are counts.
 pub(crate) fn take_resolution(
     nodes: &[Option<Node>],
     counts: Option<&[Count]>,
@@ -82,7 +83,7 @@ pub(crate) fn take_resolution(
     requires leaves_low { leaves ≤ leaf_limit }
     requires counts { AreCountsIfAny (option_copied counts) first (tree_in nodes.now level first) }
     ensures { let places = resolution leaves first (tree_in nodes.now level first) in
-        result ≡ taken_off left (count_beside without.now places) }
+        result ≡ taken_off left (count_not_in without.now places) }
 {
     if level == 0 {
         return match as_leaf(&nodes[2 * first as usize]) {

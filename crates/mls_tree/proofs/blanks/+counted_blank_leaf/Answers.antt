@@ -1,6 +1,6 @@
 use Rattle.std.proofs.Common.{rules, ap, ◌≡◌, sym, arith, false}
 use Rattle.std.specs.Prelude.{is_some}
-use Rattle.mls_tree.specs.declared.count.Count.{Count}
+use Rattle.mls_tree.specs.declared.subtree_counts.Count.{Count}
 use Rattle.mls_tree.proofs.Walking.{leaves_at-split}
 use Rattle.mls_tree.proofs.CountedBlanks.{next_blank_leaf-counted_full, next_blank_leaf-past_left, next_blank_leaf-right, counts-far}
 use Rattle.mls_tree.proofs.blanks.+counted_blank_leaf.Goals as goal

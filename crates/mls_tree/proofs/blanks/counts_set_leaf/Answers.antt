@@ -1,8 +1,8 @@
 use Rattle.std.proofs.Common.{ap, ◌∙◌, arith, sym, subst, nat_lt}
 use Rattle.std.specs.Prelude.{option_copied}
-use Rattle.mls_tree.specs.Array.{tree_in}
-use Rattle.mls_tree.specs.CountsSeen.{AreCountsIfAny}
-use Rattle.mls_tree.specs.declared.count.Count.{Count}
+use Rattle.mls_tree.specs.NodeArray.{tree_in}
+use Rattle.mls_tree.specs.CountsModel.{AreCountsIfAny}
+use Rattle.mls_tree.specs.declared.subtree_counts.Count.{Count}
 use Rattle.mls_tree.proofs.Arrays.{leaf_count-tree_in}
 use Rattle.mls_tree.proofs.CountsRead.{has_set_leaf-counted}
 use Rattle.mls_tree.proofs.blanks.counts_set_leaf.Goals as goal

@@ -1,5 +1,5 @@
 use Rattle.std.proofs.Common.{ap, arith, ◌∙◌, sym, subst, inl, inr, ◌-◌, ◌+◌, ℕ, MatchOption, ◌%◌, ◌≢◌}
-use Rattle.mls_tree.specs.Places.{HasLevel, IsParentOf, left_at, right_at}
+use Rattle.mls_tree.specs.NodeIndices.{HasLevel, IsParentOf, left_at, right_at}
 use Rattle.mls_tree.proofs.Coordinates.{above, no_tree_of, HasLevel-low, HasLevel-odd, HasLevel-parity, IsParentOf-no_place, IsParentOf-root}
 use Rattle.mls_tree.proofs.places.parent.Goals as goal
 

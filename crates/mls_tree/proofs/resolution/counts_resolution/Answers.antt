@@ -1,8 +1,8 @@
 use Rattle.std.proofs.Common.{ap, arith, subst}
 use Rattle.std.specs.Prelude.{option_copied}
-use Rattle.mls_tree.specs.Array.{tree_in}
-use Rattle.mls_tree.specs.CountsSeen.{AreCountsIfAny}
-use Rattle.mls_tree.specs.declared.count.Count.{Count}
+use Rattle.mls_tree.specs.NodeArray.{tree_in}
+use Rattle.mls_tree.specs.CountsModel.{AreCountsIfAny}
+use Rattle.mls_tree.specs.declared.subtree_counts.Count.{Count}
 use Rattle.mls_tree.proofs.Arrays.{leaf_count-tree_in}
 use Rattle.mls_tree.proofs.CountsRead.{resolution-counted}
 use Rattle.mls_tree.proofs.resolution.counts_resolution.Goals as goal

@@ -1,8 +1,8 @@
 use Rattle.std.proofs.Common.{ap, arith, subst, sym, ◌∙◌, eqb-true}
 use Rattle.std.specs.Prelude.{option_copied}
-use Rattle.mls_tree.specs.Array.{tree_in}
-use Rattle.mls_tree.specs.CountsSeen.{AreCountsIfAny}
-use Rattle.mls_tree.specs.declared.count.Count.{Count}
+use Rattle.mls_tree.specs.NodeArray.{tree_in}
+use Rattle.mls_tree.specs.CountsModel.{AreCountsIfAny}
+use Rattle.mls_tree.specs.declared.subtree_counts.Count.{Count}
 use Rattle.mls_tree.proofs.Arrays.{leaf_count-tree_in}
 use Rattle.mls_tree.proofs.CountsRead.{resolution-none}
 use Rattle.mls_tree.proofs.resolution_len.is_counted_empty.Goals as goal

@@ -1,5 +1,5 @@
 use Rattle.std.proofs.Common.{drop, subst, arith}
-use Rattle.mls_tree.specs.ChangedPlaces.{HaveSameNodesBut}
+use Rattle.mls_tree.specs.ChangedNodes.{AgreeExceptAt}
 use Rattle.mls_tree.specs.Journals.{all_taken_back}
 use Rattle.mls_tree.proofs.ChangedPlaces.{told-start, told-step, told-positive, told-low, told-all}
 use Rattle.mls_tree.proofs.journal.Journal.changed_places.Goals as goal
@@ -18,7 +18,7 @@ pub returns : goal.returns
 returns c =
     let t = c.args.tree.now.tree in
     let places = c.loop-index.places.items in
-    subst (λ xs. HaveSameNodesBut places (all_taken_back xs t) t) c.as_slice-formers.ensures.value
+    subst (λ xs. AgreeExceptAt places (all_taken_back xs t) t) c.as_slice-formers.ensures.value
     (told-all c.as_slice-formers.result.now c.loop-index.index t places c.loop-index.leaves c.loop-index.invariant (omega (arith, c.loop-index-test.false)))
 
 pub push_changed-requires-clause-some : goal.push_changed-requires-clause-some

@@ -1,6 +1,6 @@
 use Rattle.std.proofs.Common.{ap, arith, refl, sym, ◌∙◌, ◌≡◌, ◌≤◌, true}
-use Rattle.mls_tree.specs.Array.{tree_in}
-use Rattle.mls_tree.specs.Changes.{is_overfilled_above}
+use Rattle.mls_tree.specs.NodeArray.{tree_in}
+use Rattle.mls_tree.specs.TreeOperations.{is_overfilled_above}
 use Rattle.mls_tree.specs.Tree.{leaf_count}
 use Rattle.mls_tree.specs.declared.error.TreeError.TheVariants.{OutOfMemory}
 use Rattle.mls_tree.proofs.Lookups.{leaf_count-seen}

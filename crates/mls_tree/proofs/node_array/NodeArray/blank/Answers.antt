@@ -1,11 +1,11 @@
 use Rattle.std.proofs.Common.{ap, sym, subst, ◌∙◌, arith, ◌≡◌, ◌<◌, ◌*◌, ◌-◌, None, Err, replicate, ◌++◌, ◌+◌}
 use Rattle.std.specs.Prelude.{◌↔◌}
 use Rattle.mls_tree.specs.Tree.{leaves_at}
-use Rattle.mls_tree.specs.Sizes.{IsPowerOfTwo}
-use Rattle.mls_tree.specs.Array.{height-tree_in}
+use Rattle.mls_tree.specs.TreeSizes.{IsPowerOfTwo}
+use Rattle.mls_tree.specs.NodeArray.{height-tree_in}
 use Rattle.mls_tree.specs.declared.error.TreeError.TheVariants.{TooManyLeaves, OutOfMemory}
 use Rattle.mls_tree.proofs.Numbers.{leaves_at-low, leaves_at-positive, leaves_at-pow}
-use Rattle.mls_tree.specs.Changes.{blank_tree}
+use Rattle.mls_tree.specs.TreeOperations.{blank_tree}
 use Rattle.mls_tree.proofs.Arrays.{leaf_count-tree_in}
 use Rattle.mls_tree.proofs.Growing.{IsArrayOf-blank, tree_in-all_blank}
 use Rattle.mls_tree.proofs.Refusals.{handed_on, no_refusal, no_refusal-ok, size-too_many, Memory-not_Bad, Memory-not_TooMany}

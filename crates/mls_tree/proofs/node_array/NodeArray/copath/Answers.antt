@@ -1,6 +1,6 @@
 use Rattle.std.proofs.Common.{ap, ◌∙◌, arith, ◌++◌}
 use Rattle.mls_tree.specs.Paths.{copath}
-use Rattle.mls_tree.specs.Array.{tree_in, tree_in-perfect, height-tree_in}
+use Rattle.mls_tree.specs.NodeArray.{tree_in, tree_in-perfect, height-tree_in}
 use Rattle.mls_tree.proofs.Numbers.{leaves_at-low}
 use Rattle.mls_tree.proofs.node_array.NodeArray.copath.Goals as goal
 

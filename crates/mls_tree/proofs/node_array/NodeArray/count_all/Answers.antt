@@ -1,6 +1,6 @@
 use Rattle.std.proofs.Common.{ap, ◌∙◌, ◌≡◌, arith, subst}
-use Rattle.mls_tree.specs.Array.{tree_in}
-use Rattle.mls_tree.specs.Counts.{AreCounts}
+use Rattle.mls_tree.specs.NodeArray.{tree_in}
+use Rattle.mls_tree.specs.SubtreeCounts.{AreCounts}
 use Rattle.mls_tree.proofs.Numbers.{leaves_at-low}
 use Rattle.mls_tree.proofs.Lookups.{leaf_count-seen}
 use Rattle.mls_tree.proofs.node_array.NodeArray.count_all.Goals as goal

@@ -1,6 +1,6 @@
 use Rattle.std.proofs.Common.{ap, ◌∙◌, sym, subst, arith, ◌≡◌, ◌-◌, suc}
-use Rattle.mls_tree.specs.Array.{IsArrayOf, tree_in}
-use Rattle.mls_tree.specs.Changes.{left_half}
+use Rattle.mls_tree.specs.NodeArray.{IsArrayOf, tree_in}
+use Rattle.mls_tree.specs.TreeOperations.{left_half}
 use Rattle.mls_tree.proofs.Growing.{IsArrayOf-take, tree_in-take}
 use Rattle.mls_tree.proofs.node_array.NodeArray.cut.Goals as goal
 

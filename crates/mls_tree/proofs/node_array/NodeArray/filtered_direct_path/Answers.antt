@@ -1,7 +1,7 @@
 use Rattle.std.proofs.Common.{ap, arith, sym, subst, ◌≡◌, ◌∙◌}
 use Rattle.std.specs.Prelude.{option_copied}
-use Rattle.mls_tree.specs.Array.{tree_in}
-use Rattle.mls_tree.specs.CountsSeen.{AreCountsIfAny}
+use Rattle.mls_tree.specs.NodeArray.{tree_in}
+use Rattle.mls_tree.specs.CountsModel.{AreCountsIfAny}
 use Rattle.mls_tree.proofs.Numbers.{leaves_at-low}
 use Rattle.mls_tree.proofs.node_array.NodeArray.filtered_direct_path.Goals as goal
 

@@ -1,7 +1,7 @@
 use Rattle.std.proofs.Common.{ℕ, Option, sym, subst, ◌∙◌}
 use Rattle.std.specs.Prelude.{MatchOption}
 use Rattle.mls_tree.proofs.FirstBlanks.{next_blank_leaf-zero, first_blank_leaf-leftmost}
-use Rattle.mls_tree.specs.Blanks.{IsFirstBlank, AllLeavesSet}
+use Rattle.mls_tree.specs.BlankLeaves.{IsFirstBlank, AllLeavesSet}
 use Rattle.mls_tree.proofs.node_array.NodeArray.first_blank_leaf.Goals as goal
 
 pub returns-clause-first : goal.returns-clause-first

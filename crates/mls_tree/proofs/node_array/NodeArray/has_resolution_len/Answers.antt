@@ -1,10 +1,10 @@
 use Rattle.std.proofs.Common.{ap, ◌∙◌, sym, arith, ◌≡◌, ◌+◌, ◌-◌, ◌/◌, None, Option, List, ℕ, false, subst}
 use Rattle.std.specs.Prelude.{option_copied, IfSome, ◌==◌}
 use Rattle.std.proofs.lemmas.Option.{none-some}
-use Rattle.mls_tree.specs.Array.{tree_in}
-use Rattle.mls_tree.specs.Paths.{resolution, resolution_at, count_beside}
-use Rattle.mls_tree.specs.CountsSeen.{AreCountsIfAny}
-use Rattle.mls_tree.specs.Remainders.{taken_off}
+use Rattle.mls_tree.specs.NodeArray.{tree_in}
+use Rattle.mls_tree.specs.Paths.{resolution, resolution_at, count_not_in}
+use Rattle.mls_tree.specs.CountsModel.{AreCountsIfAny}
+use Rattle.mls_tree.specs.Subtraction.{taken_off}
 use Rattle.mls_tree.proofs.CountsRead.{if_any-subtree}
 use Rattle.mls_tree.proofs.Numbers.{leaves_at-low}
 use Rattle.mls_tree.proofs.Lookups.{HasLevel-inside, subtree_at-seen, resolution_at-seen, length-seen}
@@ -47,11 +47,11 @@ pub returns-in-Some-take_resolution-clause-answer : goal.returns-in-Some-take_re
 returns-in-Some-take_resolution-clause-answer c =
     let first = (c.args.place + 1 - c.leaves_of.result) / 2 in
     let n = c.leaf_count-leaves.result in
-    subst (λ (o : Option (List ℕ)). IfSome o (λ ps. (c.in-Some-take_resolution.left == 0) ≡ (count_beside c.args.without.now ps == c.args.len)))
+    subst (λ (o : Option (List ℕ)). IfSome o (λ ps. (c.in-Some-take_resolution.left == 0) ≡ (count_not_in c.args.without.now ps == c.args.len)))
     (sym (resolution_at-seen _ _ c.args.self.now (ap (λ r. r.tree) c.self.view_is) c.args.place c.leaf_count-leaves.result c.in-Some.level ((c.args.place + 1 - c.leaves_of.result) / 2) (sym c.leaf_count-leaves.ensures) c.in-Some.ensures (ap (λ v. (c.args.place + 1 - v) / 2) c.leaves_of.ensures.value)))
     (taken_off-all c.args.len _ c.in-Some-take_resolution.left
     (sym c.in-Some-take_resolution.is ∙ c.take_resolution.ensures
-    ∙ ap (λ xs. taken_off c.args.len (count_beside c.args.without.now (resolution n first (tree_in xs c.in-Some.level first)))) c.as_slice-nodes.ensures.value))
+    ∙ ap (λ xs. taken_off c.args.len (count_not_in c.args.without.now (resolution n first (tree_in xs c.in-Some.level first)))) c.as_slice-nodes.ensures.value))
 
 pub returns-in-Some-take_resolution-clause-no_such_node : goal.returns-in-Some-take_resolution-clause-no_such_node
 returns-in-Some-take_resolution-clause-no_such_node c =
@@ -62,11 +62,11 @@ pub returns-in-None-clause-answer : goal.returns-in-None-clause-answer
 returns-in-None-clause-answer c =
     let first = (c.args.place + 1 - c.leaves_of.result) / 2 in
     let n = c.leaf_count-leaves.result in
-    subst (λ (o : Option (List ℕ)). IfSome o (λ ps. false ≡ (count_beside c.args.without.now ps == c.args.len)))
+    subst (λ (o : Option (List ℕ)). IfSome o (λ ps. false ≡ (count_not_in c.args.without.now ps == c.args.len)))
     (sym (resolution_at-seen _ _ c.args.self.now (ap (λ r. r.tree) c.self.view_is) c.args.place c.leaf_count-leaves.result c.in-Some.level ((c.args.place + 1 - c.leaves_of.result) / 2) (sym c.leaf_count-leaves.ensures) c.in-Some.ensures (ap (λ v. (c.args.place + 1 - v) / 2) c.leaves_of.ensures.value)))
     (taken_off-too_few c.args.len _
     (sym c.in-None.is ∙ c.take_resolution.ensures
-    ∙ ap (λ xs. taken_off c.args.len (count_beside c.args.without.now (resolution n first (tree_in xs c.in-Some.level first)))) c.as_slice-nodes.ensures.value))
+    ∙ ap (λ xs. taken_off c.args.len (count_not_in c.args.without.now (resolution n first (tree_in xs c.in-Some.level first)))) c.as_slice-nodes.ensures.value))
 
 pub returns-in-None-clause-no_such_node : goal.returns-in-None-clause-no_such_node
 returns-in-None-clause-no_such_node c =

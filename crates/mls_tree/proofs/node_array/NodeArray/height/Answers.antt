@@ -1,6 +1,6 @@
 use Rattle.std.proofs.Common.{◌∙◌, sym, ap}
 use Rattle.mls_tree.specs.Tree.{height}
-use Rattle.mls_tree.specs.Array.{height-tree_in}
+use Rattle.mls_tree.specs.NodeArray.{height-tree_in}
 use Rattle.mls_tree.proofs.node_array.NodeArray.height.Goals as goal
 
 pub returns-clause-value : goal.returns-clause-value

@@ -1,6 +1,6 @@
 use Rattle.std.proofs.Common.{ap, ◌∙◌, arith}
-use Rattle.mls_tree.specs.Array.{tree_in}
-use Rattle.mls_tree.specs.Changes.{is_overfilled_above}
+use Rattle.mls_tree.specs.NodeArray.{tree_in}
+use Rattle.mls_tree.specs.TreeOperations.{is_overfilled_above}
 use Rattle.mls_tree.proofs.Numbers.{leaves_at-low}
 use Rattle.mls_tree.proofs.node_array.NodeArray.is_overfull.Goals as goal
 

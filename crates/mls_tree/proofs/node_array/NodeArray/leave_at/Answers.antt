@@ -1,6 +1,6 @@
 use Rattle.std.proofs.Common.{ap, ◌∙◌, sym, Some, arith, inl, inr}
 use Rattle.std.specs.Prelude.{option_map}
-use Rattle.mls_tree.specs.Changes.{without_unmerged}
+use Rattle.mls_tree.specs.TreeOperations.{without_unmerged}
 use Rattle.mls_tree.proofs.AlongPaths.{parent_at}
 use Rattle.mls_tree.proofs.Elsewhere.{put_parent-elsewhere}
 use Rattle.mls_tree.proofs.Lookups.{IsParentPlace-seen, IsParentPlace-not}

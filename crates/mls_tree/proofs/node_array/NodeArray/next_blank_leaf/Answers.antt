@@ -1,9 +1,9 @@
 use Rattle.std.proofs.Common.{ap, arith, sym, subst, ◌≡◌, ◌∙◌}
 use Rattle.std.specs.Prelude.{option_copied}
-use Rattle.mls_tree.specs.Array.{tree_in}
-use Rattle.mls_tree.specs.Blanks.{next_blank_leaf}
-use Rattle.mls_tree.specs.Counts.{AreCounts}
-use Rattle.mls_tree.specs.CountsSeen.{AreCountsIfAny}
+use Rattle.mls_tree.specs.NodeArray.{tree_in}
+use Rattle.mls_tree.specs.BlankLeaves.{next_blank_leaf}
+use Rattle.mls_tree.specs.SubtreeCounts.{AreCounts}
+use Rattle.mls_tree.specs.CountsModel.{AreCountsIfAny}
 use Rattle.mls_tree.proofs.Numbers.{leaves_at-low}
 use Rattle.mls_tree.proofs.Lookups.{leaf_count-seen}
 use Rattle.mls_tree.proofs.node_array.NodeArray.next_blank_leaf.Goals as goal

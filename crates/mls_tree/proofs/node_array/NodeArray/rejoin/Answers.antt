@@ -1,7 +1,7 @@
 use Rattle.std.proofs.Common.{ap, ◌∙◌, sym, arith, ◌≡◌, ◌+◌}
 use Rattle.mls_tree.specs.Tree.{height}
-use Rattle.mls_tree.specs.Array.{height-tree_in}
-use Rattle.mls_tree.specs.Changes.{with_left}
+use Rattle.mls_tree.specs.NodeArray.{height-tree_in}
+use Rattle.mls_tree.specs.TreeOperations.{with_left}
 use Rattle.mls_tree.proofs.Rejoining.{whole-tree, rejoined-fits, rejoined-not}
 use Rattle.mls_tree.proofs.node_array.NodeArray.rejoin.Goals as goal
 
@@ -19,8 +19,8 @@ returns c =
     let a = height-tree_in front c.self.inside.height 0 in
     let b = height-tree_in whole c.whole.inside.height 0 in
     let up : c.whole.inside.height ≡ c.self.inside.height + 1 = omega (arith, c.if-self-whole.false) in
-    let s = c.swap_front.ensures in
-    whole-tree whole front c.swap_front.new.whole.items c.swap_front.new.front.items c.whole.inside.height c.self.inside.height up c.whole.invariant c.self.invariant.long s.put s.rest s.taken s.long s.short
+    let s = c.swap_prefix.ensures in
+    whole-tree whole front c.swap_prefix.new.whole.items c.swap_prefix.new.front.items c.whole.inside.height c.self.inside.height up c.whole.invariant c.self.invariant.long s.put s.rest s.taken s.long s.short
     ∙ (λ i. with_left ((ap (λ r. r.tree) c.self.view_is) i) ((ap (λ r. r.tree) c.whole.view_is) i))
     ∙ sym (rejoined-fits c.args.self.now.tree c.args.whole.tree
     (omega (arith, up, a, b, ap (λ r. height r.tree) c.self.view_is, ap (λ r. height r.tree) c.whole.view_is)))

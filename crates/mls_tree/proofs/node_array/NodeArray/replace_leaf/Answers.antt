@@ -1,6 +1,6 @@
 use Rattle.std.proofs.Common.{ap, arith, ◌∙◌, sym, subst, ◌*◌, ◌<◌, length, Some}
 use Rattle.std.proofs.lemmas.Option.{slice_get-get_or}
-use Rattle.mls_tree.specs.Array.{IsNoParent, leaf_part}
+use Rattle.mls_tree.specs.NodeArray.{IsNoParent, leaf_part}
 use Rattle.mls_tree.specs.Tree.{leaf_at}
 use Rattle.mls_tree.proofs.Lookups.{IsArrayOf-set_leaf, leaf_count-seen, set_leaf-seen, leaf_at-array}
 use Rattle.mls_tree.proofs.node_array.NodeArray.replace_leaf.Goals as goal

@@ -1,8 +1,8 @@
 use Rattle.std.proofs.Common.{ap, arith, ◌∙◌, sym, subst, ◌≢◌, ◌%◌, ◌<◌, length, Some}
 use Rattle.std.proofs.lemmas.Option.{slice_get-get_or}
-use Rattle.mls_tree.specs.Array.{IsNoLeaf, parent_part}
+use Rattle.mls_tree.specs.NodeArray.{IsNoLeaf, parent_part}
 use Rattle.mls_tree.specs.Tree.{node_at}
-use Rattle.mls_tree.specs.Parts.{parent_of}
+use Rattle.mls_tree.specs.NodeView.{parent_of}
 use Rattle.mls_tree.proofs.Lookups.{IsArrayOf-put_parent, leaf_count-seen, put_parent-seen, IsParentPlace-bounds}
 use Rattle.mls_tree.proofs.ParentEntries.{parent_of-entry_at}
 use Rattle.mls_tree.proofs.node_array.NodeArray.replace_parent.Goals as goal

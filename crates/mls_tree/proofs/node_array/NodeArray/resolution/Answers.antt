@@ -1,6 +1,6 @@
 use Rattle.std.proofs.Common.{ap, ◌∙◌, sym, arith, ◌≡◌, ◌+◌, ◌-◌, ◌/◌, Some, None, ◌++◌}
 use Rattle.std.proofs.lemmas.Option.{none-some}
-use Rattle.mls_tree.specs.Array.{tree_in}
+use Rattle.mls_tree.specs.NodeArray.{tree_in}
 use Rattle.mls_tree.specs.Paths.{resolution, resolution_at}
 use Rattle.mls_tree.proofs.Numbers.{leaves_at-low}
 use Rattle.mls_tree.proofs.Lookups.{HasLevel-inside, resolution_at-seen, length-seen}

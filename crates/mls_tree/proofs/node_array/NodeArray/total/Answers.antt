@@ -1,6 +1,6 @@
 use Rattle.std.proofs.Common.{ap, ◌∙◌, ◌≡◌, arith, sym, subst}
-use Rattle.mls_tree.specs.Array.{tree_in}
-use Rattle.mls_tree.specs.Counts.{AreCounts, counted}
+use Rattle.mls_tree.specs.NodeArray.{tree_in}
+use Rattle.mls_tree.specs.SubtreeCounts.{AreCounts, counted}
 use Rattle.mls_tree.proofs.Numbers.{leaves_at-low}
 use Rattle.mls_tree.proofs.Lookups.{leaf_count-seen}
 use Rattle.mls_tree.proofs.node_array.NodeArray.total.Goals as goal

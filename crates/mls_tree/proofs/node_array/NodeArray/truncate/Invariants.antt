@@ -1,8 +1,8 @@
 use Rattle.std.proofs.Common.{◌≡◌}
 use Rattle.std.specs.Prelude.{option_copied}
 use Rattle.mls_tree.specs.Tree.{height}
-use Rattle.mls_tree.specs.Changes.{shrink}
-use Rattle.mls_tree.specs.CountsSeen.{AreCountsIfAny}
+use Rattle.mls_tree.specs.TreeOperations.{shrink}
+use Rattle.mls_tree.specs.CountsModel.{AreCountsIfAny}
 use Rattle.mls_tree.proofs.node_array.NodeArray.truncate.Given as goal
 
 abbrev pub invariant-loop-self : goal.invariant-loop-self

@@ -1,6 +1,6 @@
 use Rattle.std.proofs.Common.{sym}
-use Rattle.mls_tree.specs.CellsSeen.{kind_in, cells_in}
-use Rattle.mls_tree.specs.Changes.{with_unmerged}
+use Rattle.mls_tree.specs.CacheModel.{kind_in, cells_in}
+use Rattle.mls_tree.specs.TreeOperations.{with_unmerged}
 use Rattle.mls_tree.proofs.KeptCells.{of_height, of_kind, cells-change_above}
 use Rattle.mls_tree.proofs.KeptCounts.{counts-change_above}
 use Rattle.mls_tree.proofs.public_tree.PublicTree.add_unmerged.Goals as goal

@@ -1,5 +1,5 @@
 use Rattle.std.proofs.Common.{sym, None}
-use Rattle.mls_tree.specs.CellsSeen.{kind_in, cells_in}
+use Rattle.mls_tree.specs.CacheModel.{kind_in, cells_in}
 use Rattle.mls_tree.proofs.KeptCells.{of_height, of_kind, cells-change_above}
 use Rattle.mls_tree.proofs.KeptCounts.{counts-change_above}
 use Rattle.mls_tree.proofs.public_tree.PublicTree.blank_path.Goals as goal

@@ -1,9 +1,9 @@
 use Rattle.std.proofs.Common.{◌≡◌, ◌∙◌, None, ap, arith, sym, subst}
 use Rattle.std.specs.Prelude.{IsSome}
 use Rattle.mls_tree.specs.Tree.{leaf_count}
-use Rattle.mls_tree.specs.KeptTree.{KeptTree}
-use Rattle.mls_tree.specs.Cells.{hash_by, AreAllFilled, AreCellsOf}
-use Rattle.mls_tree.specs.CellsSeen.{kind_in, cells_in}
+use Rattle.mls_tree.specs.PublicTreeModel.{KeptTree}
+use Rattle.mls_tree.specs.HashCache.{hash_by, AreAllFilled, AreCellsOf}
+use Rattle.mls_tree.specs.CacheModel.{kind_in, cells_in}
 use Rattle.mls_tree.proofs.Descent.{leaf_count-limit}
 use Rattle.mls_tree.proofs.Trees.{leaf_count-positive}
 use Rattle.mls_tree.proofs.Emptying.{all_counted, counted_all, empty_count-low}

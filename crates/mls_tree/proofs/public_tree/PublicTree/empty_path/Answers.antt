@@ -1,6 +1,6 @@
 use Rattle.std.proofs.Common.{sym, refl}
 use Rattle.mls_tree.specs.Paths.{direct_path}
-use Rattle.mls_tree.specs.CellsSeen.{kind_in, cells_in}
+use Rattle.mls_tree.specs.CacheModel.{kind_in, cells_in}
 use Rattle.mls_tree.proofs.KeptCells.{of_height, of_kind, cells-same}
 use Rattle.mls_tree.proofs.public_tree.PublicTree.empty_path.Goals as goal
 

@@ -1,7 +1,7 @@
 use Rattle.std.proofs.Common.{sym, subst, arith}
-use Rattle.mls_tree.specs.Cells.{AreCells, AreCellsOf, hash_by, IsRightHash}
-use Rattle.mls_tree.specs.KeptTree.{KeptTree}
-use Rattle.mls_tree.specs.CellsSeen.{kind_in, cells_in}
+use Rattle.mls_tree.specs.HashCache.{AreCells, AreCellsOf, hash_by, IsRightHash}
+use Rattle.mls_tree.specs.PublicTreeModel.{KeptTree}
+use Rattle.mls_tree.specs.CacheModel.{kind_in, cells_in}
 use Rattle.mls_tree.proofs.Emptying.{AreCells-filled, hash_at-inside, filled-there}
 use Rattle.mls_tree.proofs.HashLengths.{length-hash_at}
 use Rattle.mls_tree.proofs.public_tree.PublicTree.keep_hash.Goals as goal

@@ -1,5 +1,5 @@
 use Rattle.std.proofs.Common.{sym, refl, ◌/◌}
-use Rattle.mls_tree.specs.CellsSeen.{kind_in, cells_in}
+use Rattle.mls_tree.specs.CacheModel.{kind_in, cells_in}
 use Rattle.mls_tree.proofs.KeptCells.{of_height, of_kind, cells-put_parent}
 use Rattle.mls_tree.proofs.KeptCounts.{counts-put_parent}
 use Rattle.mls_tree.proofs.public_tree.PublicTree.leave_at.Goals as goal

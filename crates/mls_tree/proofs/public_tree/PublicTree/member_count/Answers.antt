@@ -1,9 +1,9 @@
 use Rattle.std.proofs.Common.{ap, ◌∙◌, arith, sym, subst, length}
 use Rattle.mls_tree.specs.Tree.{member_count}
-use Rattle.mls_tree.specs.Counts.{AreCounts}
-use Rattle.mls_tree.specs.CountsSeen.{AreCountsIn}
-use Rattle.mls_tree.specs.KeptTree.{KeptTree}
-use Rattle.mls_tree.specs.declared.count.Count.{Count}
+use Rattle.mls_tree.specs.SubtreeCounts.{AreCounts}
+use Rattle.mls_tree.specs.CountsModel.{AreCountsIn}
+use Rattle.mls_tree.specs.PublicTreeModel.{KeptTree}
+use Rattle.mls_tree.specs.declared.subtree_counts.Count.{Count}
 use Rattle.mls_tree.proofs.public_tree.PublicTree.member_count.Goals as goal
 
 pub total-requires-clause-count : goal.total-requires-clause-count

@@ -1,7 +1,7 @@
 use Rattle.std.proofs.Common.{ap, ◌∙◌, ◌*◌, ◌-◌, length, sym, subst, arith, replicate, None}
 use Rattle.mls_tree.specs.Tree.{leaf_count}
-use Rattle.mls_tree.specs.KeptTree.{KeptTree}
-use Rattle.mls_tree.specs.Cells.{AreCells, hash_by}
+use Rattle.mls_tree.specs.PublicTreeModel.{KeptTree}
+use Rattle.mls_tree.specs.HashCache.{AreCells, hash_by}
 use Rattle.mls_tree.proofs.Trees.{leaf_count-positive}
 use Rattle.mls_tree.proofs.Descent.{leaf_count-limit}
 use Rattle.mls_tree.proofs.Emptying.{AreCells-fresh}

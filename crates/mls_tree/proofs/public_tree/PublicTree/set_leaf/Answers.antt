@@ -1,5 +1,5 @@
 use Rattle.std.proofs.Common.{sym, arith}
-use Rattle.mls_tree.specs.CellsSeen.{kind_in, cells_in}
+use Rattle.mls_tree.specs.CacheModel.{kind_in, cells_in}
 use Rattle.mls_tree.specs.Tree.{leaf_count}
 use Rattle.mls_tree.proofs.LeafCounts.{leaves-at, taken-inside}
 use Rattle.mls_tree.proofs.KeptCells.{of_height, of_kind, cells-put_leaf}

@@ -1,6 +1,6 @@
 use Rattle.std.proofs.Common.{ap, arith, sym, ◌∙◌, take}
-use Rattle.mls_tree.specs.KeptTree.{KeptTree}
-use Rattle.mls_tree.specs.CellsSeen.{kind_in, cells_in}
+use Rattle.mls_tree.specs.PublicTreeModel.{KeptTree}
+use Rattle.mls_tree.specs.CacheModel.{kind_in, cells_in}
 use Rattle.mls_tree.proofs.KeptCells.{listed, of_kind, cells-shrink}
 use Rattle.mls_tree.proofs.KeptCounts.{counts-shrink}
 use Rattle.mls_tree.proofs.Trees.{leaf_count-positive}

@@ -1,5 +1,0 @@
-use Rattle.mls_tree.proofs.Coordinates.{size_of_length}
-use Rattle.mls_tree.proofs.sizes.height_of_length.Goals as goal
-
-pub returns : goal.returns
-returns c = size_of_length c.args.length c.if-length-eq0.false c.height_of.result c.height_of.ensures

@@ -1,8 +1,0 @@
-use Rattle.mls_tree.proofs.Numbers.{shifted, leaves_at-low}
-use Rattle.mls_tree.proofs.sizes.leaves_of.Goals as goal
-
-pub returns-clause-value : goal.returns-clause-value
-returns-clause-value c = shifted c.args.height c.requires
-
-pub returns-clause-low : goal.returns-clause-low
-returns-clause-low c = rw (shifted c.args.height c.requires) (leaves_at-low c.args.height c.requires)

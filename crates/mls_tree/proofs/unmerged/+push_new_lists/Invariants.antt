@@ -1,4 +1,0 @@
-use Rattle.mls_tree.proofs.unmerged.+push_new_lists.Given as goal
-
-abbrev pub decreases-push_new_lists : goal.decreases-push_new_lists
-decreases-push_new_lists l = l.level

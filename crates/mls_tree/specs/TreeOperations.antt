@@ -1,0 +1,154 @@
+-- The operations on a tree (RFC 9420, 7.7 and 12.1). Each follows a leaf index down from the root. `first` is the index
+-- of the first leaf of the subtree. Used by contracts.
+use Rattle.std.specs.Prelude.{ℕ, zero, suc, ◌+◌, ◌*◌, ◌==◌, nat_lt, length, if◌then◌else◌, ◌||◌, Bool, true, false, IsTrue, List, [], ◌∷◌, Option, Some, None}
+use Rattle.std.specs.List.{list_any}
+use Rattle.mls_nodes.specs.Limits.{leaf_limit}
+use Rattle.mls_nodes.specs.declared.leaf.LeafNode.{LeafNode}
+use Rattle.mls_nodes.specs.declared.parent.ParentNode.{ParentNode}
+use Rattle.mls_tree.specs.Tree.{Tree, leaf, branch, height, leaf_count, subtree_at, entry_of}
+use Rattle.mls_tree.specs.NodeView.{parent_of}
+use Rattle.mls_tree.specs.BlankLeaves.{first_blank_leaf}
+
+-- `put_leaf first t i x` is the tree with `x` as leaf i: the call `set_leaf`. If i is outside the tree, the last leaf
+-- is replaced; calls check that it is inside.
+abbrev pub put_leaf : ℕ → Tree → ℕ → Option LeafNode → Tree
+put_leaf first (leaf _) i x = leaf x
+put_leaf first (branch l n r) i x =
+    if nat_lt i (first + leaf_count l) then branch (put_leaf first l i x) n r else branch l n (put_leaf (first + leaf_count l) r i x)
+
+-- `put_parent first t p x` is the tree with `x` as the parent at node index p.
+abbrev pub put_parent : ℕ → Tree → ℕ → Option ParentNode → Tree
+put_parent first (leaf y) p x = leaf y
+put_parent first (branch l n r) p x =
+    if p + 1 == 2 * (first + leaf_count l)
+    then branch l x r
+    else (if nat_lt (p + 1) (2 * (first + leaf_count l))
+    then branch (put_parent first l p x) n r
+    else branch l n (put_parent (first + leaf_count l) r p x))
+
+-- `change_parent f first t p` is the tree with the parent at node index p changed by `f`.
+abbrev pub change_parent : (Option ParentNode → Option ParentNode) → ℕ → Tree → ℕ → Tree
+change_parent f first t p = put_parent first t p (f (parent_of (entry_of (subtree_at first t p))))
+
+-- `change_above f first t i` is the tree with each parent above leaf i changed by `f`.
+abbrev pub change_above : (Option ParentNode → Option ParentNode) → ℕ → Tree → ℕ → Tree
+change_above f first (leaf x) i = leaf x
+change_above f first (branch l n r) i =
+    if nat_lt i (first + leaf_count l) then branch (change_above f first l i) (f n) r else branch l (f n) (change_above f (first + leaf_count l) r i)
+
+-- `clear_path t i` is the tree with each parent above leaf i blank (RFC 9420, 12.1.2 and 12.1.3): the call
+-- `blank_path`.
+abbrev pub clear_path : Tree → ℕ → Tree
+clear_path t i = change_above (λ _. None) 0 t i
+
+-- `insert_before i xs` is the list with i before the first entry that is not less.
+abbrev pub insert_before : ℕ → List ℕ → List ℕ
+insert_before i [] = i ∷ []
+insert_before i (x ∷ xs) = if nat_lt x i then x ∷ insert_before i xs else i ∷ x ∷ xs
+
+-- `insert_number i xs` is the list with i inserted, unless it has i.
+abbrev pub insert_number : ℕ → List ℕ → List ℕ
+insert_number i xs = if list_any (λ x. x == i) xs then xs else insert_before i xs
+
+-- `with_unmerged i p` is the parent with leaf i in its unmerged list, if it is non-blank.
+abbrev pub with_unmerged : ℕ → Option ParentNode → Option ParentNode
+with_unmerged i None = None
+with_unmerged i (Some p) = Some (record p { unmerged = insert_number i p.unmerged })
+
+-- `without_number i xs` is the list without the first entry that is i.
+abbrev pub without_number : ℕ → List ℕ → List ℕ
+without_number i [] = []
+without_number i (x ∷ xs) = if x == i then xs else x ∷ without_number i xs
+
+-- `without_unmerged i p` is the parent without leaf i in its unmerged list.
+abbrev pub without_unmerged : ℕ → Option ParentNode → Option ParentNode
+without_unmerged i None = None
+without_unmerged i (Some p) = Some (record p { unmerged = without_number i p.unmerged })
+
+-- `enter_unmerged t i` is the tree with leaf i in the unmerged list of each non-blank parent above it (RFC 9420,
+-- 12.1.1): the call `add_unmerged`.
+abbrev pub enter_unmerged : Tree → ℕ → Tree
+enter_unmerged t i = change_above (with_unmerged i) 0 t i
+
+-- `is_overfilled i p`: the unmerged list of a non-blank parent would have more entries than a tree may have leaves,
+-- with i in it.
+abbrev pub is_overfilled : ℕ → Option ParentNode → Bool
+is_overfilled i None = false
+is_overfilled i (Some p) = nat_lt leaf_limit (length (insert_number i p.unmerged))
+
+-- `is_overfilled_above first t i`: this is so of some parent above leaf i.
+abbrev pub is_overfilled_above : ℕ → Tree → ℕ → Bool
+is_overfilled_above first (leaf x) i = false
+is_overfilled_above first (branch l n r) i =
+    (if nat_lt i (first + leaf_count l) then is_overfilled_above first l i else is_overfilled_above (first + leaf_count l) r i) || is_overfilled i n
+
+-- `IsOverfull t i`: some unmerged list above leaf i cannot take its index.
+abbrev pub IsOverfull : Tree → ℕ → Type 0
+IsOverfull t i = IsTrue (is_overfilled_above 0 t i)
+
+-- `has_set_leaf t`: some leaf is non-blank.
+abbrev pub has_set_leaf : Tree → Bool
+has_set_leaf (leaf None) = false
+has_set_leaf (leaf (Some _)) = true
+has_set_leaf (branch l _ r) = has_set_leaf l || has_set_leaf r
+
+-- `shrink t` is the tree truncated while its right subtree has no non-blank leaf (RFC 9420, 7.7): the call `truncate`.
+abbrev pub shrink : Tree → Tree
+shrink (leaf x) = leaf x
+shrink (branch l n r) = if has_set_leaf r then branch l n r else shrink l
+
+-- `blank_tree h` is the tree of height h whose nodes are all blank.
+abbrev pub blank_tree : ℕ → Tree
+blank_tree zero = leaf None
+blank_tree (suc h) = branch (blank_tree h) None (blank_tree h)
+
+-- `left_half t` is the left subtree, if the tree is no leaf.
+abbrev pub left_half : Tree → Tree
+left_half (leaf x) = leaf x
+left_half (branch l _ _) = l
+
+-- `with_left t w` is the tree `w` with `t` as its left subtree.
+abbrev pub with_left : Tree → Tree → Tree
+with_left t (leaf x) = leaf x
+with_left t (branch _ n r) = branch t n r
+
+-- `rejoined t w` is `with_left t w`, if `t` is as high as a child of `w`, else `t`.
+abbrev pub rejoined : Tree → Tree → Tree
+rejoined t w = if (height t + 1) == height w then with_left t w else t
+
+-- `grow t` is the tree as the left subtree of one twice as large, whose other nodes are blank (RFC 9420, 7.7): the call
+-- `extend`.
+abbrev pub grow : Tree → Tree
+grow t = branch t None (blank_tree (height t))
+
+-- `update t i x` is the tree after an Update: leaf i is `x`, and the parents above it are blank (RFC 9420, 12.1.2).
+abbrev pub update : Tree → ℕ → LeafNode → Tree
+update t i x = clear_path (put_leaf 0 t i (Some x)) i
+
+-- `remove t i` is the tree after a Remove: leaf i and the parents above it are blank, and the tree is truncated
+-- (RFC 9420, 12.1.3).
+abbrev pub remove : Tree → ℕ → Tree
+remove t i = shrink (clear_path (put_leaf 0 t i None) i)
+
+-- `number_or n o` is the index, or n if there is none.
+abbrev pub number_or : ℕ → Option ℕ → ℕ
+number_or n None = n
+number_or n (Some j) = j
+
+-- `added_leaf t` is the leaf of an added member: the leftmost blank one, or else the first leaf by which the tree is
+-- extended (RFC 9420, 12.1.1).
+abbrev pub added_leaf : Tree → ℕ
+added_leaf t = number_or (leaf_count t) (first_blank_leaf 0 t)
+
+-- `grown_for blank t` is the tree, extended if it has no blank leaf.
+abbrev pub grown_for : Option ℕ → Tree → Tree
+grown_for None t = grow t
+grown_for (Some _) t = t
+
+-- `add_at t j x` is the tree with `x` as leaf j, unmerged in each non-blank parent above it.
+abbrev pub add_at : Tree → ℕ → LeafNode → Tree
+add_at t j x = put_leaf 0 (enter_unmerged t j) j (Some x)
+
+-- `add t x` is the tree after an Add of a member with leaf node `x` (RFC 9420, 12.1.1).
+abbrev pub add : Tree → LeafNode → Tree
+add t x = add_at (grown_for (first_blank_leaf 0 t) t) (added_leaf t) x

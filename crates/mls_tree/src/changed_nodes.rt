@@ -1,0 +1,72 @@
+//! The node indices at which a change of a tree replaced, added or removed a node.
+ghost use Rattle.std.specs.Prelude.{◌≡◌, ◌≤◌, ◌<◌, ◌+◌, ◌^◌, ◌++◌, OnOk, IfOk};
+ghost use Rattle.std.specs.List.{range_with_len};
+ghost use Rattle.mls_nodes.specs.Limits.{leaf_limit};
+ghost use Rattle.mls_tree.specs.Tree.{Tree, leaf_count};
+ghost use Rattle.mls_tree.specs.RatchetTree.{RatchetTree};
+ghost use Rattle.mls_tree.specs.Journals.{taken_back};
+ghost use Rattle.mls_tree.specs.ChangedNodes.{AgreeExceptAt};
+
+use crate::journal::UndoEntry;
+use std::alloc::AllocError;
+
+// Appends `count` node indices, beginning with `first`.
+fn push_range(out: &mut Vec<u32>, first: u32, count: u32) -> Result<(), AllocError>
+    requires { first + count < 2 ^ 32 }
+    ensures { OnOk result (out.new.items ≡ out.old.items ++ range_with_len first count) }
+{
+    out.try_reserve(count as usize)?;
+    for offset in 0..count {
+        out.push_reserved(first + offset);
+    }
+    Ok(())
+}
+
+/// Appends the node indices at which a tree and the tree before its last change may differ, by what the change
+/// replaced. Returns the number of leaves of the tree before the change.
+pub(crate) fn push_changed(
+    out: &mut Vec<u32>,
+    former: &UndoEntry,
+    leaves: u32,
+) -> Result<u32, AllocError>
+    requires some { 0 < leaves }
+    requires few { leaves ≤ leaf_limit }
+    ensures leaves { IfOk result (λ n. (t : RatchetTree) → leaf_count t.tree ≡ leaves
+        → leaf_count (taken_back former.now t.tree) ≡ n) }
+    ensures places { OnOk result ((t : RatchetTree) (new : Tree) → leaf_count t.tree ≡ leaves
+        → AgreeExceptAt out.old.items t.tree new
+        → AgreeExceptAt out.new.items (taken_back former.now t.tree) new) }
+{
+    match former {
+        UndoEntry::Leaf { index, .. } => {
+            if *index < leaves {
+                out.push(2 * *index)?;
+            }
+            Ok(leaves)
+        }
+        UndoEntry::Parent { place, .. } => {
+            out.push(*place)?;
+            Ok(leaves)
+        }
+        UndoEntry::Entered { place, .. } => {
+            out.push(*place)?;
+            Ok(leaves)
+        }
+        UndoEntry::Grown => {
+            if leaves == 1 {
+                return Ok(1);
+            }
+            let half = leaves / 2;
+            push_range(out, 2 * half - 1, 2 * (leaves - half))?;
+            Ok(half)
+        }
+        UndoEntry::Halved(whole) => {
+            let count = whole.leaf_count();
+            if count != 2 * leaves {
+                return Ok(leaves);
+            }
+            push_range(out, 2 * leaves - 1, 2 * leaves)?;
+            Ok(count)
+        }
+    }
+}

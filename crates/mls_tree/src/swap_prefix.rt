@@ -1,0 +1,22 @@
+//! Left subtrees that are taken out of a tree and put back.
+ghost use Rattle.std.specs.Prelude.{◌≡◌, ℕ, ◌<◌, ◌≤◌, length, slice_get};
+
+use mls_nodes::Node;
+use std::mem;
+
+/// Exchanges the entries of `front` with the first entries of `whole`.
+pub(crate) fn swap_prefix(whole: &mut Vec<Option<Node>>, front: &mut Vec<Option<Node>>)
+    requires { length front.old.items ≤ length whole.old.items }
+    ensures put { (p : ℕ) → p < length front.old.items
+        → slice_get whole.new.items p ≡ slice_get front.old.items p }
+    ensures rest { (p : ℕ) → length front.old.items ≤ p
+        → slice_get whole.new.items p ≡ slice_get whole.old.items p }
+    ensures taken { (p : ℕ) → p < length front.old.items
+        → slice_get front.new.items p ≡ slice_get whole.old.items p }
+    ensures long { length whole.new.items ≡ length whole.old.items }
+    ensures short { length front.new.items ≡ length front.old.items }
+{
+    for place in 0..front.len() {
+        mem::swap(&mut whole[place], &mut front[place]);
+    }
+}

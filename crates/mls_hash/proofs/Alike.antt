@@ -6,9 +6,9 @@ use Rattle.mls_nodes.specs.declared.parent.ParentNode.{ParentNode}
 use Rattle.mls_tree.specs.Tree.{Tree, leaf, branch, leaf_count, Subtree, subtree_at, root_place}
 use Rattle.mls_tree.specs.TreeHash.{tree_hash}
 use Rattle.mls_tree.proofs.Trees.{subtree_at-stands, subtree_at-root, subtree_at-nested, subtree_at-in_left, subtree_at-in_right, root_place-above, root_place-below}
-use Rattle.mls_tree.specs.Parts.{HasChildren}
+use Rattle.mls_tree.specs.NodeView.{HasChildren}
 use Rattle.mls_hash.specs.ParentHash.{root_parent}
-use Rattle.mls_hash.specs.Strip.{strip, original_tree_hash, original_tree_hash_at}
+use Rattle.mls_hash.specs.WithoutLeaves.{strip, original_tree_hash, original_tree_hash_at}
 use Rattle.mls_hash.specs.SubtreeHashes.{AreLeavesUnder, AreSubtreeHashes, HoldsOwnLeaves, IsLeafOf}
 use Rattle.mls_hash.proofs.Strips.{HaveAlike, parent-alike}
 use Rattle.mls_hash.proofs.Answers.{whole_tree}

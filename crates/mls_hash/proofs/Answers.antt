@@ -8,10 +8,10 @@ use Rattle.mls_tree.specs.Tree.{Tree, leaf, leaf_count, Subtree, subtree_at}
 use Rattle.mls_tree.specs.TreeHash.{leaf_hash_input, parent_hash_input, hash_of_parent, tree_hash}
 use Rattle.mls_hash.specs.declared.fault.HashFault.{HashFault}
 use Rattle.mls_hash.specs.declared.fault.HashFault.TheVariants as faults
-use Rattle.mls_hash.specs.Inputs.{HashesText, HashesSubtree}
-use Rattle.mls_tree.specs.Parts.{HasChildren}
-use Rattle.mls_hash.specs.Parts.{HasChildOn, child_on}
-use Rattle.mls_hash.specs.Strip.{strip, stripped_leaf, stripped_parent, original_tree_hash, original_tree_hash_at, tree_hash_at}
+use Rattle.mls_hash.specs.HashInputs.{HashesText, HashesSubtree}
+use Rattle.mls_tree.specs.NodeView.{HasChildren}
+use Rattle.mls_hash.specs.ChildOnSide.{HasChildOn, child_on}
+use Rattle.mls_hash.specs.WithoutLeaves.{strip, stripped_leaf, stripped_parent, original_tree_hash, original_tree_hash_at, tree_hash_at}
 use Rattle.mls_hash.specs.declared.side.Side.{Side}
 use Rattle.mls_hash.specs.declared.side.Side.TheVariants as sides
 use Rattle.mls_hash.specs.ParentHash as parents

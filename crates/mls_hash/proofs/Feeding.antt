@@ -1,11 +1,11 @@
 -- Vectors that are fed to a hasher one after the other.
 use Rattle.std.proofs.Common.{◌≡◌, ℕ, List, [], ◌++◌, length, Option, Some, None, refl, sym, ap, ◌∙◌, subst, append_assoc}
 use Rattle.std.specs.Prelude.{option_map}
-use Rattle.mls_wire.specs.Spelling.{length_form, vector}
-use Rattle.mls_wire.specs.Joined.{join, no_left}
+use Rattle.mls_wire.specs.Encoding.{length_form, vector}
+use Rattle.mls_wire.specs.EncodingConcat.{join, no_left}
 use Rattle.mls_hash.specs.declared.hasher.Hasher.{Hasher}
-use Rattle.mls_hash.specs.Hashing.{ref_hash_input}
-use Rattle.mls_hash.specs.Feeding.{Holds, HoldsMore, IsFed}
+use Rattle.mls_hash.specs.SuiteHash.{ref_hash_input}
+use Rattle.mls_hash.specs.HasherModel.{Holds, HoldsMore, IsFed}
 
 -- a vector, fed as its length and its body
 pub vector_held : (body : List ℕ) (old mid new : Hasher) → HoldsMore (length_form (length body)) old mid → IsFed body mid new → HoldsMore (vector body) old new

@@ -7,7 +7,7 @@ use Rattle.std.proofs.lemmas.Option.{none-some, same_Some, slice_get_past, slice
 use Rattle.mls_nodes.specs.declared.leaf.LeafNode.{LeafNode}
 use Rattle.mls_nodes.specs.declared.parent.ParentNode.{ParentNode}
 use Rattle.mls_nodes.specs.declared.node.Node.{Node}
-use Rattle.mls_nodes.specs.Value.{entry_value}
+use Rattle.mls_nodes.specs.NodeModel.{entry_value}
 use Rattle.mls_tree.specs.Tree.{Tree, leaf, branch, leaf_count, listing, Subtree, subtree_at, root_place}
 use Rattle.mls_tree.specs.RatchetTree.{RatchetTree}
 use Rattle.mls_tree.specs.TreeHash.{leaf_hash_input, parent_hash_input, tree_hash}
@@ -16,11 +16,11 @@ use Rattle.mls_tree.proofs.Coordinates.{root-seen}
 use Rattle.mls_tree.proofs.Descent.{inside_bound}
 use Rattle.mls_tree.proofs.Trees.{length-listing, subtree_at-stands, subtree_at-root, subtree_at-some, subtree_at-none, subtree_at-in_left, subtree_at-in_right, root_place-above, root_place-below}
 use Rattle.mls_hash.specs.declared.fault.HashFault.{HashFault}
-use Rattle.mls_hash.specs.Inputs.{HashesText, HashesSubtree}
-use Rattle.mls_tree.specs.Parts.{HasChildren}
+use Rattle.mls_hash.specs.HashInputs.{HashesText, HashesSubtree}
+use Rattle.mls_tree.specs.NodeView.{HasChildren}
 use Rattle.mls_tree.specs.HashLists.{EqualHashes}
-use Rattle.mls_hash.specs.Strip.{stripped_parent, tree_hash_at}
-use Rattle.mls_hash.specs.SubtreeHashes.{AreAllHashes, IsSubtreeHashAt, AreSubtreeHashes, AreHashesKept, AreHashesUnder, HasRoom}
+use Rattle.mls_hash.specs.WithoutLeaves.{stripped_parent, tree_hash_at}
+use Rattle.mls_hash.specs.SubtreeHashes.{AreAllHashes, IsSubtreeHashAt, AreSubtreeHashes, AreHashesKept, AreHashesUnder, HasCapacity}
 use Rattle.mls_hash.proofs.Answers.{leaf_answer, parent_answer, whole_tree}
 
 module _ (H : List ℕ → List ℕ) (t : Tree) where
@@ -98,7 +98,7 @@ module _ (H : List ℕ → List ℕ) (t : Tree) where
       h (record { first = 0; tree = t }) (ap (subtree_at 0 t) at ∙ subtree_at-root 0 t) p s.0 s.1)
 
 -- a hash is put into a list that has room for all of them
-pub put_room : (suite : ℕ) (t : Tree) (old new : EqualHashes) (p : ℕ) (hash : List ℕ) → HasRoom suite t old → new ≡ record old { hashes = slice_set old.hashes p hash } → HasRoom suite t new
+pub put_room : (suite : ℕ) (t : Tree) (old new : EqualHashes) (p : ℕ) (hash : List ℕ) → HasCapacity suite t old → new ≡ record old { hashes = slice_set old.hashes p hash } → HasCapacity suite t new
 put_room suite t old new p hash room is = record {
   count = omega (arith, ap (λ l. length l.hashes) is, length-set old.hashes p hash, room.count);
   width = ap (λ l. l.width) is ∙ room.width;

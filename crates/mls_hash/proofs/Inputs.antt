@@ -10,23 +10,23 @@ use Rattle.std.proofs.lemmas.List.Filters.{length-filter_both}
 use Rattle.std.proofs.lemmas.List.Folds.{list_any_at}
 use Rattle.mls_wire.specs.declared.fault.CodecFault.{CodecFault}
 use Rattle.mls_wire.specs.declared.fault.CodecFault.TheVariants as codec
-use Rattle.mls_wire.specs.Spelling.{◌⊕◌, number, length_form, vector, items, list, optional}
-use Rattle.mls_wire.specs.Writing.{after, WritesPiece}
-use Rattle.mls_wire.specs.Written.{after_then, after_is, after_nil, after_some, items_snoc, sized_makes}
-use Rattle.mls_wire.specs.Steps.{some_is, allowed}
-use Rattle.mls_wire.specs.Joined.{joined, join}
-use Rattle.mls_wire.specs.Numbers.{number_made, number_below, wide32}
-use Rattle.mls_wire.specs.Lists.{sized_parts}
-use Rattle.mls_wire.specs.Vectors.{vector_within}
-use Rattle.mls_wire.specs.Sizes.{some_size}
+use Rattle.mls_wire.specs.Encoding.{◌⊕◌, number, length_form, vector, items, list, optional}
+use Rattle.mls_wire.specs.WriteContracts.{after, WritesPiece}
+use Rattle.mls_wire.specs.WriteSequences.{after_then, after_is, after_nil, after_some, items_snoc, sized_makes}
+use Rattle.mls_wire.specs.OptionBind.{some_is, allowed}
+use Rattle.mls_wire.specs.EncodingConcat.{joined, join}
+use Rattle.mls_wire.specs.IntegersExact.{number_made, number_below, wide32}
+use Rattle.mls_wire.specs.ListsExact.{sized_parts}
+use Rattle.mls_wire.specs.VectorsExact.{vector_within}
+use Rattle.mls_wire.specs.EncodedSizes.{some_size}
 use Rattle.mls_nodes.specs.declared.leaf.LeafNode.{LeafNode}
 use Rattle.mls_nodes.specs.declared.parent.ParentNode.{ParentNode}
 use Rattle.mls_nodes.specs.Layout as layout
 use Rattle.mls_nodes.proofs.Lengths.{HasLength, prefix_1, prefix_2, prefix_4, vector_has}
 use Rattle.mls_tree.specs.TreeHash.{leaf_hash_input, parent_hash_input}
 use Rattle.mls_hash.specs.declared.fault.HashFault.{HashFault}
-use Rattle.mls_hash.specs.Inputs.{WritesText, IsNoWireFault, HashesWritten, HashesText}
-use Rattle.mls_hash.specs.Strip.{is_among, without, stripped_parent}
+use Rattle.mls_hash.specs.HashInputs.{WritesText, IsNoWireFault, HashesWritten, HashesText}
+use Rattle.mls_hash.specs.WithoutLeaves.{is_among, without, stripped_parent}
 use Rattle.mls_hash.specs.ParentHash as parents
 
 without_low : (L xs : List ℕ) → length (without L xs) ≤ length xs

@@ -9,14 +9,14 @@ use Rattle.mls_tree.specs.declared.hash_kind.HashKind.{HashKind}
 use Rattle.mls_tree.specs.declared.hash_kind.HashKind.TheVariants.{Sha256, Sha384, Sha512}
 use Rattle.mls_tree.specs.Tree.{Tree, leaf_count, node_at, entry_of, parent_entry, Subtree, subtree_at}
 use Rattle.mls_tree.specs.TreeHash.{parent_hash_input}
-use Rattle.mls_tree.specs.Parts.{HasChildren, parent_of}
-use Rattle.mls_tree.specs.Cells.{hash_by, hash_in, hash_at, IsRightHash}
+use Rattle.mls_tree.specs.NodeView.{HasChildren, parent_of}
+use Rattle.mls_tree.specs.HashCache.{hash_by, hash_in, hash_at, IsRightHash}
 use Rattle.mls_tree.proofs.Arrays.{slice_get-set_other}
 use Rattle.mls_tree.proofs.Trees.{subtree_at-some}
-use Rattle.mls_hash.specs.Hashing.{hash_of, kind_of}
-use Rattle.mls_hash.specs.Inputs.{HashesText}
-use Rattle.mls_hash.specs.KeptHashes.{IsFilled, FilledStay}
-use Rattle.mls_hash.specs.Strip.{stripped_parent, original_tree_hash_at, tree_hash_at}
+use Rattle.mls_hash.specs.SuiteHash.{hash_of, kind_of}
+use Rattle.mls_hash.specs.HashInputs.{HashesText}
+use Rattle.mls_hash.specs.FilledCache.{IsFilled, FilledStay}
+use Rattle.mls_hash.specs.WithoutLeaves.{stripped_parent, original_tree_hash_at, tree_hash_at}
 use Rattle.mls_hash.proofs.Answers.{whole_tree}
 use Rattle.mls_hash.proofs.Filling.{parent_hashed}
 

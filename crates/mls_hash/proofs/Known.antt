@@ -7,13 +7,13 @@ use Rattle.std.proofs.lemmas.Option.{same_Some}
 use Rattle.mls_nodes.specs.declared.parent.ParentNode.{ParentNode}
 use Rattle.mls_tree.specs.Tree.{Tree, Subtree}
 use Rattle.mls_tree.specs.TreeHash.{hash_of_parent, parent_hash_input}
-use Rattle.mls_tree.specs.Parts.{HasChildren}
+use Rattle.mls_tree.specs.NodeView.{HasChildren}
 use Rattle.mls_tree.proofs.Arrays.{slice_get-set_same, slice_get-set_other}
 use Rattle.mls_tree.proofs.Trees.{leaf_count-positive, subtree_at-stands}
 use Rattle.mls_hash.specs.declared.side.Side.TheVariants.{Left, Right}
-use Rattle.mls_hash.specs.OriginalHashes.{AreChildHashes, AreKnownHashes, AreOwnHashes, KnownHashes, ListsJust, child_hash_at, own_hash_at, root_child_hash}
+use Rattle.mls_hash.specs.OriginalTreeHashes.{AreChildHashes, AreKnownHashes, AreOwnHashes, KnownHashes, ListsJust, child_hash_at, own_hash_at, root_child_hash}
 use Rattle.mls_hash.specs.ParentHash.{parent_at, root_parent}
-use Rattle.mls_hash.specs.Strip.{original_tree_hash, original_tree_hash_at, stripped_parent}
+use Rattle.mls_hash.specs.WithoutLeaves.{original_tree_hash, original_tree_hash_at, stripped_parent}
 use Rattle.mls_hash.specs.SubtreeHashes.{AreLeavesUnder, HoldsOwnLeaves}
 use Rattle.mls_hash.proofs.Alike.{left_alike, right_alike}
 use Rattle.mls_hash.proofs.Answers.{whole_hash}

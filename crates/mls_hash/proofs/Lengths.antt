@@ -9,8 +9,8 @@ use Rattle.sha2.proofs.Facts512.{length-sha384, length-sha512}
 use Rattle.mls_nodes.specs.declared.parent.ParentNode.{ParentNode}
 use Rattle.mls_tree.specs.Tree.{Tree, leaf, branch, leaf_count, Subtree, subtree_at}
 use Rattle.mls_tree.specs.TreeHash.{tree_hash, hash_of_parent, leaf_hash_input, parent_hash_input}
-use Rattle.mls_hash.specs.Hashing.{hash_of, hash_length}
-use Rattle.mls_hash.specs.Strip.{tree_hash_at}
+use Rattle.mls_hash.specs.SuiteHash.{hash_of, hash_length}
+use Rattle.mls_hash.specs.WithoutLeaves.{tree_hash_at}
 
 -- a hash has as many bytes as the suite's hashes have
 pub length-hash_of : (suite : ℕ) (message : List ℕ) → length (hash_of suite message) ≡ hash_length suite

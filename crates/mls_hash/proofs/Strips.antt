@@ -5,7 +5,7 @@ use Rattle.std.specs.List.Sorted.{IsPermutation}
 use Rattle.std.proofs.lemmas.List.Sorted.{list_any-IsPermutation}
 use Rattle.mls_nodes.specs.declared.parent.ParentNode.{ParentNode}
 use Rattle.mls_tree.specs.Tree.{Tree, leaf, branch, leaf_count}
-use Rattle.mls_hash.specs.Strip.{is_among, without, stripped_parent, strip}
+use Rattle.mls_hash.specs.WithoutLeaves.{is_among, without, stripped_parent, strip}
 
 -- as many leaves as before
 pub leaf_count-strip : (L : List ℕ) (first : ℕ) (t : Tree) → leaf_count (strip L first t) ≡ leaf_count t

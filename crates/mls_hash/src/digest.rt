@@ -1,16 +1,16 @@
 //! Hashes of bytes.
 
 ghost use Rattle.std.specs.Prelude.{◌≡◌, ◌++◌, Some, None, option_map, MatchResult};
-ghost use Rattle.mls_wire.specs.Spelling.{length_form, vector};
-ghost use Rattle.mls_hash.specs.Hashing.{hash_of, ref_hash_input};
-ghost use Rattle.mls_hash.specs.Feeding.{FeedsText};
+ghost use Rattle.mls_wire.specs.Encoding.{length_form, vector};
+ghost use Rattle.mls_hash.specs.SuiteHash.{hash_of, ref_hash_input};
+ghost use Rattle.mls_hash.specs.HasherModel.{FeedsText};
 
 use crate::fault::HashFault;
 use crate::hasher::Hasher;
 use crate::suite::Suite;
 use mls_tree::HashValue;
 
-/// The hash of `first` and `second`, taken as one message (RFC 9420, 5.2), by the suite's hash function. It takes no memory.
+/// Returns the hash of `first` followed by `second`, by the suite's hash function. Does not allocate.
 pub fn hash(suite: Suite, first: &[u8], second: &[u8]) -> HashValue
     ensures { result ≡ hash_of suite (first.now ++ second.now) }
 {
@@ -20,7 +20,7 @@ pub fn hash(suite: Suite, first: &[u8], second: &[u8]) -> HashValue
     hasher.finish()
 }
 
-/// Feeds the length of a vector, in the shortest of its forms (RFC 9420, 2.1.2).
+/// Feeds the length of a vector, in its shortest form (RFC 9420, 2.1.2).
 fn feed_length(hasher: &mut Hasher, length: usize) -> Result<(), HashFault>
     ensures { FeedsText (length_form length) hasher.old hasher.new result }
 {
@@ -45,8 +45,12 @@ fn feed_vector(hasher: &mut Hasher, body: &[u8]) -> Result<(), HashFault>
     Ok(())
 }
 
-/// The reference `RefHash(label, value)` (RFC 9420, 5.2): the hash of the label and the value, each as a vector.
-/// A label or a value of more than 1,073,741,823 bytes is [`HashFault::TooLong`]. It takes no memory.
+/// Returns the reference `RefHash(label, value)` (RFC 9420, 5.2): the hash of the label and the value, each as a
+/// vector. Does not allocate.
+///
+/// # Errors
+///
+/// [`HashFault::TooLong`] if and only if the label or the value has more than 1,073,741,823 bytes.
 pub fn ref_hash(suite: Suite, label: &str, value: &[u8]) -> Result<HashValue, HashFault>
     ensures { MatchResult result
         (λ h. option_map (hash_of suite) (ref_hash_input label.now value.now) ≡ Some h)

@@ -1,4 +1,4 @@
-//! Why a hash is refused.
+//! Errors of hashing.
 
 ghost use Rattle.std.specs.Prelude.{◌≡◌};
 ghost use Rattle.mls_hash.specs.declared.fault.HashFault.TheVariants.{OutOfMemory};
@@ -6,19 +6,19 @@ ghost use Rattle.mls_hash.specs.declared.fault.HashFault.TheVariants.{OutOfMemor
 use std::alloc::{AllocError, AllocFailed};
 use thiserror::Error;
 
-/// Why a hash is refused.
+/// Why there is no hash.
 #[derive(Clone, Copy, Debug, PartialEq, Eq, Error)]
 pub enum HashFault {
-    /// The number is that of no cipher suite that is followed.
+    /// The number is that of no supported cipher suite.
     #[error("the cipher suite is not supported")]
     UnsupportedSuite,
-    /// No node stands at the place, or, for a parent hash, no parent node that is set.
+    /// There is no node at the node index, or, for a parent hash, no non-blank parent.
     #[error("the tree has no such node")]
     NoSuchNode,
-    /// A part is longer than a vector may be.
+    /// A part is over the limit of a vector.
     #[error("a part is too long for a vector")]
     TooLong,
-    /// Memory ran out.
+    /// An allocation failed.
     #[error("out of memory")]
     OutOfMemory,
 }

@@ -1,8 +1,8 @@
 //! Hashers of the hash functions of cipher suites.
 
 ghost use Rattle.std.specs.Prelude.{◌≡◌, ℕ, List, []};
-ghost use Rattle.mls_hash.specs.Hashing.{hash_of};
-ghost use Rattle.mls_hash.specs.Feeding.{Holds, IsFed};
+ghost use Rattle.mls_hash.specs.SuiteHash.{hash_of};
+ghost use Rattle.mls_hash.specs.HasherModel.{Holds, IsFed};
 
 use crate::suite::Suite;
 use mls_tree::HashValue;
@@ -20,8 +20,8 @@ pub(crate) enum Hasher {
 }
 
 impl Hasher {
-    /// A hasher of the suite's hash function, which was fed nothing.
-    #[tactic(auto, unfolding(crate::specs::Hashing::hash_of))]
+    /// Returns a hasher of the suite's hash function, to which nothing was fed.
+    #[tactic(auto, unfolding(crate::specs::SuiteHash::hash_of))]
     pub(crate) fn new(suite: Suite) -> Hasher
         ensures { Holds (hash_of suite) result [] }
     {
@@ -43,7 +43,7 @@ impl Hasher {
         }
     }
 
-    /// The hash of what was fed.
+    /// Returns the hash of what was fed.
     pub(crate) fn finish(self) -> HashValue
         ensures { (H : List ℕ → List ℕ) (m : List ℕ) → Holds H self m → result ≡ H m }
     {

@@ -1,23 +1,24 @@
 //! Parent hashes (RFC 9420, 7.9).
 
 ghost use Rattle.std.specs.Prelude.{◌≡◌, ◌↔◌, ◌⊎◌, None, Some, Err, IfOk, IfErr, MatchOption, option_map};
-ghost use Rattle.mls_hash.specs.Hashing.{hash_of};
-ghost use Rattle.mls_hash.specs.Inputs.{HashesText, WritesText};
+ghost use Rattle.mls_hash.specs.SuiteHash.{hash_of};
+ghost use Rattle.mls_hash.specs.HashInputs.{HashesText, WritesText};
 ghost use Rattle.mls_hash.specs.ParentHash.{parent_at, parent_hash_at, parent_hash_input};
-ghost use Rattle.mls_hash.specs.Parts.{HasChildOn};
+ghost use Rattle.mls_hash.specs.ChildOnSide.{HasChildOn};
 
 use crate::fault::HashFault;
-use crate::input::hash_written;
+use crate::hash_input::hash_written;
 use crate::leaf_set::{LeafSet, sorted};
 use crate::side::Side;
-use crate::subtree::hash_subtree;
 use crate::suite::Suite;
+use crate::tree_hashes::hash_subtree;
 use mls_nodes::ParentNode;
 use mls_tree::{HashValue, Part, PublicTree};
 use mls_wire::{CodecFault, Writer};
 use std::alloc::Global;
 
-/// The parent that is set at a place, and the place of its child on a side. `None` where no set parent stands there.
+/// Returns the non-blank parent at a node index, and the node index of its child on a side. `None` if there is no
+/// non-blank parent.
 fn parent_and_child(tree: &PublicTree, place: u32, side: Side) -> Option<(&ParentNode, u32)>
     ensures { MatchOption result (parent_at tree.now.tree place ≡ None)
         (λ r. HasChildOn tree.now.tree place side r.1 r.0.now) }
@@ -40,7 +41,7 @@ fn parent_and_child(tree: &PublicTree, place: u32, side: Side) -> Option<(&Paren
 }
 
 /// Writes the input of a parent hash.
-#[tactic(auto, using(mls_wire::specs::Written::written))]
+#[tactic(auto, using(mls_wire::specs::WriteSequences::written))]
 fn write_parent_hash_input(
     parent: &ParentNode,
     original: &HashValue,
@@ -53,8 +54,8 @@ fn write_parent_hash_input(
     writer.write_vec(original.as_slice())
 }
 
-/// The parent hash of a parent, by the original tree hash of its child on the copath (RFC 9420, 7.9). The writer is used
-/// anew.
+/// Returns the parent hash of a parent from the original tree hash of its child on the copath (RFC 9420, 7.9).
+/// Overwrites the buffer.
 pub(crate) fn hash_parent_fields(
     suite: Suite,
     parent: &ParentNode,
@@ -70,8 +71,8 @@ pub(crate) fn hash_parent_fields(
     hash_written(suite, written, writer)
 }
 
-/// The parent hash of a parent node (RFC 9420, 7.9), by the original tree hash of its child on the copath: the hash of
-/// its key, its own parent hash and that tree hash. The parent need not stand in a tree.
+/// Returns the parent hash of a parent node (RFC 9420, 7.9) from the original tree hash of its child on the copath: the
+/// hash of its key, its own parent hash and that tree hash. The parent need not be in a tree.
 pub fn parent_hash_of(
     alloc: Global,
     suite: Suite,
@@ -86,9 +87,13 @@ pub fn parent_hash_of(
     hash_parent_fields(suite, parent, original, &mut writer)
 }
 
-/// The parent hash of the parent that is set at a place, whose child on the copath is the one on that side (RFC 9420,
-/// 7.9): the hash of its key, its own parent hash and the original tree hash of that child, without the parent's
-/// unmerged leaves. `NoSuchNode` where no set parent stands at the place.
+/// Returns the parent hash of the non-blank parent at a node index, whose child on the copath is the one on `side`
+/// (RFC 9420, 7.9). It is the hash of the parent's key, its own parent hash and the original tree hash of that child,
+/// without the parent's unmerged leaves.
+///
+/// # Errors
+///
+/// `NoSuchNode` if and only if there is no non-blank parent, or `OutOfMemory`.
 pub fn parent_hash(
     alloc: Global,
     suite: Suite,

@@ -3,14 +3,14 @@
 ghost use Rattle.std.specs.Prelude.{◌≡◌, ◌≤◌, IfOk, OnOk, slice_get};
 ghost use Rattle.std.specs.Bool.{OnTrue};
 ghost use Rattle.mls_tree.specs.Tree.{subtree_at};
-ghost use Rattle.mls_hash.specs.Hashing.{hash_of};
-ghost use Rattle.mls_hash.specs.Inputs.{HashesSubtree};
-ghost use Rattle.mls_hash.specs.Strip.{tree_hash_at};
-ghost use Rattle.mls_hash.specs.SubtreeHashes.{AreAllHashes, AreHashesKept, AreHashesUnder, AreSubtreeHashes, HasRoom};
+ghost use Rattle.mls_hash.specs.SuiteHash.{hash_of};
+ghost use Rattle.mls_hash.specs.HashInputs.{HashesSubtree};
+ghost use Rattle.mls_hash.specs.WithoutLeaves.{tree_hash_at};
+ghost use Rattle.mls_hash.specs.SubtreeHashes.{AreAllHashes, AreHashesKept, AreHashesUnder, AreSubtreeHashes, HasCapacity};
 
+use crate::cached_hashes::kept_hash;
 use crate::fault::HashFault;
-use crate::input::{hash_leaf, hash_parent};
-use crate::kept_hashes::kept_hash;
+use crate::hash_input::{hash_leaf, hash_parent};
 use crate::leaf_set::LeafSet;
 use crate::suite::Suite;
 use mls_tree::{HashList, HashValue, Part, PublicTree};
@@ -18,10 +18,9 @@ use mls_wire::Writer;
 use std::alloc::{AllocError, Global};
 use std::marker::Model;
 
-/// The tree hash of the subtree at each place of a tree (RFC 9420, 7.8), each computed once.
+/// The tree hash of the subtree at each node index of a tree (RFC 9420, 7.8), each computed once.
 ///
-/// Each takes as many bytes as a hash of the suite has. Contracts see it as the list of the hashes, in the order of the
-/// places.
+/// Each takes as many bytes as a hash of the suite. The model is the list of the hashes, by node index.
 #[derive(Drop)]
 pub struct SubtreeHashes {
     hashes: HashList,
@@ -35,8 +34,7 @@ impl Model for SubtreeHashes {
     ghost view = { λ s. s.hashes.hashes };
 }
 
-/// Hashes the subtree at a place, halves first, and puts the hash of each of its subtrees at the place of that. Each is written into the
-/// same buffer.
+/// Hashes the subtree at a node index, children first, and stores the hash of each of its subtrees. Uses one buffer.
 fn put_hashes(
     alloc: Global,
     suite: Suite,
@@ -45,8 +43,8 @@ fn put_hashes(
     hashes: &mut HashList,
     writer: &mut Writer,
 ) -> Result<HashValue, HashFault>
-    requires { HasRoom suite tree.now.tree hashes.old }
-    ensures room { HasRoom suite tree.now.tree hashes.new }
+    requires { HasCapacity suite tree.now.tree hashes.old }
+    ensures room { HasCapacity suite tree.now.tree hashes.new }
     ensures hash { HashesSubtree (subtree_at 0 tree.now.tree place)
         (tree_hash_at (hash_of suite) tree.now.tree place) result }
     ensures kept { let H = hash_of suite in
@@ -78,11 +76,11 @@ fn put_hashes(
     }
 }
 
-/// Puts the hashes that a tree keeps by the suite's hash function at their places, and tells whether it keeps all of them. It ends at the
-/// first that is missing.
+/// Copies the cached tree hashes of a tree, if they are of the suite's hash function, and returns whether all slots are
+/// filled. Stops at the first empty one.
 fn put_kept(suite: Suite, tree: &PublicTree, hashes: &mut HashList) -> bool
-    requires { HasRoom suite tree.now.tree hashes.old }
-    ensures room { HasRoom suite tree.now.tree hashes.new }
+    requires { HasCapacity suite tree.now.tree hashes.old }
+    ensures room { HasCapacity suite tree.now.tree hashes.new }
     ensures kept { OnTrue result
         (AreSubtreeHashes (hash_of suite) tree.now.tree hashes.new.hashes) }
 {
@@ -96,8 +94,8 @@ fn put_kept(suite: Suite, tree: &PublicTree, hashes: &mut HashList) -> bool
 }
 
 impl SubtreeHashes {
-    /// Hashes each subtree of a tree, halves first: one hash for each node. Where the tree keeps all of these hashes by the suite's hash
-    /// function, they are copied.
+    /// Hashes each subtree of a tree, children first: one hash for each node. If all of them are cached, they are
+    /// copied.
     pub fn new(alloc: Global, suite: Suite, tree: &PublicTree) -> Result<SubtreeHashes, AllocError>
         ensures { IfOk result (AreAllHashes (hash_of suite) tree.now.tree) }
     {
@@ -114,14 +112,14 @@ impl SubtreeHashes {
         }
     }
 
-    /// The hash of the subtree at a place. `None` where there is none.
+    /// Returns the tree hash of the subtree at a node index. `None` if there is none.
     pub fn get(&self, place: u32) -> Option<HashValue>
         ensures { result ≡ slice_get self.now place }
     {
         self.hashes.get(place)
     }
 
-    /// How many bytes each hash has.
+    /// Returns the length of each hash.
     pub(crate) fn width(&self) -> usize
         ensures { result ≤ 64 }
     {

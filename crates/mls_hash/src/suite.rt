@@ -1,18 +1,18 @@
 //! Cipher suites.
 
 ghost use Rattle.std.specs.Prelude.{◌≡◌, ◌≤◌, ℕ, Ok, Err};
-ghost use Rattle.mls_tree.specs.Cells.{hash_by};
-ghost use Rattle.mls_hash.specs.Hashing.{hash_length, hash_of, kind_of};
+ghost use Rattle.mls_tree.specs.HashCache.{hash_by};
+ghost use Rattle.mls_hash.specs.SuiteHash.{hash_length, hash_of, kind_of};
 ghost use Rattle.mls_hash.specs.Suites.{IsSupported};
 
 use crate::fault::HashFault;
 use mls_tree::HashKind;
 use std::marker::Model;
 
-/// A cipher suite whose hash function is known, by its number in the registry (RFC 9420, 17.1): 1, 2 or 3, which
-/// hash with SHA-256; 4, 5 or 6, which hash with SHA-512; or 7, which hashes with SHA-384.
+/// A cipher suite whose hash function is known, by its number in the registry (RFC 9420, 17.1): 1, 2 or 3, which hash
+/// with SHA-256; 4, 5 or 6, which hash with SHA-512; or 7, which hashes with SHA-384.
 ///
-/// Contracts see it as its number.
+/// The model is its number.
 #[derive(Clone, Copy, Debug, PartialEq, Eq)]
 pub struct Suite {
     number: u16,
@@ -32,7 +32,11 @@ impl Model for Suite {
 }
 
 impl Suite {
-    /// The suite with this number, from 1 to 7. Any other number is [`HashFault::UnsupportedSuite`].
+    /// Returns the suite with this number, from 1 to 7.
+    ///
+    /// # Errors
+    ///
+    /// [`HashFault::UnsupportedSuite`] for any other number.
     pub fn from_u16(number: u16) -> Result<Suite, HashFault>
         ensures supported { IsSupported number → result ≡ Ok number }
         ensures unsupported { ¬ IsSupported number → result ≡ Err HashFault.UnsupportedSuite }
@@ -43,7 +47,7 @@ impl Suite {
         }
     }
 
-    /// The suite's number.
+    /// Returns the suite's number.
     pub fn number(self) -> u16
         ensures number { result ≡ self }
         ensures supported { IsSupported self }
@@ -51,8 +55,8 @@ impl Suite {
         self.number
     }
 
-    /// The suite's hash function, by the name that a tree has for it where it keeps hashes.
-    #[tactic(auto, unfolding(mls_tree::specs::Cells::hash_by, crate::specs::Hashing::hash_of, crate::specs::Hashing::kind_of))]
+    /// Returns the suite's hash function, as the hash cache of a tree names it.
+    #[tactic(auto, unfolding(mls_tree::specs::HashCache::hash_by, crate::specs::SuiteHash::hash_of, crate::specs::SuiteHash::kind_of))]
     pub fn kind(self) -> HashKind
         ensures kind { result ≡ kind_of self }
         ensures function { hash_by result ≡ hash_of self }
@@ -64,9 +68,10 @@ impl Suite {
         }
     }
 
-    /// How many bytes a hash of the suite has.
-    #[tactic(auto, unfolding(crate::specs::Hashing::hash_length))]
-    pub(crate) fn hash_len(self) -> usize
+    /// Returns the length in bytes of a hash of the suite: 32, 64 or 48. It is also `KDF.Nh`, the length of a `psk_nonce`
+    /// (RFC 9420, 8.4 and 17.1).
+    #[tactic(auto, unfolding(crate::specs::SuiteHash::hash_length))]
+    pub fn hash_length(self) -> u8
         ensures length { result ≡ hash_length self }
         ensures limit { result ≤ 64 }
     {
@@ -75,5 +80,13 @@ impl Suite {
             4..=6 => 64,
             _ => 48,
         }
+    }
+
+    /// Returns [`Suite::hash_length`] as a length of lists.
+    pub(crate) fn hash_len(self) -> usize
+        ensures length { result ≡ hash_length self }
+        ensures limit { result ≤ 64 }
+    {
+        usize::from(self.hash_length())
     }
 }

@@ -1,5 +1,5 @@
 use Rattle.std.proofs.Common.{ℕ, List, [], ◌∷◌, Some, refl, sym, ap, ◌∙◌}
-use Rattle.mls_wire.specs.Lengths.{form_1, form_2, form_4, no_length}
+use Rattle.mls_wire.specs.LengthsExact.{form_1, form_2, form_4, no_length}
 use Rattle.mls_hash.proofs.digest.feed_length.Goals as goal
 
 pub returns-else-length-lt1073741824 : goal.returns-else-length-lt1073741824

@@ -1,9 +1,9 @@
 use Rattle.std.proofs.Common.{ℕ, List, subst}
 use Rattle.std.proofs.lemmas.Result.{err_from_is_err_and}
-use Rattle.mls_wire.specs.Spelling.{vector}
-use Rattle.mls_wire.specs.Joined.{no_left, no_right}
-use Rattle.mls_hash.specs.Hashing.{hash_of}
-use Rattle.mls_hash.specs.Feeding.{HoldsMore}
+use Rattle.mls_wire.specs.Encoding.{vector}
+use Rattle.mls_wire.specs.EncodingConcat.{no_left, no_right}
+use Rattle.mls_hash.specs.SuiteHash.{hash_of}
+use Rattle.mls_hash.specs.HasherModel.{HoldsMore}
 use Rattle.mls_hash.proofs.Feeding.{both_held}
 use Rattle.mls_hash.proofs.digest.ref_hash.Goals as goal
 

@@ -1,5 +1,5 @@
 use Rattle.std.proofs.Common.{◌∙◌}
-use Rattle.mls_hash.specs.Hashing.{hash_of}
+use Rattle.mls_hash.specs.SuiteHash.{hash_of}
 use Rattle.mls_hash.proofs.Inputs.{no_wire, hashed, parent_fields_there}
 use Rattle.mls_hash.proofs.parent_hashes.hash_parent_fields.Goals as goal
 

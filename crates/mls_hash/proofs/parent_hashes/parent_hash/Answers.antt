@@ -1,6 +1,6 @@
 use Rattle.std.proofs.Common.{ℕ, List, sym, subst, ◌∙◌}
 use Rattle.std.specs.List.Sorted.{IsPermutation}
-use Rattle.mls_hash.specs.Hashing.{hash_of}
+use Rattle.mls_hash.specs.SuiteHash.{hash_of}
 use Rattle.mls_hash.proofs.Answers.{gives_parent_hash}
 use Rattle.mls_hash.proofs.parent_hashes.parent_hash.Goals as goal
 

@@ -1,7 +1,7 @@
 use Rattle.std.proofs.Common.{Ok, ap, sym, ◌∙◌, arith}
-use Rattle.mls_tree.specs.KeptTree.{plain}
+use Rattle.mls_tree.specs.PublicTreeModel.{plain}
 use Rattle.mls_tree.specs.RatchetTree.{RatchetTree}
-use Rattle.mls_hash.specs.Hashing.{hash_of}
+use Rattle.mls_hash.specs.SuiteHash.{hash_of}
 use Rattle.mls_tree.proofs.Descent.{right_lower, inside_bound}
 use Rattle.mls_hash.proofs.Lengths.{length-hashed}
 use Rattle.mls_hash.proofs.Filling.{leaf_hashed, parent_hashed, put_keeps, put_room, leaf_put, parent_put, keep_under}

@@ -1,6 +1,6 @@
 use Rattle.std.proofs.Common.{ℕ, List, ap, ◌∙◌}
 use Rattle.std.proofs.lemmas.List.Sorted.{searched}
-use Rattle.mls_hash.specs.Strip.{is_among}
+use Rattle.mls_hash.specs.WithoutLeaves.{is_among}
 use Rattle.mls_hash.proofs.Sets.{found}
 use Rattle.mls_hash.proofs.leaf_set.LeafSet.contains.Goals as goal
 

@@ -1,10 +1,10 @@
 use Rattle.std.proofs.Common.{◌∙◌, ◌-◌, arith, rules, sym}
-use Rattle.mls_tree.specs.KeptTree.{plain}
+use Rattle.mls_tree.specs.PublicTreeModel.{plain}
 use Rattle.mls_tree.specs.RatchetTree.{RatchetTree}
 use Rattle.mls_tree.proofs.Coordinates.{root-seen}
 use Rattle.mls_tree.proofs.Descent.{leaf_count-limit}
 use Rattle.mls_tree.proofs.Trees.{leaf_count-positive}
-use Rattle.mls_hash.specs.Hashing.{hash_of}
+use Rattle.mls_hash.specs.SuiteHash.{hash_of}
 use Rattle.mls_hash.proofs.Filling.{all_put, node_count, root_there}
 use Rattle.mls_hash.proofs.subtree_hashes.SubtreeHashes.new.Goals as goal
 

@@ -1,9 +1,0 @@
-use Rattle.std.proofs.Common.{◌≡◌, ◌≤◌, take, length}
-use Rattle.mls_hash.specs.Strip.{without}
-use Rattle.mls_hash.proofs.input.count_kept.Given as goal
-
-abbrev pub invariant-loop-number : goal.invariant-loop-number
-invariant-loop-number l = record {
-  count : l.kept ≡ length (without l.left_out (take l.number-index l.numbers));
-  low : l.kept ≤ l.number-index;
-}

@@ -1,0 +1,138 @@
+//! The hash cache of a tree: reading it, and filling its empty slots (RFC 9420, 7.8).
+
+ghost use Rattle.std.specs.Prelude.{◌≡◌, ◌≢◌, ◌+◌, ◌*◌, Some, OnOk, IfOk, IfErr, IfSome};
+ghost use Rattle.mls_tree.specs.HashCache.{empty_count, AreAllFilled};
+ghost use Rattle.mls_tree.specs.Tree.{leaf_count, subtree_at};
+ghost use Rattle.mls_hash.specs.SuiteHash.{hash_of, kind_of};
+ghost use Rattle.mls_hash.specs.HashInputs.{HashesSubtree};
+ghost use Rattle.mls_hash.specs.FilledCache.{IsFilled, FilledStay};
+ghost use Rattle.mls_hash.specs.WithoutLeaves.{tree_hash_at};
+
+use crate::fault::HashFault;
+use crate::hash_input::{hash_leaf, hash_parent};
+use crate::leaf_set::LeafSet;
+use crate::suite::Suite;
+use mls_tree::{HashValue, Part, PublicTree};
+use mls_wire::Writer;
+use std::alloc::Global;
+
+/// Returns the cached tree hash of the subtree at a node index, if the cache is of the suite's hash function.
+pub(crate) fn kept_hash(suite: Suite, tree: &PublicTree, place: u32) -> Option<HashValue>
+    ensures { IfSome result (λ h. tree_hash_at (hash_of suite) tree.now.tree place ≡ Some h) }
+{
+    if tree.hash_kind() != Some(suite.kind()) {
+        return None;
+    }
+    tree.kept_hash(place)
+}
+
+/// Returns the tree hash of the subtree at a node index: the cached one, if its slot is filled. Otherwise its children
+/// are hashed first, in the same way, and its slot is filled. That is one hash for each empty slot visited, and none
+/// below a filled one.
+fn fill(
+    alloc: Global,
+    suite: Suite,
+    tree: &mut PublicTree,
+    place: u32,
+    writer: &mut Writer,
+) -> Result<HashValue, HashFault>
+    requires { tree.old.kind ≡ Some (kind_of suite) }
+    ensures hash { HashesSubtree (subtree_at 0 tree.old.tree place)
+        (tree_hash_at (hash_of suite) tree.old.tree place) result }
+    ensures tree { tree.new.tree ≡ tree.old.tree }
+    ensures kind { tree.new.kind ≡ tree.old.kind }
+    ensures stays { FilledStay tree.old.cells tree.new.cells }
+    ensures filled { OnOk result (IsFilled tree.new.cells place) }
+{
+    if let Some(hash) = tree.kept_hash(place) {
+        return Ok(hash);
+    }
+    match tree.part(place) {
+        None => Err(HashFault::NoSuchNode),
+        Some(Part::Leaf { index, node }) => {
+            let hash = hash_leaf(alloc, suite, index, node, writer)?;
+            tree.keep_hash(place, hash);
+            Ok(hash)
+        }
+        Some(Part::Parent { left, right, .. }) => {
+            let left = fill(alloc, suite, tree, left, writer)?;
+            let right = fill(alloc, suite, tree, right, writer)?;
+            let node = tree.parent(place);
+            let hash = hash_parent(suite, node, &LeafSet::empty(), &left, &right, writer)?;
+            tree.keep_hash(place, hash);
+            Ok(hash)
+        }
+    }
+}
+
+/// Fills the empty slots, from the root down to filled ones.
+fn fill_from_root(
+    alloc: Global,
+    suite: Suite,
+    tree: &mut PublicTree,
+    writer: &mut Writer,
+) -> Result<(), HashFault>
+    requires { tree.old.kind ≡ Some (kind_of suite) }
+    ensures tree { tree.new.tree ≡ tree.old.tree }
+    ensures kind { tree.new.kind ≡ tree.old.kind }
+    ensures memory { IfErr result (λ e. e ≡ HashFault.OutOfMemory) }
+{
+    let root = tree.leaf_count() - 1;
+    match fill(alloc, suite, tree, root, writer) {
+        Ok(_) => Ok(()),
+        Err(HashFault::OutOfMemory) => Err(HashFault::OutOfMemory),
+        Err(_) => unreachable!(),
+    }
+}
+
+/// Visits each node index, and fills its slot if it is empty.
+fn fill_each(
+    alloc: Global,
+    suite: Suite,
+    tree: &mut PublicTree,
+    writer: &mut Writer,
+) -> Result<(), HashFault>
+    requires { tree.old.kind ≡ Some (kind_of suite) }
+    ensures tree { tree.new.tree ≡ tree.old.tree }
+    ensures kind { tree.new.kind ≡ tree.old.kind }
+    ensures filled { OnOk result (AreAllFilled tree.new.tree tree.new.cells) }
+    ensures memory { IfErr result (λ e. e ≡ HashFault.OutOfMemory) }
+{
+    for place in 0..2 * tree.leaf_count() - 1 {
+        match fill(alloc, suite, tree, place, writer) {
+            Ok(_) => {}
+            Err(HashFault::OutOfMemory) => return Err(HashFault::OutOfMemory),
+            Err(_) => unreachable!(),
+        }
+    }
+    Ok(())
+}
+
+/// Fills the hash cache of a tree with the suite's hash function, and returns how many slots were empty. These are all
+/// slots, if the tree had no cache, or one of another hash function, which is dropped. The nodes are unchanged.
+///
+/// It descends from the root into empty slots only. Each node index is visited only if slots below filled ones are
+/// empty, as a caller's own [`PublicTree::keep_hash`] may leave them.
+///
+/// # Errors
+///
+/// `OutOfMemory`. Some slots may have been filled.
+pub fn fill_hashes(alloc: Global, suite: Suite, tree: &mut PublicTree) -> Result<u32, HashFault>
+    ensures tree { tree.new.tree ≡ tree.old.tree }
+    ensures kind { OnOk result (tree.new.kind ≡ Some (kind_of suite)) }
+    ensures filled { OnOk result (AreAllFilled tree.new.tree tree.new.cells) }
+    ensures count { tree.old.kind ≡ Some (kind_of suite)
+        → IfOk result (λ n. n ≡ empty_count tree.old.cells) }
+    ensures all { tree.old.kind ≢ Some (kind_of suite)
+        → IfOk result (λ n. n + 1 ≡ 2 * leaf_count tree.old.tree) }
+    ensures memory { IfErr result (λ e. e ≡ HashFault.OutOfMemory) }
+{
+    tree.reserve_hashes(alloc, suite.kind())?;
+    let empty = tree.empty_cells();
+    let mut writer = Writer::new(alloc);
+    fill_from_root(alloc, suite, tree, &mut writer)?;
+    if tree.empty_cells() > 0 {
+        fill_each(alloc, suite, tree, &mut writer)?;
+    }
+    Ok(empty)
+}

@@ -1,0 +1,232 @@
+//! The original tree hashes from which parent hashes are computed (RFC 9420, 7.9), for a walk that visits the children
+//! of a parent before it.
+
+ghost use Rattle.std.specs.Prelude.{◌≡◌, ◌↔◌, ◌⊎◌, ◌/◌, ℕ, List, [], None, Some, Err, IfOk, IfErr, IfSome, option_copied, slice_get};
+ghost use Rattle.mls_tree.specs.Tree.{subtree_at};
+ghost use Rattle.mls_hash.specs.SuiteHash.{hash_of};
+ghost use Rattle.mls_hash.specs.HashInputs.{HashesSubtree};
+ghost use Rattle.mls_hash.specs.OriginalTreeHashes.{AreChildHashes, AreKnownHashes, HasNonDecreasingLists, KeepsOwn, ListsJust};
+ghost use Rattle.mls_hash.specs.ParentHash.{parent_at, parent_hash_at};
+ghost use Rattle.mls_hash.specs.WithoutLeaves.{original_tree_hash_at};
+ghost use Rattle.mls_hash.specs.SubtreeHashes.{AreLeavesUnder, AreSubtreeHashes, HoldsOwnLeaves};
+
+use crate::fault::HashFault;
+use crate::hash_input::{hash_leaf, hash_parent};
+use crate::leaf_set::LeafSet;
+use crate::parent_hashes::hash_parent_fields;
+use crate::parent_original_hashes::OwnHashes;
+use crate::side::Side;
+use crate::subtree_hashes::SubtreeHashes;
+use crate::suite::Suite;
+use crate::tree_hashes::kept_leaf;
+use mls_nodes::ParentNode;
+use mls_tree::{HashValue, Part, PublicTree};
+use mls_wire::Writer;
+use std::alloc::{AllocError, Global};
+use std::marker::Model;
+
+/// The original tree hashes of the two children of a non-blank parent, without the parent's unmerged leaves (RFC 9420,
+/// 7.9).
+#[derive(Clone, Copy, Debug)]
+pub struct ChildHashes {
+    /// That of the left child.
+    pub left: HashValue,
+    /// That of the right child.
+    pub right: HashValue,
+}
+
+/// Known hashes of a tree: the tree hashes of its subtrees, and own hashes of non-blank parents. The own hash of a
+/// parent is the tree hash of its subtree without its own unmerged leaves.
+///
+/// A parent above leaves out the same leaves there, unless it became non-blank after some of them joined. So if
+/// children are visited before their parent, and their lists agree, no subtree is hashed twice without them.
+#[derive(Drop)]
+pub struct OriginalHashes<'a> {
+    subtrees: &'a SubtreeHashes,
+    own: OwnHashes,
+    writer: Writer,
+}
+
+impl<'a> Model for OriginalHashes<'a> {
+    ghost use Rattle.mls_hash.specs.OriginalTreeHashes.{KnownHashes};
+
+    ghost Value = { KnownHashes };
+
+    ghost view = { λ o. record { subtrees = o.subtrees.now; own = o.own } };
+}
+
+impl<'a> OriginalHashes<'a> {
+    /// Returns the known hashes of a tree, from the tree hashes of its subtrees. No own hash is known yet.
+    pub fn new(
+        alloc: Global,
+        tree: &PublicTree,
+        subtrees: &'a SubtreeHashes,
+    ) -> Result<OriginalHashes<'a>, AllocError>
+        ensures { (H : List ℕ → List ℕ) → AreSubtreeHashes H tree.now.tree subtrees.now
+            → IfOk result (λ o. AreKnownHashes H tree.now.tree o) }
+    {
+        Ok(OriginalHashes {
+            subtrees,
+            own: OwnHashes::blank(alloc, tree.nodes().len() / 2, subtrees.width())?,
+            writer: Writer::new(alloc),
+        })
+    }
+
+    /// Returns the tree hash of the subtree at a node index, if no leaf is left out.
+    fn unchanged(&self, left_out: &LeafSet<'_>, place: u32) -> Option<HashValue>
+        ensures { IfSome result
+            (λ h. (left_out.now ≡ []) × (slice_get self.now.subtrees place ≡ Some h)) }
+    {
+        if left_out.is_empty() {
+            self.subtrees.get(place)
+        } else {
+            None
+        }
+    }
+
+    /// Returns the own hash of the non-blank parent at a node index, if it is known and the leaves that are left out
+    /// are its unmerged leaves.
+    fn own_hash(
+        &self,
+        node: Option<&ParentNode>,
+        left_out: &LeafSet<'_>,
+        place: u32,
+    ) -> Option<HashValue>
+        ensures { IfSome result (λ h. ListsJust left_out.now (option_copied node.entry)
+            × (slice_get self.now.own (place / 2) ≡ Some (Some h))) }
+    {
+        if !left_out.holds_just(node?.unmerged.as_slice()) {
+            return None;
+        }
+        self.own.get(place / 2)
+    }
+
+    /// Returns the original tree hash of the subtree at a node index, without the leaves of the set, all of which are
+    /// below it. A part whose hash is known is not hashed again.
+    fn original_hash(
+        &mut self,
+        alloc: Global,
+        suite: Suite,
+        tree: &PublicTree,
+        left_out: &LeafSet<'_>,
+        place: u32,
+    ) -> Result<HashValue, HashFault>
+        requires known { AreKnownHashes (hash_of suite) tree.now.tree self.old }
+        requires own_leaves { HoldsOwnLeaves tree.now.tree }
+        requires under { AreLeavesUnder tree.now.tree place left_out.now }
+        ensures hash { HashesSubtree (subtree_at 0 tree.now.tree place)
+            (original_tree_hash_at (hash_of suite) left_out.now tree.now.tree place) result }
+        ensures same { self.new ≡ self.old }
+    {
+        if let Some(hash) = self.unchanged(left_out, place) {
+            return Ok(hash);
+        }
+        match tree.part(place) {
+            None => Err(HashFault::NoSuchNode),
+            Some(Part::Leaf { index, node }) => {
+                let node = kept_leaf(index, node, left_out);
+                hash_leaf(alloc, suite, index, node, &mut self.writer)
+            }
+            Some(
+                Part::Parent {
+                    node,
+                    left,
+                    right,
+                    middle,
+                },
+            ) => {
+                if let Some(hash) = self.own_hash(node, left_out, place) {
+                    return Ok(hash);
+                }
+                let (before, after) = left_out.split(middle);
+                let left = self.original_hash(alloc, suite, tree, &before, left)?;
+                let right = self.original_hash(alloc, suite, tree, &after, right)?;
+                hash_parent(suite, node, left_out, &left, &right, &mut self.writer)
+            }
+        }
+    }
+
+    /// Stores the own hash of the parent at a node index, if its length is that of the other hashes.
+    fn keep(&mut self, place: u32, hash: &HashValue)
+        ensures { KeepsOwn place hash.now self.old self.new }
+    {
+        self.own.keep(place / 2, hash);
+    }
+
+    /// Returns the original tree hashes of the children of the non-blank parent at a node index. Stores the parent's
+    /// own hash, if it has unmerged leaves.
+    ///
+    /// Call it once for each parent, after its children. Another order only takes more time.
+    ///
+    /// # Errors
+    ///
+    /// `NoSuchNode` if and only if there is no non-blank parent, or `OutOfMemory`.
+    pub fn child_hashes(
+        &mut self,
+        alloc: Global,
+        suite: Suite,
+        tree: &PublicTree,
+        place: u32,
+    ) -> Result<ChildHashes, HashFault>
+        requires known { AreKnownHashes (hash_of suite) tree.now.tree self.old }
+        requires own_leaves { HoldsOwnLeaves tree.now.tree }
+        requires sorted { HasNonDecreasingLists tree.now.tree }
+        ensures hashes { IfOk result (AreChildHashes (hash_of suite) tree.now.tree place) }
+        ensures no_such_node { (result ≡ Err HashFault.NoSuchNode)
+            ↔ (parent_at tree.now.tree place ≡ None) }
+        ensures else_memory { IfErr result
+            (λ e. (e ≡ HashFault.NoSuchNode) ⊎ (e ≡ HashFault.OutOfMemory)) }
+        ensures known { AreKnownHashes (hash_of suite) tree.now.tree self.new }
+    {
+        let Some(
+            Part::Parent {
+                node: Some(parent),
+                left,
+                right,
+                middle,
+            },
+        ) = tree.part(place)
+        else {
+            return Err(HashFault::NoSuchNode);
+        };
+        let left_out = LeafSet::new(parent.unmerged.as_slice());
+        let (before, after) = left_out.split(middle);
+        let left = self.original_hash(alloc, suite, tree, &before, left)?;
+        let right = self.original_hash(alloc, suite, tree, &after, right)?;
+        if !left_out.is_empty() {
+            let writer = &mut self.writer;
+            let own = hash_parent(suite, Some(parent), &left_out, &left, &right, writer)?;
+            self.keep(place, &own);
+        }
+        Ok(ChildHashes { left, right })
+    }
+
+    /// Returns the parent hash of the non-blank parent at a node index, whose child on the copath is the one on `side`
+    /// (RFC 9420, 7.9), from the original tree hashes of its children.
+    pub fn parent_hash(
+        &mut self,
+        suite: Suite,
+        tree: &PublicTree,
+        place: u32,
+        side: Side,
+        children: &ChildHashes,
+    ) -> Result<HashValue, AllocError>
+        requires { AreChildHashes (hash_of suite) tree.now.tree place children.now }
+        ensures hash { IfOk result
+            (λ h. parent_hash_at (hash_of suite) tree.now.tree place side ≡ Some h) }
+        ensures same { self.new ≡ self.old }
+    {
+        let Some(parent) = tree.parent(place) else {
+            unreachable!()
+        };
+        let original = match side {
+            Side::Left => &children.left,
+            Side::Right => &children.right,
+        };
+        match hash_parent_fields(suite, parent, original, &mut self.writer) {
+            Ok(hash) => Ok(hash),
+            Err(HashFault::OutOfMemory) => Err(AllocError),
+            Err(_) => unreachable!(),
+        }
+    }
+}

@@ -2,3 +2,5 @@ pub mod PartLemmas
 pub mod Rooms
 pub mod Unsigned
 pub mod MessageLemmas
+pub mod Profiles
+pub mod MembersRead

@@ -5,7 +5,7 @@ use Rattle.std.proofs.lemmas.Bool.{ltb-false}
 use Rattle.std.proofs.lemmas.List.{length-drop, drop-drop}
 use Rattle.mls_wire.specs.Input.{Input, at, skip}
 use Rattle.mls_wire.specs.Parsing.{number_at, all_bytes}
-use Rattle.mls_wire.specs.Steps.{bind_some, guarded, allowed, some_is}
+use Rattle.mls_wire.specs.OptionBind.{bind_some, guarded, allowed, some_is}
 use Rattle.mls_msgs.specs.Message.{is_unread}
 use Rattle.mls_msgs.specs.MessageParsing.{header_at, message_at}
 use Rattle.mls_msgs.specs.MessageExact.{unread_again}

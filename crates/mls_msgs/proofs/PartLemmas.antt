@@ -5,8 +5,8 @@ use Rattle.std.specs.Int.{w16}
 use Rattle.std.proofs.lemmas.List.{append-nil}
 use Rattle.mls_wire.specs.Input.{Input}
 use Rattle.mls_wire.specs.Parsing.{GivesOrFull}
-use Rattle.mls_wire.specs.Writing.{after}
-use Rattle.mls_wire.specs.Spelling.{number}
+use Rattle.mls_wire.specs.WriteContracts.{after}
+use Rattle.mls_wire.specs.Encoding.{number}
 use Rattle.mls_msgs.specs.Authenticated.{is_frame_format, frame_format}
 use Rattle.mls_wire.specs.declared.fault.CodecFault.{CodecFault}
 use Rattle.mls_wire.specs.declared.fault.CodecFault.TheVariants as faults

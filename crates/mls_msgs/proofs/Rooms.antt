@@ -1,15 +1,15 @@
 -- Room for a text whose size is known.
 use Rattle.std.proofs.Common.{◌≡◌, ◌∙◌, ◌^◌, ◌<◌, ℕ, List, [], length, Option, Some, None, Err, refl, sym, ap, arith}
 use Rattle.std.specs.Prelude.{IsSome}
-use Rattle.mls_wire.specs.Counting.{size}
-use Rattle.mls_wire.specs.Sizes.{sized_none_text, no_size_of}
-use Rattle.mls_wire.specs.Writing.{Added, Puts, MakesPiece}
+use Rattle.mls_wire.specs.SaturatingSizes.{size}
+use Rattle.mls_wire.specs.EncodedSizes.{sized_none_text, no_size_of}
+use Rattle.mls_wire.specs.WriteContracts.{Added, Puts, MakesPiece}
 use Rattle.mls_wire.specs.declared.fault.WireFault.{WireFault}
 use Rattle.mls_wire.specs.declared.fault.CodecFault.{CodecFault}
 use Rattle.mls_wire.specs.declared.fault.CodecFault.TheVariants as faults
-use Rattle.mls_nodes.specs.Sizes as nodes
+use Rattle.mls_nodes.specs.TagSizes as nodes
 use Rattle.mls_nodes.proofs.Drafted.{drafted, undrafted}
-use Rattle.mls_msgs.specs.Room.{MakesRoom}
+use Rattle.mls_msgs.specs.ReservedWrite.{MakesRoom}
 use Rattle.mls_msgs.specs.Message.{message, IsMessageFault, MakesMessage}
 use Rattle.mls_msgs.specs.declared.message.Message.{Message}
 

@@ -1,8 +1,8 @@
 -- A signature stands behind the fields that it covers.
 use Rattle.std.proofs.Common.{◌≡◌, ℕ, List, Option, Some, None, refl, sym, ap, append_assoc}
-use Rattle.mls_wire.specs.Spelling.{◌⊕◌, vector}
+use Rattle.mls_wire.specs.Encoding.{◌⊕◌, vector}
 use Rattle.mls_msgs.specs.Layout.{key_package, group_info}
-use Rattle.mls_msgs.specs.Signed.{package_tbs, info_tbs}
+use Rattle.mls_msgs.specs.Tbs.{package_tbs, info_tbs}
 use Rattle.mls_msgs.specs.declared.key_package.KeyPackage.{KeyPackage}
 use Rattle.mls_msgs.specs.declared.group_info.GroupInfo.{GroupInfo}
 

@@ -1,16 +1,17 @@
--- What is read as an authenticated content or a public message is spelled so, and what is spelled so is read.
+-- What is read as an AuthenticatedContent or a PublicMessage is encoded so, and what is encoded so is read. Internal:
+-- no public contract uses this.
 use Rattle.std.proofs.Common.{◌≡◌, ℕ, List, Bool, true, false, Option, Some, None, refl, sym, ◌∙◌}
 use Rattle.std.specs.Int.{w16}
 use Rattle.std.proofs.lemmas.Bool.{eqb-true, eq-eqb}
 use Rattle.mls_wire.specs.Input.{Input}
-use Rattle.mls_wire.specs.Spelling.{number, vector}
+use Rattle.mls_wire.specs.Encoding.{number, vector}
 use Rattle.mls_wire.specs.Parsing.{number_at, vector_at}
-use Rattle.mls_wire.specs.Exact.{Exact, IsExact, IsLong, Any, field_then, made_of, known}
-use Rattle.mls_wire.specs.Steps.{allowed}
-use Rattle.mls_wire.specs.Numbers.{wide16, number_exact, number_long}
-use Rattle.mls_wire.specs.Vectors.{vector_exact}
-use Rattle.mls_wire.specs.Joined.{long_left}
-use Rattle.mls_nodes.specs.Exact.{tested_exact}
+use Rattle.mls_wire.specs.ExactParsers.{Exact, IsExact, IsLong, Any, field_then, made_of, known}
+use Rattle.mls_wire.specs.OptionBind.{allowed}
+use Rattle.mls_wire.specs.IntegersExact.{wide16, number_exact, number_long}
+use Rattle.mls_wire.specs.VectorsExact.{vector_exact}
+use Rattle.mls_wire.specs.EncodingConcat.{long_left}
+use Rattle.mls_nodes.specs.NodesExact.{tested_exact}
 use Rattle.mls_msgs.specs.Layout.{is_commit, is_member, framed_content}
 use Rattle.mls_msgs.specs.Parsing.{framed_content_at}
 use Rattle.mls_msgs.specs.FrameExact.{framed_content_exact, framed_content_long}
@@ -19,10 +20,10 @@ use Rattle.mls_msgs.specs.PublicMessage.{public_frame, public_message}
 use Rattle.mls_msgs.specs.FrameParsing.{frame_format_at, tag_if_at, frame_auth_at, signed_frame_at, authenticated_content_at, public_message_at}
 use Rattle.mls_msgs.specs.declared.authenticated.AuthenticatedParts.{AuthenticatedParts}
 
--- ---- values that have no spelling
+-- ---- values that have no encoding
 
 module _ {A : Type 0} (P : A → Type 0) (s t : A → Option (List ℕ)) (f : Input → Option (A × Input)) where
-  -- those alone of which P holds have a spelling
+  -- Only values that satisfy P have an encoding.
   pub only : ((a : A) → P a → s a ≡ t a) → ((a : A) (front : List ℕ) → t a ≡ Some front → P a) → Exact P s f → IsExact t f
   only same holds exact = record {
     takes = λ i r j e.
@@ -43,7 +44,7 @@ pub frame_format_long : IsLong frame_format
 unfolding frame_format
 frame_format_long n front h = number_long w16 wide16 n front (allowed (is_frame_format n) (number w16 n) front h).1
 
--- a tag that has a spelling fits
+-- A tag that has an encoding fits.
 tag_spelled : (wanted : Bool) (o : Option (List ℕ)) (front : List ℕ) → tag_if wanted o ≡ Some front → tag_fits wanted o ≡ true
 unfolding tag_if
 tag_spelled true (Some t) front e = refl

@@ -1,33 +1,34 @@
--- What is read as a framed content or a part of one is spelled so, and what is spelled so is read.
+-- What is read as a FramedContent or a part of one is encoded so, and what is encoded so is read. Internal: no public
+-- contract uses this.
 use Rattle.std.proofs.Common.{◌≡◌, ◌≢◌, ℕ, List, [], Option, Some, refl, sym, arith}
 use Rattle.std.specs.Int.{w8, w32, w64}
-use Rattle.mls_wire.specs.Spelling.{◌⊕◌, number, vector}
+use Rattle.mls_wire.specs.Encoding.{◌⊕◌, number, vector}
 use Rattle.mls_wire.specs.Parsing.{number_at, vector_at}
-use Rattle.mls_wire.specs.Exact.{IsExact, IsLong, Any, field_then, made_of, tag_is, known, never, spelled_as}
-use Rattle.mls_wire.specs.Numbers.{wide8, wide32, wide64, number_exact, number_long}
-use Rattle.mls_wire.specs.Vectors.{vector_exact, vector_long}
-use Rattle.mls_wire.specs.Joined.{long_left}
+use Rattle.mls_wire.specs.ExactParsers.{IsExact, IsLong, Any, field_then, made_of, tag_is, known, never, spelled_as}
+use Rattle.mls_wire.specs.IntegersExact.{wide8, wide32, wide64, number_exact, number_long}
+use Rattle.mls_wire.specs.VectorsExact.{vector_exact, vector_long}
+use Rattle.mls_wire.specs.EncodingConcat.{long_left}
 use Rattle.mls_msgs.specs.Layout.{proposal, commit, sender, content, framed_content}
 use Rattle.mls_msgs.specs.Parsing.{proposal_at, commit_at, sender_at, content_at, framed_content_at}
 use Rattle.mls_msgs.specs.ProposalExact.{proposal_exact}
 use Rattle.mls_msgs.specs.CommitExact.{commit_exact}
 use Rattle.mls_msgs.specs.declared.proposal.Proposal.{Proposal}
 use Rattle.mls_msgs.specs.declared.commit.Commit.{Commit}
-use Rattle.mls_msgs.specs.declared.frame.Sender.{Sender}
-use Rattle.mls_msgs.specs.declared.frame.Sender.TheVariants.{Member, External, NewMemberProposal, NewMemberCommit}
-use Rattle.mls_msgs.specs.declared.frame.Content.{Content}
-use Rattle.mls_msgs.specs.declared.frame.Content.TheVariants as contents
+use Rattle.mls_msgs.specs.declared.framed_content.Sender.{Sender}
+use Rattle.mls_msgs.specs.declared.framed_content.Sender.TheVariants.{Member, External, NewMemberProposal, NewMemberCommit}
+use Rattle.mls_msgs.specs.declared.framed_content.Content.{Content}
+use Rattle.mls_msgs.specs.declared.framed_content.Content.TheVariants as contents
 
 -- ---- the types of a sender
 
--- its type
+-- The type of a sender.
 abbrev sender_kind : Sender → ℕ
 sender_kind (Member i) = 1
 sender_kind (External i) = 2
 sender_kind NewMemberProposal = 3
 sender_kind NewMemberCommit = 4
 
--- what follows the type
+-- What follows the type.
 abbrev sender_body : Sender → Option (List ℕ)
 sender_body (Member i) = number w32 i
 sender_body (External i) = number w32 i
@@ -90,13 +91,13 @@ sender_long NewMemberCommit front h = number_long w8 wide8 4 front h
 
 -- ---- the types of a content
 
--- its type
+-- The type of content.
 abbrev content_kind : Content → ℕ
 content_kind (contents.Application d) = 1
 content_kind (contents.Proposal p) = 2
 content_kind (contents.Commit c) = 3
 
--- what follows the type
+-- What follows the type.
 abbrev content_body : Content → Option (List ℕ)
 content_body (contents.Application d) = vector d
 content_body (contents.Proposal p) = proposal p

@@ -1,4 +1,5 @@
--- Reading framed contents with their authentication: for proofs alone. Of contracts only that of `Decode::read` names it.
+-- Decoding a FramedContent with its authentication, as functions of the input. Internal: no public contract uses this,
+-- except that of `Decode::read`.
 use Rattle.std.specs.Prelude.{ℕ, List, Bool, Option, Some, None, if◌then◌else◌}
 use Rattle.std.specs.Int.{w16}
 use Rattle.mls_wire.specs.Input.{Input}
@@ -9,24 +10,24 @@ use Rattle.mls_msgs.specs.Authenticated.{is_frame_format}
 use Rattle.mls_msgs.specs.declared.authenticated.AuthenticatedParts.{AuthenticatedParts}
 use Rattle.mls_msgs.specs.declared.public_message.PublicParts.{PublicParts}
 
--- the wire format of a framed content
+-- The wire format of a FramedContent.
 unfoldable pub frame_format_at : Input → Option (ℕ × Input)
 frame_format_at i = do
   n ← number_at w16 i
   if is_frame_format n.0 then Some n else None
 
--- a tag where one is wanted
+-- A tag, if there is to be one.
 unfoldable pub tag_if_at : Bool → Input → Option (Option (List ℕ) × Input)
 tag_if_at wanted i = if wanted then (vector_at i >>= λ x. Some (Some x.0, x.1)) else Some (None, i)
 
--- the signature, and a confirmation tag exactly for a commit
+-- The signature, and a confirmation tag exactly for a commit.
 unfoldable pub frame_auth_at : Bool → Input → Option ((List ℕ × Option (List ℕ)) × Input)
 frame_auth_at is_commit i = do
   signature ← vector_at i
   confirmation_tag ← tag_if_at is_commit signature.1
   Some ((signature.0, confirmation_tag.0), confirmation_tag.1)
 
--- what is framed, and its authentication, in a frame of this wire format
+-- A FramedContent and its authentication, for this wire format.
 unfoldable pub signed_frame_at : ℕ → Input → Option (AuthenticatedParts × Input)
 signed_frame_at wire_format i = do
   content ← framed_content_at i
@@ -41,13 +42,13 @@ signed_frame_at wire_format i = do
     auth.1,
   )
 
--- an authenticated content
+-- An AuthenticatedContent.
 unfoldable pub authenticated_content_at : Input → Option (AuthenticatedParts × Input)
 authenticated_content_at i = do
   wire_format ← frame_format_at i
   signed_frame_at wire_format.0 wire_format.1
 
--- a public message
+-- A PublicMessage.
 unfoldable pub public_message_at : Input → Option (PublicParts × Input)
 public_message_at i = do
   auth ← signed_frame_at 1 i

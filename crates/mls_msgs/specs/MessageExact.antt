@@ -1,4 +1,5 @@
--- What is read as a group info or a message is spelled so, and what is spelled so is read.
+-- What is read as a GroupInfo or a message is encoded so, and what is encoded so is read. Internal: no public contract
+-- uses this.
 use Rattle.std.proofs.Common.{◌≡◌, ◌≤◌, ◌⊎◌, inl, inr, ℕ, ◌+◌, List, [], ◌++◌, length, Bool, true, false, cond, ◌||◌, Option, Some, None, Result, Ok, Err, refl, sym, ap, subst, ◌∙◌}
 use Rattle.std.specs.Int.{w16, w32}
 use Rattle.std.specs.Prelude.{nat_eq}
@@ -8,19 +9,19 @@ use Rattle.mls_wire.specs.declared.fault.CodecFault.{CodecFault}
 use Rattle.mls_wire.specs.declared.fault.CodecFault.TheVariants as faults
 use Rattle.mls_wire.specs.Input.{Input, at}
 use Rattle.mls_wire.specs.Limits.{input_limit}
-use Rattle.mls_wire.specs.Spelling.{◌⊕◌, number, vector, list}
+use Rattle.mls_wire.specs.Encoding.{◌⊕◌, number, vector, list}
 use Rattle.mls_wire.specs.Parsing.{◌>>=◌, Finds, number_at, vector_at, list_at}
-use Rattle.mls_wire.specs.Exact.{Exact, IsExact, IsLong, Any, field_then, made_of, chosen, never}
-use Rattle.mls_wire.specs.Joined.{joined, join, long_left}
-use Rattle.mls_wire.specs.Steps.{bind_some, some_is, allowed, chosen_parts}
-use Rattle.mls_wire.specs.Numbers.{wide16, wide32, number_exact}
-use Rattle.mls_wire.specs.Vectors.{vector_exact}
-use Rattle.mls_wire.specs.Written.{none_second}
+use Rattle.mls_wire.specs.ExactParsers.{Exact, IsExact, IsLong, Any, field_then, made_of, chosen, never}
+use Rattle.mls_wire.specs.EncodingConcat.{joined, join, long_left}
+use Rattle.mls_wire.specs.OptionBind.{bind_some, some_is, allowed, chosen_parts}
+use Rattle.mls_wire.specs.IntegersExact.{wide16, wide32, number_exact}
+use Rattle.mls_wire.specs.VectorsExact.{vector_exact}
+use Rattle.mls_wire.specs.WriteSequences.{none_second}
 use Rattle.mls_nodes.specs.Extension.{extension}
 use Rattle.mls_nodes.specs.Layout.{group_context}
 use Rattle.mls_nodes.specs.Parsing.{extension_at, group_context_at}
-use Rattle.mls_nodes.specs.Exact.{extensions_exact, group_context_exact, group_context_long}
-use Rattle.mls_wire.specs.Reading.{DecodesInput}
+use Rattle.mls_nodes.specs.NodesExact.{extensions_exact, group_context_exact, group_context_long}
+use Rattle.mls_wire.specs.ReadContracts.{DecodesInput}
 use Rattle.mls_msgs.specs.Layout.{key_package, group_info}
 use Rattle.mls_msgs.specs.Parsing.{key_package_at, group_info_at}
 use Rattle.mls_msgs.specs.ProposalExact.{key_package_exact}
@@ -49,7 +50,7 @@ group_info_long g front h = long_left (group_context g.context) _ front (group_c
 
 -- ---- the header
 
--- of values of which P holds anyway
+-- For values that all satisfy P.
 holding : {A : Type 0} (P : A → Type 0) (s : A → Option (List ℕ)) (f : Input → Option (A × Input)) → ((a : A) → P a) → IsExact s f → Exact P s f
 holding P s f holds exact = record {
   takes = λ i r j e. (holds r, (exact.takes i r j e).1);
@@ -86,14 +87,14 @@ module _ {A : Type 0} (s : A → Option (List ℕ)) (f : Input → Option (A × 
 
 -- ---- messages
 
--- the wire format of a message
+-- The wire format of a message.
 abbrev format_of : Message → ℕ
 format_of (messages.Public m) = 1
 format_of (messages.Unread wire_format body) = wire_format
 format_of (messages.GroupInfo g) = 4
 format_of (messages.KeyPackage k) = 5
 
--- what follows the wire format
+-- What follows the wire format.
 abbrev message_body : Message → Option (List ℕ)
 message_body (messages.Public m) = public_message m
 message_body (messages.Unread wire_format body) = cond (is_unread wire_format) (Some body) None
@@ -111,7 +112,7 @@ message_parts (messages.Unread wire_format body) = kept (is_unread wire_format) 
 message_parts (messages.GroupInfo g) = refl
 message_parts (messages.KeyPackage k) = refl
 
--- a message of this wire format whose body is all of what is left
+-- A message of this wire format whose body is all of the rest.
 abbrev IsBody : ℕ → Input → Message → Type 0
 IsBody n i m = (format_of m ≡ n) × (message_body m ≡ Some i.left)
 
@@ -172,7 +173,7 @@ message_again x bytes e =
     let b = body_again x p.1 (0 + length p.0) p.3 in
     ap message_at p.4 ∙ rw (h, b) refl
 
--- what is found in an input within the limit
+-- What is decoded from an input within the limit.
 pub message_decoded : (bytes : List ℕ) (r : Result Message CodecFault) → length bytes ≤ input_limit → Finds (message_at bytes) r → DecodesInput message bytes r
 message_decoded bytes (Ok x) le h = (message_takes bytes x h, le)
 message_decoded bytes (Err (faults.Wire f)) le h = λ x e _. let bad = sym h ∙ message_again x bytes e in absurd cc

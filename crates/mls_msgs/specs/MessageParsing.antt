@@ -1,4 +1,4 @@
--- Reading a whole input as a message: for proofs alone, no public contract speaks of it.
+-- Decoding a message that is a whole input. Internal: no public contract uses this.
 use Rattle.std.specs.Prelude.{ℕ, List, length, Option, Some, None, nat_eq, if◌then◌else◌}
 use Rattle.std.specs.Int.{w16}
 use Rattle.mls_wire.specs.Input.{Input, at}
@@ -9,19 +9,19 @@ use Rattle.mls_msgs.specs.Message.{is_unread}
 use Rattle.mls_msgs.specs.declared.message.Message.{Message}
 use Rattle.mls_msgs.specs.declared.message.Message.TheVariants as messages
 
--- the wire format, behind the protocol version 1
+-- The wire format, after the protocol version 1.
 unfoldable pub header_at : Input → Option (ℕ × Input)
 header_at i = do
   version ← number_at w16 i
   if nat_eq version.0 1 then number_at w16 version.1 else None
 
--- the value that is all of what is left
+-- The value that is all of the rest.
 abbrev pub rest_at : {A : Type 0} → (Input → Option (A × Input)) → Input → Option A
 rest_at read i = do
   x ← read i
   if nat_eq (length x.1.left) 0 then Some x.0 else None
 
--- the body of a message of this wire format
+-- The body of a message of this wire format.
 unfoldable pub message_body_at : ℕ → Input → Option Message
 message_body_at wire_format i =
     if nat_eq wire_format 1 then (rest_at public_message_at i >>= λ m. Some (messages.Public m))
@@ -30,7 +30,7 @@ message_body_at wire_format i =
     else if nat_eq wire_format 5 then (rest_at key_package_at i >>= λ k. Some (messages.KeyPackage k))
     else None
 
--- a message
+-- A message.
 unfoldable pub message_at : List ℕ → Option Message
 message_at bytes = do
   wire_format ← header_at (at 0 bytes)

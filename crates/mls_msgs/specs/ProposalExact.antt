@@ -1,21 +1,25 @@
--- What is read as a key package or a proposal is spelled so, and what is spelled so is read.
+-- What is read as a KeyPackage or a proposal is encoded so, and what is encoded so is read. Internal: no public
+-- contract uses this.
 use Rattle.std.proofs.Common.{◌≡◌, ◌≢◌, ℕ, List, Option, refl, sym, arith}
 use Rattle.std.specs.Int.{w8, w16, w32}
-use Rattle.mls_wire.specs.Spelling.{◌⊕◌, number, vector, list}
+use Rattle.mls_wire.specs.Encoding.{◌⊕◌, number, vector, list}
 use Rattle.mls_wire.specs.Parsing.{number_at, vector_at, list_at}
-use Rattle.mls_wire.specs.Exact.{IsExact, IsLong, Any, field_then, made_of, tag_is, never, spelled_as}
-use Rattle.mls_wire.specs.Numbers.{wide8, wide16, wide32, number_exact, number_long}
-use Rattle.mls_wire.specs.Vectors.{vector_exact}
-use Rattle.mls_wire.specs.Joined.{long_left}
+use Rattle.mls_wire.specs.ExactParsers.{IsExact, IsLong, Any, field_then, made_of, tag_is, never, spelled_as}
+use Rattle.mls_wire.specs.IntegersExact.{wide8, wide16, wide32, number_exact, number_long}
+use Rattle.mls_wire.specs.VectorsExact.{vector_exact}
+use Rattle.mls_wire.specs.EncodingConcat.{long_left}
 use Rattle.mls_nodes.specs.Extension.{extension}
 use Rattle.mls_nodes.specs.Layout.{leaf}
 use Rattle.mls_nodes.specs.Parsing.{extension_at, leaf_at}
-use Rattle.mls_nodes.specs.Exact.{extensions_exact, leaf_exact}
-use Rattle.mls_msgs.specs.Layout.{key_package, proposal, proposal_or_ref}
-use Rattle.mls_msgs.specs.Parsing.{key_package_at, proposal_at, proposal_or_ref_at}
+use Rattle.mls_nodes.specs.NodesExact.{extensions_exact, leaf_exact}
+use Rattle.mls_msgs.specs.Layout.{key_package, psk_id, reinit, proposal, proposal_or_ref}
+use Rattle.mls_msgs.specs.Parsing.{key_package_at, psk_id_at, reinit_at, proposal_at, proposal_or_ref_at}
+use Rattle.mls_msgs.specs.PskExact.{psk_id_exact, reinit_exact}
 use Rattle.mls_msgs.specs.declared.key_package.KeyPackage.{KeyPackage}
 use Rattle.mls_msgs.specs.declared.proposal.Proposal.{Proposal}
-use Rattle.mls_msgs.specs.declared.proposal.Proposal.TheVariants.{Add, Update, Remove, ContextExtensions}
+use Rattle.mls_msgs.specs.declared.proposal.Proposal.TheVariants as proposals
+use Rattle.mls_msgs.specs.declared.pre_shared_key.PreSharedKeyId.{PreSharedKeyId}
+use Rattle.mls_msgs.specs.declared.reinit.ReInit.{ReInit}
 use Rattle.mls_msgs.specs.declared.proposal.ProposalOrRef.{ProposalOrRef}
 use Rattle.mls_msgs.specs.declared.proposal.ProposalOrRef.TheVariants as entries
 use Rattle.mls_nodes.specs.declared.extension.Extension.{Extension}
@@ -39,82 +43,139 @@ key_package_long k front h = long_left (number w16 k.version) _ front (number_lo
 
 -- ---- the types of a proposal
 
--- its type
+-- The type of a proposal.
 abbrev proposal_kind : Proposal → ℕ
-proposal_kind (Add k) = 1
-proposal_kind (Update l) = 2
-proposal_kind (Remove removed) = 3
-proposal_kind (ContextExtensions extensions) = 7
+proposal_kind (proposals.Add x) = 1
+proposal_kind (proposals.Update x) = 2
+proposal_kind (proposals.Remove x) = 3
+proposal_kind (proposals.PreSharedKey x) = 4
+proposal_kind (proposals.ReInit x) = 5
+proposal_kind (proposals.ExternalInit x) = 6
+proposal_kind (proposals.ContextExtensions x) = 7
 
--- what follows the type
+-- What follows the type.
 abbrev proposal_body : Proposal → Option (List ℕ)
-proposal_body (Add k) = key_package k
-proposal_body (Update l) = leaf l
-proposal_body (Remove removed) = number w32 removed
-proposal_body (ContextExtensions extensions) = list extension extensions
+proposal_body (proposals.Add x) = key_package x
+proposal_body (proposals.Update x) = leaf x
+proposal_body (proposals.Remove x) = number w32 x
+proposal_body (proposals.PreSharedKey x) = psk_id x
+proposal_body (proposals.ReInit x) = reinit x
+proposal_body (proposals.ExternalInit x) = vector x
+proposal_body (proposals.ContextExtensions x) = list extension x
 
 proposal_parts : (p : Proposal) → number w16 (proposal_kind p) ⊕ proposal_body p ≡ proposal p
 unfolding proposal
-proposal_parts (Add k) = refl
-proposal_parts (Update l) = refl
-proposal_parts (Remove removed) = refl
-proposal_parts (ContextExtensions extensions) = refl
+proposal_parts (proposals.Add x) = refl
+proposal_parts (proposals.Update x) = refl
+proposal_parts (proposals.Remove x) = refl
+proposal_parts (proposals.PreSharedKey x) = refl
+proposal_parts (proposals.ReInit x) = refl
+proposal_parts (proposals.ExternalInit x) = refl
+proposal_parts (proposals.ContextExtensions x) = refl
 
-is_add : (p : Proposal) → Unit {0} × (proposal_kind p ≡ 1) → (x : KeyPackage) × (Add x ≡ p)
-is_add (Add x) p = (x, refl)
-is_add (Update x) p = absurd (omega arith)
-is_add (Remove x) p = absurd (omega arith)
-is_add (ContextExtensions x) p = absurd (omega arith)
+is_add : (p : Proposal) → Unit {0} × (proposal_kind p ≡ 1) → (x : KeyPackage) × (proposals.Add x ≡ p)
+is_add (proposals.Add x) p = (x, refl)
+is_add (proposals.Update x) p = absurd (omega arith)
+is_add (proposals.Remove x) p = absurd (omega arith)
+is_add (proposals.PreSharedKey x) p = absurd (omega arith)
+is_add (proposals.ReInit x) p = absurd (omega arith)
+is_add (proposals.ExternalInit x) p = absurd (omega arith)
+is_add (proposals.ContextExtensions x) p = absurd (omega arith)
 
-is_update : (p : Proposal) → Unit {0} × (proposal_kind p ≡ 2) → (x : LeafNode) × (Update x ≡ p)
-is_update (Add x) p = absurd (omega arith)
-is_update (Update x) p = (x, refl)
-is_update (Remove x) p = absurd (omega arith)
-is_update (ContextExtensions x) p = absurd (omega arith)
+is_update : (p : Proposal) → Unit {0} × (proposal_kind p ≡ 2) → (x : LeafNode) × (proposals.Update x ≡ p)
+is_update (proposals.Add x) p = absurd (omega arith)
+is_update (proposals.Update x) p = (x, refl)
+is_update (proposals.Remove x) p = absurd (omega arith)
+is_update (proposals.PreSharedKey x) p = absurd (omega arith)
+is_update (proposals.ReInit x) p = absurd (omega arith)
+is_update (proposals.ExternalInit x) p = absurd (omega arith)
+is_update (proposals.ContextExtensions x) p = absurd (omega arith)
 
-is_remove : (p : Proposal) → Unit {0} × (proposal_kind p ≡ 3) → (x : ℕ) × (Remove x ≡ p)
-is_remove (Add x) p = absurd (omega arith)
-is_remove (Update x) p = absurd (omega arith)
-is_remove (Remove x) p = (x, refl)
-is_remove (ContextExtensions x) p = absurd (omega arith)
+is_remove : (p : Proposal) → Unit {0} × (proposal_kind p ≡ 3) → (x : ℕ) × (proposals.Remove x ≡ p)
+is_remove (proposals.Add x) p = absurd (omega arith)
+is_remove (proposals.Update x) p = absurd (omega arith)
+is_remove (proposals.Remove x) p = (x, refl)
+is_remove (proposals.PreSharedKey x) p = absurd (omega arith)
+is_remove (proposals.ReInit x) p = absurd (omega arith)
+is_remove (proposals.ExternalInit x) p = absurd (omega arith)
+is_remove (proposals.ContextExtensions x) p = absurd (omega arith)
 
-is_extensions : (p : Proposal) → Unit {0} × (proposal_kind p ≡ 7) → (x : List Extension) × (ContextExtensions x ≡ p)
-is_extensions (Add x) p = absurd (omega arith)
-is_extensions (Update x) p = absurd (omega arith)
-is_extensions (Remove x) p = absurd (omega arith)
-is_extensions (ContextExtensions x) p = (x, refl)
+is_key : (p : Proposal) → Unit {0} × (proposal_kind p ≡ 4) → (x : PreSharedKeyId) × (proposals.PreSharedKey x ≡ p)
+is_key (proposals.Add x) p = absurd (omega arith)
+is_key (proposals.Update x) p = absurd (omega arith)
+is_key (proposals.Remove x) p = absurd (omega arith)
+is_key (proposals.PreSharedKey x) p = (x, refl)
+is_key (proposals.ReInit x) p = absurd (omega arith)
+is_key (proposals.ExternalInit x) p = absurd (omega arith)
+is_key (proposals.ContextExtensions x) p = absurd (omega arith)
 
-no_proposal : (n : ℕ) → n ≢ 1 → n ≢ 2 → n ≢ 3 → n ≢ 7 → (p : Proposal) → Unit {0} × (proposal_kind p ≡ n) → ⊥
-no_proposal n x y z w (Add _) p = x (sym p.1)
-no_proposal n x y z w (Update _) p = y (sym p.1)
-no_proposal n x y z w (Remove _) p = z (sym p.1)
-no_proposal n x y z w (ContextExtensions _) p = w (sym p.1)
+is_reinit : (p : Proposal) → Unit {0} × (proposal_kind p ≡ 5) → (x : ReInit) × (proposals.ReInit x ≡ p)
+is_reinit (proposals.Add x) p = absurd (omega arith)
+is_reinit (proposals.Update x) p = absurd (omega arith)
+is_reinit (proposals.Remove x) p = absurd (omega arith)
+is_reinit (proposals.PreSharedKey x) p = absurd (omega arith)
+is_reinit (proposals.ReInit x) p = (x, refl)
+is_reinit (proposals.ExternalInit x) p = absurd (omega arith)
+is_reinit (proposals.ContextExtensions x) p = absurd (omega arith)
+
+is_init : (p : Proposal) → Unit {0} × (proposal_kind p ≡ 6) → (x : List ℕ) × (proposals.ExternalInit x ≡ p)
+is_init (proposals.Add x) p = absurd (omega arith)
+is_init (proposals.Update x) p = absurd (omega arith)
+is_init (proposals.Remove x) p = absurd (omega arith)
+is_init (proposals.PreSharedKey x) p = absurd (omega arith)
+is_init (proposals.ReInit x) p = absurd (omega arith)
+is_init (proposals.ExternalInit x) p = (x, refl)
+is_init (proposals.ContextExtensions x) p = absurd (omega arith)
+
+is_extensions : (p : Proposal) → Unit {0} × (proposal_kind p ≡ 7) → (x : List Extension) × (proposals.ContextExtensions x ≡ p)
+is_extensions (proposals.Add x) p = absurd (omega arith)
+is_extensions (proposals.Update x) p = absurd (omega arith)
+is_extensions (proposals.Remove x) p = absurd (omega arith)
+is_extensions (proposals.PreSharedKey x) p = absurd (omega arith)
+is_extensions (proposals.ReInit x) p = absurd (omega arith)
+is_extensions (proposals.ExternalInit x) p = absurd (omega arith)
+is_extensions (proposals.ContextExtensions x) p = (x, refl)
+
+no_proposal : (n : ℕ) → n ≢ 1 → n ≢ 2 → n ≢ 3 → n ≢ 4 → n ≢ 5 → n ≢ 6 → n ≢ 7 → (p : Proposal) → Unit {0} × (proposal_kind p ≡ n) → ⊥
+no_proposal n a b c d e f g (proposals.Add _) p = a (sym p.1)
+no_proposal n a b c d e f g (proposals.Update _) p = b (sym p.1)
+no_proposal n a b c d e f g (proposals.Remove _) p = c (sym p.1)
+no_proposal n a b c d e f g (proposals.PreSharedKey _) p = d (sym p.1)
+no_proposal n a b c d e f g (proposals.ReInit _) p = e (sym p.1)
+no_proposal n a b c d e f g (proposals.ExternalInit _) p = f (sym p.1)
+no_proposal n a b c d e f g (proposals.ContextExtensions _) p = g (sym p.1)
 
 pub proposal_exact : IsExact proposal proposal_at
 unfolding proposal_at
 proposal_exact = spelled_as Any proposal _ proposal_at proposal_parts
     (field_then Any proposal_kind (number w16) proposal_body (number_at w16) _ (number_exact w16 wide16)
-    (λ n. tag_is proposal_kind _ _ _ n 1 (made_of _ Add key_package _ key_package_at key_package_exact (λ x. (tt, refl)) (λ x. refl) is_add)
-    (λ x. tag_is proposal_kind _ _ _ n 2 (made_of _ Update leaf _ leaf_at leaf_exact (λ x. (tt, refl)) (λ x. refl) is_update)
-    (λ y. tag_is proposal_kind _ _ _ n 3 (made_of _ Remove (number w32) _ (number_at w32) (number_exact w32 wide32) (λ x. (tt, refl)) (λ x. refl) is_remove)
-    (λ z. tag_is proposal_kind _ _ _ n 7 (made_of _ ContextExtensions (list extension) _ (list_at extension_at) extensions_exact (λ x. (tt, refl)) (λ x. refl) is_extensions)
-    (λ w. never _ _ (no_proposal n x y z w)))))))
+    (λ n. tag_is proposal_kind _ _ _ n 1 (made_of _ proposals.Add key_package _ key_package_at key_package_exact (λ x. (tt, refl)) (λ x. refl) is_add)
+    (λ a. tag_is proposal_kind _ _ _ n 2 (made_of _ proposals.Update leaf _ leaf_at leaf_exact (λ x. (tt, refl)) (λ x. refl) is_update)
+    (λ b. tag_is proposal_kind _ _ _ n 3 (made_of _ proposals.Remove (number w32) _ (number_at w32) (number_exact w32 wide32) (λ x. (tt, refl)) (λ x. refl) is_remove)
+    (λ c. tag_is proposal_kind _ _ _ n 4 (made_of _ proposals.PreSharedKey psk_id _ psk_id_at psk_id_exact (λ x. (tt, refl)) (λ x. refl) is_key)
+    (λ d. tag_is proposal_kind _ _ _ n 5 (made_of _ proposals.ReInit reinit _ reinit_at reinit_exact (λ x. (tt, refl)) (λ x. refl) is_reinit)
+    (λ e. tag_is proposal_kind _ _ _ n 6 (made_of _ proposals.ExternalInit vector _ vector_at vector_exact (λ x. (tt, refl)) (λ x. refl) is_init)
+    (λ f. tag_is proposal_kind _ _ _ n 7 (made_of _ proposals.ContextExtensions (list extension) _ (list_at extension_at) extensions_exact (λ x. (tt, refl)) (λ x. refl) is_extensions)
+    (λ g. never _ _ (no_proposal n a b c d e f g))))))))))
 
 pub proposal_long : IsLong proposal
 unfolding proposal
-proposal_long (Add k) front h = long_left (number w16 1) _ front (number_long w16 wide16 1) h
-proposal_long (Update l) front h = long_left (number w16 2) _ front (number_long w16 wide16 2) h
-proposal_long (Remove n) front h = long_left (number w16 3) _ front (number_long w16 wide16 3) h
-proposal_long (ContextExtensions es) front h = long_left (number w16 7) _ front (number_long w16 wide16 7) h
+proposal_long (proposals.Add x) front h = long_left (number w16 1) _ front (number_long w16 wide16 1) h
+proposal_long (proposals.Update x) front h = long_left (number w16 2) _ front (number_long w16 wide16 2) h
+proposal_long (proposals.Remove x) front h = long_left (number w16 3) _ front (number_long w16 wide16 3) h
+proposal_long (proposals.PreSharedKey x) front h = long_left (number w16 4) _ front (number_long w16 wide16 4) h
+proposal_long (proposals.ReInit x) front h = long_left (number w16 5) _ front (number_long w16 wide16 5) h
+proposal_long (proposals.ExternalInit x) front h = long_left (number w16 6) _ front (number_long w16 wide16 6) h
+proposal_long (proposals.ContextExtensions x) front h = long_left (number w16 7) _ front (number_long w16 wide16 7) h
 
 -- ---- the kinds of an entry
 
--- its type
+-- The type of a ProposalOrRef.
 abbrev entry_kind : ProposalOrRef → ℕ
 entry_kind (entries.Proposal p) = 1
 entry_kind (entries.Reference r) = 2
 
--- what follows the type
+-- What follows the type.
 abbrev entry_body : ProposalOrRef → Option (List ℕ)
 entry_body (entries.Proposal p) = proposal p
 entry_body (entries.Reference r) = vector r

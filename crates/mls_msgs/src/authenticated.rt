@@ -1,43 +1,48 @@
-//! Framed contents with their authentication.
+//! AuthenticatedContent: a FramedContent with its authentication.
 
-ghost use Rattle.std.specs.Prelude.{◌≡◌, ℕ, List, Option, option_map, IfOk, IsTrue, IsOk, is_some, IsSome, ◌↔◌, MatchResult};
-ghost use Rattle.mls_wire.specs.Counting.{size};
-ghost use Rattle.mls_wire.specs.Reading.{DecodesAll, seen};
+ghost use Rattle.std.specs.Prelude.{◌≡◌, ℕ, List, Option, option_map, true, OnOk, IfOk, IsTrue, IsOk, is_some, IsSome, ◌↔◌, MatchResult};
+ghost use Rattle.mls_wire.specs.SaturatingSizes.{size};
+ghost use Rattle.mls_wire.specs.ReadContracts.{DecodesAll, seen};
 ghost use Rattle.mls_wire.specs.Parsing.{GivesOrFull};
-ghost use Rattle.mls_wire.specs.Writing.{MakesPiece, Puts};
+ghost use Rattle.mls_wire.specs.WriteContracts.{MakesPiece, Puts};
 ghost use Rattle.mls_msgs.specs.Layout.{is_commit};
 ghost use Rattle.mls_msgs.specs.Authenticated.{is_frame_format, tag_fits, is_authenticated, tag_if, signed_frame, authenticated_content};
-ghost use Rattle.mls_msgs.specs.FrameParsing.{tag_if_at, frame_auth_at, frame_format_at, signed_frame_at};
+ghost use Rattle.mls_wire.specs.Input.{at};
+ghost use Rattle.mls_msgs.specs.MembersReading.{passes};
+ghost use Rattle.mls_msgs.specs.Profile.{is_members_authenticated, authenticated_in};
+ghost use Rattle.mls_msgs.specs.declared.profile.Profile.TheVariants.{Members};
+ghost use Rattle.mls_msgs.specs.FrameParsing.{tag_if_at, frame_auth_at, frame_format_at, signed_frame_at, authenticated_content_at};
 
-use crate::fault::bad_tag;
-use crate::frame::FramedContent;
+use crate::bad_tag::bad_tag;
+use crate::framed_content::FramedContent;
+use crate::profile::{Profile, fault_found, judge_frame};
 use mls_wire::{
     CodecFault, Decode, Draft, Encode, Opaque, Reader, add_sizes, bytes_of, read_all_of,
 };
 use std::alloc::Global;
 use std::marker::Model;
 
-/// The parts of an [`Authenticated`], which may or may not fit together.
+/// The fields of an [`Authenticated`], which may be inconsistent.
 #[derive(Debug, Drop)]
 pub struct AuthenticatedParts {
-    /// How it was sent: 1 for a PublicMessage, 2 for a PrivateMessage.
+    /// 1 for a PublicMessage, 2 for a PrivateMessage.
     pub wire_format: u16,
-    /// What is sent.
+    /// The content.
     pub content: FramedContent,
-    /// The sender's signature over the wire format and the content.
+    /// The signature over the FramedContentTBS.
     pub signature: Opaque,
-    /// The tag that confirms a commit's new epoch.
+    /// The confirmation tag of a commit.
     pub confirmation_tag: Option<Opaque>,
 }
 
-/// A framed content with what its sender signed it by (RFC 9420, 6: AuthenticatedContent). The wire format is
-/// that of a PublicMessage, 1, or of a PrivateMessage, 2, and there is a confirmation tag exactly for a commit.
+/// An AuthenticatedContent (RFC 9420, 6). The wire format is 1 (PublicMessage) or 2 (PrivateMessage). There is a
+/// confirmation tag exactly for a commit.
 #[derive(Debug)]
 pub struct Authenticated {
     parts: AuthenticatedParts,
 }
 
-// By hand, so that a drop is one call in the proofs of those who hold one.
+// Implemented by hand, so that proofs of callers see a drop as one call.
 impl Drop for Authenticated {
     fn drop(self) {
         let Authenticated { parts: _ } = self;
@@ -57,8 +62,8 @@ impl Model for Authenticated {
 }
 
 impl Authenticated {
-    /// Parts that do not fit together are handed back: another wire format than 1 and 2, a commit without a
-    /// confirmation tag, or a tag with another content.
+    /// Creates an AuthenticatedContent. Returns the parts if they are inconsistent: a wire format other than 1 and 2, a
+    /// commit without a confirmation tag, or a tag with other content.
     pub fn new(parts: AuthenticatedParts) -> Result<Authenticated, AuthenticatedParts>
         ensures held { MatchResult result (λ made. made ≡ parts) (λ back. back ≡ parts) }
         ensures fits { IsOk result ↔ IsTrue (is_authenticated parts) }
@@ -71,7 +76,7 @@ impl Authenticated {
         }
     }
 
-    /// 1 for a PublicMessage, 2 for a PrivateMessage.
+    /// Returns the wire format: 1 for a PublicMessage, 2 for a PrivateMessage.
     pub fn wire_format(&self) -> u16
         ensures value { result ≡ self.now.wire_format }
         ensures limit { IsTrue (is_frame_format result) }
@@ -79,21 +84,21 @@ impl Authenticated {
         self.parts.wire_format
     }
 
-    /// What is sent.
+    /// Returns the content.
     pub fn content(&self) -> &FramedContent
         ensures { result.now ≡ self.now.content }
     {
         &self.parts.content
     }
 
-    /// The sender's signature over the content.
+    /// Returns the signature over the FramedContentTBS.
     pub fn signature(&self) -> &Opaque
         ensures { result.now ≡ self.now.signature }
     {
         &self.parts.signature
     }
 
-    /// The tag that confirms a commit's new epoch.
+    /// Returns the confirmation tag of a commit.
     pub fn confirmation_tag(&self) -> Option<&Opaque>
         ensures value { option_map (λ t. t.now) result ≡ self.now.confirmation_tag }
         ensures commit { IsSome result ↔ IsTrue (is_commit self.now.content.content) }
@@ -102,7 +107,7 @@ impl Authenticated {
     }
 }
 
-/// A tag where one is wanted.
+/// Reads a tag, if there is to be one.
 #[tactic(auto, unfolding(crate::specs::FrameParsing::tag_if_at))]
 pub(crate) fn read_tag(
     alloc: Global,
@@ -119,7 +124,7 @@ pub(crate) fn read_tag(
     }
 }
 
-/// Adds a tag where there is one.
+/// Writes a tag, if there is one.
 #[tactic(auto, unfolding(crate::specs::Authenticated::tag_if))]
 pub(crate) fn put_tag(
     alloc: Global,
@@ -134,7 +139,7 @@ pub(crate) fn put_tag(
     }
 }
 
-/// How many bytes a tag takes where there is one.
+/// Returns the encoded length of a tag, if there is one.
 #[tactic(auto, using(crate::proofs::Rooms::size_of_nothing), unfolding(crate::specs::Authenticated::tag_if))]
 pub(crate) fn size_of_tag(tag: &Option<Opaque>) -> Option<usize>
     ensures { result ≡ size (tag_if (is_some tag.now) tag.now) }
@@ -145,14 +150,14 @@ pub(crate) fn size_of_tag(tag: &Option<Opaque>) -> Option<usize>
     }
 }
 
-/// What authenticates a framed content (RFC 9420, 6.1).
+/// The authentication of a FramedContent (RFC 9420, 6.1).
 #[derive(Drop)]
 struct FrameAuth {
     signature: Opaque,
     confirmation_tag: Option<Opaque>,
 }
 
-/// The authentication of a content that is a commit or not.
+/// Reads the authentication of content that is a commit or not.
 #[tactic(auto, unfolding(crate::specs::FrameParsing::frame_auth_at))]
 fn read_frame_auth(
     alloc: Global,
@@ -173,7 +178,7 @@ fn read_frame_auth(
     })
 }
 
-/// What is framed, and its authentication, in a frame of this wire format.
+/// Reads a FramedContent and its authentication, for this wire format.
 #[tactic(auto, unfolding(crate::specs::FrameParsing::signed_frame_at))]
 pub(crate) fn read_signed_frame(
     alloc: Global,
@@ -198,7 +203,7 @@ pub(crate) fn read_signed_frame(
     })
 }
 
-/// The wire format of a framed content. `BadTag` for another one.
+/// Reads the wire format. `BadTag` if it is not 1 or 2.
 #[tactic(auto, unfolding(crate::specs::FrameParsing::frame_format_at))]
 fn read_frame_format(alloc: Global, reader: &mut Reader<'_>) -> Result<u16, CodecFault>
     ensures read { GivesOrFull frame_format_at reader.old reader.new result }
@@ -207,7 +212,7 @@ fn read_frame_format(alloc: Global, reader: &mut Reader<'_>) -> Result<u16, Code
     let mut ahead = reader.fork();
     let wire_format = u16::read(alloc, &mut ahead)?;
     if wire_format != 1 && wire_format != 2 {
-        return Err(bad_tag(wire_format, reader.offset()));
+        return Err(bad_tag(wire_format, reader.place()));
     }
     *reader = ahead;
     Ok(wire_format)
@@ -237,8 +242,8 @@ impl Decode for Authenticated {
 }
 
 impl Authenticated {
-    /// How many bytes what is framed takes, with its authentication.
-    #[tactic(auto, using(mls_nodes::specs::Sizes::sizes), unfolding(crate::specs::Authenticated::signed_frame, crate::specs::Authenticated::frame_auth))]
+    /// Returns the encoded length of a FramedContent and its authentication.
+    #[tactic(auto, using(mls_nodes::specs::TagSizes::sizes), unfolding(crate::specs::Authenticated::signed_frame, crate::specs::Authenticated::frame_auth))]
     pub(crate) fn size_of_signed_frame(&self) -> Option<usize>
         ensures { result ≡ size (signed_frame self.now) }
     {
@@ -249,8 +254,8 @@ impl Authenticated {
         )
     }
 
-    /// Adds what is framed, and its authentication.
-    #[tactic(auto, using(mls_wire::specs::Written::written), unfolding(crate::specs::Authenticated::signed_frame, crate::specs::Authenticated::frame_auth))]
+    /// Writes a FramedContent and its authentication.
+    #[tactic(auto, using(mls_wire::specs::WriteSequences::written), unfolding(crate::specs::Authenticated::signed_frame, crate::specs::Authenticated::frame_auth))]
     pub(crate) fn put_signed_frame(
         &self,
         alloc: Global,
@@ -265,27 +270,68 @@ impl Authenticated {
 }
 
 impl Encode for Authenticated {
-    #[tactic(auto, using(mls_nodes::specs::Sizes::sizes, crate::proofs::PartLemmas::frame_format_fits), unfolding(crate::specs::Authenticated::authenticated_content))]
+    #[tactic(auto, using(mls_nodes::specs::TagSizes::sizes, crate::proofs::PartLemmas::frame_format_fits), unfolding(crate::specs::Authenticated::authenticated_content))]
     fn size(&self) -> Option<usize> {
         add_sizes(self.wire_format().size(), self.size_of_signed_frame())
     }
 
-    #[tactic(auto, using(mls_wire::specs::Written::written, crate::proofs::PartLemmas::frame_format_fits), unfolding(crate::specs::Authenticated::authenticated_content))]
+    #[tactic(auto, using(mls_wire::specs::WriteSequences::written, crate::proofs::PartLemmas::frame_format_fits), unfolding(crate::specs::Authenticated::authenticated_content))]
     fn put(&self, alloc: Global, draft: &mut Draft) -> Result<(), CodecFault> {
         draft.put_u16(self.wire_format())?;
         self.put_signed_frame(alloc, draft)
     }
 }
 
-/// The authenticated content that all of the bytes spell. `BadTag` for a wire format other than 1 and 2.
-pub fn decode_authenticated(alloc: Global, bytes: &[u8]) -> Result<Authenticated, CodecFault>
-    ensures decoded { DecodesAll authenticated_content bytes.now result }
+/// Refuses an AuthenticatedContent that has a proposal type outside the members' profile, as [`judge_frame`] does.
+fn judge_authenticated(alloc: Global, bytes: &[u8]) -> Result<(), CodecFault>
+    ensures { OnOk result
+        (passes is_members_authenticated (authenticated_content_at (at 0 bytes.now)) ≡ true) }
 {
-    read_all_of(alloc, bytes)
+    let mut reader = Reader::new(bytes);
+    let _wire_format = read_frame_format(alloc, &mut reader)?;
+    judge_frame(alloc, reader)
 }
 
-/// The bytes that spell the authenticated content. `TooLong` at 0 exactly where it has no spelling,
-/// one of its vectors being over the limit, which is judged before memory is taken.
+/// Decodes the AuthenticatedContent (RFC 9420, 6) that the bytes encode. Each of its proposals must be in `profile`.
+///
+/// # Errors
+///
+/// - `BadTag` of the wire format at 0, if it is neither 1 nor 2.
+/// - `BadTag` of the type at its place, for the first proposal type that the profile does not have. Nothing behind the
+///   type is judged first.
+/// - Otherwise the first fault of the bytes from the left.
+/// - `OutOfMemory`.
+#[tactic(auto, using(crate::proofs::Profiles::authenticated_contents_in))]
+pub fn decode_authenticated_in(
+    alloc: Global,
+    profile: Profile,
+    bytes: &[u8],
+) -> Result<Authenticated, CodecFault>
+    ensures decoded { DecodesAll (authenticated_in profile) bytes.now result }
+{
+    match read_all_of::<Authenticated>(alloc, bytes) {
+        Ok(auth) => {
+            if profile.has_authenticated(&auth) {
+                return Ok(auth);
+            }
+            Err(fault_found(judge_authenticated(alloc, bytes)))
+        }
+        Err(CodecFault::OutOfMemory) => Err(CodecFault::OutOfMemory),
+        Err(CodecFault::Wire(fault)) => {
+            Err(profile.fault_of(judge_authenticated(alloc, bytes), fault))
+        }
+    }
+}
+
+/// Decodes the AuthenticatedContent of the members' profile that the bytes encode, as [`decode_authenticated_in`] does.
+pub fn decode_authenticated(alloc: Global, bytes: &[u8]) -> Result<Authenticated, CodecFault>
+    ensures decoded { DecodesAll (authenticated_in Members) bytes.now result }
+{
+    decode_authenticated_in(alloc, Profile::Members, bytes)
+}
+
+/// Encodes an AuthenticatedContent. `TooLong` at offset 0 exactly if a vector in it is over the limit; this is checked
+/// before anything is allocated.
 pub fn encode_authenticated(alloc: Global, value: &Authenticated) -> Result<Vec<u8>, CodecFault>
     ensures encoded { MakesPiece
         (authenticated_content value.now)

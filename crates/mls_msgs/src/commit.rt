@@ -1,52 +1,52 @@
-//! Commits, and the update paths that they carry.
+//! Commit and UpdatePath.
 
 use crate::proposal::ProposalOrRef;
 use mls_nodes::LeafNode;
 use mls_wire::{CodecFault, Decode, Draft, Encode, Opaque, Reader, Sequence, add_sizes};
 use std::alloc::Global;
 
-/// A path secret, encrypted to one node of the copath's resolution (RFC 9420, 7.6).
+/// An HPKECiphertext: a path secret encrypted to one node of a resolution (RFC 9420, 7.6).
 #[derive(Debug, Drop)]
 pub struct Ciphertext {
-    /// What the node's private key opens to the key of the encryption.
+    /// The KEM output.
     pub kem_output: Opaque,
-    /// The path secret under that key.
+    /// The encrypted path secret.
     pub ciphertext: Opaque,
 }
 
 /// One ciphertext per node of a resolution.
 pub type Ciphertexts = Sequence<Ciphertext>;
 
-/// A node's new key, and its path secret for those under the node's copath child (RFC 9420, 7.6).
+/// An UpdatePathNode (RFC 9420, 7.6).
 #[derive(Debug, Drop)]
 pub struct PathNode {
     /// The node's new public key.
     pub encryption_key: Opaque,
-    /// The node's path secret, encrypted to each node of the copath child's resolution in its order.
+    /// The node's path secret, encrypted to each node of the resolution of the copath child, in its order.
     pub ciphertexts: Ciphertexts,
 }
 
-/// One node per node of the committer's filtered direct path, from the lowest to the root.
+/// One UpdatePathNode per node of the committer's filtered direct path, lowest first.
 pub type PathNodes = Sequence<PathNode>;
 
-/// The committer's new leaf, and the new nodes above it (RFC 9420, 7.6).
+/// An UpdatePath (RFC 9420, 7.6).
 #[derive(Debug, Drop)]
 pub struct UpdatePath {
     /// The committer's new leaf node.
     pub leaf_node: LeafNode,
-    /// The new nodes above it, one for each parent of the filtered direct path, from the lowest to the root.
+    /// The new parent nodes on the filtered direct path, lowest first.
     pub nodes: PathNodes,
 }
 
-/// The proposals of a commit in their order.
+/// The proposals of a commit, in order.
 pub type Proposals = Sequence<ProposalOrRef>;
 
-/// What begins a new epoch: the proposals that are applied, and perhaps an update path (RFC 9420, 12.4).
+/// A Commit (RFC 9420, 12.4).
 #[derive(Debug, Drop)]
 pub struct Commit {
-    /// The proposals that it covers, each itself or by its reference, in the order of the list.
+    /// The committed proposals, by value or by reference, in order.
     pub proposals: Proposals,
-    /// The committer's new leaf and path, where it has one.
+    /// The UpdatePath, if there is one.
     pub path: Option<UpdatePath>,
 }
 
@@ -77,12 +77,12 @@ impl Decode for Ciphertext {
 }
 
 impl Encode for Ciphertext {
-    #[tactic(auto, using(mls_nodes::specs::Sizes::sizes), unfolding(crate::specs::Layout::ciphertext))]
+    #[tactic(auto, using(mls_nodes::specs::TagSizes::sizes), unfolding(crate::specs::Layout::ciphertext))]
     fn size(&self) -> Option<usize> {
         add_sizes(self.kem_output.size(), self.ciphertext.size())
     }
 
-    #[tactic(auto, using(mls_wire::specs::Written::written), unfolding(crate::specs::Layout::ciphertext))]
+    #[tactic(auto, using(mls_wire::specs::WriteSequences::written), unfolding(crate::specs::Layout::ciphertext))]
     fn put(&self, alloc: Global, draft: &mut Draft) -> Result<(), CodecFault> {
         self.kem_output.put(alloc, draft)?;
         self.ciphertext.put(alloc, draft)
@@ -116,12 +116,12 @@ impl Decode for PathNode {
 }
 
 impl Encode for PathNode {
-    #[tactic(auto, using(mls_nodes::specs::Sizes::sizes), unfolding(crate::specs::Layout::path_node))]
+    #[tactic(auto, using(mls_nodes::specs::TagSizes::sizes), unfolding(crate::specs::Layout::path_node))]
     fn size(&self) -> Option<usize> {
         add_sizes(self.encryption_key.size(), self.ciphertexts.size())
     }
 
-    #[tactic(auto, using(mls_wire::specs::Written::written), unfolding(crate::specs::Layout::path_node))]
+    #[tactic(auto, using(mls_wire::specs::WriteSequences::written), unfolding(crate::specs::Layout::path_node))]
     fn put(&self, alloc: Global, draft: &mut Draft) -> Result<(), CodecFault> {
         self.encryption_key.put(alloc, draft)?;
         self.ciphertexts.put(alloc, draft)
@@ -152,12 +152,12 @@ impl Decode for UpdatePath {
 }
 
 impl Encode for UpdatePath {
-    #[tactic(auto, using(mls_nodes::specs::Sizes::sizes), unfolding(crate::specs::Layout::update_path))]
+    #[tactic(auto, using(mls_nodes::specs::TagSizes::sizes), unfolding(crate::specs::Layout::update_path))]
     fn size(&self) -> Option<usize> {
         add_sizes(self.leaf_node.size(), self.nodes.size())
     }
 
-    #[tactic(auto, using(mls_wire::specs::Written::written), unfolding(crate::specs::Layout::update_path))]
+    #[tactic(auto, using(mls_wire::specs::WriteSequences::written), unfolding(crate::specs::Layout::update_path))]
     fn put(&self, alloc: Global, draft: &mut Draft) -> Result<(), CodecFault> {
         self.leaf_node.put(alloc, draft)?;
         self.nodes.put(alloc, draft)
@@ -188,12 +188,12 @@ impl Decode for Commit {
 }
 
 impl Encode for Commit {
-    #[tactic(auto, using(mls_nodes::specs::Sizes::sizes), unfolding(crate::specs::Layout::commit))]
+    #[tactic(auto, using(mls_nodes::specs::TagSizes::sizes), unfolding(crate::specs::Layout::commit))]
     fn size(&self) -> Option<usize> {
         add_sizes(self.proposals.size(), self.path.size())
     }
 
-    #[tactic(auto, using(mls_wire::specs::Written::written), unfolding(crate::specs::Layout::commit))]
+    #[tactic(auto, using(mls_wire::specs::WriteSequences::written), unfolding(crate::specs::Layout::commit))]
     fn put(&self, alloc: Global, draft: &mut Draft) -> Result<(), CodecFault> {
         self.proposals.put(alloc, draft)?;
         self.path.put(alloc, draft)

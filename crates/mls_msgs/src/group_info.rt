@@ -1,21 +1,21 @@
-//! Group infos.
+//! GroupInfo.
 
 use mls_nodes::{Extensions, GroupContext};
 use mls_wire::{CodecFault, Decode, Draft, Encode, Opaque, Reader, add_sizes};
 use std::alloc::Global;
 
-/// What a client that joins learns of a group's state (RFC 9420, 12.4.3).
+/// A GroupInfo (RFC 9420, 12.4.3).
 #[derive(Debug, Drop)]
 pub struct GroupInfo {
-    /// The group's context.
+    /// The GroupContext.
     pub context: GroupContext,
-    /// Extensions of the group info itself, as the ratchet tree.
+    /// The extensions of the GroupInfo, for example `ratchet_tree`.
     pub extensions: Extensions,
-    /// The tag that confirms the epoch.
+    /// The confirmation tag of the epoch.
     pub confirmation_tag: Opaque,
-    /// The leaf of the member that signed it.
+    /// The leaf index of the signer.
     pub signer: u32,
-    /// The signer's signature over the fields above.
+    /// The signature over the GroupInfoTBS.
     pub signature: Opaque,
 }
 
@@ -53,12 +53,12 @@ impl Decode for GroupInfo {
 
 impl GroupInfo {
     ghost use Rattle.std.specs.Prelude.{◌≡◌};
-    ghost use Rattle.mls_wire.specs.Counting.{size};
-    ghost use Rattle.mls_wire.specs.Writing.{Puts};
-    ghost use Rattle.mls_msgs.specs.Signed.{info_tbs};
+    ghost use Rattle.mls_wire.specs.SaturatingSizes.{size};
+    ghost use Rattle.mls_wire.specs.WriteContracts.{Puts};
+    ghost use Rattle.mls_msgs.specs.Tbs.{info_tbs};
 
-    /// How many bytes the fields take that are signed.
-    #[tactic(auto, using(mls_nodes::specs::Sizes::sizes), unfolding(crate::specs::Signed::info_tbs))]
+    /// Returns the encoded length of the GroupInfoTBS.
+    #[tactic(auto, using(mls_nodes::specs::TagSizes::sizes), unfolding(crate::specs::Tbs::info_tbs))]
     pub(crate) fn size_unsigned(&self) -> Option<usize>
         ensures { result ≡ size (info_tbs self.now) }
     {
@@ -71,8 +71,8 @@ impl GroupInfo {
         )
     }
 
-    /// Adds the fields that are signed.
-    #[tactic(auto, using(mls_wire::specs::Written::written), unfolding(crate::specs::Signed::info_tbs))]
+    /// Writes the GroupInfoTBS.
+    #[tactic(auto, using(mls_wire::specs::WriteSequences::written), unfolding(crate::specs::Tbs::info_tbs))]
     pub(crate) fn put_unsigned(&self, alloc: Global, draft: &mut Draft) -> Result<(), CodecFault>
         ensures { Puts (info_tbs self.now) draft.old draft.new result }
     {
@@ -84,12 +84,12 @@ impl GroupInfo {
 }
 
 impl Encode for GroupInfo {
-    #[tactic(auto, using(mls_nodes::specs::Sizes::sizes, crate::proofs::Unsigned::info_signed))]
+    #[tactic(auto, using(mls_nodes::specs::TagSizes::sizes, crate::proofs::Unsigned::info_signed))]
     fn size(&self) -> Option<usize> {
         add_sizes(self.size_unsigned(), self.signature.size())
     }
 
-    #[tactic(auto, using(mls_wire::specs::Written::written, crate::proofs::Unsigned::info_signed))]
+    #[tactic(auto, using(mls_wire::specs::WriteSequences::written, crate::proofs::Unsigned::info_signed))]
     fn put(&self, alloc: Global, draft: &mut Draft) -> Result<(), CodecFault> {
         self.put_unsigned(alloc, draft)?;
         self.signature.put(alloc, draft)

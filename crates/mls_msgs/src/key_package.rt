@@ -1,24 +1,23 @@
-//! Key packages.
+//! KeyPackage.
 
 use mls_nodes::{Extensions, LeafNode};
 use mls_wire::{CodecFault, Decode, Draft, Encode, Opaque, Reader, TryClone, add_sizes};
 use std::alloc::Global;
 
-/// What a client publishes so that others can add it to a group (RFC 9420, 10). The version and the cipher
-/// suite are kept as they are, whichever they are.
+/// A KeyPackage (RFC 9420, 10). Any version and cipher suite can be decoded.
 #[derive(Debug, Drop)]
 pub struct KeyPackage {
     /// The protocol version.
     pub version: u16,
-    /// The cipher suite that it may be used with.
+    /// The cipher suite.
     pub cipher_suite: u16,
-    /// The public key to which a welcome is encrypted.
+    /// The public key that a Welcome is encrypted to.
     pub init_key: Opaque,
     /// The leaf node that is added to the tree.
     pub leaf_node: LeafNode,
-    /// Extensions of the key package itself.
+    /// The extensions of the KeyPackage.
     pub extensions: Extensions,
-    /// The client's signature over the fields above.
+    /// The signature over the KeyPackageTBS.
     pub signature: Opaque,
 }
 
@@ -58,12 +57,12 @@ impl Decode for KeyPackage {
 
 impl KeyPackage {
     ghost use Rattle.std.specs.Prelude.{◌≡◌};
-    ghost use Rattle.mls_wire.specs.Counting.{size};
-    ghost use Rattle.mls_wire.specs.Writing.{Puts};
-    ghost use Rattle.mls_msgs.specs.Signed.{package_tbs};
+    ghost use Rattle.mls_wire.specs.SaturatingSizes.{size};
+    ghost use Rattle.mls_wire.specs.WriteContracts.{Puts};
+    ghost use Rattle.mls_msgs.specs.Tbs.{package_tbs};
 
-    /// How many bytes the fields take that are signed.
-    #[tactic(auto, using(mls_nodes::specs::Sizes::sizes), unfolding(crate::specs::Signed::package_tbs))]
+    /// Returns the encoded length of the KeyPackageTBS.
+    #[tactic(auto, using(mls_nodes::specs::TagSizes::sizes), unfolding(crate::specs::Tbs::package_tbs))]
     pub(crate) fn size_unsigned(&self) -> Option<usize>
         ensures { result ≡ size (package_tbs self.now) }
     {
@@ -79,8 +78,8 @@ impl KeyPackage {
         )
     }
 
-    /// Adds the fields that are signed.
-    #[tactic(auto, using(mls_wire::specs::Written::written), unfolding(crate::specs::Signed::package_tbs))]
+    /// Writes the KeyPackageTBS.
+    #[tactic(auto, using(mls_wire::specs::WriteSequences::written), unfolding(crate::specs::Tbs::package_tbs))]
     pub(crate) fn put_unsigned(&self, alloc: Global, draft: &mut Draft) -> Result<(), CodecFault>
         ensures { Puts (package_tbs self.now) draft.old draft.new result }
     {
@@ -93,12 +92,12 @@ impl KeyPackage {
 }
 
 impl Encode for KeyPackage {
-    #[tactic(auto, using(mls_nodes::specs::Sizes::sizes, crate::proofs::Unsigned::package_signed))]
+    #[tactic(auto, using(mls_nodes::specs::TagSizes::sizes, crate::proofs::Unsigned::package_signed))]
     fn size(&self) -> Option<usize> {
         add_sizes(self.size_unsigned(), self.signature.size())
     }
 
-    #[tactic(auto, using(mls_wire::specs::Written::written, crate::proofs::Unsigned::package_signed))]
+    #[tactic(auto, using(mls_wire::specs::WriteSequences::written, crate::proofs::Unsigned::package_signed))]
     fn put(&self, alloc: Global, draft: &mut Draft) -> Result<(), CodecFault> {
         self.put_unsigned(alloc, draft)?;
         self.signature.put(alloc, draft)

@@ -1,35 +1,39 @@
-//! Laws of the spellings: bytes tell values apart. And the labels are those that definitions name.
+//! Properties of the encodings: they are unambiguous, and the labels are those of the definitions.
 
 ghost use Rattle.std.specs.Prelude.{◌≡◌};
-ghost use Rattle.mls_wire.specs.Spelling.{list, SpellsOnce, IsUnambiguous};
-ghost use Rattle.mls_msgs.specs.Layout.{key_package, proposal, proposal_or_ref, ciphertext, path_node, update_path, commit, sender, content, framed_content, group_info};
+ghost use Rattle.mls_wire.specs.Encoding.{list, IsInjective, IsUniquelyDecodable};
+ghost use Rattle.mls_msgs.specs.Layout.{key_package, psk_usage, psk_kind, psk_id, reinit, proposal, proposal_or_ref, ciphertext, path_node, update_path, commit, sender, content, framed_content, group_info};
 ghost use Rattle.mls_msgs.specs.Authenticated.{authenticated_content};
 ghost use Rattle.mls_msgs.specs.PublicMessage.{public_message};
 ghost use Rattle.mls_msgs.specs.Message.{message};
-ghost use Rattle.mls_msgs.specs.Signed.{content_label, package_label, info_label, reference_label};
+ghost use Rattle.mls_msgs.specs.Tbs.{content_label, package_label, info_label, reference_label};
 
-use crate::signed::{CONTENT_LABEL, GROUP_INFO_LABEL, KEY_PACKAGE_LABEL, PROPOSAL_REFERENCE_LABEL};
+use crate::tbs::{CONTENT_LABEL, GROUP_INFO_LABEL, KEY_PACKAGE_LABEL, PROPOSAL_REFERENCE_LABEL};
 
-/// Of each type: one byte list spells at most one value, and no spelling is a proper prefix of another. Of messages
-/// the first alone holds, since a body that is kept unread is the rest of the input.
+/// For each type: a list of bytes encodes at most one value, and no encoding is a proper prefix of another. For
+/// messages only the first holds, since the body of an unread message is the rest of the input.
 pub fn unambiguous()
-    ensures key_package { IsUnambiguous key_package }
-    ensures proposal { IsUnambiguous proposal }
-    ensures proposal_or_ref { IsUnambiguous proposal_or_ref }
-    ensures proposals { IsUnambiguous (list proposal_or_ref) }
-    ensures ciphertext { IsUnambiguous ciphertext }
-    ensures ciphertexts { IsUnambiguous (list ciphertext) }
-    ensures path_node { IsUnambiguous path_node }
-    ensures path_nodes { IsUnambiguous (list path_node) }
-    ensures update_path { IsUnambiguous update_path }
-    ensures commit { IsUnambiguous commit }
-    ensures sender { IsUnambiguous sender }
-    ensures content { IsUnambiguous content }
-    ensures framed_content { IsUnambiguous framed_content }
-    ensures authenticated { IsUnambiguous authenticated_content }
-    ensures public_message { IsUnambiguous public_message }
-    ensures group_info { IsUnambiguous group_info }
-    ensures message { SpellsOnce message }
+    ensures key_package { IsUniquelyDecodable key_package }
+    ensures psk_usage { IsUniquelyDecodable psk_usage }
+    ensures psk_kind { IsUniquelyDecodable psk_kind }
+    ensures psk_id { IsUniquelyDecodable psk_id }
+    ensures reinit { IsUniquelyDecodable reinit }
+    ensures proposal { IsUniquelyDecodable proposal }
+    ensures proposal_or_ref { IsUniquelyDecodable proposal_or_ref }
+    ensures proposals { IsUniquelyDecodable (list proposal_or_ref) }
+    ensures ciphertext { IsUniquelyDecodable ciphertext }
+    ensures ciphertexts { IsUniquelyDecodable (list ciphertext) }
+    ensures path_node { IsUniquelyDecodable path_node }
+    ensures path_nodes { IsUniquelyDecodable (list path_node) }
+    ensures update_path { IsUniquelyDecodable update_path }
+    ensures commit { IsUniquelyDecodable commit }
+    ensures sender { IsUniquelyDecodable sender }
+    ensures content { IsUniquelyDecodable content }
+    ensures framed_content { IsUniquelyDecodable framed_content }
+    ensures authenticated { IsUniquelyDecodable authenticated_content }
+    ensures public_message { IsUniquelyDecodable public_message }
+    ensures group_info { IsUniquelyDecodable group_info }
+    ensures message { IsInjective message }
 {}
 
 /// The labels of signatures and of references are those of the definitions.

@@ -1,31 +1,40 @@
-//! The messages of an MLS group (RFC 9420): key packages, proposals, commits and the frames that carry them, read
-//! from bytes and written as bytes, and the contents that are signed and hashed.
+//! The messages of RFC 9420: KeyPackage, proposals, commits, and the structs that frame them, with decoding and
+//! encoding, and the content that is signed and hashed.
 #![tactic(auto)]
 
 mod authenticated;
+mod bad_tag;
+mod boxed;
 mod commit;
-mod fault;
-mod frame;
+mod framed_content;
 mod group_info;
 mod key_package;
 pub mod laws;
 mod message;
+mod pre_shared_key;
+mod profile;
 mod proposal;
 mod public_message;
-mod room;
-mod signed;
+mod reinit;
+mod reserved_draft;
+mod tbs;
 
 pub use authenticated::{
-    Authenticated, AuthenticatedParts, decode_authenticated, encode_authenticated,
+    Authenticated, AuthenticatedParts, decode_authenticated, decode_authenticated_in,
+    encode_authenticated,
 };
+pub use boxed::Boxed;
 pub use commit::{Ciphertext, Ciphertexts, Commit, PathNode, PathNodes, Proposals, UpdatePath};
-pub use frame::{Content, FramedContent, Sender};
+pub use framed_content::{Content, FramedContent, Sender};
 pub use group_info::GroupInfo;
 pub use key_package::KeyPackage;
-pub use message::{Message, decode_message, encode_message};
-pub use proposal::{Proposal, ProposalOrRef, decode_proposal, encode_proposal};
+pub use message::{Message, decode_message, decode_message_in, encode_message};
+pub use pre_shared_key::{PreSharedKeyId, PskKind, PskUsage};
+pub use profile::Profile;
+pub use proposal::{Proposal, ProposalOrRef, decode_proposal, decode_proposal_in, encode_proposal};
 pub use public_message::{PublicMessage, PublicParts};
-pub use signed::{
+pub use reinit::ReInit;
+pub use tbs::{
     CONTENT_LABEL, GROUP_INFO_LABEL, KEY_PACKAGE_LABEL, PROPOSAL_REFERENCE_LABEL, confirmed_input,
     content_tbs, info_tbs, package_tbs,
 };

@@ -1,18 +1,22 @@
-//! Messages as they are sent.
+//! MLSMessage.
 
-ghost use Rattle.std.specs.Prelude.{◌≡◌, ◌≤◌, ◌<◌, ℕ, List, length, Some, IsSome, Err};
-ghost use Rattle.mls_wire.specs.Counting.{size};
+ghost use Rattle.std.specs.Prelude.{◌≡◌, ◌≤◌, ◌<◌, ℕ, List, length, Some, true, IsSome, OnOk, Err};
+ghost use Rattle.mls_wire.specs.SaturatingSizes.{size};
 ghost use Rattle.mls_wire.specs.Faults.{too_long_at};
 ghost use Rattle.mls_wire.specs.Limits.{input_limit};
-ghost use Rattle.mls_wire.specs.Reading.{DecodesInput, seen};
+ghost use Rattle.mls_wire.specs.ReadContracts.{DecodesInput, seen};
 ghost use Rattle.mls_wire.specs.Parsing.{Finds, GivesOrFull};
-ghost use Rattle.mls_wire.specs.Writing.{Puts};
+ghost use Rattle.mls_wire.specs.WriteContracts.{Puts};
 ghost use Rattle.mls_msgs.specs.Message.{header, is_unread, message, IsMessageFault, MakesMessage};
+ghost use Rattle.mls_msgs.specs.MembersReading.{message_passes};
+ghost use Rattle.mls_msgs.specs.Profile.{message_in};
+ghost use Rattle.mls_msgs.specs.declared.profile.Profile.TheVariants.{Members};
 ghost use Rattle.mls_msgs.specs.MessageParsing.{header_at, rest_at, message_at};
 
-use crate::fault::bad_tag;
+use crate::bad_tag::bad_tag;
 use crate::group_info::GroupInfo;
 use crate::key_package::KeyPackage;
+use crate::profile::{Profile, fault_found, judge_frame};
 use crate::public_message::PublicMessage;
 use mls_wire::{
     CodecFault, Decode, Draft, Encode, MAX_INPUT, Opaque, Reader, WireFault, WireFaultKind,
@@ -20,38 +24,38 @@ use mls_wire::{
 };
 use std::alloc::Global;
 
-/// Where a message's wire format begins.
+/// The offset of the wire format.
 const FORMAT_AT: usize = 2;
 
-/// Where a message's body begins.
+/// The offset of the body.
 const BODY_AT: usize = 4;
 
-/// A message as it is sent (RFC 9420, 6: MLSMessage), of protocol version 1.
+/// An MLSMessage of protocol version 1 (RFC 9420, 6).
 #[derive(Debug, Drop)]
 pub enum Message {
-    /// Wire format 1.
+    /// A PublicMessage: wire format 1.
     Public(PublicMessage),
-    /// A PrivateMessage, 2, or a Welcome, 3, whose body is kept as it is.
+    /// A PrivateMessage (wire format 2) or a Welcome (3), whose body is not decoded.
     Unread {
-        /// 2 or 3; another one has no spelling.
+        /// 2 or 3. Any other has no encoding.
         wire_format: u16,
-        /// All bytes behind the wire format.
+        /// All bytes after the wire format.
         body: Opaque,
     },
-    /// Wire format 4.
+    /// A GroupInfo: wire format 4.
     GroupInfo(GroupInfo),
-    /// Wire format 5.
+    /// A KeyPackage: wire format 5.
     KeyPackage(KeyPackage),
 }
 
-/// Whether a body of this wire format is kept as it is.
+/// Returns whether a body of this wire format is not decoded.
 fn is_unread(wire_format: u16) -> bool
     ensures { result ≡ is_unread wire_format }
 {
     wire_format == 2 || wire_format == 3
 }
 
-/// The wire format, behind the protocol version 1. `BadTag` for another version.
+/// Reads the protocol version and the wire format, and returns the latter. `BadTag` for a version other than 1.
 #[tactic(auto, unfolding(crate::specs::MessageParsing::header_at))]
 fn read_header(alloc: Global, reader: &mut Reader<'_>) -> Result<u16, CodecFault>
     ensures { GivesOrFull header_at reader.old reader.new result }
@@ -59,14 +63,14 @@ fn read_header(alloc: Global, reader: &mut Reader<'_>) -> Result<u16, CodecFault
     let mut ahead = reader.fork();
     let version = u16::read(alloc, &mut ahead)?;
     if version != 1 {
-        return Err(bad_tag(version, reader.offset()));
+        return Err(bad_tag(version, reader.place()));
     }
     let wire_format = u16::read(alloc, &mut ahead)?;
     *reader = ahead;
     Ok(wire_format)
 }
 
-/// The value that is all of what is left.
+/// Reads the value that is all of the rest.
 fn read_rest<T: Decode>(alloc: Global, mut reader: Reader<'_>) -> Result<T, CodecFault>
     ensures { Finds (rest_at T.reading reader.entry) result }
 {
@@ -75,7 +79,7 @@ fn read_rest<T: Decode>(alloc: Global, mut reader: Reader<'_>) -> Result<T, Code
     Ok(value)
 }
 
-/// All of the bytes.
+/// Returns a copy of all bytes.
 fn copy_rest(alloc: Global, bytes: &[u8]) -> Result<Opaque, CodecFault>
     requires { length bytes.now ≤ MAX_INPUT }
     ensures { Finds (Some bytes.now) result }
@@ -103,11 +107,35 @@ fn message_of(alloc: Global, bytes: &[u8]) -> Result<Message, CodecFault>
     }
 }
 
-/// The message that all of the bytes spell. More than 268,435,456 bytes are `TooLong` at 0, before anything else is
-/// judged; another version than 1 is `BadTag` at 0, and another wire format than 1 to 5 at 2.
-#[tactic(auto, using(crate::specs::MessageExact::message_decoded))]
-pub fn decode_message(alloc: Global, bytes: &[u8]) -> Result<Message, CodecFault>
-    ensures decoded { DecodesInput message bytes.now result }
+/// Refuses a message that has a proposal type outside the members' profile, as [`judge_frame`] does.
+fn judge_message(alloc: Global, bytes: &[u8]) -> Result<(), CodecFault>
+    ensures { OnOk result (message_passes (message_at bytes.now) ≡ true) }
+{
+    let mut reader = Reader::new(bytes);
+    let wire_format = read_header(alloc, &mut reader)?;
+    if wire_format == 1 {
+        return judge_frame(alloc, reader);
+    }
+    Ok(())
+}
+
+/// Decodes the message (RFC 9420, 6: MLSMessage) that the bytes encode. Each of its proposals must be in `profile`.
+///
+/// # Errors
+///
+/// - `TooLong` at 0, if there are more than 268,435,456 bytes. This is judged first, and before any allocation.
+/// - `BadTag` of the version at 0, if it is not 1; `BadTag` of the wire format at 2, if it is not 1 to 5.
+/// - `BadTag` of the type at its place, for the first proposal type that the profile does not have. Nothing behind the
+///   type is judged first.
+/// - Otherwise the first fault of the bytes from the left.
+/// - `OutOfMemory`.
+#[tactic(auto, using(crate::proofs::Profiles::messages_in))]
+pub fn decode_message_in(
+    alloc: Global,
+    profile: Profile,
+    bytes: &[u8],
+) -> Result<Message, CodecFault>
+    ensures decoded { DecodesInput (message_in profile) bytes.now result }
     ensures long { input_limit < length bytes.now → result ≡ Err (CodecFault.Wire (too_long_at 0)) }
 {
     if bytes.len() > MAX_INPUT {
@@ -116,18 +144,35 @@ pub fn decode_message(alloc: Global, bytes: &[u8]) -> Result<Message, CodecFault
             at: 0,
         }));
     }
-    message_of(alloc, bytes)
+    match message_of(alloc, bytes) {
+        Ok(message) => {
+            if profile.has_message(&message) {
+                return Ok(message);
+            }
+            Err(fault_found(judge_message(alloc, bytes)))
+        }
+        Err(CodecFault::OutOfMemory) => Err(CodecFault::OutOfMemory),
+        Err(CodecFault::Wire(fault)) => Err(profile.fault_of(judge_message(alloc, bytes), fault)),
+    }
 }
 
-/// How many bytes the protocol version and the wire format take.
-#[tactic(auto, using(mls_nodes::specs::Sizes::sizes), unfolding(crate::specs::Message::header))]
+/// Decodes the message of the members' profile that the bytes encode, as [`decode_message_in`] does.
+pub fn decode_message(alloc: Global, bytes: &[u8]) -> Result<Message, CodecFault>
+    ensures decoded { DecodesInput (message_in Members) bytes.now result }
+    ensures long { input_limit < length bytes.now → result ≡ Err (CodecFault.Wire (too_long_at 0)) }
+{
+    decode_message_in(alloc, Profile::Members, bytes)
+}
+
+/// Returns the encoded length of the protocol version and the wire format.
+#[tactic(auto, using(mls_nodes::specs::TagSizes::sizes), unfolding(crate::specs::Message::header))]
 fn size_of_header(wire_format: u16) -> Option<usize>
     ensures { result ≡ size (header wire_format) }
 {
     add_sizes(Some(2), wire_format.size())
 }
 
-/// How many bytes a message takes.
+/// Returns the encoded length of a message.
 #[tactic(auto, using(crate::proofs::Rooms::sizes), unfolding(crate::specs::Message::message))]
 fn size_of_message(value: &Message) -> Option<usize>
     ensures { result ≡ size (message value.now) }
@@ -145,7 +190,7 @@ fn size_of_message(value: &Message) -> Option<usize>
     }
 }
 
-/// The fault of a message that has no spelling.
+/// Returns the fault of a message that has no encoding.
 fn fault_of(value: &Message) -> WireFault
     ensures { IsMessageFault value.now result }
 {
@@ -158,8 +203,8 @@ fn fault_of(value: &Message) -> WireFault
     WireFault { kind, at }
 }
 
-/// Adds the protocol version and the wire format.
-#[tactic(auto, using(mls_wire::specs::Written::written), unfolding(crate::specs::Message::header))]
+/// Writes the protocol version and the wire format.
+#[tactic(auto, using(mls_wire::specs::WriteSequences::written), unfolding(crate::specs::Message::header))]
 fn put_header(draft: &mut Draft, wire_format: u16) -> Result<(), CodecFault>
     ensures { Puts (header wire_format) draft.old draft.new result }
 {
@@ -167,8 +212,8 @@ fn put_header(draft: &mut Draft, wire_format: u16) -> Result<(), CodecFault>
     draft.put_u16(wire_format)
 }
 
-/// Adds a message that has a spelling.
-#[tactic(auto, using(mls_wire::specs::Written::written), unfolding(crate::specs::Message::message))]
+/// Writes a message that has an encoding.
+#[tactic(auto, using(mls_wire::specs::WriteSequences::written), unfolding(crate::specs::Message::message))]
 fn put_message(alloc: Global, value: &Message, draft: &mut Draft) -> Result<(), CodecFault>
     requires { IsSome (message value.now) }
     ensures { Puts (message value.now) draft.old draft.new result }
@@ -193,9 +238,13 @@ fn put_message(alloc: Global, value: &Message, draft: &mut Draft) -> Result<(), 
     }
 }
 
-/// The bytes that spell the message. A fault other than want of memory comes exactly where it has
-/// no spelling, and is judged before memory is taken: `BadTag` at 2 where an unread one has another
-/// wire format than 2 and 3, else `TooLong` at 0, one of its vectors being over the limit.
+/// Encodes a message.
+///
+/// # Errors
+///
+/// Except for `OutOfMemory`, exactly if the message has no encoding, which is checked before anything is allocated:
+/// `BadTag` at offset 2 if an unread message has a wire format other than 2 and 3, else `TooLong` at 0 for a vector
+/// over the limit.
 #[tactic(auto, using(crate::proofs::Rooms::message_made))]
 pub fn encode_message(alloc: Global, value: &Message) -> Result<Vec<u8>, CodecFault>
     ensures encoded { MakesMessage value.now (seen (λ bytes. bytes.items) result) }

@@ -1,37 +1,50 @@
-//! Proposals.
+//! Proposals (RFC 9420, 12.1).
 
 ghost use Rattle.std.specs.Prelude.{ℕ, List};
-ghost use Rattle.mls_wire.specs.Reading.{DecodesAll, seen};
-ghost use Rattle.mls_wire.specs.Writing.{MakesPiece};
+ghost use Rattle.mls_wire.specs.ReadContracts.{DecodesAll, seen};
+ghost use Rattle.mls_wire.specs.WriteContracts.{MakesPiece};
 ghost use Rattle.mls_msgs.specs.Layout.{proposal};
+ghost use Rattle.mls_msgs.specs.Profile.{proposal_in};
+ghost use Rattle.mls_msgs.specs.declared.profile.Profile.TheVariants.{Members};
 
-use crate::fault::bad_tag;
+use crate::bad_tag::bad_tag;
+use crate::boxed::Boxed;
 use crate::key_package::KeyPackage;
+use crate::pre_shared_key::PreSharedKeyId;
+use crate::profile::{Profile, fault_found, judge_proposal};
+use crate::reinit::ReInit;
 use mls_nodes::{Extensions, LeafNode};
 use mls_wire::{
     CodecFault, Decode, Draft, Encode, Opaque, Reader, TryClone, add_sizes, bytes_of, read_all_of,
 };
 use std::alloc::Global;
 
-/// A change to a group that a member proposes (RFC 9420, 12.1). Proposals of other types are not read.
+/// A proposal (RFC 9420, 12.1: Proposal). Other proposal types are not decoded. Large contents are stored on the heap,
+/// so that a list of small proposals takes little memory.
 #[derive(Debug, Drop)]
 pub enum Proposal {
-    /// The client of this key package is to become a member (RFC 9420, 12.1.1).
-    Add(KeyPackage),
-    /// The sender's leaf is to be replaced by this one (RFC 9420, 12.1.2).
-    Update(LeafNode),
-    /// The member at this leaf is to be removed (RFC 9420, 12.1.3).
+    /// Type 1: adds the client with this KeyPackage (RFC 9420, 12.1.1).
+    Add(Boxed<KeyPackage>),
+    /// Type 2: replaces the sender's leaf node by this one (RFC 9420, 12.1.2).
+    Update(Boxed<LeafNode>),
+    /// Type 3: removes the member at this leaf index (RFC 9420, 12.1.3).
     Remove(u32),
-    /// These are to take the place of the group context's extensions (RFC 9420, 12.1.7).
-    ContextExtensions(Extensions),
+    /// Type 7: replaces the extensions of the GroupContext by these (RFC 9420, 12.1.7).
+    ContextExtensions(Boxed<Extensions>),
+    /// Type 4: injects this pre-shared key into the key schedule of the next epoch (RFC 9420, 12.1.4).
+    PreSharedKey(Boxed<PreSharedKeyId>),
+    /// Type 5: reinitializes the group with these parameters (RFC 9420, 12.1.5).
+    ReInit(Boxed<ReInit>),
+    /// Type 6: the `kem_output` by which a new member joins with an external commit (RFC 9420, 12.1.6).
+    ExternalInit(Boxed<Opaque>),
 }
 
-/// An entry of a commit's list of proposals (RFC 9420, 12.4).
+/// An entry of a commit's list of proposals (RFC 9420, 12.4: ProposalOrRef).
 #[derive(Debug, Drop)]
 pub enum ProposalOrRef {
-    /// A proposal of the committer's own.
+    /// Type 1: a proposal of the committer.
     Proposal(Proposal),
-    /// The reference of a proposal that was sent before (RFC 9420, 5.2).
+    /// Type 2: the ProposalRef of a proposal that was sent before (RFC 9420, 5.2).
     Reference(Opaque),
 }
 
@@ -48,11 +61,14 @@ impl Decode for Proposal {
     fn read(alloc: Global, reader: &mut Reader<'_>) -> Result<Proposal, CodecFault> {
         let mut ahead = reader.fork();
         let proposal = match u16::read(alloc, &mut ahead)? {
-            1 => Proposal::Add(KeyPackage::read(alloc, &mut ahead)?),
-            2 => Proposal::Update(LeafNode::read(alloc, &mut ahead)?),
+            1 => Proposal::Add(Boxed::read(alloc, &mut ahead)?),
+            2 => Proposal::Update(Boxed::read(alloc, &mut ahead)?),
             3 => Proposal::Remove(u32::read(alloc, &mut ahead)?),
-            7 => Proposal::ContextExtensions(Extensions::read(alloc, &mut ahead)?),
-            kind => return Err(bad_tag(kind, reader.offset())),
+            4 => Proposal::PreSharedKey(Boxed::read(alloc, &mut ahead)?),
+            5 => Proposal::ReInit(Boxed::read(alloc, &mut ahead)?),
+            6 => Proposal::ExternalInit(Boxed::read(alloc, &mut ahead)?),
+            7 => Proposal::ContextExtensions(Boxed::read(alloc, &mut ahead)?),
+            kind => return Err(bad_tag(kind, reader.place())),
         };
         *reader = ahead;
         Ok(proposal)
@@ -64,17 +80,20 @@ impl Decode for Proposal {
 }
 
 impl Encode for Proposal {
-    #[tactic(auto, using(mls_nodes::specs::Sizes::sizes), unfolding(crate::specs::Layout::proposal))]
+    #[tactic(auto, using(mls_nodes::specs::TagSizes::sizes), unfolding(crate::specs::Layout::proposal))]
     fn size(&self) -> Option<usize> {
         match self {
             Proposal::Add(key_package) => add_sizes(Some(2), key_package.size()),
             Proposal::Update(leaf_node) => add_sizes(Some(2), leaf_node.size()),
             Proposal::Remove(leaf_index) => add_sizes(Some(2), leaf_index.size()),
             Proposal::ContextExtensions(extensions) => add_sizes(Some(2), extensions.size()),
+            Proposal::PreSharedKey(id) => add_sizes(Some(2), id.size()),
+            Proposal::ReInit(reinit) => add_sizes(Some(2), reinit.size()),
+            Proposal::ExternalInit(kem_output) => add_sizes(Some(2), kem_output.size()),
         }
     }
 
-    #[tactic(auto, using(mls_wire::specs::Written::written), unfolding(crate::specs::Layout::proposal))]
+    #[tactic(auto, using(mls_wire::specs::WriteSequences::written), unfolding(crate::specs::Layout::proposal))]
     fn put(&self, alloc: Global, draft: &mut Draft) -> Result<(), CodecFault> {
         match self {
             Proposal::Add(key_package) => {
@@ -92,6 +111,18 @@ impl Encode for Proposal {
             Proposal::ContextExtensions(extensions) => {
                 draft.put_u16(7)?;
                 extensions.put(alloc, draft)
+            }
+            Proposal::PreSharedKey(id) => {
+                draft.put_u16(4)?;
+                id.put(alloc, draft)
+            }
+            Proposal::ReInit(reinit) => {
+                draft.put_u16(5)?;
+                reinit.put(alloc, draft)
+            }
+            Proposal::ExternalInit(kem_output) => {
+                draft.put_u16(6)?;
+                kem_output.put(alloc, draft)
             }
         }
     }
@@ -112,7 +143,7 @@ impl Decode for ProposalOrRef {
         let entry = match u8::read(alloc, &mut ahead)? {
             1 => ProposalOrRef::Proposal(Proposal::read(alloc, &mut ahead)?),
             2 => ProposalOrRef::Reference(Opaque::read(alloc, &mut ahead)?),
-            kind => return Err(bad_tag(u16::from(kind), reader.offset())),
+            kind => return Err(bad_tag(u16::from(kind), reader.place())),
         };
         *reader = ahead;
         Ok(entry)
@@ -124,7 +155,7 @@ impl Decode for ProposalOrRef {
 }
 
 impl Encode for ProposalOrRef {
-    #[tactic(auto, using(mls_nodes::specs::Sizes::sizes), unfolding(crate::specs::Layout::proposal_or_ref))]
+    #[tactic(auto, using(mls_nodes::specs::TagSizes::sizes), unfolding(crate::specs::Layout::proposal_or_ref))]
     fn size(&self) -> Option<usize> {
         match self {
             ProposalOrRef::Proposal(proposal) => add_sizes(Some(1), proposal.size()),
@@ -132,7 +163,7 @@ impl Encode for ProposalOrRef {
         }
     }
 
-    #[tactic(auto, using(mls_wire::specs::Written::written), unfolding(crate::specs::Layout::proposal_or_ref))]
+    #[tactic(auto, using(mls_wire::specs::WriteSequences::written), unfolding(crate::specs::Layout::proposal_or_ref))]
     fn put(&self, alloc: Global, draft: &mut Draft) -> Result<(), CodecFault> {
         match self {
             ProposalOrRef::Proposal(proposal) => {
@@ -156,20 +187,58 @@ impl TryClone for Proposal {
             Proposal::ContextExtensions(extensions) => {
                 Ok(Proposal::ContextExtensions(extensions.try_clone(alloc)?))
             }
+            Proposal::PreSharedKey(id) => Ok(Proposal::PreSharedKey(id.try_clone(alloc)?)),
+            Proposal::ReInit(reinit) => Ok(Proposal::ReInit(reinit.try_clone(alloc)?)),
+            Proposal::ExternalInit(kem_output) => {
+                Ok(Proposal::ExternalInit(kem_output.try_clone(alloc)?))
+            }
         }
     }
 }
 
-/// The proposal that all of the bytes spell. `BadTag` for a type other than add 1, update 2, remove 3 and
-/// group_context_extensions 7.
-pub fn decode_proposal(alloc: Global, bytes: &[u8]) -> Result<Proposal, CodecFault>
-    ensures decoded { DecodesAll proposal bytes.now result }
+/// Decodes the proposal that the bytes encode. It must be in `profile`.
+///
+/// # Errors
+///
+/// - `BadTag` of the type at 0, if the profile does not have the proposal type. Nothing behind the type is judged first.
+/// - Otherwise the first fault of the bytes from the left, `Trailing` if bytes follow the proposal.
+/// - `OutOfMemory`.
+#[tactic(auto, using(crate::proofs::Profiles::proposals_in))]
+pub fn decode_proposal_in(
+    alloc: Global,
+    profile: Profile,
+    bytes: &[u8],
+) -> Result<Proposal, CodecFault>
+    ensures decoded { DecodesAll (proposal_in profile) bytes.now result }
 {
-    read_all_of(alloc, bytes)
+    match read_all_of::<Proposal>(alloc, bytes) {
+        Ok(proposal) => {
+            if profile.has_proposal(&proposal) {
+                return Ok(proposal);
+            }
+            Err(fault_found(judge_proposal(alloc, &Reader::new(bytes))))
+        }
+        Err(CodecFault::OutOfMemory) => Err(CodecFault::OutOfMemory),
+        Err(CodecFault::Wire(fault)) => {
+            Err(profile.fault_of(judge_proposal(alloc, &Reader::new(bytes)), fault))
+        }
+    }
 }
 
-/// The bytes that spell the proposal. `TooLong` at 0 exactly where it has no spelling, one of its
-/// vectors being over the limit, which is judged before memory is taken.
+/// Decodes the proposal of the members' profile that the bytes encode, as [`decode_proposal_in`] does.
+pub fn decode_proposal(alloc: Global, bytes: &[u8]) -> Result<Proposal, CodecFault>
+    ensures decoded { DecodesAll (proposal_in Members) bytes.now result }
+{
+    decode_proposal_in(alloc, Profile::Members, bytes)
+}
+
+/// Returns the encoding of a proposal of either profile.
+///
+/// # Errors
+///
+/// - `TooLong` at 0, if the proposal has no encoding because one of its vectors is over the limit. This is judged before
+///   any allocation.
+/// - `OutOfMemory`.
 pub fn encode_proposal(alloc: Global, value: &Proposal) -> Result<Vec<u8>, CodecFault>
     ensures encoded { MakesPiece (proposal value.now) (seen (λ bytes. bytes.items) result) }
 {

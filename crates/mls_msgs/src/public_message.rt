@@ -1,4 +1,4 @@
-//! Messages in the open.
+//! PublicMessage.
 
 ghost use Rattle.std.specs.Prelude.{◌≡◌, Option, option_map, IsTrue, IsOk, IsSome, ◌↔◌, MatchResult};
 ghost use Rattle.mls_msgs.specs.Layout.{is_member};
@@ -9,17 +9,16 @@ use mls_wire::{CodecFault, Decode, Draft, Encode, Opaque, Reader, add_sizes};
 use std::alloc::Global;
 use std::marker::Model;
 
-/// The parts of a [`PublicMessage`], which may or may not fit together.
+/// The fields of a [`PublicMessage`], which may be inconsistent.
 #[derive(Debug, Drop)]
 pub struct PublicParts {
-    /// What is sent, with its sender's authentication.
+    /// The AuthenticatedContent.
     pub auth: Authenticated,
-    /// The tag by which a member shows that it knows the group's secrets.
+    /// The membership tag of a member's message.
     pub membership_tag: Option<Opaque>,
 }
 
-/// A message in the open (RFC 9420, 6.2). Its wire format is 1, and there is a membership tag exactly where a
-/// member sent it.
+/// A PublicMessage (RFC 9420, 6.2). The wire format is 1. There is a membership tag exactly if the sender is a member.
 #[derive(Debug, Drop)]
 pub struct PublicMessage {
     parts: PublicParts,
@@ -38,8 +37,8 @@ impl Model for PublicMessage {
 }
 
 impl PublicMessage {
-    /// Parts that do not fit together are handed back: another wire format than 1, a member's message without a
-    /// membership tag, or a tag with another sender.
+    /// Creates a PublicMessage. Returns the parts if they are inconsistent: a wire format other than 1, a member's
+    /// message without a membership tag, or a tag with another sender.
     pub fn new(parts: PublicParts) -> Result<PublicMessage, PublicParts>
         ensures held { MatchResult result (λ made. made ≡ parts) (λ back. back ≡ parts) }
         ensures fits { IsOk result ↔ IsTrue (is_public parts) }
@@ -52,7 +51,7 @@ impl PublicMessage {
         }
     }
 
-    /// What is sent, with its sender's authentication.
+    /// Returns the AuthenticatedContent.
     pub fn auth(&self) -> &Authenticated
         ensures value { result.now ≡ self.now.auth }
         ensures format { result.now.wire_format ≡ 1 }
@@ -60,7 +59,7 @@ impl PublicMessage {
         &self.parts.auth
     }
 
-    /// The tag that a member of the group made.
+    /// Returns the membership tag of a member's message.
     pub fn membership_tag(&self) -> Option<&Opaque>
         ensures value { option_map (λ t. t.now) result ≡ self.now.membership_tag }
         ensures member { IsSome result ↔ IsTrue (is_member self.now.auth.content.sender) }
@@ -99,13 +98,13 @@ impl Decode for PublicMessage {
 }
 
 impl Encode for PublicMessage {
-    #[tactic(auto, using(mls_nodes::specs::Sizes::sizes), unfolding(crate::specs::PublicMessage::public_message, crate::specs::PublicMessage::public_frame))]
+    #[tactic(auto, using(mls_nodes::specs::TagSizes::sizes), unfolding(crate::specs::PublicMessage::public_message, crate::specs::PublicMessage::public_frame))]
     fn size(&self) -> Option<usize> {
         let tag = size_of_tag(&self.parts.membership_tag);
         add_sizes(self.parts.auth.size_of_signed_frame(), tag)
     }
 
-    #[tactic(auto, using(mls_wire::specs::Written::written), unfolding(crate::specs::PublicMessage::public_message, crate::specs::PublicMessage::public_frame))]
+    #[tactic(auto, using(mls_wire::specs::WriteSequences::written), unfolding(crate::specs::PublicMessage::public_message, crate::specs::PublicMessage::public_frame))]
     fn put(&self, alloc: Global, draft: &mut Draft) -> Result<(), CodecFault> {
         self.parts.auth.put_signed_frame(alloc, draft)?;
         put_tag(alloc, &self.parts.membership_tag, draft)

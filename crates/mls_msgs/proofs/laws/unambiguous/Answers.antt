@@ -1,13 +1,14 @@
 use Rattle.std.proofs.Common.{sym, ◌∙◌}
-use Rattle.mls_wire.specs.Spelling.{list}
+use Rattle.mls_wire.specs.Encoding.{list}
 use Rattle.mls_wire.specs.Parsing.{list_at}
-use Rattle.mls_wire.specs.Steps.{some_is}
-use Rattle.mls_wire.specs.Laws.{unambiguous}
-use Rattle.mls_msgs.specs.Layout.{key_package, proposal, proposal_or_ref, ciphertext, path_node, update_path, commit, sender, content, framed_content, group_info}
+use Rattle.mls_wire.specs.OptionBind.{some_is}
+use Rattle.mls_wire.specs.ExactTheorems.{unambiguous}
+use Rattle.mls_msgs.specs.Layout.{key_package, psk_usage, psk_kind, psk_id, reinit, proposal, proposal_or_ref, ciphertext, path_node, update_path, commit, sender, content, framed_content, group_info}
 use Rattle.mls_msgs.specs.Authenticated.{authenticated_content}
 use Rattle.mls_msgs.specs.PublicMessage.{public_message}
-use Rattle.mls_msgs.specs.Parsing.{key_package_at, proposal_at, proposal_or_ref_at, ciphertext_at, path_node_at, update_path_at, commit_at, sender_at, content_at, framed_content_at, group_info_at}
+use Rattle.mls_msgs.specs.Parsing.{key_package_at, psk_usage_at, psk_kind_at, psk_id_at, reinit_at, proposal_at, proposal_or_ref_at, ciphertext_at, path_node_at, update_path_at, commit_at, sender_at, content_at, framed_content_at, group_info_at}
 use Rattle.mls_msgs.specs.FrameParsing.{authenticated_content_at, public_message_at}
+use Rattle.mls_msgs.specs.PskExact.{psk_usage_exact, psk_kind_exact, psk_id_exact, reinit_exact}
 use Rattle.mls_msgs.specs.ProposalExact.{key_package_exact, proposal_exact, proposal_or_ref_exact}
 use Rattle.mls_msgs.specs.CommitExact.{proposals_exact, ciphertext_exact, ciphertexts_exact, path_node_exact, path_nodes_exact, update_path_exact, commit_exact}
 use Rattle.mls_msgs.specs.FrameExact.{sender_exact, content_exact, framed_content_exact}
@@ -17,6 +18,18 @@ use Rattle.mls_msgs.proofs.laws.unambiguous.Goals as goal
 
 pub returns-clause-key_package : goal.returns-clause-key_package
 returns-clause-key_package c = unambiguous key_package key_package_at key_package_exact
+
+pub returns-clause-psk_usage : goal.returns-clause-psk_usage
+returns-clause-psk_usage c = unambiguous psk_usage psk_usage_at psk_usage_exact
+
+pub returns-clause-psk_kind : goal.returns-clause-psk_kind
+returns-clause-psk_kind c = unambiguous psk_kind psk_kind_at psk_kind_exact
+
+pub returns-clause-psk_id : goal.returns-clause-psk_id
+returns-clause-psk_id c = unambiguous psk_id psk_id_at psk_id_exact
+
+pub returns-clause-reinit : goal.returns-clause-reinit
+returns-clause-reinit c = unambiguous reinit reinit_at reinit_exact
 
 pub returns-clause-proposal : goal.returns-clause-proposal
 returns-clause-proposal c = unambiguous proposal proposal_at proposal_exact

@@ -1,5 +1,5 @@
 use Rattle.std.proofs.Common.{sym, ◌∙◌}
-use Rattle.mls_wire.specs.Steps.{some_is}
+use Rattle.mls_wire.specs.OptionBind.{some_is}
 use Rattle.mls_msgs.proofs.MessageLemmas.{body_begins, unread_message}
 use Rattle.mls_msgs.proofs.message.message_of.Goals as goal
 

@@ -1,33 +1,33 @@
-//! What is signed and what is hashed of a message.
+//! The content that is signed or hashed.
 
 ghost use Rattle.std.specs.Prelude.{◌≡◌, ℕ, List, Option, option_map};
-ghost use Rattle.mls_wire.specs.Counting.{size};
-ghost use Rattle.mls_wire.specs.Reading.{seen};
-ghost use Rattle.mls_wire.specs.Writing.{MakesPiece, Puts};
-ghost use Rattle.mls_msgs.specs.Signed.{given_context, content_tbs, package_tbs, info_tbs, confirmed_input};
+ghost use Rattle.mls_wire.specs.SaturatingSizes.{size};
+ghost use Rattle.mls_wire.specs.ReadContracts.{seen};
+ghost use Rattle.mls_wire.specs.WriteContracts.{MakesPiece, Puts};
+ghost use Rattle.mls_msgs.specs.Tbs.{given_context, content_tbs, package_tbs, info_tbs, confirmed_input};
 
 use crate::authenticated::Authenticated;
 use crate::group_info::GroupInfo;
 use crate::key_package::KeyPackage;
-use crate::room::draft_with_room;
+use crate::reserved_draft::draft_with_room;
 use mls_nodes::GroupContext;
 use mls_wire::{CodecFault, Draft, Encode, add_sizes};
 use std::alloc::Global;
 
-/// The label under which a framed content is signed (RFC 9420, 5.1.2 and 6.1).
+/// The label of a FramedContentTBS (RFC 9420, 5.1.2 and 6.1).
 pub const CONTENT_LABEL: &str = "MLS 1.0 FramedContentTBS";
 
-/// The label under which a key package is signed (RFC 9420, 5.1.2 and 10).
+/// The label of a KeyPackageTBS (RFC 9420, 5.1.2 and 10).
 pub const KEY_PACKAGE_LABEL: &str = "MLS 1.0 KeyPackageTBS";
 
-/// The label under which a group info is signed (RFC 9420, 5.1.2 and 12.4.3).
+/// The label of a GroupInfoTBS (RFC 9420, 5.1.2 and 12.4.3).
 pub const GROUP_INFO_LABEL: &str = "MLS 1.0 GroupInfoTBS";
 
-/// The label of a proposal's reference (RFC 9420, 5.2).
+/// The label of a ProposalRef (RFC 9420, 5.2).
 pub const PROPOSAL_REFERENCE_LABEL: &str = "MLS 1.0 Proposal Reference";
 
-/// How many bytes a group context takes where one is handed in.
-#[tactic(auto, using(crate::proofs::Rooms::size_of_nothing), unfolding(crate::specs::Signed::given_context))]
+/// Returns the encoded length of a GroupContext, if there is one.
+#[tactic(auto, using(crate::proofs::Rooms::size_of_nothing), unfolding(crate::specs::Tbs::given_context))]
 fn size_of_context(context: Option<&GroupContext>) -> Option<usize>
     ensures { result ≡ size (given_context (option_map (λ c. c.now) context.entry)) }
 {
@@ -37,8 +37,8 @@ fn size_of_context(context: Option<&GroupContext>) -> Option<usize>
     }
 }
 
-/// Adds a group context where one is handed in.
-#[tactic(auto, unfolding(crate::specs::Signed::given_context))]
+/// Writes a GroupContext, if there is one.
+#[tactic(auto, unfolding(crate::specs::Tbs::given_context))]
 fn put_context(
     alloc: Global,
     context: Option<&GroupContext>,
@@ -54,8 +54,8 @@ fn put_context(
     }
 }
 
-/// How many bytes a FramedContentTBS takes.
-#[tactic(auto, using(mls_nodes::specs::Sizes::sizes), unfolding(crate::specs::Signed::content_tbs))]
+/// Returns the encoded length of a FramedContentTBS.
+#[tactic(auto, using(mls_nodes::specs::TagSizes::sizes), unfolding(crate::specs::Tbs::content_tbs))]
 fn size_of_content_tbs(auth: &Authenticated, context: Option<&GroupContext>) -> Option<usize>
     ensures { result ≡ size (content_tbs auth.now (option_map (λ c. c.now) context.entry)) }
 {
@@ -63,8 +63,8 @@ fn size_of_content_tbs(auth: &Authenticated, context: Option<&GroupContext>) -> 
     add_sizes(Some(2), add_sizes(auth.wire_format().size(), framed))
 }
 
-/// Adds a FramedContentTBS.
-#[tactic(auto, using(mls_wire::specs::Written::written), unfolding(crate::specs::Signed::content_tbs))]
+/// Writes a FramedContentTBS.
+#[tactic(auto, using(mls_wire::specs::WriteSequences::written), unfolding(crate::specs::Tbs::content_tbs))]
 fn put_content_tbs(
     alloc: Global,
     auth: &Authenticated,
@@ -81,8 +81,8 @@ fn put_content_tbs(
     put_context(alloc, context, draft)
 }
 
-/// How many bytes a ConfirmedTranscriptHashInput takes.
-#[tactic(auto, using(mls_nodes::specs::Sizes::sizes), unfolding(crate::specs::Signed::confirmed_input))]
+/// Returns the encoded length of a ConfirmedTranscriptHashInput.
+#[tactic(auto, using(mls_nodes::specs::TagSizes::sizes), unfolding(crate::specs::Tbs::confirmed_input))]
 fn size_of_confirmed_input(auth: &Authenticated) -> Option<usize>
     ensures { result ≡ size (confirmed_input auth.now) }
 {
@@ -90,8 +90,8 @@ fn size_of_confirmed_input(auth: &Authenticated) -> Option<usize>
     add_sizes(auth.wire_format().size(), signed)
 }
 
-/// Adds a ConfirmedTranscriptHashInput.
-#[tactic(auto, using(mls_wire::specs::Written::written), unfolding(crate::specs::Signed::confirmed_input))]
+/// Writes a ConfirmedTranscriptHashInput.
+#[tactic(auto, using(mls_wire::specs::WriteSequences::written), unfolding(crate::specs::Tbs::confirmed_input))]
 fn put_confirmed_input(
     alloc: Global,
     auth: &Authenticated,
@@ -104,10 +104,9 @@ fn put_confirmed_input(
     auth.signature().put(alloc, draft)
 }
 
-/// What a message's signature covers (RFC 9420, 6.1: FramedContentTBS): the version, the wire
-/// format and the framed content, and then the group context exactly where one is handed in. By the
-/// standard that is for a member and for a new member's commit. `TooLong` at 0 exactly where there
-/// is no such spelling, which is judged before memory is taken.
+/// Encodes a FramedContentTBS (RFC 9420, 6.1): the version, the wire format and the FramedContent, and then the
+/// GroupContext exactly if one is given. The standard has it for the senders `member` and `new_member_commit`.
+/// `TooLong` at offset 0 exactly if there is no such encoding; this is checked before anything is allocated.
 #[tactic(auto, using(crate::proofs::Rooms::made))]
 pub fn content_tbs(
     alloc: Global,
@@ -123,8 +122,8 @@ pub fn content_tbs(
     Ok(draft.finish())
 }
 
-/// What a key package's signature covers (RFC 9420, 10: KeyPackageTBS): all fields before it.
-/// `TooLong` at 0 exactly where they have no spelling, which is judged before memory is taken.
+/// Encodes a KeyPackageTBS (RFC 9420, 10): all fields before the signature. `TooLong` at offset 0 exactly if they have
+/// no encoding; this is checked before anything is allocated.
 #[tactic(auto, using(crate::proofs::Rooms::made))]
 pub fn package_tbs(alloc: Global, key_package: &KeyPackage) -> Result<Vec<u8>, CodecFault>
     ensures made { MakesPiece (package_tbs key_package.now) (seen (λ bytes. bytes.items) result) }
@@ -134,8 +133,8 @@ pub fn package_tbs(alloc: Global, key_package: &KeyPackage) -> Result<Vec<u8>, C
     Ok(draft.finish())
 }
 
-/// What a group info's signature covers (RFC 9420, 12.4.3: GroupInfoTBS): all fields before it.
-/// `TooLong` at 0 exactly where they have no spelling, which is judged before memory is taken.
+/// Encodes a GroupInfoTBS (RFC 9420, 12.4.3): all fields before the signature. `TooLong` at offset 0 exactly if they
+/// have no encoding; this is checked before anything is allocated.
 #[tactic(auto, using(crate::proofs::Rooms::made))]
 pub fn info_tbs(alloc: Global, info: &GroupInfo) -> Result<Vec<u8>, CodecFault>
     ensures made { MakesPiece (info_tbs info.now) (seen (λ bytes. bytes.items) result) }
@@ -145,9 +144,8 @@ pub fn info_tbs(alloc: Global, info: &GroupInfo) -> Result<Vec<u8>, CodecFault>
     Ok(draft.finish())
 }
 
-/// What of a commit goes into the confirmed transcript hash (RFC 9420, 8.2:
-/// ConfirmedTranscriptHashInput): the wire format, the framed content and its signature. `TooLong`
-/// at 0 exactly where they have no spelling, which is judged before memory is taken.
+/// Encodes a ConfirmedTranscriptHashInput (RFC 9420, 8.2): the wire format, the FramedContent and its signature.
+/// `TooLong` at offset 0 exactly if they have no encoding; this is checked before anything is allocated.
 #[tactic(auto, using(crate::proofs::Rooms::made))]
 pub fn confirmed_input(alloc: Global, auth: &Authenticated) -> Result<Vec<u8>, CodecFault>
     ensures made { MakesPiece (confirmed_input auth.now) (seen (λ bytes. bytes.items) result) }

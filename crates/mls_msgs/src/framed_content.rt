@@ -1,51 +1,51 @@
-//! The content of a message, with who sent it and where it belongs.
+//! FramedContent.
 
+use crate::bad_tag::bad_tag;
 use crate::commit::Commit;
-use crate::fault::bad_tag;
 use crate::proposal::Proposal;
 use mls_wire::{CodecFault, Decode, Draft, Encode, Opaque, Reader, add_sizes};
 use std::alloc::Global;
 
-/// Who sent a message (RFC 9420, 6).
+/// The sender of a message (RFC 9420, 6).
 #[derive(Clone, Copy, Debug, PartialEq, Eq)]
 pub enum Sender {
-    /// The member at this leaf.
+    /// The member with this leaf index.
     Member(u32),
-    /// The external sender of this number in the group's `external_senders` extension.
+    /// The external sender with this index in the `external_senders` extension.
     External(u32),
-    /// A client that asks to be added.
+    /// A client that proposes its own Add.
     NewMemberProposal,
-    /// A client that adds itself by an external commit.
+    /// A client that joins by an external commit.
     NewMemberCommit,
 }
 
-/// What is sent (RFC 9420, 6).
+/// The content of a message (RFC 9420, 6).
 #[derive(Debug, Drop)]
 pub enum Content {
-    /// An application's data.
+    /// Application data.
     Application(Opaque),
-    /// A change that is proposed.
+    /// A proposal.
     Proposal(Proposal),
-    /// The beginning of a new epoch.
+    /// A commit.
     Commit(Commit),
 }
 
-/// What is sent, with its sender and the group and epoch that it belongs to (RFC 9420, 6).
+/// A FramedContent (RFC 9420, 6).
 #[derive(Debug)]
 pub struct FramedContent {
-    /// The id of the group.
+    /// The group ID.
     pub group_id: Opaque,
     /// The epoch in which it was sent.
     pub epoch: u64,
-    /// Who sent it.
+    /// The sender.
     pub sender: Sender,
-    /// Data that the sender's signature covers and nothing else reads.
+    /// The authenticated data, which the signature covers.
     pub authenticated: Opaque,
-    /// What is sent.
+    /// The content.
     pub content: Content,
 }
 
-// By hand, so that a drop is one call in the proofs of those who hold one.
+// Implemented by hand, so that proofs of callers see a drop as one call.
 impl Drop for FramedContent {
     fn drop(self) {
         let FramedContent {
@@ -62,7 +62,7 @@ impl Sender {
     ghost use Rattle.std.specs.Prelude.{◌≡◌};
     ghost use Rattle.mls_msgs.specs.Layout.{is_member};
 
-    /// Whether a member sent it.
+    /// Returns whether the sender is a member.
     pub(crate) fn is_member(self) -> bool
         ensures { result ≡ is_member self }
     {
@@ -77,7 +77,7 @@ impl Content {
     ghost use Rattle.std.specs.Prelude.{◌≡◌};
     ghost use Rattle.mls_msgs.specs.Layout.{is_commit};
 
-    /// Whether it is a commit.
+    /// Returns whether the content is a commit.
     pub(crate) fn is_commit(&self) -> bool
         ensures { result ≡ is_commit self.now }
     {
@@ -105,7 +105,7 @@ impl Decode for Sender {
             2 => Sender::External(u32::read(alloc, &mut ahead)?),
             3 => Sender::NewMemberProposal,
             4 => Sender::NewMemberCommit,
-            kind => return Err(bad_tag(u16::from(kind), reader.offset())),
+            kind => return Err(bad_tag(u16::from(kind), reader.place())),
         };
         *reader = ahead;
         Ok(sender)
@@ -117,7 +117,7 @@ impl Decode for Sender {
 }
 
 impl Encode for Sender {
-    #[tactic(auto, using(mls_nodes::specs::Sizes::sizes), unfolding(crate::specs::Layout::sender))]
+    #[tactic(auto, using(mls_nodes::specs::TagSizes::sizes), unfolding(crate::specs::Layout::sender))]
     fn size(&self) -> Option<usize> {
         match self {
             Sender::Member(leaf_index) => add_sizes(Some(1), leaf_index.size()),
@@ -126,7 +126,7 @@ impl Encode for Sender {
         }
     }
 
-    #[tactic(auto, using(mls_wire::specs::Written::written), unfolding(crate::specs::Layout::sender))]
+    #[tactic(auto, using(mls_wire::specs::WriteSequences::written), unfolding(crate::specs::Layout::sender))]
     fn put(&self, _alloc: Global, draft: &mut Draft) -> Result<(), CodecFault> {
         match self {
             Sender::Member(leaf_index) => {
@@ -159,7 +159,7 @@ impl Decode for Content {
             1 => Content::Application(Opaque::read(alloc, &mut ahead)?),
             2 => Content::Proposal(Proposal::read(alloc, &mut ahead)?),
             3 => Content::Commit(Commit::read(alloc, &mut ahead)?),
-            kind => return Err(bad_tag(u16::from(kind), reader.offset())),
+            kind => return Err(bad_tag(u16::from(kind), reader.place())),
         };
         *reader = ahead;
         Ok(content)
@@ -171,7 +171,7 @@ impl Decode for Content {
 }
 
 impl Encode for Content {
-    #[tactic(auto, using(mls_nodes::specs::Sizes::sizes), unfolding(crate::specs::Layout::content))]
+    #[tactic(auto, using(mls_nodes::specs::TagSizes::sizes), unfolding(crate::specs::Layout::content))]
     fn size(&self) -> Option<usize> {
         match self {
             Content::Application(data) => add_sizes(Some(1), data.size()),
@@ -180,7 +180,7 @@ impl Encode for Content {
         }
     }
 
-    #[tactic(auto, using(mls_wire::specs::Written::written), unfolding(crate::specs::Layout::content))]
+    #[tactic(auto, using(mls_wire::specs::WriteSequences::written), unfolding(crate::specs::Layout::content))]
     fn put(&self, alloc: Global, draft: &mut Draft) -> Result<(), CodecFault> {
         match self {
             Content::Application(data) => {
@@ -232,7 +232,7 @@ impl Decode for FramedContent {
 }
 
 impl Encode for FramedContent {
-    #[tactic(auto, using(mls_nodes::specs::Sizes::sizes), unfolding(crate::specs::Layout::framed_content))]
+    #[tactic(auto, using(mls_nodes::specs::TagSizes::sizes), unfolding(crate::specs::Layout::framed_content))]
     fn size(&self) -> Option<usize> {
         add_sizes(
             self.group_id.size(),
@@ -246,7 +246,7 @@ impl Encode for FramedContent {
         )
     }
 
-    #[tactic(auto, using(mls_wire::specs::Written::written), unfolding(crate::specs::Layout::framed_content))]
+    #[tactic(auto, using(mls_wire::specs::WriteSequences::written), unfolding(crate::specs::Layout::framed_content))]
     fn put(&self, alloc: Global, draft: &mut Draft) -> Result<(), CodecFault> {
         self.group_id.put(alloc, draft)?;
         draft.put_u64(self.epoch)?;

@@ -1,12 +1,12 @@
-//! Drafts that take their memory at once.
+//! Drafts that allocate all their memory at once.
 
-ghost use Rattle.mls_msgs.specs.Room.{MakesRoom};
+ghost use Rattle.mls_msgs.specs.ReservedWrite.{MakesRoom};
 
 use mls_wire::{CodecFault, Draft, WireFault, WireFaultKind};
 use std::alloc::Global;
 
-/// An empty draft with room for a text of this size. `TooLong` at 0 where there is none, which is
-/// judged before memory is taken.
+/// Creates an empty draft with capacity for `size` bytes. If there is no size, `TooLong` at offset 0, before anything
+/// is allocated.
 pub(crate) fn draft_with_room(alloc: Global, size: Option<usize>) -> Result<Draft, CodecFault>
     ensures { MakesRoom size result }
 {

@@ -1,4 +1,4 @@
-//! The fault of a tag that no format has.
+//! The fault for a tag with an unknown value.
 
 ghost use Rattle.std.specs.Prelude.{◌≡◌};
 ghost use Rattle.mls_wire.specs.declared.fault.CodecFault.TheVariants.{Wire};
@@ -6,7 +6,7 @@ ghost use Rattle.mls_wire.specs.declared.fault.WireFaultKind.TheVariants.{BadTag
 
 use mls_wire::{CodecFault, WireFault, WireFaultKind};
 
-/// A tag that begins at this offset and has none of its values.
+/// Creates the fault for a tag with an unknown value at this offset.
 pub(crate) fn bad_tag(tag: u16, at: usize) -> CodecFault
     ensures { result ≡ Wire (record { kind = BadTag tag; at = at }) }
 {

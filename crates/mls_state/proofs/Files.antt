@@ -1,0 +1,38 @@
+-- Parts of an encoded file, and files that are equal.
+use Rattle.std.proofs.Common.{◌≡◌, ℕ, List, Some, refl, sym, ◌∙◌, ap}
+use Rattle.std.specs.Int.{w16}
+use Rattle.sha2.specs.Sha256.{sha256}
+use Rattle.mls_wire.specs.Encoding.{◌⊕◌, number, vector}
+use Rattle.mls_wire.specs.EncodingConcat.{joined}
+use Rattle.mls_wire.specs.ExactTheorems.{unambiguous}
+use Rattle.mls_wire.specs.OptionBind.{some_is}
+use Rattle.mls_state.specs.Layout.{follower_state, state_file}
+use Rattle.mls_state.specs.Parsing.{state_file_at}
+use Rattle.mls_state.specs.StateExact.{state_file_exact}
+use Rattle.mls_state.specs.StateFile.{IsFileOf}
+use Rattle.mls_state.specs.declared.file.StateFile.{StateFile}
+use Rattle.mls_state.specs.declared.state.FollowerState.{FollowerState}
+
+-- the state of a file that has an encoding has one
+pub state_encoded : (f : StateFile) (bytes : List ℕ) → state_file f ≡ Some bytes → (body : List ℕ) × (follower_state f.state ≡ Some body)
+unfolding state_file
+state_encoded f bytes e =
+    let a = joined (number w16 1) (vector f.checksum ⊕ follower_state f.state) bytes e in
+    let b = joined (vector f.checksum) (follower_state f.state) a.1 a.3 in
+    (b.1, b.3)
+
+-- files of one checksum and one state are one
+same_file : (f g : StateFile) → f.checksum ≡ g.checksum → f.state ≡ g.state → f ≡ g
+same_file f g p q = rw (← p, ← q) refl
+
+pub state_is_unique : (bytes : List ℕ) (s t : FollowerState) → IsFileOf bytes s → IsFileOf bytes t → s ≡ t
+state_is_unique bytes s t a b =
+    let same : a.file ≡ b.file = (unambiguous state_file state_file_at state_file_exact).once a.file b.file bytes a.encoded b.encoded in
+    sym a.state ∙ ap (λ (f : StateFile). f.state) same ∙ b.state
+
+pub file_is_unique : (x y : List ℕ) (s : FollowerState) → IsFileOf x s → IsFileOf y s → x ≡ y
+file_is_unique x y s a b =
+    let state : a.file.state ≡ b.file.state = a.state ∙ sym b.state in
+    let body : a.checked.body ≡ b.checked.body = some_is _ _ (sym a.checked.encoded ∙ ap follower_state state ∙ b.checked.encoded) in
+    let checksum : a.file.checksum ≡ b.file.checksum = a.checked.digest ∙ ap sha256 body ∙ sym b.checked.digest in
+    some_is _ _ (sym a.encoded ∙ ap state_file (same_file a.file b.file checksum state) ∙ b.encoded)

@@ -1,0 +1,4 @@
+pub mod Layout
+pub mod StateFile
+pub mod Parsing
+pub mod StateExact

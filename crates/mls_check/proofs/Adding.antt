@@ -8,19 +8,19 @@ use Rattle.std.proofs.lemmas.Option.{same_Some}
 use Rattle.mls_nodes.specs.declared.leaf.LeafNode.{LeafNode}
 use Rattle.mls_nodes.specs.declared.parent.ParentNode.{ParentNode}
 use Rattle.mls_tree.specs.Tree.{Tree, leaf, branch, height, leaf_count, leaf_at, Subtree, subtree_at}
-use Rattle.mls_tree.specs.Blanks.{first_blank_leaf, IsFirstBlank, AllLeavesSet}
-use Rattle.mls_tree.specs.Changes.{blank_tree, grow, add, add_at, grown_for, number_or}
+use Rattle.mls_tree.specs.BlankLeaves.{first_blank_leaf, IsFirstBlank, AllLeavesSet}
+use Rattle.mls_tree.specs.TreeOperations.{blank_tree, grow, add, add_at, grown_for, number_or}
 use Rattle.mls_tree.proofs.Choices.{below, from, same, other}
 use Rattle.mls_tree.proofs.FirstBlanks.{first_blank_leaf-leftmost}
 use Rattle.mls_tree.proofs.Kept.{leaf_at-grow}
 use Rattle.mls_tree.proofs.Lookups.{leaf_at-past}
 use Rattle.mls_tree.proofs.Trees.{leaf_count-positive, subtree_at-stands}
 use Rattle.mls_hash.specs.ParentHash.{root_parent}
-use Rattle.mls_check.specs.Reached.{HasSetParent, Step}
-use Rattle.mls_check.specs.Sound.{HasSortedEntries, lists, is_entered, is_placed, IsPlaced}
+use Rattle.mls_check.specs.ParentHashValid.{HasSetParent, Step}
+use Rattle.mls_check.specs.UnmergedLists.{HasSortedEntries, lists, is_unmerged_in_all, is_placed, HasConsistentUnmerged}
 use Rattle.mls_check.proofs.Elements.{contains-head, contains-tail, contains-found, all-each, and-left, and-right}
 use Rattle.mls_check.proofs.Walks.{contained}
-use Rattle.mls_check.specs.SoundTree.{HasSoundLists, IsSoundTree, IsStepAt}
+use Rattle.mls_check.specs.PreservedValidity.{HasValidUnmergedLists, IsParentHashValidTree, IsStepAt}
 use Rattle.mls_check.proofs.Entering.{entered_list, list-has_new, list-has_old, list-has, list-rises}
 use Rattle.mls_check.proofs.Everywhere.{Everywhere, everywhere-top, everywhere-at, everywhere-from, everywhere-more}
 use Rattle.mls_check.proofs.Carrying.{HasOwnList, any-step, carry}
@@ -35,7 +35,7 @@ all-from_each f (x ∷ xs) h = and_from (f x) (list_all f xs) (h x (contains-hea
 
 -- ---- a blank leaf is in no list
 
-entered-set : (i first : ℕ) (t : Tree) → is_entered i first t ≡ true → is_some (leaf_at first t i) ≡ true
+entered-set : (i first : ℕ) (t : Tree) → is_unmerged_in_all i first t ≡ true → is_some (leaf_at first t i) ≡ true
 entered-set i first (leaf y) h =
     let e = eqb-true i first (and-left (i == first) (is_some y) h) in
     ap is_some (same i first y None e) ∙ and-right (i == first) (is_some y) h
@@ -44,10 +44,10 @@ entered-set i first (branch l p r) h =
     elim (cases_lt i (first + leaf_count l)) [
       | inl a ↦
           ap is_some (below i (first + leaf_count l) (leaf_at first l i) (leaf_at (first + leaf_count l) r i) a)
-          ∙ entered-set i first l (sym (below i (first + leaf_count l) (is_entered i first l) (is_entered i (first + leaf_count l) r) a) ∙ g)
+          ∙ entered-set i first l (sym (below i (first + leaf_count l) (is_unmerged_in_all i first l) (is_unmerged_in_all i (first + leaf_count l) r) a) ∙ g)
       | inr b ↦
           ap is_some (from i (first + leaf_count l) (leaf_at first l i) (leaf_at (first + leaf_count l) r i) b)
-          ∙ entered-set i (first + leaf_count l) r (sym (from i (first + leaf_count l) (is_entered i first l) (is_entered i (first + leaf_count l) r) b) ∙ g)
+          ∙ entered-set i (first + leaf_count l) r (sym (from i (first + leaf_count l) (is_unmerged_in_all i first l) (is_unmerged_in_all i (first + leaf_count l) r) b) ∙ g)
     ]
 
 leaf_at-before : (first : ℕ) (t : Tree) (i : ℕ) → i < first → leaf_at first t i ≡ None
@@ -64,7 +64,7 @@ module _ (j : ℕ) (x : LeafNode) where
       → (p : ParentNode) → n ≡ Some p → ¬ Contains p.unmerged j
   unlisted first l n r placed blank p e c =
       let here : IsPlacedIn first (branch l (Some p) r) = subst (λ (o : Option ParentNode). IsPlacedIn first (branch l o r)) e placed in
-      let set = entered-set j first (branch l None r) (all-each (λ i. is_entered i first (branch l None r)) p.unmerged j here c) in
+      let set = entered-set j first (branch l None r) (all-each (λ i. is_unmerged_in_all i first (branch l None r)) p.unmerged j here c) in
       false≢true (sym (ap is_some blank) ∙ set)
 
   pub free_from : (first : ℕ) (t : Tree) → Everywhere IsPlacedIn first t → leaf_at first t j ≡ None → IsFree j x first t
@@ -95,7 +95,7 @@ module _ (j : ℕ) (x : LeafNode) where
   still-set true y h = refl
   still-set false y h = h
 
-  entered-old : (i first : ℕ) (t : Tree) → is_entered i first t ≡ true → is_entered i first (touch j x first t) ≡ true
+  entered-old : (i first : ℕ) (t : Tree) → is_unmerged_in_all i first t ≡ true → is_unmerged_in_all i first (touch j x first t) ≡ true
   entered-old i first (leaf y) h =
       and_from (i == first) (is_some (if first == j then Some x else y)) (and-left (i == first) (is_some y) h) (still-set (first == j) y (and-right (i == first) (is_some y) h))
   entered-old i first (branch l n r) h =
@@ -107,15 +107,15 @@ module _ (j : ℕ) (x : LeafNode) where
       and_from (lists (touched_parent j x under n) i) _ (lists-old under n i (and-left (lists n i) _ h))
       (elim (cases_lt i (first + leaf_count l)) [
         | inl a ↦
-            below i (first + leaf_count left) (is_entered i first left) (is_entered i (first + leaf_count left) right) (omega (arith, a, count))
-            ∙ entered-old i first l (sym (below i (first + leaf_count l) (is_entered i first l) (is_entered i (first + leaf_count l) r) a) ∙ g)
+            below i (first + leaf_count left) (is_unmerged_in_all i first left) (is_unmerged_in_all i (first + leaf_count left) right) (omega (arith, a, count))
+            ∙ entered-old i first l (sym (below i (first + leaf_count l) (is_unmerged_in_all i first l) (is_unmerged_in_all i (first + leaf_count l) r) a) ∙ g)
         | inr b ↦
-            from i (first + leaf_count left) (is_entered i first left) (is_entered i (first + leaf_count left) right) (omega (arith, b, count))
-            ∙ ap (λ k. is_entered i (first + k) right) count
-            ∙ entered-old i (first + leaf_count l) r (sym (from i (first + leaf_count l) (is_entered i first l) (is_entered i (first + leaf_count l) r) b) ∙ g)
+            from i (first + leaf_count left) (is_unmerged_in_all i first left) (is_unmerged_in_all i (first + leaf_count left) right) (omega (arith, b, count))
+            ∙ ap (λ k. is_unmerged_in_all i (first + k) right) count
+            ∙ entered-old i (first + leaf_count l) r (sym (from i (first + leaf_count l) (is_unmerged_in_all i first l) (is_unmerged_in_all i (first + leaf_count l) r) b) ∙ g)
       ])
 
-  entered-new : (first : ℕ) (t : Tree) → first ≤ j → j < first + leaf_count t → is_entered j first (touch j x first t) ≡ true
+  entered-new : (first : ℕ) (t : Tree) → first ≤ j → j < first + leaf_count t → is_unmerged_in_all j first (touch j x first t) ≡ true
   entered-new first (leaf y) a b =
       let e : j ≡ first = omega (arith, a, b) in
       and_from (j == first) (is_some (if first == j then Some x else y)) ((Decides-eqb j first).1 e) (ap is_some (same first j (Some x) y (sym e)))
@@ -128,11 +128,11 @@ module _ (j : ℕ) (x : LeafNode) where
       (ap (λ b. lists (touched_parent j x b n) j) is ∙ lists-new n)
       (elim (cases_lt j (first + leaf_count l)) [
         | inl a ↦
-            below j (first + leaf_count left) (is_entered j first left) (is_entered j (first + leaf_count left) right) (omega (arith, a, count))
+            below j (first + leaf_count left) (is_unmerged_in_all j first left) (is_unmerged_in_all j (first + leaf_count left) right) (omega (arith, a, count))
             ∙ entered-new first l lo a
         | inr b ↦
-            from j (first + leaf_count left) (is_entered j first left) (is_entered j (first + leaf_count left) right) (omega (arith, b, count))
-            ∙ ap (λ k. is_entered j (first + k) right) count
+            from j (first + leaf_count left) (is_unmerged_in_all j first left) (is_unmerged_in_all j (first + leaf_count left) right) (omega (arith, b, count))
+            ∙ ap (λ k. is_unmerged_in_all j (first + k) right) count
             ∙ entered-new (first + leaf_count l) r b (omega (arith, hi))
       ])
 
@@ -141,12 +141,12 @@ module _ (j : ℕ) (x : LeafNode) where
   placed-touch first (branch l None r) h = refl
   placed-touch first (branch l (Some p) r) h =
       let b = is_under j x first (leaf_count l + leaf_count r) in
-      all-from_each (λ i. is_entered i first (touch j x first (branch l None r))) (entered_list j b p.unmerged)
+      all-from_each (λ i. is_unmerged_in_all i first (touch j x first (branch l None r))) (entered_list j b p.unmerged)
       (λ i c. elim (list-has j b p.unmerged i c) [
         | inl f ↦
             (let k = inside j x first (leaf_count l + leaf_count r) f.1 in
-            subst (λ v. is_entered v first (touch j x first (branch l None r)) ≡ true) f.0 (entered-new first (branch l None r) k.0 k.1))
-        | inr o ↦ entered-old i first (branch l None r) (all-each (λ i. is_entered i first (branch l None r)) p.unmerged i h o)
+            subst (λ v. is_unmerged_in_all v first (touch j x first (branch l None r)) ≡ true) f.0 (entered-new first (branch l None r) k.0 k.1))
+        | inr o ↦ entered-old i first (branch l None r) (all-each (λ i. is_unmerged_in_all i first (branch l None r)) p.unmerged i h o)
       ])
 
   sorted-touch : (first : ℕ) (t : Tree) → HasSortedEntries (root_parent t) → HasSortedEntries (root_parent (touch j x first t))
@@ -180,9 +180,9 @@ module _ (j : ℕ) (x : LeafNode) where
           (sound_touch (first + leaf_count l) r g.2 free.2 (omega (arith, low))),
     )
 
-  pub sound_add_at : (H : List ℕ → List ℕ) (t : Tree) → j < leaf_count t → leaf_at 0 t j ≡ None → HasSoundSubtrees H (leaf_count t) 0 t → IsSoundTree H (add_at t j x)
+  pub sound_add_at : (H : List ℕ → List ℕ) (t : Tree) → j < leaf_count t → leaf_at 0 t j ≡ None → HasSoundSubtrees H (leaf_count t) 0 t → IsParentHashValidTree H (add_at t j x)
   sound_add_at H t low blank g =
-      subst (λ u. IsSoundTree H u) (sym (touch-add j x 0 t (omega arith) (omega (arith, low))))
+      subst (λ u. IsParentHashValidTree H u) (sym (touch-add j x 0 t (omega arith) (omega (arith, low))))
       (subtrees_whole H (leaf_count t) (touch j x 0 t) (sym (leaf_count-touch j x 0 t))
       (sound_touch H (leaf_count t) 0 t g (free_from 0 t (everywhere-more (IsSoundSubtree H (leaf_count t)) IsPlacedIn (λ first u k. k.placed) 0 t g) blank) (omega arith)))
 
@@ -197,9 +197,9 @@ module _ (j : ℕ) (x : LeafNode) where
     subst (λ k. Everywhere P (first + k) (touch j x (first + leaf_count l) r)) (sym (leaf_count-touch j x first l)) (everywhere-touch P f (first + leaf_count l) r h.2),
   )
 
-  lists_add_at : (t : Tree) → j < leaf_count t → HasSoundLists t → HasSoundLists (add_at t j x)
+  lists_add_at : (t : Tree) → j < leaf_count t → HasValidUnmergedLists t → HasValidUnmergedLists (add_at t j x)
   lists_add_at t low h =
-      subst HasSoundLists (sym (touch-add j x 0 t (omega arith) (omega (arith, low))))
+      subst HasValidUnmergedLists (sym (touch-add j x 0 t (omega arith) (omega (arith, low))))
       (record {
         sorted = sorted_from (touch j x 0 t) (everywhere-touch (λ first u. HasSortedEntries (root_parent u)) sorted-touch 0 t (sorted_in t h.sorted));
         placed = λ p s e.
@@ -207,7 +207,7 @@ module _ (j : ℕ) (x : LeafNode) where
             (everywhere-at IsPlacedIn 0 (touch j x 0 t) p s e (everywhere-touch IsPlacedIn placed-touch 0 t (everywhere-from IsPlacedIn 0 t h.placed)));
       })
 
-  steps_add_at : (H : List ℕ → List ℕ) (t : Tree) → j < leaf_count t → leaf_at 0 t j ≡ None → IsPlaced t → (d s : Subtree) (low high : ℕ)
+  steps_add_at : (H : List ℕ → List ℕ) (t : Tree) → j < leaf_count t → leaf_at 0 t j ≡ None → HasConsistentUnmerged t → (d s : Subtree) (low high : ℕ)
       → subtree_at 0 t low ≡ Some d → subtree_at 0 t high ≡ Some s → Step H (leaf_count t) d s → IsStepAt H (add_at t j x) low high
   steps_add_at H t inside blank placed d s low high at_d at_s step =
       subst (λ u. IsStepAt H u low high) (sym (touch-add j x 0 t (omega arith) (omega (arith, inside)))) go
@@ -225,27 +225,27 @@ module _ (j : ℕ) (x : LeafNode) where
           let c = sym (leaf_count-touch j x 0 t) in
           subst (λ v. v) (λ i. Step H (c i) (a i) (b i)) k
 
-module _ (H : List ℕ → List ℕ) (t : Tree) (x : LeafNode) (h : IsSoundTree H t) where
-  by_answer : (o : Option ℕ) → MatchOption o (AllLeavesSet t) (λ j. IsFirstBlank t j) → IsSoundTree H (add_at (grown_for o t) (number_or (leaf_count t) o) x)
+module _ (H : List ℕ → List ℕ) (t : Tree) (x : LeafNode) (h : IsParentHashValidTree H t) where
+  by_answer : (o : Option ℕ) → MatchOption o (AllLeavesSet t) (λ j. IsFirstBlank t j) → IsParentHashValidTree H (add_at (grown_for o t) (number_or (leaf_count t) o) x)
   by_answer None all =
       let pos = leaf_count-positive (blank_tree (height t)) in
       sound_add_at (leaf_count t) x H (grow t) (omega (arith, pos)) (leaf_at-grow t (leaf_count t) ∙ leaf_at-past 0 t (leaf_count t) (omega arith))
       (subtrees_from H (grow t) (sound_grow H t h))
   by_answer (Some j) first = sound_add_at j x H t first.inside first.blank (subtrees_from H t h)
 
-  pub sound_add : IsSoundTree H (add t x)
+  pub sound_add : IsParentHashValidTree H (add t x)
   sound_add = by_answer (first_blank_leaf 0 t) (first_blank_leaf-leftmost t)
 
 module _ (t : Tree) (x : LeafNode) where
-  lists_by : HasSoundLists t → (o : Option ℕ) → MatchOption o (AllLeavesSet t) (λ j. IsFirstBlank t j) → HasSoundLists (add_at (grown_for o t) (number_or (leaf_count t) o) x)
+  lists_by : HasValidUnmergedLists t → (o : Option ℕ) → MatchOption o (AllLeavesSet t) (λ j. IsFirstBlank t j) → HasValidUnmergedLists (add_at (grown_for o t) (number_or (leaf_count t) o) x)
   lists_by h None all =
       lists_add_at (leaf_count t) x (grow t) (omega (arith, leaf_count-positive (blank_tree (height t)))) (parts_lists (grow t) t (grow_parents t) h)
   lists_by h (Some j) first = lists_add_at j x t first.inside h
 
-  pub lists_add : HasSoundLists t → HasSoundLists (add t x)
+  pub lists_add : HasValidUnmergedLists t → HasValidUnmergedLists (add t x)
   lists_add h = lists_by h (first_blank_leaf 0 t) (first_blank_leaf-leftmost t)
 
-  module _ (H : List ℕ → List ℕ) (d s : Subtree) (low high : ℕ) (placed : IsPlaced t) (at_d : subtree_at 0 t low ≡ Some d) (at_s : subtree_at 0 t high ≡ Some s)
+  module _ (H : List ℕ → List ℕ) (d s : Subtree) (low high : ℕ) (placed : HasConsistentUnmerged t) (at_d : subtree_at 0 t low ≡ Some d) (at_s : subtree_at 0 t high ≡ Some s)
       (step : Step H (leaf_count t) d s) where
     grown_step : Step H (leaf_count (grow t)) d s
     grown_step =
@@ -266,7 +266,7 @@ module _ (t : Tree) (x : LeafNode) where
     steps_add_in : IsStepAt H (add t x) low high
     steps_add_in = steps_by (first_blank_leaf 0 t) (first_blank_leaf-leftmost t)
 
-pub steps_add : (H : List ℕ → List ℕ) (t : Tree) (x : LeafNode) (descendant above : Subtree) (low high : ℕ) → IsPlaced t
+pub steps_add : (H : List ℕ → List ℕ) (t : Tree) (x : LeafNode) (descendant above : Subtree) (low high : ℕ) → HasConsistentUnmerged t
     → subtree_at 0 t low ≡ Some descendant → subtree_at 0 t high ≡ Some above → Step H (leaf_count t) descendant above
     → IsStepAt H (add t x) low high
 steps_add H t x d s low high placed at_d at_s step = steps_add_in t x H d s low high placed at_d at_s step

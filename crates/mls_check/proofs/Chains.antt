@@ -9,7 +9,7 @@ use Rattle.mls_tree.specs.Tree.{Tree, leaf, branch, leaf_count, Subtree, subtree
 use Rattle.mls_tree.specs.Paths.{resolution}
 use Rattle.mls_tree.proofs.Trees.{subtree_at-stands, subtree_at-here, subtree_at-in_left, subtree_at-in_right, root_place-below}
 use Rattle.mls_hash.specs.ParentHash.{parent_hash}
-use Rattle.mls_check.specs.Reached.{linked_hash, AreHalves, IsUnmergedUnder, Link, Step, IsLeaf, Reached, from_leaf, from_parent, HasSetParent, IsReachedAt}
+use Rattle.mls_check.specs.ParentHashValid.{linked_hash, AreHalves, IsUnmergedUnder, ParentHashLink, Step, IsLeaf, ParentHashValid, from_leaf, from_parent, HasSetParent, IsParentHashValidAt}
 use Rattle.mls_check.proofs.Decided.{Decided, decided-like, decided-and, decided-or, decided-implies, decided-lt, decided-same, decided-other, decided-contains, decided-agree, decided-all, found_below, above_all, contains-above}
 use Rattle.mls_check.proofs.Reaching.{ends, coe_link}
 
@@ -33,7 +33,7 @@ decided-unmerged p s u =
 module _ (H : List ℕ → List ℕ) (n : ℕ) where
   -- of each parent of a subtree it is decided whether it is reached
   abbrev AreDecided : ℕ → Tree → Type 0
-  AreDecided first t = (p : ℕ) (s : Subtree) → subtree_at first t p ≡ Some s → Decided (Reached H n s)
+  AreDecided first t = (p : ℕ) (s : Subtree) → subtree_at first t p ≡ Some s → Decided (ParentHashValid H n s)
 
   -- ---- one half of a parent
 
@@ -45,11 +45,11 @@ module _ (H : List ℕ → List ℕ) (n : ℕ) where
       expected : parent_hash H node other.first other.tree ≡ Some hash
       resolved : Contains (resolution n half.first half.tree) b
       unmerged : (u : ℕ) → (Contains (resolution n half.first half.tree) u × (u ≢ b)) ↔ IsUnmergedUnder node half u
-      ended : IsLeaf d.tree ⊎ Reached H n d
+      ended : IsLeaf d.tree ⊎ ParentHashValid H n d
 
     -- a chain comes to the parent through the half
     abbrev Comes : Type 0
-    Comes = (d : Subtree) × Link H n node half other d × (IsLeaf d.tree ⊎ Reached H n d)
+    Comes = (d : Subtree) × ParentHashLink H n node half other d × (IsLeaf d.tree ⊎ ParentHashValid H n d)
 
     -- it comes by place b
     abbrev ComesBy : ℕ → Type 0
@@ -67,7 +67,7 @@ module _ (H : List ℕ → List ℕ) (n : ℕ) where
           λ w. absurd (omega (arith, w.3, w.4)),
         ))
 
-    decided-linked : (b : ℕ) (d : Subtree) → Decided (IsLeaf d.tree ⊎ Reached H n d) → Decided (Linked b d)
+    decided-linked : (b : ℕ) (d : Subtree) → Decided (IsLeaf d.tree ⊎ ParentHashValid H n d) → Decided (Linked b d)
     decided-linked b d ended =
         elim (decided-agree (linked_hash (root_entry d.tree)) (parent_hash H node other.first other.tree)) [
           | inr m ↦ inr (λ w. m (w.hash, w.linked, w.expected))
@@ -111,7 +111,7 @@ module _ (H : List ℕ → List ℕ) (n : ℕ) where
 
   -- ---- a parent
 
-  set_top : (s : Subtree) → Reached H n s → HasSetParent s.tree
+  set_top : (s : Subtree) → ParentHashValid H n s → HasSetParent s.tree
   set_top s r = (let w = ends s r in let step = w.1 in go s.first s.tree step.parent step.half step.other step.halves)
     where
       go : (first : ℕ) (t : Tree) (p : ParentNode) (half other : Subtree) → AreHalves first t p half other → HasSetParent t
@@ -129,53 +129,53 @@ module _ (H : List ℕ → List ℕ) (n : ℕ) where
     abbrev top : Subtree
     top = record { first = first; tree = branch l (Some node) r }
 
-    reach : (half other : Subtree) → AreHalves first (branch l (Some node) r) node half other → Comes node half other → Reached H n top
+    reach : (half other : Subtree) → AreHalves first (branch l (Some node) r) node half other → Comes node half other → ParentHashValid H n top
     reach half other h w =
         let step : Step H n w.0 top = record { parent = node; half = half; other = other; halves = h; link = w.1 } in
         elim w.2 [ inl e ↦ from_leaf w.0 top step e | inr c ↦ from_parent w.0 top step c ]
 
-    through : Reached H n top → Comes node left_half right_half ⊎ Comes node right_half left_half
+    through : ParentHashValid H n top → Comes node left_half right_half ⊎ Comes node right_half left_half
     through c = (let w = ends top c in let step = w.1 in by w.0 step.parent step.half step.other step.halves step.link w.2)
       where
-        by : (d : Subtree) (p : ParentNode) (half other : Subtree) → AreHalves first (branch l (Some node) r) p half other → Link H n p half other d → (IsLeaf d.tree ⊎ Reached H n d)
+        by : (d : Subtree) (p : ParentNode) (half other : Subtree) → AreHalves first (branch l (Some node) r) p half other → ParentHashLink H n p half other d → (IsLeaf d.tree ⊎ ParentHashValid H n d)
             → Comes node left_half right_half ⊎ Comes node right_half left_half
         by d p half other (a, inl b) link e = inl (d, coe_link d p half other left_half right_half (sym a) b.0 b.1 link, e)
         by d p half other (a, inr b) link e = inr (d, coe_link d p half other right_half left_half (sym a) b.0 b.1 link, e)
 
-    decided-top : AreDecided first l → AreDecided (first + leaf_count l) r → Decided (Reached H n top)
+    decided-top : AreDecided first l → AreDecided (first + leaf_count l) r → Decided (ParentHashValid H n top)
     decided-top a b =
         decided-like (λ w. elim w [ inl c ↦ reach left_half right_half (refl, inl (refl, refl)) c | inr c ↦ reach right_half left_half (refl, inr (refl, refl)) c ]) through
         (decided-or (decided-half node left_half right_half a) (decided-half node right_half left_half b))
 
   decided-root : (first : ℕ) (l : Tree) (o : Option ParentNode) (r : Tree) → AreDecided first l → AreDecided (first + leaf_count l) r
-      → Decided (Reached H n (record { first = first; tree = branch l o r }))
+      → Decided (ParentHashValid H n (record { first = first; tree = branch l o r }))
   decided-root first l None r a b = inr (λ c. absurd (set_top (record { first = first; tree = branch l None r }) c))
   decided-root first l (Some node) r a b = decided-top first l node r a b
 
   pub decided-tree : (first : ℕ) (t : Tree) → AreDecided first t
   decided-tree first (leaf x) p s e =
       let parts = cond_some (nat_eq p (2 * first)) (record { first = first; tree = leaf x }) s e in
-      subst (λ v. Decided (Reached H n v)) parts.1 (inr (λ c. absurd (set_top (record { first = first; tree = leaf x }) c)))
+      subst (λ v. Decided (ParentHashValid H n v)) parts.1 (inr (λ c. absurd (set_top (record { first = first; tree = leaf x }) c)))
   decided-tree first (branch l o r) p s e =
       elim (cases_order (p + 1) (2 * (first + leaf_count l))) [
         | inl at ↦
-            subst (λ v. Decided (Reached H n v)) (same_Some (record { first = first; tree = branch l o r }) s (sym (subtree_at-here first l o r p at) ∙ e))
+            subst (λ v. Decided (ParentHashValid H n v)) (same_Some (record { first = first; tree = branch l o r }) s (sym (subtree_at-here first l o r p at) ∙ e))
             (decided-root first l o r (decided-tree first l) (decided-tree (first + leaf_count l) r))
         | inr (inl low) ↦ decided-tree first l p s (sym (subtree_at-in_left first l o r p low) ∙ e)
         | inr (inr high) ↦ decided-tree (first + leaf_count l) r p s (sym (subtree_at-in_right first l o r p high) ∙ e)
       ]
 
 -- whether the parent at a place is reached
-pub decided-reached : (H : List ℕ → List ℕ) (t : Tree) (p : ℕ) → Decided (IsReachedAt H t p)
+pub decided-reached : (H : List ℕ → List ℕ) (t : Tree) (p : ℕ) → Decided (IsParentHashValidAt H t p)
 decided-reached H t p = go (subtree_at 0 t p) refl
   where
-    go : (o : Option Subtree) → subtree_at 0 t p ≡ o → Decided (IsReachedAt H t p)
+    go : (o : Option Subtree) → subtree_at 0 t p ≡ o → Decided (IsParentHashValidAt H t p)
     go None e = inl (λ s f h. absurd (none-some s (sym e ∙ f)))
     go (Some s) e =
         elim (decided-set s.tree) [
           | inr m ↦ inl (λ u f h. absurd (m (subst (λ (v : Subtree). HasSetParent v.tree) (same_Some u s (sym f ∙ e)) h)))
           | inl set ↦ elim (decided-tree H (leaf_count t) 0 t p s e) [
-            | inl c ↦ inl (λ u f h. subst (λ v. Reached H (leaf_count t) v) (same_Some s u (sym e ∙ f)) c)
+            | inl c ↦ inl (λ u f h. subst (λ v. ParentHashValid H (leaf_count t) v) (same_Some s u (sym e ∙ f)) c)
             | inr m ↦ inr (λ w. m (w s e set))
           ]
         ]

@@ -1,14 +1,14 @@
 -- Which contents have a SignContent: those within the limit of a vector.
 use Rattle.std.proofs.Common.{◌≡◌, ℕ, ◌<◌, ◌≤◌, List, length, Option, Some, None, IsSome, false, refl, sym, ap, ◌∙◌, subst, inl, inr, arith}
 use Rattle.std.specs.Prelude.{◌⊎◌, codes, option_map}
-use Rattle.mls_wire.specs.Spelling.{◌⊕◌, length_form, vector}
-use Rattle.mls_wire.specs.Joined.{no_left, no_right}
-use Rattle.mls_wire.specs.Sizes.{some_size, vector_some}
-use Rattle.mls_wire.specs.Vectors.{vector_within}
+use Rattle.mls_wire.specs.Encoding.{◌⊕◌, length_form, vector}
+use Rattle.mls_wire.specs.EncodingConcat.{no_left, no_right}
+use Rattle.mls_wire.specs.EncodedSizes.{some_size, vector_some}
+use Rattle.mls_wire.specs.VectorsExact.{vector_within}
 use Rattle.mls_nodes.specs.declared.leaf.LeafNode.{LeafNode}
-use Rattle.mls_nodes.specs.Signed.{leaf_tbs}
-use Rattle.mls_check.specs.Signatures.{Meaning, sign_content, is_good, is_signed, is_signed_text}
-use Rattle.mls_check.specs.Members.{is_leaf_signed}
+use Rattle.mls_nodes.specs.LeafNodeTBS.{leaf_tbs}
+use Rattle.mls_check.specs.Signatures.{VerifyFn, sign_content, is_good, is_signed, is_signed_text}
+use Rattle.mls_check.specs.LeafValidation.{is_leaf_signed}
 
 both_there : (a b : Option (List ℕ)) → IsSome a → IsSome b → IsSome (a ⊕ b)
 unfolding ◌⊕◌
@@ -37,7 +37,7 @@ unfolding sign_content
 sign_content-over label tbs (inl over) = no_left (vector label) (vector tbs) (no_vector label over)
 sign_content-over label tbs (inr over) = no_right (vector label) (vector tbs) (no_vector tbs over)
 
-module _ (G : Meaning) (suite : ℕ) (key label signature : List ℕ) where
+module _ (G : VerifyFn) (suite : ℕ) (key label signature : List ℕ) where
   pub is_signed-over : (tbs : List ℕ) → (1073741823 < length label) ⊎ (1073741823 < length tbs) → is_signed G suite key label tbs signature ≡ false
   is_signed-over tbs over = ap (is_good G suite key signature) (sign_content-over label tbs over)
 
@@ -47,7 +47,7 @@ module _ (G : Meaning) (suite : ℕ) (key label signature : List ℕ) where
       ap (λ o. is_signed_text G suite key label o signature) t.1 ∙ is_signed-over t.0 (inr (omega (arith, t.2)))
 
 -- a leaf whose LeafNodeTBS is over it
-pub is_leaf_signed-over : (G : Meaning) (suite : ℕ) (group_id : List ℕ) (i : ℕ) (x : LeafNode) (n : ℕ)
+pub is_leaf_signed-over : (G : VerifyFn) (suite : ℕ) (group_id : List ℕ) (i : ℕ) (x : LeafNode) (n : ℕ)
     → option_map length (leaf_tbs x group_id i) ≡ Some n → 1073741823 < n → is_leaf_signed G suite group_id i x ≡ false
 unfolding is_leaf_signed
 is_leaf_signed-over G suite group_id i x n long over = is_signed_text-over G suite x.signature_key (codes "MLS 1.0 LeafNodeTBS") x.signature (leaf_tbs x group_id i) n long over
@@ -73,7 +73,7 @@ sized_content-there label text n long a b none =
     sign_content-there label s.0 a (omega (arith, s.2)) (sym s.3 ∙ none)
 
 -- what the checker says of a leaf's SignContent, by its bytes
-pub is_leaf_signed-content : (G : Meaning) (suite : ℕ) (group_id : List ℕ) (i : ℕ) (x : LeafNode) (n : ℕ) (content : List ℕ)
+pub is_leaf_signed-content : (G : VerifyFn) (suite : ℕ) (group_id : List ℕ) (i : ℕ) (x : LeafNode) (n : ℕ) (content : List ℕ)
     → option_map length (leaf_tbs x group_id i) ≡ Some n
     → vector (codes "MLS 1.0 LeafNodeTBS") ⊕ (length_form n ⊕ leaf_tbs x group_id i) ≡ Some content
     → G suite x.signature_key content x.signature ≡ is_leaf_signed G suite group_id i x

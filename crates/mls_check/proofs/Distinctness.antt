@@ -6,14 +6,14 @@ use Rattle.std.proofs.lemmas.Bool.{cases_Bool, cases_order, and_parts, false≢t
 use Rattle.std.proofs.lemmas.Option.{same_Some, none-some}
 use Rattle.std.proofs.lemmas.Slice.Eq.{bytes_eq-Decides}
 use Rattle.mls_nodes.specs.declared.parent.ParentNode.{ParentNode}
-use Rattle.mls_nodes.specs.Value.{NodeValue}
+use Rattle.mls_nodes.specs.NodeModel.{NodeValue}
 use Rattle.mls_tree.specs.Tree.{Tree, leaf, branch, leaf_count, listing, parent_entry, Subtree, subtree_at, entry_of}
 use Rattle.mls_tree.proofs.Choices.{here, before, after, same, other}
 use Rattle.mls_tree.proofs.Trees.{length-listing}
 use Rattle.mls_tree.proofs.Growing.{slice_get-append_left}
 use Rattle.mls_tree.proofs.Listings.{slice_get-append_right}
 use Rattle.mls_check.specs.FirstFailure.{IsFirstFailureIn}
-use Rattle.mls_check.specs.Distinct.{encryption_key, key_at, HasOwnKeyAt, IsDistinct, parent_keys, tree_keys, has_key, are_distinct, has_distinct_keys}
+use Rattle.mls_check.specs.DistinctKeys.{encryption_key, key_at, HasOwnKeyAt, IsDistinct, parent_keys, tree_keys, has_key, are_distinct, has_distinct_keys}
 
 -- ---- the node at a place is the entry of the listing there
 

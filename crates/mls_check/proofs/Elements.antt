@@ -10,7 +10,7 @@ use Rattle.std.proofs.lemmas.Bool.Decides.{Decides-eqb}
 use Rattle.std.proofs.lemmas.Map.Views.{Contains-from_any}
 use Rattle.mls_tree.specs.Paths.{unmerged_places}
 use Rattle.mls_tree.proofs.Choices.{below, from}
-use Rattle.mls_check.specs.Marks.{IsListed}
+use Rattle.mls_check.specs.ParentHashMarks.{IsListed}
 
 module _ {X : Type 0} where
   pub contains-nil : (x : X) → Contains [] x → ⊥

@@ -4,16 +4,16 @@ use Rattle.std.specs.Prelude.{◌⊎◌, slice_index}
 use Rattle.std.specs.List.Sorted.{IsStrictlyIncreasing}
 use Rattle.std.proofs.lemmas.Bool.{cases_lt, cases_Bool, false≢true}
 use Rattle.std.proofs.lemmas.Option.{same_Some, none-some}
-use Rattle.mls_nodes.specs.Value.{NodeValue, leaf_node, parent_node}
+use Rattle.mls_nodes.specs.NodeModel.{NodeValue, leaf_node, parent_node}
 use Rattle.mls_tree.specs.Tree.{Tree, leaf_count, Subtree, subtree_at, node_at}
 use Rattle.mls_tree.specs.TreeHash.{tree_hash}
 use Rattle.mls_tree.proofs.Trees.{leaf_count-positive}
-use Rattle.mls_check.specs.Distinct.{key_at, HaveOneKey, HasOwnKeyAt, IsDistinct}
-use Rattle.mls_check.specs.Reached.{IsReachedAt}
-use Rattle.mls_check.specs.Sound.{is_placed, HasSortedList, IsSortedAt, IsSorted, IsPlacedAt, IsPlaced}
-use Rattle.mls_check.specs.Valid.{Valid, IsFirstTreeFault}
-use Rattle.mls_check.specs.declared.valid.TreeFault.{TreeFault}
-use Rattle.mls_check.specs.declared.valid.TreeFault.TheVariants.{HashDiffers, UnmergedUnsorted, UnmergedUnsound, KeyRepeated, ParentHashInvalid, OutOfMemory}
+use Rattle.mls_check.specs.DistinctKeys.{key_at, HaveOneKey, HasOwnKeyAt, IsDistinct}
+use Rattle.mls_check.specs.ParentHashValid.{IsParentHashValidAt}
+use Rattle.mls_check.specs.UnmergedLists.{is_placed, HasSortedList, IsSortedAt, HasStrictlyIncreasingLists, HasConsistentUnmergedAt, HasConsistentUnmerged}
+use Rattle.mls_check.specs.ValidTree.{Valid, IsFirstTreeFault}
+use Rattle.mls_check.specs.declared.tree_validation.TreeFault.{TreeFault}
+use Rattle.mls_check.specs.declared.tree_validation.TreeFault.TheVariants.{HashDiffers, UnmergedUnsorted, UnmergedUnsound, KeyRepeated, ParentHashInvalid, OutOfMemory}
 use Rattle.mls_check.proofs.Chains.{decided-reached}
 use Rattle.mls_check.proofs.Decided.{Decided, decided-like, decided-and, decided-implies, decided-lt, decided-other, decided-agree, decided-all, found_below, first_or_all, not_all, failure-unique}
 use Rattle.mls_check.proofs.Outside.{outside_above}
@@ -32,10 +32,10 @@ decided-list None = inl tt
 decided-list (Some (leaf_node x)) = inl tt
 decided-list (Some (parent_node p)) = decided-increasing p.unmerged
 
-decided-placed : (t : Tree) (p : ℕ) → Decided (IsPlacedAt t p)
+decided-placed : (t : Tree) (p : ℕ) → Decided (HasConsistentUnmergedAt t p)
 decided-placed t p = go (subtree_at 0 t p) refl
   where
-    go : (o : Option Subtree) → subtree_at 0 t p ≡ o → Decided (IsPlacedAt t p)
+    go : (o : Option Subtree) → subtree_at 0 t p ≡ o → Decided (HasConsistentUnmergedAt t p)
     go None e = inl (λ s f. absurd (none-some s (sym e ∙ f)))
     go (Some s) e =
         elim (cases_Bool (is_placed s.first s.tree)) [
@@ -58,7 +58,7 @@ decided-own_key t n e p =
 own_everywhere : (t : Tree) (n : ℕ) → n + 1 ≡ 2 * leaf_count t → ((p : ℕ) → p < n → HasOwnKeyAt t p) → (p : ℕ) → HasOwnKeyAt t p
 own_everywhere t n e h p q d k = elim (cases_lt p n) [ inl l ↦ h p l q d k | inr g ↦ none-some k.key (sym (no_key_above t n p e g) ∙ k.here) ]
 
-reached_everywhere : (H : List ℕ → List ℕ) (t : Tree) (n : ℕ) → n + 1 ≡ 2 * leaf_count t → ((p : ℕ) → p < n → IsReachedAt H t p) → (p : ℕ) → IsReachedAt H t p
+reached_everywhere : (H : List ℕ → List ℕ) (t : Tree) (n : ℕ) → n + 1 ≡ 2 * leaf_count t → ((p : ℕ) → p < n → IsParentHashValidAt H t p) → (p : ℕ) → IsParentHashValidAt H t p
 reached_everywhere H t n e h p s a k = elim (cases_lt p n) [ inl l ↦ h p l s a k | inr g ↦ absurd (none-some s (sym (outside_above t p n e g) ∙ a)) ]
 
 -- ---- the tree
@@ -77,23 +77,23 @@ module _ (H : List ℕ → List ℕ) (hash : List ℕ) (t : Tree) where
   places : last + 1 ≡ 2 * leaf_count t
   places = omega (arith, leaf_count-positive t)
 
-  judge_reached : tree_hash H 0 t ≡ Some hash → IsSorted t → IsPlaced t → IsDistinct t → Judged
+  judge_reached : tree_hash H 0 t ≡ Some hash → HasStrictlyIncreasingLists t → HasConsistentUnmerged t → IsDistinct t → Judged
   judge_reached h s p d =
-      elim (first_or_all (λ k. IsReachedAt H t k) (decided-reached H t) last (reached_everywhere H t last places)) [
+      elim (first_or_all (λ k. IsParentHashValidAt H t k) (decided-reached H t) last (reached_everywhere H t last places)) [
         | inl all ↦ inl (record { hashed = h; sorted = s; placed = p; distinct = d; reached = all })
         | inr w ↦ inr (ParentHashInvalid w.0, (λ e. absurd cc), record { hashed = h; sorted = s; placed = p; distinct = d; first = w.1 })
       ]
 
-  judge_keys : tree_hash H 0 t ≡ Some hash → IsSorted t → IsPlaced t → Judged
+  judge_keys : tree_hash H 0 t ≡ Some hash → HasStrictlyIncreasingLists t → HasConsistentUnmerged t → Judged
   judge_keys h s p =
       elim (first_or_all (λ k. HasOwnKeyAt t k) (decided-own_key t last places) last (own_everywhere t last places)) [
         | inl all ↦ judge_reached h s p all
         | inr w ↦ inr (KeyRepeated w.0, (λ e. absurd cc), record { hashed = h; sorted = s; placed = p; first = w.1 })
       ]
 
-  judge_placed : tree_hash H 0 t ≡ Some hash → IsSorted t → Judged
+  judge_placed : tree_hash H 0 t ≡ Some hash → HasStrictlyIncreasingLists t → Judged
   judge_placed h s =
-      elim (first_or_all (λ k. IsPlacedAt t k) (decided-placed t) last (placed_everywhere t last places)) [
+      elim (first_or_all (λ k. HasConsistentUnmergedAt t k) (decided-placed t) last (placed_everywhere t last places)) [
         | inl all ↦ judge_keys h s all
         | inr w ↦ inr (UnmergedUnsound w.0, (λ e. absurd cc), record { hashed = h; sorted = s; first = w.1 })
       ]

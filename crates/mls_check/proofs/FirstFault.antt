@@ -6,14 +6,14 @@ use Rattle.std.proofs.lemmas.Option.{same_Some, none-some}
 use Rattle.mls_nodes.specs.declared.leaf.LeafNode.{LeafNode}
 use Rattle.mls_nodes.specs.declared.required_capabilities.RequiredCapabilities.{RequiredCapabilities}
 use Rattle.mls_tree.specs.Tree.{Tree, leaf, branch, leaf_count, leaf_at}
-use Rattle.mls_tree.specs.Blanks.{first_of}
-use Rattle.mls_check.specs.Signatures.{Meaning}
-use Rattle.mls_check.specs.Members.{all_leaves, member_rule, first_failing_leaf, first_fault, member_fault, Members, FailsFirst, FailsMember, IsMemberFault}
+use Rattle.mls_tree.specs.BlankLeaves.{first_of}
+use Rattle.mls_check.specs.Signatures.{VerifyFn}
+use Rattle.mls_check.specs.LeafValidation.{all_leaves, member_rule, first_failing_leaf, first_fault, member_fault, LeavesAreValid, FailsFirst, FailsLeafRule, IsMemberFault}
 use Rattle.mls_check.specs.declared.members.MemberFault.{MemberFault}
 use Rattle.mls_check.specs.declared.members.MemberFault.TheVariants.{ExtensionUnlisted, RequirementUnmet, CredentialUnsupported, SignatureKeyRepeated, LeafSignature, OutOfMemory}
 use Rattle.mls_check.proofs.Leaves.{leaf_at-leaf, leaf_at-left, leaf_at-right, all_leaves-from}
 use Rattle.mls_check.proofs.Rules.{no_rule, no_rule_zero}
-use Rattle.mls_check.proofs.Judged.{Members-judged}
+use Rattle.mls_check.proofs.Judged.{LeavesAreValid-judged}
 
 module _ (test : ℕ → LeafNode → Bool) where
   -- where a test holds of all leaves, none fails
@@ -53,7 +53,7 @@ module _ (test : ℕ → LeafNode → Bool) where
   pub first_failing_leaf-found : (t : Tree) (i : ℕ) → FailsFirst test t i → first_failing_leaf test 0 t ≡ Some i
   first_failing_leaf-found t i f = found 0 t i f.node f.set f.fails (λ j y from before set. f.smaller j y before set)
 
-module _ (G : Meaning) (suite : ℕ) (group_id : List ℕ) (required : RequiredCapabilities) (t : Tree) where
+module _ (G : VerifyFn) (suite : ℕ) (group_id : List ℕ) (required : RequiredCapabilities) (t : Tree) where
   abbrev failing : ℕ → Option ℕ
   failing k = first_failing_leaf (member_rule G suite group_id required t k) 0 t
 
@@ -61,7 +61,7 @@ module _ (G : Meaning) (suite : ℕ) (group_id : List ℕ) (required : RequiredC
   computed = member_fault G suite group_id required t
 
   abbrev Fails : ℕ → ℕ → Type 0
-  Fails k i = FailsMember G suite group_id required t k i
+  Fails k i = FailsLeafRule G suite group_id required t k i
 
   none : (k l i : ℕ) → Fails k i → l < k → failing l ≡ None
   none k l i f low = first_failing_leaf-none (member_rule G suite group_id required t l) 0 t (f.earlier l low)
@@ -98,7 +98,7 @@ module _ (G : Meaning) (suite : ℕ) (group_id : List ℕ) (required : RequiredC
       let e = one 5 i f in
       opened ∙ (λ j. list (a j) (b j) (c j) (d j) (e j))
 
-  faultless : Members G suite group_id required t → computed ≡ None
+  faultless : LeavesAreValid G suite group_id required t → computed ≡ None
   faultless m =
       let a = first_failing_leaf-none (member_rule G suite group_id required t 1) 0 t (m.rules 1) in
       let b = first_failing_leaf-none (member_rule G suite group_id required t 2) 0 t (m.rules 2) in
@@ -135,33 +135,33 @@ module _ (G : Meaning) (suite : ℕ) (group_id : List ℕ) (required : RequiredC
 
   computed-told : (f : MemberFault) → computed ≡ Some f → IsMemberFault G suite group_id required t f
   computed-told f e =
-      elim (Members-judged G suite group_id required t) [
+      elim (LeavesAreValid-judged G suite group_id required t) [
         | inl members ↦ absurd (none-some f (sym (faultless members) ∙ e))
         | inr fails ↦
             (let there = known fails.0 fails.1 fails.2 in
             subst (λ (g : MemberFault). IsMemberFault G suite group_id required t g) (same_Some there.0 f (sym there.2 ∙ e)) there.3)
       ]
 
-  computed-none : computed ≡ None → Members G suite group_id required t
+  computed-none : computed ≡ None → LeavesAreValid G suite group_id required t
   computed-none e =
-      elim (Members-judged G suite group_id required t) [
+      elim (LeavesAreValid-judged G suite group_id required t) [
         | inl members ↦ members
         | inr fails ↦ (let there = known fails.0 fails.1 fails.2 in absurd (none-some there.0 (sym e ∙ there.2)))
       ]
 
   -- the leaves are members, or some fault is told of them
-  pub Members-or_told : Members G suite group_id required t
+  pub LeavesAreValid-or_told : LeavesAreValid G suite group_id required t
       ⊎ ((f : MemberFault) × (f ≢ OutOfMemory) × IsMemberFault G suite group_id required t f)
-  Members-or_told =
-      elim (Members-judged G suite group_id required t) [
+  LeavesAreValid-or_told =
+      elim (LeavesAreValid-judged G suite group_id required t) [
         | inl members ↦ inl members
         | inr fails ↦ (let there = known fails.0 fails.1 fails.2 in inr (there.0, there.1, there.3))
       ]
 
-pub fault-first : (G : Meaning) (suite : ℕ) (group_id : List ℕ) (required : RequiredCapabilities) (t : Tree) (f : MemberFault)
+pub fault-first : (G : VerifyFn) (suite : ℕ) (group_id : List ℕ) (required : RequiredCapabilities) (t : Tree) (f : MemberFault)
     → f ≢ OutOfMemory → IsMemberFault G suite group_id required t f ↔ (member_fault G suite group_id required t ≡ Some f)
 fault-first G suite group_id required t f own = (told G suite group_id required t f own, computed-told G suite group_id required t f)
 
-pub members-faultless : (G : Meaning) (suite : ℕ) (group_id : List ℕ) (required : RequiredCapabilities) (t : Tree)
-    → Members G suite group_id required t ↔ (member_fault G suite group_id required t ≡ None)
+pub members-faultless : (G : VerifyFn) (suite : ℕ) (group_id : List ℕ) (required : RequiredCapabilities) (t : Tree)
+    → LeavesAreValid G suite group_id required t ↔ (member_fault G suite group_id required t ≡ None)
 members-faultless G suite group_id required t = (faultless G suite group_id required t, computed-none G suite group_id required t)

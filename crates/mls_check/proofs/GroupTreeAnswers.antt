@@ -7,20 +7,20 @@ use Rattle.mls_nodes.specs.Requirements.{Requires, required_by}
 use Rattle.mls_nodes.specs.declared.context.GroupContext.{GroupContext}
 use Rattle.mls_nodes.specs.declared.required_capabilities.RequiredCapabilities.{RequiredCapabilities}
 use Rattle.mls_tree.specs.RatchetTree.{RatchetTree}
-use Rattle.mls_hash.specs.Hashing.{hash_of}
-use Rattle.mls_check.specs.GroupTree.{IsFollowed, HasMembers, FailsValid, FailsMembers, IsGroupTreeFault}
-use Rattle.mls_check.specs.Members.{member_fault, IsMemberFault}
-use Rattle.mls_check.specs.Signatures.{Meaning}
-use Rattle.mls_check.specs.Valid.{Valid, IsFirstTreeFault}
+use Rattle.mls_hash.specs.SuiteHash.{hash_of}
+use Rattle.mls_check.specs.GroupTree.{IsSupportedContext, HasMembers, FailsValid, FailsMembers, IsGroupTreeFault}
+use Rattle.mls_check.specs.LeafValidation.{member_fault, IsMemberFault}
+use Rattle.mls_check.specs.Signatures.{VerifyFn}
+use Rattle.mls_check.specs.ValidTree.{Valid, IsFirstTreeFault}
 use Rattle.mls_check.specs.declared.group_tree.GroupTreeFault.{GroupTreeFault}
 use Rattle.mls_check.specs.declared.group_tree.GroupTreeFault.TheVariants.{RequirementsUnreadable, Tree, Member, OutOfMemory}
 use Rattle.mls_check.specs.declared.members.MemberFault.{MemberFault}
-use Rattle.mls_check.specs.declared.valid.TreeFault.{TreeFault}
+use Rattle.mls_check.specs.declared.tree_validation.TreeFault.{TreeFault}
 use Rattle.mls_check.proofs.Faulted.{valid_or_fault, fault-not_valid, fault-unique}
-use Rattle.mls_check.proofs.FirstFault.{Members-or_told, fault-first, members-faultless}
+use Rattle.mls_check.proofs.FirstFault.{LeavesAreValid-or_told, fault-first, members-faultless}
 use Rattle.mls_check.proofs.GroupTrees.{requirements_fail, invalid, strangers, all_members}
 
-module _ (G : Meaning) (c : GroupContext) (t : RatchetTree) where
+module _ (G : VerifyFn) (c : GroupContext) (t : RatchetTree) where
   abbrev Own : RatchetTree → Type 0
   Own u = u ≡ t
 
@@ -31,11 +31,11 @@ module _ (G : Meaning) (c : GroupContext) (t : RatchetTree) where
 
   -- ---- there is an answer
 
-  module _ (followed : IsFollowed c) where
+  module _ (followed : IsSupportedContext c) where
     module _ (required : RequiredCapabilities) (requires : Requires c required) where
       judge_members : Valid (hash_of c.cipher_suite) c.tree_hash t.tree → Judged
       judge_members valid =
-          elim (Members-or_told G c.cipher_suite c.group_id required t.tree) [
+          elim (LeavesAreValid-or_told G c.cipher_suite c.group_id required t.tree) [
             | inl members ↦ inl (required, all_members G c t followed required requires valid members)
             | inr told ↦ inr (Member told.0, (λ e. cc), strangers G c t followed required requires valid told.0 told.1 told.2)
           ]

@@ -4,19 +4,19 @@ use Rattle.mls_nodes.specs.Requirements.{Requires, HasNoRequirements}
 use Rattle.mls_nodes.specs.declared.context.GroupContext.{GroupContext}
 use Rattle.mls_nodes.specs.declared.required_capabilities.RequiredCapabilities.{RequiredCapabilities}
 use Rattle.mls_tree.specs.RatchetTree.{RatchetTree}
-use Rattle.mls_hash.specs.Hashing.{hash_of}
-use Rattle.mls_check.specs.GroupTree.{IsFollowed, HasTree, IsReadable, HasValidTree, HasMembers, FailsRequirements, FailsValid, FailsMembers, IsGroupTreeFault, tree_fault_of, member_fault_of}
-use Rattle.mls_check.specs.Members.{Members, IsMemberFault}
-use Rattle.mls_check.specs.Signatures.{Meaning}
-use Rattle.mls_check.specs.Valid.{Valid, IsFirstTreeFault}
+use Rattle.mls_hash.specs.SuiteHash.{hash_of}
+use Rattle.mls_check.specs.GroupTree.{IsSupportedContext, HasTree, IsReadable, HasValidTree, HasMembers, FailsRequirements, FailsValid, FailsMembers, IsGroupTreeFault, tree_fault_of, member_fault_of}
+use Rattle.mls_check.specs.LeafValidation.{LeavesAreValid, IsMemberFault}
+use Rattle.mls_check.specs.Signatures.{VerifyFn}
+use Rattle.mls_check.specs.ValidTree.{Valid, IsFirstTreeFault}
 use Rattle.mls_check.specs.declared.members.MemberFault.{MemberFault}
 use Rattle.mls_check.specs.declared.members.MemberFault.TheVariants as members
-use Rattle.mls_check.specs.declared.valid.TreeFault.{TreeFault}
-use Rattle.mls_check.specs.declared.valid.TreeFault.TheVariants as trees
+use Rattle.mls_check.specs.declared.tree_validation.TreeFault.{TreeFault}
+use Rattle.mls_check.specs.declared.tree_validation.TreeFault.TheVariants as trees
 
 -- ---- of a tree that is given
 
-module _ (G : Meaning) (c : GroupContext) (t : RatchetTree) (followed : IsFollowed c) where
+module _ (G : VerifyFn) (c : GroupContext) (t : RatchetTree) (followed : IsSupportedContext c) where
   abbrev pub Own : RatchetTree → Type 0
   Own u = u ≡ t
 
@@ -56,12 +56,12 @@ module _ (G : Meaning) (c : GroupContext) (t : RatchetTree) (followed : IsFollow
       members_fail (members.LeafSignature i) first = strangers (members.LeafSignature i) (λ e. cc) first
       members_fail members.OutOfMemory first = tt
 
-      pub all_members : Members G c.cipher_suite c.group_id required t.tree → HasMembers G c Own t required
+      pub all_members : LeavesAreValid G c.cipher_suite c.group_id required t.tree → HasMembers G c Own t required
       all_members are_members = record { valid_tree = judged; members = are_members }
 
 -- ---- of a tree that is given in another way too
 
-module _ (G : Meaning) (c : GroupContext) (IsGiven IsToo : RatchetTree → Type 0) (too : (t : RatchetTree) → IsGiven t → IsToo t) where
+module _ (G : VerifyFn) (c : GroupContext) (IsGiven IsToo : RatchetTree → Type 0) (too : (t : RatchetTree) → IsGiven t → IsToo t) where
   tree_too : (t : RatchetTree) → HasTree c IsGiven t → HasTree c IsToo t
   tree_too t h = record { followed = h.followed; uses = too t h.uses }
 

@@ -7,7 +7,7 @@ use Rattle.mls_tree.specs.Tree.{leaf_count, Subtree, subtree_at}
 use Rattle.mls_tree.specs.TreeHash.{tree_hash}
 use Rattle.mls_tree.proofs.Trees.{subtree_at-root}
 use Rattle.mls_tree.proofs.Coordinates.{root-seen}
-use Rattle.mls_hash.specs.Strip.{tree_hash_at}
+use Rattle.mls_hash.specs.WithoutLeaves.{tree_hash_at}
 
 module _ (H : List ℕ → List ℕ) (t : RatchetTree) (n : ℕ) (e : n ≡ leaf_count t.tree) where
   pub whole-hash : tree_hash_at H t.tree (n - 1) ≡ tree_hash H 0 t.tree

@@ -5,9 +5,9 @@ use Rattle.std.specs.Int.{to_be_bytes}
 use Rattle.std.proofs.lemmas.Bool.{cases_lt}
 use Rattle.std.proofs.lemmas.Bool.Decides.{nat_tests}
 use Rattle.sha2.specs.Sha256.{sha256}
-use Rattle.mls_wire.specs.Spelling.{◌⊕◌, number, length_form, vector}
-use Rattle.mls_wire.specs.Written.{none_first, none_second}
-use Rattle.mls_wire.specs.Joined.{join}
+use Rattle.mls_wire.specs.Encoding.{◌⊕◌, number, length_form, vector}
+use Rattle.mls_wire.specs.WriteSequences.{none_first, none_second}
+use Rattle.mls_wire.specs.EncodingConcat.{join}
 use Rattle.mls_check.specs.Receipts.{receipt_input}
 
 -- the three forms of a length

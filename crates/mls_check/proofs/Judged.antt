@@ -4,9 +4,9 @@ use Rattle.std.proofs.lemmas.Bool.{cases_Bool, cases_order}
 use Rattle.mls_nodes.specs.declared.leaf.LeafNode.{LeafNode}
 use Rattle.mls_nodes.specs.declared.required_capabilities.RequiredCapabilities.{RequiredCapabilities}
 use Rattle.mls_tree.specs.Tree.{Tree, leaf_count, leaf_at}
-use Rattle.mls_check.specs.Signatures.{Meaning}
-use Rattle.mls_check.specs.Members.{all_leaves, member_rule, Members, FailsFirst, FailsMember}
-use Rattle.mls_check.proofs.Rules.{HoldBefore, before_more, Members-before}
+use Rattle.mls_check.specs.Signatures.{VerifyFn}
+use Rattle.mls_check.specs.LeafValidation.{all_leaves, member_rule, LeavesAreValid, FailsFirst, FailsLeafRule}
+use Rattle.mls_check.proofs.Rules.{HoldBefore, before_more, LeavesAreValid-before}
 use Rattle.mls_check.proofs.Leaves.{HoldsBelow, HoldsBelow-none, HoldsBelow-blank, HoldsBelow-set, FailsFirst-here, all_leaves-below, all_leaves-at}
 
 module _ (test : ℕ → LeafNode → Bool) (t : Tree) where
@@ -53,8 +53,8 @@ module _ (test : ℕ → LeafNode → Bool) (t : Tree) where
         | inr (inr high) ↦ absurd (earlier_leaf j i g f high)
       ]
 
-module _ (G : Meaning) (suite : ℕ) (group_id : List ℕ) (required : RequiredCapabilities) (t : Tree) where
-  rules_judged : (k : ℕ) → HoldBefore G suite group_id required t k ⊎ ((j i : ℕ) × FailsMember G suite group_id required t j i)
+module _ (G : VerifyFn) (suite : ℕ) (group_id : List ℕ) (required : RequiredCapabilities) (t : Tree) where
+  rules_judged : (k : ℕ) → HoldBefore G suite group_id required t k ⊎ ((j i : ℕ) × FailsLeafRule G suite group_id required t j i)
   rules_judged zero = inl (record { at = λ j low. absurd (omega arith) })
   rules_judged (suc k) =
       elim (rules_judged k) [
@@ -65,18 +65,18 @@ module _ (G : Meaning) (suite : ℕ) (group_id : List ℕ) (required : RequiredC
         | inr fails ↦ inr fails
       ]
 
-  pub Members-judged : Members G suite group_id required t ⊎ ((k i : ℕ) × FailsMember G suite group_id required t k i)
-  Members-judged =
+  pub LeavesAreValid-judged : LeavesAreValid G suite group_id required t ⊎ ((k i : ℕ) × FailsLeafRule G suite group_id required t k i)
+  LeavesAreValid-judged =
       elim (rules_judged 6) [
-        | inl holds ↦ inl (Members-before G suite group_id required t holds)
+        | inl holds ↦ inl (LeavesAreValid-before G suite group_id required t holds)
         | inr fails ↦ inr fails
       ]
 
-  pub FailsMember-not_Members : (k i : ℕ) → FailsMember G suite group_id required t k i → Members G suite group_id required t → ⊥
-  FailsMember-not_Members k i fails members = FailsFirst-not_all (member_rule G suite group_id required t k) t i fails.first (members.rules k)
+  pub FailsLeafRule-not_Members : (k i : ℕ) → FailsLeafRule G suite group_id required t k i → LeavesAreValid G suite group_id required t → ⊥
+  FailsLeafRule-not_Members k i fails members = FailsFirst-not_all (member_rule G suite group_id required t k) t i fails.first (members.rules k)
 
-  pub FailsMember-unique : (k i l j : ℕ) → FailsMember G suite group_id required t k i → FailsMember G suite group_id required t l j → (k ≡ l) × (i ≡ j)
-  FailsMember-unique k i l j f g =
+  pub FailsLeafRule-unique : (k i l j : ℕ) → FailsLeafRule G suite group_id required t k i → FailsLeafRule G suite group_id required t l j → (k ≡ l) × (i ≡ j)
+  FailsLeafRule-unique k i l j f g =
       elim (cases_order k l) [
         | inl same ↦ let h = rw same at f.first in (same, FailsFirst-unique (member_rule G suite group_id required t l) t i j h g.first)
         | inr (inl low) ↦ absurd (FailsFirst-not_all (member_rule G suite group_id required t k) t i f.first (g.earlier k low))

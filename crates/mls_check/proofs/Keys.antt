@@ -11,7 +11,7 @@ use Rattle.std.proofs.lemmas.Map.Text.{is_eq-slice_cmp}
 use Rattle.std.proofs.lemmas.Slice.Eq.{bytes_eq-Decides}
 use Rattle.mls_nodes.specs.declared.leaf.LeafNode.{LeafNode}
 use Rattle.mls_tree.specs.Tree.{Tree, leaf_count, leaf_at}
-use Rattle.mls_check.specs.Members.{all_leaves, has_own_signature_key, FindsFailing}
+use Rattle.mls_check.specs.LeafValidation.{all_leaves, has_own_signature_key, FindsFailing}
 use Rattle.mls_check.proofs.Leaves.{all_leaves-below, all_leaves-at, leaf_at-low}
 use Rattle.mls_check.proofs.Differing.{AreApart}
 

@@ -5,7 +5,7 @@ use Rattle.std.proofs.lemmas.Bool.Decides.{nat_tests}
 use Rattle.mls_nodes.specs.declared.leaf.LeafNode.{LeafNode}
 use Rattle.mls_nodes.specs.declared.parent.ParentNode.{ParentNode}
 use Rattle.mls_tree.specs.Tree.{Tree, leaf, branch, leaf_count, leaf_at}
-use Rattle.mls_check.specs.Members.{all_leaves, FailsFirst}
+use Rattle.mls_check.specs.LeafValidation.{all_leaves, FailsFirst}
 
 pub leaf_at-here : (first : ℕ) (y : Option LeafNode) → leaf_at first (leaf y) first ≡ y
 leaf_at-here first y = let t : eqb first first ≡ true = grind (arith, nat_tests) in rw t refl

@@ -37,3 +37,4 @@ pub mod Remaining
 pub mod Adding
 pub mod GroupTrees
 pub mod GroupTreeAnswers
+pub mod ReceiptSets

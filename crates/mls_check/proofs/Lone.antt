@@ -9,7 +9,7 @@ use Rattle.std.proofs.lemmas.List.{take_more, take_all, take-append-drop}
 use Rattle.std.proofs.lemmas.List.Elements.{Contains-append_left, Contains-push, Contains-push_cases, Contains-get_or}
 use Rattle.mls_tree.specs.Tree.{Tree}
 use Rattle.mls_tree.specs.Paths.{resolution_at}
-use Rattle.mls_check.specs.Marks.{IsListed, IsLone, IsChainEnd, IsCandidate}
+use Rattle.mls_check.specs.ParentHashMarks.{IsListed, IsLone, IsChainEnd, IsCandidate}
 
 -- the places so far are all listed, but for the one that was found
 abbrev pub LoneIn : List ℕ → List ℕ → Option ℕ → Type 0

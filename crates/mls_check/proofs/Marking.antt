@@ -8,9 +8,9 @@ use Rattle.mls_nodes.specs.declared.parent.ParentNode.{ParentNode}
 use Rattle.mls_tree.specs.Tree.{Tree, leaf, branch, leaf_count, Subtree, subtree_at, root_place, root_entry}
 use Rattle.mls_tree.proofs.Trees.{subtree_at-stands, subtree_at-root, subtree_at-nested, subtree_at-in_left, subtree_at-in_right}
 use Rattle.mls_check.specs.FirstFailure.{IsFirstFailureIn}
-use Rattle.mls_tree.specs.Parts.{HasChildren, parent_of}
-use Rattle.mls_check.specs.Reached.{Reached, IsReachedAt, HasSetParent, IsReachedHere}
-use Rattle.mls_check.specs.Marks.{IsMarked, IsMarkedAt, AreSound, AreKept, AreAllMarkedAt, AreAllMarkedUnder}
+use Rattle.mls_tree.specs.NodeView.{HasChildren, parent_of}
+use Rattle.mls_check.specs.ParentHashValid.{ParentHashValid, IsParentHashValidAt, HasSetParent, IsParentHashValidHere}
+use Rattle.mls_check.specs.ParentHashMarks.{IsMarked, IsMarkedAt, AreSound, AreKept, AreAllMarkedAt, AreAllMarkedUnder}
 use Rattle.mls_check.proofs.Outside.{outside_above}
 
 -- an answer that was true exactly where P holds
@@ -35,7 +35,7 @@ module _ (H : List ℕ → List ℕ) (t : Tree) (marks : List Bool) where
   kept-marked old q kept h s e k v sub r = kept k (h s e k v sub r)
 
   -- the mark of the parent itself
-  pub marked-more : (p : ℕ) (b : Bool) → p < length marks → AreAllMarkedUnder H t marks p → (IsReachedHere H t p → b ≡ true) → AreAllMarkedAt H t (slice_set marks p b) p
+  pub marked-more : (p : ℕ) (b : Bool) → p < length marks → AreAllMarkedUnder H t marks p → (IsParentHashValidHere H t p → b ≡ true) → AreAllMarkedAt H t (slice_set marks p b) p
   marked-more p b l under found s e k v sub r =
       elim (cases_order k p) [
         | inl at ↦
@@ -47,17 +47,17 @@ module _ (H : List ℕ → List ℕ) (t : Tree) (marks : List Bool) where
       ]
 
   -- marks that are sound and whole tell which parents are reached
-  pub reached-marked : AreSound H t marks → ((s : Subtree) → subtree_at 0 t (root_place 0 t) ≡ Some s → (q : ℕ) (u : Subtree) → subtree_at s.first s.tree q ≡ Some u → Reached H (leaf_count t) u → IsMarked marks q)
-      → (o : Option ℕ) → IsFirstFailureIn (IsMarkedAt t marks) o → IsFirstFailureIn (IsReachedAt H t) o
+  pub reached-marked : AreSound H t marks → ((s : Subtree) → subtree_at 0 t (root_place 0 t) ≡ Some s → (q : ℕ) (u : Subtree) → subtree_at s.first s.tree q ≡ Some u → ParentHashValid H (leaf_count t) u → IsMarked marks q)
+      → (o : Option ℕ) → IsFirstFailureIn (IsMarkedAt t marks) o → IsFirstFailureIn (IsParentHashValidAt H t) o
   reached-marked sound whole o f = go o f
     where
-      there : (p : ℕ) → IsMarkedAt t marks p → IsReachedAt H t p
+      there : (p : ℕ) → IsMarkedAt t marks p → IsParentHashValidAt H t p
       there p h s e set = sound p (h s e set) s e
 
-      back : (p : ℕ) → IsReachedAt H t p → IsMarkedAt t marks p
+      back : (p : ℕ) → IsParentHashValidAt H t p → IsMarkedAt t marks p
       back p h s e set = whole (record { first = 0; tree = t }) (subtree_at-root 0 t) p s e (h s e set)
 
-      go : (o : Option ℕ) → IsFirstFailureIn (IsMarkedAt t marks) o → IsFirstFailureIn (IsReachedAt H t) o
+      go : (o : Option ℕ) → IsFirstFailureIn (IsMarkedAt t marks) o → IsFirstFailureIn (IsParentHashValidAt H t) o
       go None f = λ p. there p (f p)
       go (Some p) f = record { fails = λ h. f.fails (back p h); earlier = λ q l. there q (f.earlier q l) }
 

@@ -11,11 +11,11 @@ use Rattle.std.proofs.lemmas.List.Folds.{list_all-append}
 use Rattle.mls_nodes.specs.declared.leaf.LeafNode.{LeafNode}
 use Rattle.mls_nodes.specs.declared.parent.ParentNode.{ParentNode}
 use Rattle.mls_tree.specs.Tree.{Tree, leaf, branch, leaf_count, subtree_at, entry_of}
-use Rattle.mls_tree.specs.Parts.{HasChildren}
+use Rattle.mls_tree.specs.NodeView.{HasChildren}
 use Rattle.mls_tree.proofs.Choices.{below, from}
 use Rattle.mls_tree.proofs.Descent.{depth}
-use Rattle.mls_check.specs.Entered.{is_entered_at}
-use Rattle.mls_check.specs.Sound.{lists, is_entered, is_placed, IsPlacedAt, IsSortedAt, HasSortedList}
+use Rattle.mls_check.specs.UnmergedInAll.{is_unmerged_in_all_at}
+use Rattle.mls_check.specs.UnmergedLists.{lists, is_unmerged_in_all, is_placed, HasConsistentUnmergedAt, IsSortedAt, HasSortedList}
 use Rattle.mls_check.proofs.Elements.{contains-head, contains-tail, all-each, and-left}
 use Rattle.mls_check.proofs.Outside.{outside_above}
 use Rattle.mls_check.proofs.Walks.{one-fails, list_all-and, list_all-same, contained}
@@ -28,22 +28,22 @@ and-true true = refl
 and-true false = refl
 
 -- where there is no subtree, no leaf is entered
-pub none-entered : (t : Tree) (p : ℕ) (leaves : List ℕ) → 0 < length leaves → subtree_at 0 t p ≡ None → false ≡ list_all (λ i. is_entered_at (subtree_at 0 t p) i) leaves
+pub none-entered : (t : Tree) (p : ℕ) (leaves : List ℕ) → 0 < length leaves → subtree_at 0 t p ≡ None → false ≡ list_all (λ i. is_unmerged_in_all_at (subtree_at 0 t p) i) leaves
 none-entered t p leaves l e =
-    one-fails (λ i. is_entered_at (subtree_at 0 t p) i) leaves 0 l (λ h. false≢true (sym (ap (λ s. is_entered_at s (get_or leaves 0 0)) e) ∙ h))
+    one-fails (λ i. is_unmerged_in_all_at (subtree_at 0 t p) i) leaves 0 l (λ h. false≢true (sym (ap (λ s. is_unmerged_in_all_at s (get_or leaves 0 0)) e) ∙ h))
 
 -- under a leaf, that leaf alone is
 module _ (t : Tree) (p index : ℕ) (x : Option LeafNode) (at : subtree_at 0 t p ≡ Some (record { first = index; tree = leaf x })) (leaves : List ℕ) where
-  entered-here : list_all (λ i. is_entered_at (subtree_at 0 t p) i) leaves ≡ list_all (λ i. (i == index) && is_some x) leaves
-  entered-here j = list_all (λ i. is_entered_at (at j) i) leaves
+  entered-here : list_all (λ i. is_unmerged_in_all_at (subtree_at 0 t p) i) leaves ≡ list_all (λ i. (i == index) && is_some x) leaves
+  entered-here j = list_all (λ i. is_unmerged_in_all_at (at j) i) leaves
 
-  pub leaf-entered : leaves ≡ index ∷ [] → is_some x ≡ list_all (λ i. is_entered_at (subtree_at 0 t p) i) leaves
+  pub leaf-entered : leaves ≡ index ∷ [] → is_some x ≡ list_all (λ i. is_unmerged_in_all_at (subtree_at 0 t p) i) leaves
   leaf-entered e = sym (entered-here ∙ ap (λ xs. list_all (λ i. (i == index) && is_some x) xs) e ∙ only (is_some x))
     where
       only : (b : Bool) → (((index == index) && b) && true) ≡ b
       only b = ap (λ a. (a && b) && true) (eqb-same index) ∙ and-true b
 
-  pub others-entered : 0 < length leaves → IsStrictlyIncreasing leaves → leaves ≢ index ∷ [] → false ≡ list_all (λ i. is_entered_at (subtree_at 0 t p) i) leaves
+  pub others-entered : 0 < length leaves → IsStrictlyIncreasing leaves → leaves ≢ index ∷ [] → false ≡ list_all (λ i. is_unmerged_in_all_at (subtree_at 0 t p) i) leaves
   others-entered l rising n = go leaves l rising n ∙ sym entered-here
     where
       same : (xs : List ℕ) → list_all (λ i. (i == index) && is_some x) xs ≡ true → (k : ℕ) → k < length xs → get_or xs k 0 ≡ index
@@ -64,28 +64,28 @@ left_lower t p q u m n h = omega (arith, ap depth h.left_child, ap depth h.whole
 -- under a parent, those that it lists and that are entered in the half that they lie in
 module _ (t : Tree) (p q u m : ℕ) (n : Option ParentNode) (h : HasChildren t p q u m n) where
   abbrev pub in_half : ℕ → Bool
-  in_half i = if nat_lt i (h.first + leaf_count h.left) then is_entered i h.first h.left else is_entered i (h.first + leaf_count h.left) h.right
+  in_half i = if nat_lt i (h.first + leaf_count h.left) then is_unmerged_in_all i h.first h.left else is_unmerged_in_all i (h.first + leaf_count h.left) h.right
 
-  pub parent-entered : (leaves : List ℕ) → list_all (λ i. is_entered_at (subtree_at 0 t p) i) leaves ≡ (list_all (λ i. lists n i) leaves && list_all in_half leaves)
-  parent-entered leaves = (λ j. list_all (λ i. is_entered_at (h.whole j) i) leaves) ∙ list_all-and (λ i. lists n i) in_half leaves
+  pub parent-entered : (leaves : List ℕ) → list_all (λ i. is_unmerged_in_all_at (subtree_at 0 t p) i) leaves ≡ (list_all (λ i. lists n i) leaves && list_all in_half leaves)
+  parent-entered leaves = (λ j. list_all (λ i. is_unmerged_in_all_at (h.whole j) i) leaves) ∙ list_all-and (λ i. lists n i) in_half leaves
 
   pub halves-entered : (leaves before after : List ℕ) → leaves ≡ before ++ after → All (λ i. i < m) before → All (λ i. m ≤ i) after
-      → list_all in_half leaves ≡ (list_all (λ i. is_entered_at (subtree_at 0 t q) i) before && list_all (λ i. is_entered_at (subtree_at 0 t u) i) after)
+      → list_all in_half leaves ≡ (list_all (λ i. is_unmerged_in_all_at (subtree_at 0 t q) i) before && list_all (λ i. is_unmerged_in_all_at (subtree_at 0 t u) i) after)
   halves-entered leaves before after e low high =
       ap (λ xs. list_all in_half xs) e
       ∙ list_all-append in_half before after
       ∙ ap (λ a. a && list_all in_half after)
-      (list_all-same in_half (λ i. is_entered_at (subtree_at 0 t q) i) before
-      (All-weaker (λ i. i < m) (λ i. in_half i ≡ is_entered_at (subtree_at 0 t q) i)
-      (λ i l. below i (h.first + leaf_count h.left) (is_entered i h.first h.left) (is_entered i (h.first + leaf_count h.left) h.right) (let s = h.split in omega (arith, l, s)) ∙ sym (ap (λ s. is_entered_at s i) h.left_child)) before low))
-      ∙ ap (λ a. list_all (λ i. is_entered_at (subtree_at 0 t q) i) before && a)
-      (list_all-same in_half (λ i. is_entered_at (subtree_at 0 t u) i) after
-      (All-weaker (λ i. m ≤ i) (λ i. in_half i ≡ is_entered_at (subtree_at 0 t u) i)
-      (λ i l. from i (h.first + leaf_count h.left) (is_entered i h.first h.left) (is_entered i (h.first + leaf_count h.left) h.right) (let s = h.split in omega (arith, l, s)) ∙ sym (ap (λ s. is_entered_at s i) h.right_child)) after high))
+      (list_all-same in_half (λ i. is_unmerged_in_all_at (subtree_at 0 t q) i) before
+      (All-weaker (λ i. i < m) (λ i. in_half i ≡ is_unmerged_in_all_at (subtree_at 0 t q) i)
+      (λ i l. below i (h.first + leaf_count h.left) (is_unmerged_in_all i h.first h.left) (is_unmerged_in_all i (h.first + leaf_count h.left) h.right) (let s = h.split in omega (arith, l, s)) ∙ sym (ap (λ s. is_unmerged_in_all_at s i) h.left_child)) before low))
+      ∙ ap (λ a. list_all (λ i. is_unmerged_in_all_at (subtree_at 0 t q) i) before && a)
+      (list_all-same in_half (λ i. is_unmerged_in_all_at (subtree_at 0 t u) i) after
+      (All-weaker (λ i. m ≤ i) (λ i. in_half i ≡ is_unmerged_in_all_at (subtree_at 0 t u) i)
+      (λ i l. from i (h.first + leaf_count h.left) (is_unmerged_in_all i h.first h.left) (is_unmerged_in_all i (h.first + leaf_count h.left) h.right) (let s = h.split in omega (arith, l, s)) ∙ sym (ap (λ s. is_unmerged_in_all_at s i) h.right_child)) after high))
 
   pub apart-entered : (leaves before after : List ℕ) → leaves ≡ before ++ after → All (λ i. i < m) before → All (λ i. m ≤ i) after → list_all (λ i. lists n i) leaves ≡ true
-      → list_all (λ i. is_entered_at (subtree_at 0 t p) i) leaves
-      ≡ (list_all (λ i. is_entered_at (subtree_at 0 t q) i) before && list_all (λ i. is_entered_at (subtree_at 0 t u) i) after)
+      → list_all (λ i. is_unmerged_in_all_at (subtree_at 0 t p) i) leaves
+      ≡ (list_all (λ i. is_unmerged_in_all_at (subtree_at 0 t q) i) before && list_all (λ i. is_unmerged_in_all_at (subtree_at 0 t u) i) after)
   apart-entered leaves before after e low high listed =
       parent-entered leaves ∙ ap (λ a. a && list_all in_half leaves) listed ∙ halves-entered leaves before after e low high
 
@@ -96,12 +96,12 @@ own-listed n (x ∷ xs) h = ap (λ a. a && list_all (λ i. lists (Some n) i) xs)
 
 module _ (t : Tree) (p q u m : ℕ) where
   pub placed-parent : (n : ParentNode) → (h : HasChildren t p q u m (Some n))
-      → list_all (λ i. is_entered_at (subtree_at 0 t p) i) n.unmerged ≡ is_placed h.first (branch h.left (Some n) h.right)
+      → list_all (λ i. is_unmerged_in_all_at (subtree_at 0 t p) i) n.unmerged ≡ is_placed h.first (branch h.left (Some n) h.right)
   placed-parent n h = parent-entered t p q u m (Some n) h n.unmerged ∙ ap (λ a. a && list_all (in_half t p q u m (Some n) h) n.unmerged) (own-listed n n.unmerged (λ i c. c))
 
   -- what the entries of the parent were found to be
-  pub placed_here : (n : ParentNode) → HasChildren t p q u m (Some n) → (r : Bool) → r ≡ list_all (λ i. is_entered_at (subtree_at 0 t p) i) n.unmerged
-      → (IsTrue r → IsPlacedAt t p) × (IsPlacedAt t p → IsTrue r)
+  pub placed_here : (n : ParentNode) → HasChildren t p q u m (Some n) → (r : Bool) → r ≡ list_all (λ i. is_unmerged_in_all_at (subtree_at 0 t p) i) n.unmerged
+      → (IsTrue r → HasConsistentUnmergedAt t p) × (HasConsistentUnmergedAt t p → IsTrue r)
   placed_here n h r e =
       let f = e ∙ placed-parent n h in (
         λ w s a. let k : record { first = h.first; tree = branch h.left (Some n) h.right } ≡ s = same_Some _ s (sym h.whole ∙ a) in
@@ -110,7 +110,7 @@ module _ (t : Tree) (p q u m : ℕ) where
       )
 
 -- there is nothing to ask past the last place
-pub placed_everywhere : (t : Tree) (n : ℕ) → n + 1 ≡ 2 * leaf_count t → ((p : ℕ) → p < n → IsPlacedAt t p) → (p : ℕ) → IsPlacedAt t p
+pub placed_everywhere : (t : Tree) (n : ℕ) → n + 1 ≡ 2 * leaf_count t → ((p : ℕ) → p < n → HasConsistentUnmergedAt t p) → (p : ℕ) → HasConsistentUnmergedAt t p
 placed_everywhere t n e h p s a =
     elim (cases_lt p n) [ inl l ↦ h p l s a | inr g ↦ absurd (none-some s (sym (outside_above t p n e g) ∙ a)) ]
 

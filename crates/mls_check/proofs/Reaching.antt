@@ -13,31 +13,31 @@ use Rattle.mls_tree.proofs.Trees.{leaf_count-positive, subtree_at-stands, subtre
 use Rattle.mls_hash.specs.ParentHash.{parent_hash, parent_hash_at, root_parent_hash}
 use Rattle.mls_hash.specs.declared.side.Side.{Side}
 use Rattle.mls_hash.specs.declared.side.Side.TheVariants.{Left, Right}
-use Rattle.mls_check.specs.Sound.{is_entered, is_placed, lists, IsPlaced}
-use Rattle.mls_tree.specs.Parts.{HasChildren}
-use Rattle.mls_check.specs.Reached.{linked_hash, AreHalves, IsUnmergedUnder, Link, Step, IsLeaf, Reached, from_leaf, from_parent, IsReachedHere}
-use Rattle.mls_check.specs.Marks.{IsLone, IsMarked, IsChainEnd, IsCandidateIn, CarriesHash, AreSound, AreAllMarkedUnder}
+use Rattle.mls_check.specs.UnmergedLists.{is_unmerged_in_all, is_placed, lists, HasConsistentUnmerged}
+use Rattle.mls_tree.specs.NodeView.{HasChildren}
+use Rattle.mls_check.specs.ParentHashValid.{linked_hash, AreHalves, IsUnmergedUnder, ParentHashLink, Step, IsLeaf, ParentHashValid, from_leaf, from_parent, IsParentHashValidHere}
+use Rattle.mls_check.specs.ParentHashMarks.{IsLone, IsMarked, IsChainEnd, IsCandidateIn, HasParentHash, AreSound, AreAllMarkedUnder}
 use Rattle.mls_check.proofs.Lone.{lone_once}
 use Rattle.mls_check.proofs.Elements.{contains-nil, contains-cons, contains-head, contains-tail, contains-found, all-each, and-left, and-right, unmerged-in, unmerged-listed}
 
 -- ---- entered leaves
 
 -- an entered leaf lies under the parent
-pub entered-range : (i first : ℕ) (t : Tree) → IsTrue (is_entered i first t) → (first ≤ i) × (i < first + leaf_count t)
+pub entered-range : (i first : ℕ) (t : Tree) → IsTrue (is_unmerged_in_all i first t) → (first ≤ i) × (i < first + leaf_count t)
 entered-range i first (leaf x) h = let e = eqb-true i first (and-left (i == first) (is_some x) h) in (omega arith, omega arith)
 entered-range i first (branch l p r) h =
     let g = and-right (lists p i) _ h in
     elim (cases_lt i (first + leaf_count l)) [
       | inl a ↦
-          (let k = entered-range i first l (sym (below i (first + leaf_count l) (is_entered i first l) (is_entered i (first + leaf_count l) r) a) ∙ g) in
+          (let k = entered-range i first l (sym (below i (first + leaf_count l) (is_unmerged_in_all i first l) (is_unmerged_in_all i (first + leaf_count l) r) a) ∙ g) in
           (k.0, omega (arith, k.1)))
       | inr b ↦
-          (let k = entered-range i (first + leaf_count l) r (sym (from i (first + leaf_count l) (is_entered i first l) (is_entered i (first + leaf_count l) r) b) ∙ g) in
+          (let k = entered-range i (first + leaf_count l) r (sym (from i (first + leaf_count l) (is_unmerged_in_all i first l) (is_unmerged_in_all i (first + leaf_count l) r) b) ∙ g) in
           (omega (arith, k.0), omega (arith, k.1)))
     ]
 
 -- an entered leaf is in the resolution
-pub entered-resolved : (n i first : ℕ) (t : Tree) → i < n → IsTrue (is_entered i first t) → Contains (resolution n first t) (2 * i)
+pub entered-resolved : (n i first : ℕ) (t : Tree) → i < n → IsTrue (is_unmerged_in_all i first t) → Contains (resolution n first t) (2 * i)
 entered-resolved n i first (leaf None) l h = absurd (false≢true (and-right (i == first) false h))
 entered-resolved n i first (leaf (Some x)) l h =
     let e : first ≡ i = sym (eqb-true i first (and-left (i == first) true h)) in
@@ -46,10 +46,10 @@ entered-resolved n i first (branch l None r) lt h =
     elim (cases_lt i (first + leaf_count l)) [
       | inl a ↦
           Contains-append_left (resolution n first l) (resolution n (first + leaf_count l) r) (2 * i)
-          (entered-resolved n i first l lt (sym (below i (first + leaf_count l) (is_entered i first l) (is_entered i (first + leaf_count l) r) a) ∙ h))
+          (entered-resolved n i first l lt (sym (below i (first + leaf_count l) (is_unmerged_in_all i first l) (is_unmerged_in_all i (first + leaf_count l) r) a) ∙ h))
       | inr b ↦
           Contains-append_right (resolution n first l) (resolution n (first + leaf_count l) r) (2 * i)
-          (entered-resolved n i (first + leaf_count l) r lt (sym (from i (first + leaf_count l) (is_entered i first l) (is_entered i (first + leaf_count l) r) b) ∙ h))
+          (entered-resolved n i (first + leaf_count l) r lt (sym (from i (first + leaf_count l) (is_unmerged_in_all i first l) (is_unmerged_in_all i (first + leaf_count l) r) b) ∙ h))
     ]
 entered-resolved n i first (branch l (Some p) r) lt h =
     contains-tail (2 * (first + leaf_count l) - 1) (unmerged_places n p.unmerged) (2 * i)
@@ -71,9 +71,9 @@ in_right first l n r p s e =
     let at = subtree_at-stands (first + leaf_count l) r p s e in
     subtree_at-in_right first l n r p (omega (arith, at.place, at.from_left, root_place-above s.first s.tree)) ∙ e
 
-entry-entered : (first : ℕ) (l : Tree) (p : ParentNode) (r : Tree) → PlacedIn first (branch l (Some p) r) → (i : ℕ) → Contains p.unmerged i → IsTrue (is_entered i first (branch l None r))
+entry-entered : (first : ℕ) (l : Tree) (p : ParentNode) (r : Tree) → PlacedIn first (branch l (Some p) r) → (i : ℕ) → Contains p.unmerged i → IsTrue (is_unmerged_in_all i first (branch l None r))
 entry-entered first l p r h i c =
-    all-each (λ i. is_entered i first (branch l None r)) p.unmerged i
+    all-each (λ i. is_unmerged_in_all i first (branch l None r)) p.unmerged i
     (h (root_place first (branch l (Some p) r)) (record { first = first; tree = branch l (Some p) r }) (subtree_at-root first (branch l (Some p) r))) c
 
 -- the resolution of a subtree lies in it
@@ -111,7 +111,7 @@ even-leaf first (leaf x) h = tt
 even-leaf first (branch l p r) h = absurd (omega (arith, leaf_count-positive l))
 
 -- the steps that a chain to the parent on top can come by
-pub ends : {H : List ℕ → List ℕ} {n : ℕ} (s : Subtree) → Reached H n s → (d : Subtree) × Step H n d s × (IsLeaf d.tree ⊎ Reached H n d)
+pub ends : {H : List ℕ → List ℕ} {n : ℕ} (s : Subtree) → ParentHashValid H n s → (d : Subtree) × Step H n d s × (IsLeaf d.tree ⊎ ParentHashValid H n d)
 ends _ (from_leaf d a step l) = (d, step, inl l)
 ends _ (from_parent d a step r) = (d, step, inr r)
 
@@ -119,13 +119,13 @@ ends _ (from_parent d a step r) = (d, step, inr r)
 
 module _ (H : List ℕ → List ℕ) (t : Tree) (node : ParentNode) (half other : Subtree) (c : ℕ)
     (at : subtree_at 0 t c ≡ Some half)
-    (placed : IsPlaced t)
-    (entered : (i : ℕ) → Contains node.unmerged i → half.first ≤ i → i < half.first + leaf_count half.tree → IsTrue (is_entered i half.first half.tree)) where
+    (placed : HasConsistentUnmerged t)
+    (entered : (i : ℕ) → Contains node.unmerged i → half.first ≤ i → i < half.first + leaf_count half.tree → IsTrue (is_unmerged_in_all i half.first half.tree)) where
   placed-half : PlacedIn half.first half.tree
   placed-half p s e = placed p s (subtree_at-nested 0 t c half at p s e)
 
   -- what a link says of the resolution
-  link-lone : (d : Subtree) (k : Link H (leaf_count t) node half other d) → IsLone node.unmerged (resolution (leaf_count t) half.first half.tree) k.place
+  link-lone : (d : Subtree) (k : ParentHashLink H (leaf_count t) node half other d) → IsLone node.unmerged (resolution (leaf_count t) half.first half.tree) k.place
   link-lone d k = record {
     here = k.resolved;
     unlisted = λ w.
@@ -154,8 +154,8 @@ module _ (H : List ℕ → List ℕ) (t : Tree) (node : ParentNode) (half other 
 
   module _ (p : ℕ) (side : Side) (hashed : parent_hash_at H t p side ≡ parent_hash H node other.first other.tree) (marks : List Bool) where
     -- a candidate that carries the parent hash is a link
-    pub linked-up : AreSound H t marks → (o : Option ℕ) → IsCandidateIn t node.unmerged c marks o → CarriesHash H t p side o
-        → (d : Subtree) × Link H (leaf_count t) node half other d × (IsLeaf d.tree ⊎ Reached H (leaf_count t) d)
+    pub linked-up : AreSound H t marks → (o : Option ℕ) → IsCandidateIn t node.unmerged c marks o → HasParentHash H t p side o
+        → (d : Subtree) × ParentHashLink H (leaf_count t) node half other d × (IsLeaf d.tree ⊎ ParentHashValid H (leaf_count t) d)
     linked-up sound None k h = absurd h
     linked-up sound (Some b) k h =
         let same : k.places ≡ resolution (leaf_count t) half.first half.tree = same_Some _ _ (sym k.resolved ∙ ap (λ o. option_map (λ (s : Subtree). resolution (leaf_count t) s.first s.tree) o) at) in
@@ -180,53 +180,53 @@ module _ (H : List ℕ → List ℕ) (t : Tree) (node : ParentNode) (half other 
         )
 
     -- the candidate of a half that a link comes from carries the parent hash
-    pub linked-down : ((q : ℕ) (v : Subtree) → subtree_at half.first half.tree q ≡ Some v → Reached H (leaf_count t) v → IsMarked marks q)
+    pub linked-down : ((q : ℕ) (v : Subtree) → subtree_at half.first half.tree q ≡ Some v → ParentHashValid H (leaf_count t) v → IsMarked marks q)
         → (o : Option ℕ) → IsCandidateIn t node.unmerged c marks o
-        → (d : Subtree) → Link H (leaf_count t) node half other d → (IsLeaf d.tree ⊎ Reached H (leaf_count t) d) → CarriesHash H t p side o
+        → (d : Subtree) → ParentHashLink H (leaf_count t) node half other d → (IsLeaf d.tree ⊎ ParentHashValid H (leaf_count t) d) → HasParentHash H t p side o
     linked-down marked o k d link e = go o k
       where
         whole : subtree_at 0 t link.place ≡ Some d
         whole = subtree_at-nested 0 t c half at link.place d link.stands
 
-        ended : (IsLeaf d.tree ⊎ Reached H (leaf_count t) d) → IsChainEnd marks link.place
+        ended : (IsLeaf d.tree ⊎ ParentHashValid H (leaf_count t) d) → IsChainEnd marks link.place
         ended (inl l) = inl (subst (λ v. v % 2 ≡ 0) (sym (subtree_at-stands 0 t link.place d whole).place) (leaf-even d.first d.tree l))
         ended (inr r) = inr (marked link.place d link.stands r)
 
         known : resolution_at t c ≡ Some (resolution (leaf_count t) half.first half.tree)
         known = ap (λ o. option_map (λ (s : Subtree). resolution (leaf_count t) s.first s.tree) o) at
 
-        carries : CarriesHash H t p side (Some link.place)
+        carries : HasParentHash H t p side (Some link.place)
         carries = (link.hash, ap (λ o. linked_hash (entry_of o)) whole ∙ link.linked, hashed ∙ link.expected)
 
-        go : (o : Option ℕ) → IsCandidateIn t node.unmerged c marks o → CarriesHash H t p side o
+        go : (o : Option ℕ) → IsCandidateIn t node.unmerged c marks o → HasParentHash H t p side o
         go None k = absurd (k link.place (record { places = resolution (leaf_count t) half.first half.tree; resolved = known; lone = link-lone d link; ended = ended e }))
         go (Some b) k =
             let same : k.places ≡ resolution (leaf_count t) half.first half.tree = same_Some _ _ (sym k.resolved ∙ known) in
             let lone = link-lone d link in
             let here = subst (λ ps. IsLone node.unmerged ps b) same k.lone in
-            subst (λ v. CarriesHash H t p side (Some v)) (sym (lone_once node.unmerged _ b link.place here lone.here lone.unlisted)) carries
+            subst (λ v. HasParentHash H t p side (Some v)) (sym (lone_once node.unmerged _ b link.place here lone.here lone.unlisted)) carries
 
 -- a link between equal parts
-pub coe_link : {H : List ℕ → List ℕ} {n : ℕ} (d : Subtree) (a : ParentNode) (half other : Subtree) {b : ParentNode} (x y : Subtree) → a ≡ b → half ≡ x → other ≡ y → Link H n a half other d → Link H n b x y d
-coe_link {H} {n} d a half other x y e f g link = subst (λ v. v) (λ i. Link H n (e i) (f i) (g i) d) link
+pub coe_link : {H : List ℕ → List ℕ} {n : ℕ} (d : Subtree) (a : ParentNode) (half other : Subtree) {b : ParentNode} (x y : Subtree) → a ≡ b → half ≡ x → other ≡ y → ParentHashLink H n a half other d → ParentHashLink H n b x y d
+coe_link {H} {n} d a half other x y e f g link = subst (λ v. v) (λ i. ParentHashLink H n (e i) (f i) (g i) d) link
 
 -- ---- a set parent
 
-module _ (H : List ℕ → List ℕ) (t : Tree) (p q u m : ℕ) (node : ParentNode) (h : HasChildren t p q u m (Some node)) (placed : IsPlaced t) (marks : List Bool) where
+module _ (H : List ℕ → List ℕ) (t : Tree) (p q u m : ℕ) (node : ParentNode) (h : HasChildren t p q u m (Some node)) (placed : HasConsistentUnmerged t) (marks : List Bool) where
   top : Subtree
   top = record { first = h.first; tree = branch h.left (Some node) h.right }
 
-  all-entered : (i : ℕ) → Contains node.unmerged i → IsTrue (is_entered i h.first (branch h.left None h.right))
-  all-entered i c = all-each (λ i. is_entered i h.first (branch h.left None h.right)) node.unmerged i (placed p _ h.whole) c
+  all-entered : (i : ℕ) → Contains node.unmerged i → IsTrue (is_unmerged_in_all i h.first (branch h.left None h.right))
+  all-entered i c = all-each (λ i. is_unmerged_in_all i h.first (branch h.left None h.right)) node.unmerged i (placed p _ h.whole) c
 
-  entered-left : (i : ℕ) → Contains node.unmerged i → h.first ≤ i → i < h.first + leaf_count h.left → IsTrue (is_entered i h.first h.left)
+  entered-left : (i : ℕ) → Contains node.unmerged i → h.first ≤ i → i < h.first + leaf_count h.left → IsTrue (is_unmerged_in_all i h.first h.left)
   entered-left i c lo hi =
-      sym (below i (h.first + leaf_count h.left) (is_entered i h.first h.left) (is_entered i (h.first + leaf_count h.left) h.right) hi) ∙ all-entered i c
+      sym (below i (h.first + leaf_count h.left) (is_unmerged_in_all i h.first h.left) (is_unmerged_in_all i (h.first + leaf_count h.left) h.right) hi) ∙ all-entered i c
 
   entered-right : (i : ℕ) → Contains node.unmerged i → h.first + leaf_count h.left ≤ i → i < h.first + leaf_count h.left + leaf_count h.right
-      → IsTrue (is_entered i (h.first + leaf_count h.left) h.right)
+      → IsTrue (is_unmerged_in_all i (h.first + leaf_count h.left) h.right)
   entered-right i c lo hi =
-      sym (from i (h.first + leaf_count h.left) (is_entered i h.first h.left) (is_entered i (h.first + leaf_count h.left) h.right) lo) ∙ all-entered i c
+      sym (from i (h.first + leaf_count h.left) (is_unmerged_in_all i h.first h.left) (is_unmerged_in_all i (h.first + leaf_count h.left) h.right) lo) ∙ all-entered i c
 
   hashed-right : parent_hash_at H t p Right ≡ parent_hash H node (h.first + leaf_count h.left) h.right
   hashed-right = ap (λ o. option_and_then (λ (s : Subtree). root_parent_hash H Right s.first s.tree) o) h.whole
@@ -235,7 +235,7 @@ module _ (H : List ℕ → List ℕ) (t : Tree) (p q u m : ℕ) (node : ParentNo
   hashed-left = ap (λ o. option_and_then (λ (s : Subtree). root_parent_hash H Left s.first s.tree) o) h.whole
 
   -- a chain that comes through the left half
-  pub reached-left : AreSound H t marks → (o : Option ℕ) → IsCandidateIn t node.unmerged q marks o → CarriesHash H t p Right o → IsReachedHere H t p
+  pub reached-left : AreSound H t marks → (o : Option ℕ) → IsCandidateIn t node.unmerged q marks o → HasParentHash H t p Right o → IsParentHashValidHere H t p
   reached-left sound o k c =
       let l = linked-up H t node (record { first = h.first; tree = h.left }) (record { first = h.first + leaf_count h.left; tree = h.right }) q h.left_child placed entered-left p Right hashed-right marks sound o k c in
       let step : Step H (leaf_count t) l.0 (record { first = h.first; tree = branch h.left (Some node) h.right }) = record {
@@ -251,7 +251,7 @@ module _ (H : List ℕ → List ℕ) (t : Tree) (p q u m : ℕ) (node : ParentNo
       )
 
   -- and one through the right half
-  pub reached-right : AreSound H t marks → (o : Option ℕ) → IsCandidateIn t node.unmerged u marks o → CarriesHash H t p Left o → IsReachedHere H t p
+  pub reached-right : AreSound H t marks → (o : Option ℕ) → IsCandidateIn t node.unmerged u marks o → HasParentHash H t p Left o → IsParentHashValidHere H t p
   reached-right sound o k c =
       let l = linked-up H t node (record { first = h.first + leaf_count h.left; tree = h.right }) (record { first = h.first; tree = h.left }) u h.right_child placed entered-right p Left hashed-left marks sound o k c in
       let step : Step H (leaf_count t) l.0 (record { first = h.first; tree = branch h.left (Some node) h.right }) = record {
@@ -266,14 +266,14 @@ module _ (H : List ℕ → List ℕ) (t : Tree) (p q u m : ℕ) (node : ParentNo
         elim l.2 [ inl e ↦ from_leaf l.0 _ step e | inr r ↦ from_parent l.0 _ step r ],
       )
 
-  left-marked : AreAllMarkedUnder H t marks p → (k : ℕ) (v : Subtree) → subtree_at h.first h.left k ≡ Some v → Reached H (leaf_count t) v → IsMarked marks k
+  left-marked : AreAllMarkedUnder H t marks p → (k : ℕ) (v : Subtree) → subtree_at h.first h.left k ≡ Some v → ParentHashValid H (leaf_count t) v → IsMarked marks k
   left-marked under k v e r =
       let st = subtree_at-stands 0 t p _ h.whole in
       let at = subtree_at-stands h.first h.left k v e in
       under _ h.whole k v (λ d. omega (arith, st.place, at.place, at.to_right, root_place-below v.first v.tree))
       (in_left h.first h.left (Some node) h.right k v e) r
 
-  right-marked : AreAllMarkedUnder H t marks p → (k : ℕ) (v : Subtree) → subtree_at (h.first + leaf_count h.left) h.right k ≡ Some v → Reached H (leaf_count t) v → IsMarked marks k
+  right-marked : AreAllMarkedUnder H t marks p → (k : ℕ) (v : Subtree) → subtree_at (h.first + leaf_count h.left) h.right k ≡ Some v → ParentHashValid H (leaf_count t) v → IsMarked marks k
   right-marked under k v e r =
       let st = subtree_at-stands 0 t p _ h.whole in
       let at = subtree_at-stands (h.first + leaf_count h.left) h.right k v e in
@@ -283,14 +283,14 @@ module _ (H : List ℕ → List ℕ) (t : Tree) (p q u m : ℕ) (node : ParentNo
   -- a chain to the parent comes through one of its halves
   pub reached-through : AreAllMarkedUnder H t marks p
       → (o : Option ℕ) → IsCandidateIn t node.unmerged q marks o → (o' : Option ℕ) → IsCandidateIn t node.unmerged u marks o'
-      → IsReachedHere H t p → CarriesHash H t p Right o ⊎ CarriesHash H t p Left o'
+      → IsParentHashValidHere H t p → HasParentHash H t p Right o ⊎ HasParentHash H t p Left o'
   reached-through under o k o' k' w =
       let same = same_Some _ _ (sym w.1 ∙ h.whole) in
-      let e = ends (record { first = h.first; tree = branch h.left (Some node) h.right }) (subst (λ s. Reached H (leaf_count t) s) same w.2) in
+      let e = ends (record { first = h.first; tree = branch h.left (Some node) h.right }) (subst (λ s. ParentHashValid H (leaf_count t) s) same w.2) in
       by e.0 e.1.parent e.1.half e.1.other e.1.halves e.1.link e.2
     where
-      by : (d : Subtree) (n : ParentNode) (half other : Subtree) → AreHalves h.first (branch h.left (Some node) h.right) n half other → Link H (leaf_count t) n half other d
-          → (IsLeaf d.tree ⊎ Reached H (leaf_count t) d) → CarriesHash H t p Right o ⊎ CarriesHash H t p Left o'
+      by : (d : Subtree) (n : ParentNode) (half other : Subtree) → AreHalves h.first (branch h.left (Some node) h.right) n half other → ParentHashLink H (leaf_count t) n half other d
+          → (IsLeaf d.tree ⊎ ParentHashValid H (leaf_count t) d) → HasParentHash H t p Right o ⊎ HasParentHash H t p Left o'
       by d n half other (a, inl b) link e =
           inl (linked-down H t node (record { first = h.first; tree = h.left }) (record { first = h.first + leaf_count h.left; tree = h.right }) q h.left_child placed entered-left p Right hashed-right marks
           (left-marked under) o k d (coe_link d n half other _ _ (sym a) b.0 b.1 link) e)
@@ -303,7 +303,7 @@ other_way n (inl p) = absurd (n p)
 other_way n (inr q) = q
 
 -- no chain comes through halves that have no candidate
-pub no_way : (H : List ℕ → List ℕ) (t : Tree) (p : ℕ) (o o' : Option ℕ) → is_some o ≡ false → is_some o' ≡ false → CarriesHash H t p Right o ⊎ CarriesHash H t p Left o' → ⊥
+pub no_way : (H : List ℕ → List ℕ) (t : Tree) (p : ℕ) (o o' : Option ℕ) → is_some o ≡ false → is_some o' ≡ false → HasParentHash H t p Right o ⊎ HasParentHash H t p Left o' → ⊥
 no_way H t p None None e f (inl h) = h
 no_way H t p None None e f (inr h) = h
 no_way H t p None (Some b) e f h = false≢true (sym f)

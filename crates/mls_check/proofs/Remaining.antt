@@ -6,13 +6,13 @@ use Rattle.std.proofs.lemmas.Option.{same_Some, cond_some}
 use Rattle.mls_nodes.specs.declared.leaf.LeafNode.{LeafNode}
 use Rattle.mls_nodes.specs.declared.parent.ParentNode.{ParentNode}
 use Rattle.mls_tree.specs.Tree.{Tree, leaf, branch, height, leaf_count, Subtree, subtree_at, entry_of, root_entry}
-use Rattle.mls_tree.specs.Changes.{put_leaf, change_above, has_set_leaf, shrink, blank_tree, grow, update, remove}
+use Rattle.mls_tree.specs.TreeOperations.{put_leaf, change_above, has_set_leaf, shrink, blank_tree, grow, update, remove}
 use Rattle.mls_tree.proofs.Choices.{below, from}
 use Rattle.mls_tree.proofs.Kept.{either, leaf_count-change_above, leaf_count-put_leaf}
 use Rattle.mls_tree.proofs.Trees.{subtree_at-stands, subtree_at-here, subtree_at-in_left, subtree_at-in_right}
-use Rattle.mls_check.specs.Reached.{HasSetParent, IsReached}
-use Rattle.mls_check.specs.Sound.{HasSortedList, is_placed, IsSorted, IsPlaced}
-use Rattle.mls_check.specs.SoundTree.{HasSoundLists, IsSoundTree, HasParentsOf}
+use Rattle.mls_check.specs.ParentHashValid.{HasSetParent, IsParentHashValid}
+use Rattle.mls_check.specs.UnmergedLists.{HasSortedList, is_placed, HasStrictlyIncreasingLists, HasConsistentUnmerged}
+use Rattle.mls_check.specs.PreservedValidity.{HasValidUnmergedLists, IsParentHashValidTree, HasParentsOf}
 use Rattle.mls_check.proofs.Carrying.{HasOwnList, reached-any}
 use Rattle.mls_check.proofs.Everywhere.{everywhere-at}
 use Rattle.mls_check.proofs.SoundSubtrees.{own_lists}
@@ -140,20 +140,20 @@ module _ (t u : Tree) (h : HasParentsOf t u) where
       go (branch l None r) k = refl
       go (branch l (Some q) r) k = k tt
 
-  parts_sorted : IsSorted u → IsSorted t
+  parts_sorted : HasStrictlyIncreasingLists u → HasStrictlyIncreasingLists t
   parts_sorted sorted p = by_place (subtree_at 0 t p) refl
     where
       by_place : (o : Option Subtree) → subtree_at 0 t p ≡ o → HasSortedList (entry_of o)
       by_place None e = tt
       by_place (Some s) e = sorted_top s (λ set. subst (λ o. HasSortedList (entry_of o)) (h p s e set) (sorted p))
 
-  pub parts_placed : IsPlaced u → IsPlaced t
+  pub parts_placed : HasConsistentUnmerged u → HasConsistentUnmerged t
   parts_placed placed p s e = placed_top s (λ set. placed p s (h p s e set))
 
-  pub parts_lists : HasSoundLists u → HasSoundLists t
+  pub parts_lists : HasValidUnmergedLists u → HasValidUnmergedLists t
   parts_lists lists = record { sorted = parts_sorted lists.sorted; placed = parts_placed lists.placed }
 
-  parts_reached : (H : List ℕ → List ℕ) → IsPlaced u → IsReached H u → IsReached H t
+  parts_reached : (H : List ℕ → List ℕ) → HasConsistentUnmerged u → IsParentHashValid H u → IsParentHashValid H t
   parts_reached H placed reached p s e set =
       let there = h p s e set in
       let here = subtree_at-stands 0 t p s e in
@@ -166,12 +166,12 @@ module _ (t u : Tree) (h : HasParentsOf t u) where
       })
       (reached p s there set)
 
-pub parts_sound : (H : List ℕ → List ℕ) (t u : Tree) → HasParentsOf t u → IsSoundTree H u → IsSoundTree H t
+pub parts_sound : (H : List ℕ → List ℕ) (t u : Tree) → HasParentsOf t u → IsParentHashValidTree H u → IsParentHashValidTree H t
 parts_sound H t u h sound = record {
   sorted = parts_sorted t u h sound.sorted;
   placed = parts_placed t u h sound.placed;
   reached = parts_reached t u h H sound.placed sound.reached;
 }
 
-pub sound_grow : (H : List ℕ → List ℕ) (t : Tree) → IsSoundTree H t → IsSoundTree H (grow t)
+pub sound_grow : (H : List ℕ → List ℕ) (t : Tree) → IsParentHashValidTree H t → IsParentHashValidTree H (grow t)
 sound_grow H t h = parts_sound H (grow t) t (grow_parents t) h

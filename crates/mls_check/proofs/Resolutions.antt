@@ -7,14 +7,14 @@ use Rattle.std.proofs.lemmas.Bool.{cases_lt}
 use Rattle.std.proofs.lemmas.Option.{none-some, same_Some}
 use Rattle.std.proofs.lemmas.List.Elements.{All-contains, Contains-append_cases}
 use Rattle.mls_nodes.specs.declared.parent.ParentNode.{ParentNode}
-use Rattle.mls_nodes.specs.Value.{parent_node}
+use Rattle.mls_nodes.specs.NodeModel.{parent_node}
 use Rattle.mls_tree.specs.Tree.{Tree, leaf, branch, leaf_count, Subtree, subtree_at, root_place, entry_of}
 use Rattle.mls_tree.specs.Paths.{resolution, resolution_at, unmerged_places}
 use Rattle.mls_tree.proofs.Trees.{leaf_count-positive, subtree_at-stands, subtree_at-root, subtree_at-nested, subtree_at-in_left, subtree_at-in_right, root_place-above, root_place-below}
 use Rattle.mls_hash.specs.SubtreeHashes.{IsLeafOf}
 use Rattle.mls_hash.specs.ParentHash.{root_parent}
-use Rattle.mls_check.specs.Sound.{IsSorted, IsPlaced, HasSortedList}
-use Rattle.mls_check.specs.Marks.{RisesInLeaves}
+use Rattle.mls_check.specs.UnmergedLists.{HasStrictlyIncreasingLists, HasConsistentUnmerged, HasSortedList}
+use Rattle.mls_check.specs.ParentHashMarks.{RisesInLeaves}
 use Rattle.mls_check.proofs.Elements.{contains-nil, contains-cons, contains-head, contains-tail, unmerged-listed, kept-below, left_out}
 use Rattle.mls_check.proofs.OwnLeaves.{own_leaves}
 use Rattle.mls_check.proofs.Walks.{increasing-tail, increasing-above}
@@ -37,21 +37,21 @@ rises-unmerged n (x ∷ xs) h =
     ]
 
 -- each unmerged list of a tree whose first leaf is numbered `first` rises, and has leaves under its parent alone
-abbrev HasSoundLists : ℕ → Tree → Type 0
-HasSoundLists first t = (p : ℕ) (s : Subtree) (q : ParentNode) → subtree_at first t p ≡ Some s → root_parent s.tree ≡ Some q → IsStrictlyIncreasing q.unmerged × All (IsLeafOf s) q.unmerged
+abbrev HasValidUnmergedLists : ℕ → Tree → Type 0
+HasValidUnmergedLists first t = (p : ℕ) (s : Subtree) (q : ParentNode) → subtree_at first t p ≡ Some s → root_parent s.tree ≡ Some q → IsStrictlyIncreasing q.unmerged × All (IsLeafOf s) q.unmerged
 
-sound-left : (first : ℕ) (l : Tree) (n : Option ParentNode) (r : Tree) → HasSoundLists first (branch l n r) → HasSoundLists first l
+sound-left : (first : ℕ) (l : Tree) (n : Option ParentNode) (r : Tree) → HasValidUnmergedLists first (branch l n r) → HasValidUnmergedLists first l
 sound-left first l n r h p s q e f =
     let at = subtree_at-stands first l p s e in
     h p s q (subtree_at-in_left first l n r p (omega (arith, at.place, at.to_right, root_place-below s.first s.tree)) ∙ e) f
 
-sound-right : (first : ℕ) (l : Tree) (n : Option ParentNode) (r : Tree) → HasSoundLists first (branch l n r) → HasSoundLists (first + leaf_count l) r
+sound-right : (first : ℕ) (l : Tree) (n : Option ParentNode) (r : Tree) → HasValidUnmergedLists first (branch l n r) → HasValidUnmergedLists (first + leaf_count l) r
 sound-right first l n r h p s q e f =
     let at = subtree_at-stands (first + leaf_count l) r p s e in
     h p s q (subtree_at-in_right first l n r p (omega (arith, at.place, at.from_left, root_place-above s.first s.tree)) ∙ e) f
 
 -- the leaves of a resolution lie in the subtree
-inside : (n first : ℕ) (t : Tree) → HasSoundLists first t → (u : ℕ) → Contains (resolution n first t) u → u % 2 ≡ 0 → (2 * first ≤ u) × (u < 2 * (first + leaf_count t))
+inside : (n first : ℕ) (t : Tree) → HasValidUnmergedLists first t → (u : ℕ) → Contains (resolution n first t) u → u % 2 ≡ 0 → (2 * first ≤ u) × (u < 2 * (first + leaf_count t))
 inside n first (leaf None) h u c e = absurd (contains-nil u c)
 inside n first (leaf (Some x)) h u c e = elim (contains-cons (2 * first) [] u c) [ inl a ↦ (omega (arith, a), omega (arith, a)) | inr b ↦ absurd (contains-nil u b) ]
 inside n first (branch l None r) h u c e =
@@ -70,7 +70,7 @@ inside n first (branch l (Some p) r) h u c e =
           (omega (arith, k.0, d), omega (arith, k.1, d)))
     ]
 
-rises-in : (n first : ℕ) (t : Tree) → HasSoundLists first t → RisesInLeaves (resolution n first t)
+rises-in : (n first : ℕ) (t : Tree) → HasValidUnmergedLists first t → RisesInLeaves (resolution n first t)
 rises-in n first (leaf None) h = tt
 rises-in n first (leaf (Some x)) h = (λ e u c f. absurd (contains-nil u c), tt)
 rises-in n first (branch l None r) h =
@@ -83,14 +83,14 @@ rises-in n first (branch l (Some p) r) h = (
   rises-unmerged n p.unmerged (h (root_place first (branch l (Some p) r)) _ p (subtree_at-root first (branch l (Some p) r)) refl).0,
 )
 
-sound_lists : (t : Tree) → IsSorted t → IsPlaced t → HasSoundLists 0 t
+sound_lists : (t : Tree) → HasStrictlyIncreasingLists t → HasConsistentUnmerged t → HasValidUnmergedLists 0 t
 sound_lists t sorted placed p s q e f = (rising s.tree f (subst (λ o. HasSortedList (entry_of o)) e (sorted p)), own_leaves t placed p s q e f)
   where
     rising : (u : Tree) → root_parent u ≡ Some q → HasSortedList (entry_of (Some (record { first = s.first; tree = u }))) → IsStrictlyIncreasing q.unmerged
     rising (leaf x) f h = absurd (none-some q f)
     rising (branch l n r) f h = subst (λ (o : Option ParentNode). HasSortedList (option_map parent_node o)) f h
 
-pub resolution-rises : (t : Tree) (p : ℕ) (items now : List ℕ) → IsSorted t → IsPlaced t → resolution_at t p ≡ Some items → now ≡ items → RisesInLeaves now
+pub resolution-rises : (t : Tree) (p : ℕ) (items now : List ℕ) → HasStrictlyIncreasingLists t → HasConsistentUnmerged t → resolution_at t p ≡ Some items → now ≡ items → RisesInLeaves now
 resolution-rises t p items now sorted placed known same = subst (λ ps. RisesInLeaves ps) (sym same) (go (subtree_at 0 t p) refl known)
   where
     go : (o : Option Subtree) → subtree_at 0 t p ≡ o → option_map (λ (s : Subtree). resolution (leaf_count t) s.first s.tree) o ≡ Some items → RisesInLeaves items

@@ -5,11 +5,11 @@ use Rattle.std.proofs.lemmas.Bool.Decides.{nat_tests}
 use Rattle.mls_nodes.specs.declared.leaf.LeafNode.{LeafNode}
 use Rattle.mls_nodes.specs.declared.required_capabilities.RequiredCapabilities.{RequiredCapabilities}
 use Rattle.mls_tree.specs.Tree.{Tree, leaf_count}
-use Rattle.mls_check.specs.Signatures.{Meaning}
-use Rattle.mls_check.specs.Members.{all_leaves, member_rule, Members, FailsFirst, FailsMember, supports_own_extensions, supports_required, supports_used_credentials, has_own_signature_key, is_leaf_signed}
+use Rattle.mls_check.specs.Signatures.{VerifyFn}
+use Rattle.mls_check.specs.LeafValidation.{all_leaves, member_rule, LeavesAreValid, FailsFirst, FailsLeafRule, supports_own_extensions, supports_required, supports_used_credentials, has_own_signature_key, is_leaf_signed}
 use Rattle.mls_check.proofs.Leaves.{all_leaves-below}
 
-module _ (G : Meaning) (suite : ℕ) (group_id : List ℕ) (required : RequiredCapabilities) (t : Tree) where
+module _ (G : VerifyFn) (suite : ℕ) (group_id : List ℕ) (required : RequiredCapabilities) (t : Tree) where
   -- a rule holds at every set leaf
   abbrev pub Holds : ℕ → Type 0
   Holds k = all_leaves (member_rule G suite group_id required t k) 0 t ≡ true
@@ -36,8 +36,8 @@ module _ (G : Meaning) (suite : ℕ) (group_id : List ℕ) (required : RequiredC
   unfolding member_rule
   no_rule_zero i x = refl
 
-  pub Members-before : HoldBefore 6 → Members G suite group_id required t
-  Members-before earlier = record {
+  pub LeavesAreValid-before : HoldBefore 6 → LeavesAreValid G suite group_id required t
+  LeavesAreValid-before earlier = record {
     rules = λ k. elim (cases_lt k 6) [
       | inl low ↦ earlier.at k low
       | inr past ↦ all_leaves-below (member_rule G suite group_id required t k) t (leaf_count t) (record { at = λ j x low set. no_rule k j x (omega arith) }) (omega arith)
@@ -68,26 +68,26 @@ module _ (G : Meaning) (suite : ℕ) (group_id : List ℕ) (required : RequiredC
   unfolding member_rule
   keys_hold earlier e = before_more 4 earlier e
 
-  pub signatures_hold : HoldBefore 5 → all_leaves (is_leaf_signed G suite group_id) 0 t ≡ true → Members G suite group_id required t
+  pub signatures_hold : HoldBefore 5 → all_leaves (is_leaf_signed G suite group_id) 0 t ≡ true → LeavesAreValid G suite group_id required t
   unfolding member_rule
-  signatures_hold earlier e = Members-before (before_more 5 earlier e)
+  signatures_hold earlier e = LeavesAreValid-before (before_more 5 earlier e)
 
-  pub extensions_fail : (i : ℕ) → FailsFirst (λ _ x. supports_own_extensions x) t i → FailsMember G suite group_id required t 1 i
+  pub extensions_fail : (i : ℕ) → FailsFirst (λ _ x. supports_own_extensions x) t i → FailsLeafRule G suite group_id required t 1 i
   unfolding member_rule
   extensions_fail i f = record { first = f; earlier = before_first.at }
 
-  pub requirements_fail : (i : ℕ) → HoldBefore 2 → FailsFirst (λ _ x. supports_required required x) t i → FailsMember G suite group_id required t 2 i
+  pub requirements_fail : (i : ℕ) → HoldBefore 2 → FailsFirst (λ _ x. supports_required required x) t i → FailsLeafRule G suite group_id required t 2 i
   unfolding member_rule
   requirements_fail i earlier f = record { first = f; earlier = earlier.at }
 
-  pub credentials_fail : (i : ℕ) → HoldBefore 3 → FailsFirst (λ _ x. supports_used_credentials t x) t i → FailsMember G suite group_id required t 3 i
+  pub credentials_fail : (i : ℕ) → HoldBefore 3 → FailsFirst (λ _ x. supports_used_credentials t x) t i → FailsLeafRule G suite group_id required t 3 i
   unfolding member_rule
   credentials_fail i earlier f = record { first = f; earlier = earlier.at }
 
-  pub keys_fail : (i : ℕ) → HoldBefore 4 → FailsFirst (has_own_signature_key t) t i → FailsMember G suite group_id required t 4 i
+  pub keys_fail : (i : ℕ) → HoldBefore 4 → FailsFirst (has_own_signature_key t) t i → FailsLeafRule G suite group_id required t 4 i
   unfolding member_rule
   keys_fail i earlier f = record { first = f; earlier = earlier.at }
 
-  pub signatures_fail : (i : ℕ) → HoldBefore 5 → FailsFirst (is_leaf_signed G suite group_id) t i → FailsMember G suite group_id required t 5 i
+  pub signatures_fail : (i : ℕ) → HoldBefore 5 → FailsFirst (is_leaf_signed G suite group_id) t i → FailsLeafRule G suite group_id required t 5 i
   unfolding member_rule
   signatures_fail i earlier f = record { first = f; earlier = earlier.at }

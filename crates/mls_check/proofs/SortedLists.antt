@@ -5,11 +5,11 @@ use Rattle.std.specs.List.Sorted.{IsNonDecreasing, IsStrictlyIncreasing}
 use Rattle.std.proofs.lemmas.List.Sorted.{IsNonDecreasingBy-from_default}
 use Rattle.std.proofs.lemmas.Option.{none-some}
 use Rattle.mls_nodes.specs.declared.parent.ParentNode.{ParentNode}
-use Rattle.mls_nodes.specs.Value.{parent_node}
+use Rattle.mls_nodes.specs.NodeModel.{parent_node}
 use Rattle.mls_tree.specs.Tree.{Tree, leaf, branch, Subtree, subtree_at, root_entry, entry_of}
-use Rattle.mls_hash.specs.OriginalHashes.{HoldsSortedLists}
+use Rattle.mls_hash.specs.OriginalTreeHashes.{HasNonDecreasingLists}
 use Rattle.mls_hash.specs.ParentHash.{root_parent}
-use Rattle.mls_check.specs.Sound.{IsSorted, HasSortedList}
+use Rattle.mls_check.specs.UnmergedLists.{HasStrictlyIncreasingLists, HasSortedList}
 
 further : (xs : List ℕ) → IsStrictlyIncreasing xs → (i n : ℕ) → i + n < length xs → get_or xs i 0 ≤ get_or xs (i + n) 0
 further xs h i zero lt = let same : i + 0 ≡ i = omega arith in omega (arith, ap (λ k. get_or xs k 0) same)
@@ -24,7 +24,7 @@ rising xs h =
     IsNonDecreasingBy-from_default (λ x. x) xs 0
     (λ i j le lt. (let there : i + (j - i) ≡ j = omega arith in subst (λ k. get_or xs i 0 ≤ get_or xs k 0) there (further xs h i (j - i) (omega arith))))
 
-pub sorted_lists : (t : Tree) → IsSorted t → HoldsSortedLists t
+pub sorted_lists : (t : Tree) → HasStrictlyIncreasingLists t → HasNonDecreasingLists t
 sorted_lists t sorted place p e = go (subtree_at 0 t place) (sorted place) e
   where
     listed : (u : Tree) → HasSortedList (root_entry u) → root_parent u ≡ Some p → IsNonDecreasing p.unmerged

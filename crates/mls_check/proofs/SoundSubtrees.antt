@@ -2,10 +2,10 @@
 use Rattle.std.proofs.Common.{◌≡◌, ℕ, ◌+◌, IsTrue, List, Option, Some, None, refl, subst}
 use Rattle.mls_tree.specs.Tree.{Tree, leaf, branch, leaf_count, Subtree, subtree_at, root_entry, entry_of}
 use Rattle.mls_hash.specs.ParentHash.{root_parent}
-use Rattle.mls_check.specs.Reached.{Reached, HasSetParent}
-use Rattle.mls_check.specs.Sound.{HasSortedList, HasSortedEntries, is_placed, IsSorted, IsPlaced}
+use Rattle.mls_check.specs.ParentHashValid.{ParentHashValid, HasSetParent}
+use Rattle.mls_check.specs.UnmergedLists.{HasSortedList, HasSortedEntries, is_placed, HasStrictlyIncreasingLists, HasConsistentUnmerged}
 use Rattle.mls_check.proofs.OwnLeaves.{own_leaf}
-use Rattle.mls_check.specs.SoundTree.{IsSoundTree}
+use Rattle.mls_check.specs.PreservedValidity.{IsParentHashValidTree}
 use Rattle.mls_check.proofs.Everywhere.{Everywhere, everywhere-top, everywhere-at, everywhere-from, everywhere-more}
 use Rattle.mls_check.proofs.Carrying.{HasOwnList}
 
@@ -13,13 +13,13 @@ use Rattle.mls_check.proofs.Carrying.{HasOwnList}
 pub record IsSoundSubtree (H : List ℕ → List ℕ) (n : ℕ) (first : ℕ) (t : Tree) : Type 0 where
   pub sorted : HasSortedEntries (root_parent t)
   pub placed : IsTrue (is_placed first t)
-  pub reached : HasSetParent t → Reached H n (record { first = first; tree = t })
+  pub reached : HasSetParent t → ParentHashValid H n (record { first = first; tree = t })
 
 abbrev pub HasSoundSubtrees : (List ℕ → List ℕ) → ℕ → ℕ → Tree → Type 0
 HasSoundSubtrees H n = Everywhere (IsSoundSubtree H n)
 
 -- in a tree with placed lists each list is its parent's own
-pub own_lists : (t : Tree) → IsPlaced t → Everywhere HasOwnList 0 t
+pub own_lists : (t : Tree) → HasConsistentUnmerged t → Everywhere HasOwnList 0 t
 own_lists t placed = everywhere-from HasOwnList 0 t (λ p s e q set i c. own_leaf s.first s.tree q (placed p s e) set i c)
 
 -- ---- sorted lists
@@ -35,12 +35,12 @@ entries-list (leaf (Some x)) h = tt
 entries-list (branch l None r) h = tt
 entries-list (branch l (Some p) r) h = h
 
-pub sorted_in : (t : Tree) → IsSorted t → Everywhere (λ first u. HasSortedEntries (root_parent u)) 0 t
+pub sorted_in : (t : Tree) → HasStrictlyIncreasingLists t → Everywhere (λ first u. HasSortedEntries (root_parent u)) 0 t
 sorted_in t h =
     everywhere-from (λ first u. HasSortedEntries (root_parent u)) 0 t
     (λ p s e. list-entries s.tree (subst (λ o. HasSortedList (entry_of o)) e (h p)))
 
-pub sorted_from : (t : Tree) → Everywhere (λ first u. HasSortedEntries (root_parent u)) 0 t → IsSorted t
+pub sorted_from : (t : Tree) → Everywhere (λ first u. HasSortedEntries (root_parent u)) 0 t → HasStrictlyIncreasingLists t
 sorted_from t h p =
     by_place (subtree_at 0 t p)
     (λ s e. everywhere-top (λ first u. HasSortedEntries (root_parent u)) s.first s.tree (everywhere-at (λ first u. HasSortedEntries (root_parent u)) 0 t p s e h))
@@ -52,7 +52,7 @@ sorted_from t h p =
 -- ---- sound trees
 
 module _ (H : List ℕ → List ℕ) where
-  pub subtrees_from : (t : Tree) → IsSoundTree H t → HasSoundSubtrees H (leaf_count t) 0 t
+  pub subtrees_from : (t : Tree) → IsParentHashValidTree H t → HasSoundSubtrees H (leaf_count t) 0 t
   subtrees_from t h =
       everywhere-from (IsSoundSubtree H (leaf_count t)) 0 t
       (λ p s e. record {
@@ -61,7 +61,7 @@ module _ (H : List ℕ → List ℕ) where
         reached = h.reached p s e;
       })
 
-  subtrees_sound : (t : Tree) → HasSoundSubtrees H (leaf_count t) 0 t → IsSoundTree H t
+  subtrees_sound : (t : Tree) → HasSoundSubtrees H (leaf_count t) 0 t → IsParentHashValidTree H t
   subtrees_sound t g =
       let at : (p : ℕ) (s : Subtree) → subtree_at 0 t p ≡ Some s → IsSoundSubtree H (leaf_count t) s.first s.tree
       = λ p s e. everywhere-top (IsSoundSubtree H (leaf_count t)) s.first s.tree (everywhere-at (IsSoundSubtree H (leaf_count t)) 0 t p s e g) in
@@ -71,7 +71,7 @@ module _ (H : List ℕ → List ℕ) where
         reached = λ p s e. (at p s e).reached;
       }
 
-  pub subtrees_whole : (n : ℕ) (t : Tree) → n ≡ leaf_count t → HasSoundSubtrees H n 0 t → IsSoundTree H t
+  pub subtrees_whole : (n : ℕ) (t : Tree) → n ≡ leaf_count t → HasSoundSubtrees H n 0 t → IsParentHashValidTree H t
   subtrees_whole n t e g = subtrees_sound t (subst (λ k. HasSoundSubtrees H k 0 t) e g)
 
   -- ---- blank parents, and leaves

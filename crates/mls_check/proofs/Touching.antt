@@ -10,13 +10,13 @@ use Rattle.mls_nodes.specs.declared.parent.ParentNode.{ParentNode}
 use Rattle.mls_tree.specs.Tree.{Tree, leaf, branch, leaf_count, leaf_entry, Subtree, subtree_at, root_place, root_entry}
 use Rattle.mls_tree.specs.TreeHash.{tree_hash}
 use Rattle.mls_tree.specs.Paths.{resolution, unmerged_places}
-use Rattle.mls_tree.specs.Changes.{put_leaf, change_above, with_unmerged}
+use Rattle.mls_tree.specs.TreeOperations.{put_leaf, change_above, with_unmerged}
 use Rattle.mls_tree.proofs.Choices.{below, from, same, other, is_less, not_less}
 use Rattle.mls_tree.proofs.Kept.{either, leaf_count-change_above}
 use Rattle.mls_tree.proofs.Trees.{along, leaf_count-positive, subtree_at-stands, subtree_at-root, subtree_at-in_left, subtree_at-in_right}
 use Rattle.mls_hash.specs.ParentHash.{parent_hash_input}
-use Rattle.mls_hash.specs.Strip.{is_among, stripped_parent, strip}
-use Rattle.mls_check.specs.Reached.{linked_hash, AreHalves, Link, Step, IsLeaf}
+use Rattle.mls_hash.specs.WithoutLeaves.{is_among, stripped_parent, strip}
+use Rattle.mls_check.specs.ParentHashValid.{linked_hash, AreHalves, ParentHashLink, Step, IsLeaf}
 use Rattle.mls_check.proofs.Elements.{contains-nil, contains-cons, contains-head, contains-tail, unmerged-in, unmerged-from}
 use Rattle.mls_check.proofs.Walks.{contained}
 use Rattle.mls_check.proofs.Reaching.{coe_link}
@@ -290,7 +290,7 @@ module _ (j : ℕ) (x : LeafNode) where
     pub touch-link : (b : Bool) (p : ParentNode) (half other d : Subtree) → IsFresh half → IsFresh other
         → (half.first ≤ j → j < half.first + leaf_count half.tree → b ≡ true)
         → (other.first ≤ j → j < other.first + leaf_count other.tree → b ≡ true)
-        → Link H n p half other d → Link H n (touched_node b p) (touched half) (touched other) (touched d)
+        → ParentHashLink H n p half other d → ParentHashLink H n (touched_node b p) (touched half) (touched other) (touched d)
     touch-link b p half other d fresh away in_half in_other k =
         let list = entered_list j b p.unmerged in
         let count = leaf_count-touch half.first half.tree in
@@ -335,7 +335,7 @@ module _ (j : ℕ) (x : LeafNode) where
         }
 
     step-in : (d : Subtree) (first : ℕ) (t : Tree) (q : ParentNode) (half other : Subtree) → AreHalves first t q half other → IsFresh (record { first = first; tree = t })
-        → Link H n q half other d → Step H n (touched d) (touched (record { first = first; tree = t })) × IsFresh d
+        → ParentHashLink H n q half other d → Step H n (touched d) (touched (record { first = first; tree = t })) × IsFresh d
     step-in d first (leaf y) q half other h fresh k = absurd h
     step-in d first (branch l None r) q half other h fresh k = absurd h
     step-in d first (branch l (Some p) r) q half other (a, inl b) fresh k =

@@ -9,7 +9,7 @@ use Rattle.std.proofs.lemmas.List.Folds.{list_all_more}
 use Rattle.std.proofs.lemmas.List.Kept.{AllPairs-from_increasing}
 use Rattle.std.proofs.lemmas.List.{length-append, get_or_append_left}
 use Rattle.std.proofs.lemmas.Option.{none-some, same_Some}
-use Rattle.mls_check.specs.Marks.{RisesInLeaves, IsListed}
+use Rattle.mls_check.specs.ParentHashMarks.{RisesInLeaves, IsListed}
 use Rattle.mls_check.proofs.Elements.{contains-nil, contains-cons, contains-head, all-each, found-at}
 
 pub increasing-tail : (x : ℕ) (xs : List ℕ) → IsStrictlyIncreasing (x ∷ xs) → IsStrictlyIncreasing xs

@@ -1,13 +1,13 @@
-//! Whether a ratchet tree is that of a group context, and its leaves are members of the group (RFC 9420, 12.4.3.1).
+//! Validation of a GroupContext with its ratchet tree (RFC 9420, 12.4.3.1).
 
 ghost use Rattle.std.specs.Prelude.{◌≡◌, IfOk, IfErr, OnOk};
 ghost use Rattle.mls_nodes.specs.Requirements.{Requires};
-ghost use Rattle.mls_tree.specs.KeptTree.{plain};
-ghost use Rattle.mls_check.specs.GroupTree.{IsFollowed, HasMembers, IsGroupTreeFault};
+ghost use Rattle.mls_tree.specs.PublicTreeModel.{plain};
+ghost use Rattle.mls_check.specs.GroupTree.{IsSupportedContext, HasMembers, IsGroupTreeFault};
 
 use crate::members::{MemberFault, validate_members};
 use crate::signatures::SignatureCheck;
-use crate::valid::{TreeFault, validate_tree};
+use crate::tree_validation::{TreeFault, validate_tree};
 use mls_hash::Suite;
 use mls_nodes::{GroupContext, RequiredCapabilities, requirements};
 use mls_tree::PublicTree;
@@ -15,19 +15,19 @@ use mls_wire::CodecFault;
 use std::alloc::Global;
 use thiserror::Error;
 
-/// Why a tree isn't that of a group, or its leaves aren't members: the first check that fails, in this order.
+/// Why a tree is not valid for a GroupContext: the first check that fails, in this order.
 #[derive(Clone, Copy, Debug, PartialEq, Eq, Error)]
 pub enum GroupTreeFault {
-    /// The group's required capabilities can't be read (RFC 9420, 11.1).
+    /// The required capabilities of the group cannot be read (RFC 9420, 11.1).
     #[error("the required capabilities can't be read")]
     RequirementsUnreadable,
-    /// The tree isn't valid, for this fault (RFC 9420, 7.9.2 and 12.4.3.1).
+    /// The tree is not valid, for this fault (RFC 9420, 7.9.2 and 12.4.3.1).
     #[error("{0}")]
     Tree(TreeFault),
-    /// The tree's leaves are no members of the group, for this fault (RFC 9420, 7.3).
+    /// A leaf node is not valid, for this fault (RFC 9420, 7.3).
     #[error("{0}")]
     Member(MemberFault),
-    /// An allocation was refused. It says nothing of the tree.
+    /// An allocation failed. It says nothing of the tree.
     #[error("out of memory")]
     OutOfMemory,
 }
@@ -60,7 +60,7 @@ impl From<MemberFault> for GroupTreeFault {
     }
 }
 
-/// The same, where what the group requires was read.
+/// Checks the tree and its leaf nodes, under required capabilities that were read.
 fn judge_tree<C: SignatureCheck>(
     alloc: Global,
     suite: Suite,
@@ -69,7 +69,7 @@ fn judge_tree<C: SignatureCheck>(
     tree: &PublicTree,
     checker: &C,
 ) -> Result<(), GroupTreeFault>
-    requires followed { IsFollowed context.now }
+    requires followed { IsSupportedContext context.now }
     requires suite_of_context { suite ≡ context.now.cipher_suite }
     requires required { Requires context.now required.now }
     ensures members { OnOk result (HasMembers (C.meaning checker.now) context.now
@@ -83,14 +83,16 @@ fn judge_tree<C: SignatureCheck>(
     Ok(())
 }
 
-/// What a group requires of its members, where a tree is that of its context and its leaves are members. These are
-/// asked, in this order, and the first that fails is answered:
+/// Checks that a tree is valid for a GroupContext, and that its leaf nodes are valid. Returns what the group requires.
+/// The context's version must be 1, and its suite `suite`.
 ///
-/// 1. What the group requires can be read.
+/// # Errors
+///
+/// The first check that fails, or `OutOfMemory`:
+///
+/// 1. The required capabilities can be read.
 /// 2. The tree is valid ([`validate_tree`]).
-/// 3. Its leaves are members ([`validate_members`]).
-///
-/// The context's version is 1, and its suite is `suite`.
+/// 3. Its leaf nodes are valid ([`validate_members`]).
 pub fn validate_group_tree<C: SignatureCheck>(
     alloc: Global,
     suite: Suite,
@@ -98,7 +100,7 @@ pub fn validate_group_tree<C: SignatureCheck>(
     tree: &PublicTree,
     checker: &C,
 ) -> Result<RequiredCapabilities, GroupTreeFault>
-    requires followed { IsFollowed context.now }
+    requires followed { IsSupportedContext context.now }
     requires suite_of_context { suite ≡ context.now.cipher_suite }
     ensures members { IfOk result (HasMembers (C.meaning checker.now) context.now
         (λ t. t ≡ plain tree.now) (plain tree.now)) }

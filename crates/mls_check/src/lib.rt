@@ -1,32 +1,38 @@
-//! Whether a ratchet tree is valid (RFC 9420, 7.9.2 and 12.4.3.1), whether its leaves may be members of a group (7.3), and the
-//! interface to the checker of signatures (5.1.2), which the caller hands in.
+//! Validation of ratchet trees (RFC 9420, 7.9.2 and 12.4.3.1) and of leaf nodes (7.3), and the interface to a checker
+//! of signatures (5.1.2), which the caller supplies.
 #![tactic(auto)]
 
-mod beginnings;
-mod credentials;
-mod distinct;
+mod capability_support;
+mod credential_types;
+mod distinct_keys;
 mod group_tree;
+mod key_prefixes;
 pub mod laws;
-mod leaf_lists;
 mod members;
-mod placed;
-mod places;
-mod reached;
+mod node_count;
+mod parent_hash_validity;
+mod receipt_set;
 mod receipts;
-mod requirements;
-mod rising;
 mod signature_keys;
 mod signatures;
-mod sorted;
-mod support;
-mod valid;
+mod sorted_codes;
+mod sorted_leaf_lists;
+mod sorted_requirements;
+mod tree_validation;
+mod unmerged_consistency;
+mod unmerged_order;
 
-pub use beginnings::beginning;
-pub use distinct::has_distinct_keys;
+pub use capability_support::{supports_own_extensions, supports_required};
+pub use credential_types::first_unsupported_credential;
+pub use distinct_keys::has_distinct_keys;
 pub use group_tree::{GroupTreeFault, validate_group_tree};
-pub use members::{LEAF_NODE_TBS, MemberFault, is_leaf_signed, validate_members};
+pub use key_prefixes::beginning;
+pub use members::{
+    LEAF_NODE_TBS, MemberFault, first_unmet_requirement, is_leaf_signed, validate_members,
+};
+pub use receipt_set::{LearningCheck, Receipts};
 pub use receipts::{Listed, ReceiptsFault, receipt};
-pub use requirements::RisingRequirements;
+pub use signature_keys::first_repeated_signature_key;
 pub use signatures::{OutOfMemory, SignatureCheck, Trusting, sign_content, signed};
-pub use support::{supports_own_extensions, supports_required};
-pub use valid::{TreeFault, validate_tree};
+pub use sorted_requirements::SortedRequirements;
+pub use tree_validation::{TreeFault, validate_tree};

@@ -1,19 +1,19 @@
-//! Whether the leaves of a tree may be members of a group (RFC 9420, 7.3).
+//! Leaf node validation (RFC 9420, 7.3).
 
 ghost use Rattle.std.specs.Prelude.{◌≡◌, ℕ, ◌≤◌, true, length, IfOk, IfErr, IfSome, IsErr, OnOk};
 ghost use Rattle.mls_wire.specs.Limits.{vector_limit};
-ghost use Rattle.mls_wire.specs.Spelling.{◌⊕◌, length_form, vector};
-ghost use Rattle.mls_wire.specs.Writing.{Puts};
-ghost use Rattle.mls_nodes.specs.Signed.{leaf_tbs};
+ghost use Rattle.mls_wire.specs.Encoding.{◌⊕◌, length_form, vector};
+ghost use Rattle.mls_wire.specs.WriteContracts.{Puts};
+ghost use Rattle.mls_nodes.specs.LeafNodeTBS.{leaf_tbs};
 ghost use Rattle.mls_tree.specs.Tree.{leaf_at};
-ghost use Rattle.mls_check.specs.Signatures.{Meaning};
-ghost use Rattle.mls_check.specs.Members.{Members, IsMemberFault, FindsFailing, supports_own_extensions, supports_required, is_leaf_signed};
+ghost use Rattle.mls_check.specs.Signatures.{VerifyFn};
+ghost use Rattle.mls_check.specs.LeafValidation.{LeavesAreValid, IsMemberFault, FindsFailing, supports_own_extensions, supports_required, is_leaf_signed};
 
-use crate::credentials::first_unsupported_credential;
-use crate::requirements::RisingRequirements;
+use crate::capability_support::{supports_own_extensions, supports_required};
+use crate::credential_types::first_unsupported_credential;
 use crate::signature_keys::first_repeated_signature_key;
 use crate::signatures::{OutOfMemory, SignatureCheck};
-use crate::support::{supports_own_extensions, supports_required};
+use crate::sorted_requirements::SortedRequirements;
 use mls_nodes::{LeafNode, RequiredCapabilities, leaf_tbs_len, put_leaf_tbs};
 use mls_tree::PublicTree;
 use mls_wire::{CodecFault, Draft, MAX_BODY, Opaque};
@@ -24,26 +24,25 @@ use thiserror::Error;
 /// The label under which members sign their leaf nodes (RFC 9420, 7.2).
 pub const LEAF_NODE_TBS: &str = "MLS 1.0 LeafNodeTBS";
 
-/// Why the leaves of a tree are no members: the first rule that fails at some leaf, and the smallest leaf at which it
-/// fails.
+/// Why a leaf node is not valid: the first rule that fails at some leaf, and the smallest leaf index at which it fails.
 #[derive(Clone, Copy, Debug, PartialEq, Eq, Error)]
 pub enum MemberFault {
-    /// The leaf has an extension of a type that its capabilities don't list.
+    /// The leaf has an extension of a type that its capabilities do not list.
     #[error("leaf {0} has an extension of a type that it does not list")]
     ExtensionUnlisted(u32),
-    /// The leaf's capabilities lack a type of extension, proposal or credential that the group requires.
+    /// The leaf's capabilities lack an extension, proposal or credential type that the group requires.
     #[error("leaf {0} lacks a type that the group requires")]
     RequirementUnmet(u32),
-    /// The leaf's capabilities lack the type of some member's credential.
+    /// The leaf's capabilities lack the credential type of some leaf.
     #[error("leaf {0} lacks the type of a member's credential")]
     CredentialUnsupported(u32),
-    /// Another leaf has the same signature key.
+    /// Another leaf has the signature key of the leaf.
     #[error("another leaf has the signature key of leaf {0}")]
     SignatureKeyRepeated(u32),
-    /// The leaf's signature isn't good.
+    /// The leaf's signature is not good.
     #[error("the signature of leaf {0} is not good")]
     LeafSignature(u32),
-    /// Memory ran out.
+    /// An allocation failed.
     #[error("out of memory")]
     OutOfMemory,
 }
@@ -59,16 +58,18 @@ impl From<OutOfMemory> for MemberFault {
     }
 }
 
-/// Whether the set leaves of a tree may be the members of a group (RFC 9420, 7.3) with this cipher suite, group id and
-/// required capabilities:
+/// Checks that every non-blank leaf of a tree is a valid leaf node (RFC 9420, 7.3) of a group with this cipher suite,
+/// group id and required capabilities.
 ///
-/// 1. Each leaf's capabilities list the types of its extensions; types 1 to 5 need not be listed.
-/// 2. They list the types that the group requires; extension types 1 to 5 and proposal types 1 to 7 need not be listed.
-/// 3. They list the type of each leaf's credential.
+/// # Errors
+///
+/// The first rule that fails anywhere, with the smallest leaf index at which it fails, or `OutOfMemory`:
+///
+/// 1. Each leaf's capabilities list the types of its extensions. Types 1 to 5 need not be listed.
+/// 2. They list the types that the group requires. Extension types 1 to 5 and proposal types 1 to 7 need not be listed.
+/// 3. They list the credential type of each leaf.
 /// 4. No two leaves have one signature key.
-/// 5. The checker takes each leaf's signature as good.
-///
-/// The first rule that fails anywhere is answered, with the smallest leaf at which it fails.
+/// 5. The checker accepts each leaf's signature.
 pub fn validate_members<C: SignatureCheck>(
     alloc: Global,
     suite: u16,
@@ -78,7 +79,7 @@ pub fn validate_members<C: SignatureCheck>(
     checker: &C,
 ) -> Result<(), MemberFault>
     ensures members { OnOk result
-        (Members (C.meaning checker.now) suite group_id.now requirements.now tree.now.tree) }
+        (LeavesAreValid (C.meaning checker.now) suite group_id.now requirements.now tree.now.tree) }
     ensures fault { IfErr result
         (λ e. IsMemberFault (C.meaning checker.now) suite group_id.now requirements.now
         tree.now.tree e) }
@@ -101,7 +102,7 @@ pub fn validate_members<C: SignatureCheck>(
     Ok(())
 }
 
-/// The smallest leaf with an extension that its capabilities don't list.
+/// Returns the smallest leaf index of a leaf with an extension that its capabilities do not list.
 fn first_unlisted_extension(alloc: Global, tree: &PublicTree) -> Result<Option<u32>, OutOfMemory>
     ensures { IfOk result (FindsFailing (λ _ x. supports_own_extensions x) tree.now.tree) }
 {
@@ -115,8 +116,8 @@ fn first_unlisted_extension(alloc: Global, tree: &PublicTree) -> Result<Option<u
     Ok(None)
 }
 
-/// The smallest leaf whose capabilities lack what the group requires.
-fn first_unmet_requirement(
+/// Returns the smallest leaf index of a leaf whose capabilities lack what the group requires (RFC 9420, 7.3).
+pub fn first_unmet_requirement(
     alloc: Global,
     tree: &PublicTree,
     requirements: &RequiredCapabilities,
@@ -124,7 +125,7 @@ fn first_unmet_requirement(
     ensures { IfOk result
         (FindsFailing (λ _ x. supports_required requirements.now x) tree.now.tree) }
 {
-    let rising = RisingRequirements::new(alloc, requirements)?;
+    let rising = SortedRequirements::new(alloc, requirements)?;
     for index in 0..tree.leaf_count() {
         if let Some(leaf) = tree.leaf(index) {
             if !supports_required(alloc, leaf, &rising)? {
@@ -135,8 +136,8 @@ fn first_unmet_requirement(
     Ok(None)
 }
 
-/// Adds the SignContent of a leaf under this label (RFC 9420, 5.1.2), where its LeafNodeTBS takes so many bytes.
-#[tactic(auto, using(mls_wire::specs::Written::written))]
+/// Appends the SignContent of a leaf under this label (RFC 9420, 5.1.2), whose LeafNodeTBS has the given length.
+#[tactic(auto, using(mls_wire::specs::WriteSequences::written))]
 fn put_content(
     alloc: Global,
     label: &str,
@@ -155,9 +156,9 @@ fn put_content(
     put_leaf_tbs(alloc, leaf, group_id, index, draft)
 }
 
-/// Whether a leaf is signed, as [`is_leaf_signed`] tells. What is signed is made in this room, which serves for many
-/// leaves.
-#[tactic(auto, unfolding(crate::specs::Members::is_leaf_signed))]
+/// Returns whether a leaf is signed, as [`is_leaf_signed`]. What is signed is written into `content`, which serves for
+/// many leaves.
+#[tactic(auto, unfolding(crate::specs::LeafValidation::is_leaf_signed))]
 fn is_signed_in<C: SignatureCheck>(
     alloc: Global,
     suite: u16,
@@ -197,7 +198,7 @@ fn is_signed_in<C: SignatureCheck>(
     Ok(checker.good(suite, key, room.as_slice(), leaf.signature.as_slice()))
 }
 
-/// The smallest leaf whose signature isn't good.
+/// Returns the smallest leaf index of a leaf whose signature is not good.
 fn first_unsigned_leaf<C: SignatureCheck>(
     alloc: Global,
     suite: u16,
@@ -219,9 +220,9 @@ fn first_unsigned_leaf<C: SignatureCheck>(
     Ok(None)
 }
 
-/// Whether the leaf of this index has signed its LeafNodeTBS in the group of this id (RFC 9420, 7.2), as the checker
-/// takes it. The group's id and the index count only where the leaf comes from an Update or a Commit. A leaf whose
-/// LeafNodeTBS is too long for a SignContent has not signed it, which is judged before memory is taken.
+/// Returns whether the leaf with this index has signed its LeafNodeTBS in the group with this id (RFC 9420, 7.2), as
+/// the checker verifies it. The group id and the index matter only if the source of the leaf is update or commit. A
+/// leaf whose LeafNodeTBS is too long for a SignContent is not signed, which is checked before anything is allocated.
 pub fn is_leaf_signed<C: SignatureCheck>(
     alloc: Global,
     suite: u16,

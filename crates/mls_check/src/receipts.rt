@@ -1,12 +1,12 @@
-//! Receipts: a file that lists the good signatures by their digests, and the checker that it makes.
+//! Receipts: a file that lists good signatures by their digests, and the checker that it makes.
 //!
-//! Each line has 64 hexadecimal digits, of either case, and is ended by LF, which may be missing on the last line. The
-//! digits are the SHA-256 digest, whatever the suite, of the suite in two bytes and of the key, the signed content and
-//! the signature, each as a vector.
+//! Each line has 64 hexadecimal digits, of either case, and is ended by LF, which the last line may lack. The digits
+//! are the SHA-256 digest, for every suite, of the suite in two bytes and of the key, the signed content and the
+//! signature, each as a vector.
 
 ghost use Rattle.std.specs.Prelude.{◌≡◌, ◌++◌, ℕ, ◌<◌, ◌≤◌, List, ◌∷◌, Bool, Option, Some, None, option_map, length, map, IfOk, IfErr, IfNone, OnSome};
 ghost use Rattle.sha2.specs.Sha256.{sha256};
-ghost use Rattle.mls_wire.specs.Spelling.{length_form, vector};
+ghost use Rattle.mls_wire.specs.Encoding.{length_form, vector};
 ghost use Rattle.mls_wire.specs.Limits.{input_limit, vector_limit};
 ghost use Rattle.mls_check.specs.Receipts.{receipt_input, listed, receipt_lines, digest_of, bad_line, IsReceipts, IsReceiptsFault};
 ghost use Rattle.mls_check.specs.declared.receipts.ReceiptsFault.TheVariants.{BadLine, TooLong, OutOfMemory};
@@ -19,16 +19,16 @@ use std::alloc::{AllocFailed, Global};
 use std::marker::Model;
 use thiserror::Error;
 
-/// Why a file of receipts isn't read.
+/// Why a receipts file cannot be read.
 #[derive(Clone, Copy, Debug, PartialEq, Eq, Error)]
 pub enum ReceiptsFault {
-    /// The first line that isn't 64 hexadecimal digits, counted from 1.
+    /// The first line that is not 64 hexadecimal digits, counted from 1.
     #[error("line {0} is not 64 hexadecimal digits")]
     BadLine(usize),
     /// The file has more than 268,435,456 bytes.
     #[error("the file has more than 268,435,456 bytes")]
     TooLong,
-    /// Memory ran out.
+    /// An allocation failed.
     #[error("out of memory")]
     OutOfMemory,
 }
@@ -44,7 +44,7 @@ impl<T: Drop> From<AllocFailed<T>> for ReceiptsFault {
     }
 }
 
-/// A checker that takes as good the signatures that have a receipt.
+/// A checker that accepts the signatures with a receipt in a list.
 #[derive(Debug, Drop)]
 pub struct Listed {
     digests: Vec<[u8; 32]>,
@@ -64,7 +64,11 @@ impl Model for Listed {
 }
 
 impl Listed {
-    /// The checker of a file of receipts. A file that is too long is refused first, then its first bad line.
+    /// Returns the checker of a receipts file.
+    ///
+    /// # Errors
+    ///
+    /// `TooLong` if the file is over the limit; otherwise `BadLine` with its first bad line; or `OutOfMemory`.
     pub fn read(alloc: Global, bytes: &[u8]) -> Result<Listed, ReceiptsFault>
         ensures listed { IfOk result
             (λ l. (digests : List (List ℕ)) × IsReceipts bytes.now digests
@@ -93,7 +97,7 @@ impl SignatureCheck for Listed {
     }
 }
 
-/// The first line of what isn't empty, and what follows it.
+/// Returns the first line of bytes that are not empty, and what follows it.
 fn split_line(bytes: &[u8]) -> (&[u8], &[u8])
     requires { 0 < length bytes.now }
     ensures line { receipt_lines bytes.now ≡ result.0.now ∷ receipt_lines result.1.now }
@@ -105,8 +109,8 @@ fn split_line(bytes: &[u8]) -> (&[u8], &[u8])
     }
 }
 
-/// The digests on the lines, in their order.
-fn digests_of(alloc: Global, bytes: &[u8]) -> Result<Vec<[u8; 32]>, ReceiptsFault>
+/// Returns the digests on the lines, in their order.
+pub(crate) fn digests_of(alloc: Global, bytes: &[u8]) -> Result<Vec<[u8; 32]>, ReceiptsFault>
     requires { length bytes.now ≤ input_limit }
     ensures digests { IfOk result
         (λ digests. map digest_of (receipt_lines bytes.now)
@@ -126,8 +130,8 @@ fn digests_of(alloc: Global, bytes: &[u8]) -> Result<Vec<[u8; 32]>, ReceiptsFaul
     Ok(digests)
 }
 
-/// Adds the length of a vector, in the shortest of its three forms.
-#[tactic(auto, unfolding(mls_wire::specs::Spelling::length_form))]
+/// Feeds the length of a vector, in the shortest of its three forms.
+#[tactic(auto, unfolding(mls_wire::specs::Encoding::length_form))]
 fn update_length(hasher: &mut Sha256, count: usize)
     requires { count ≤ vector_limit }
     ensures { (m text : List ℕ) → ⟦<Sha256 as Digest>⟧.holds hasher.old m
@@ -142,7 +146,7 @@ fn update_length(hasher: &mut Sha256, count: usize)
     }
 }
 
-/// Adds a vector; None where it is too long for one.
+/// Feeds a vector; `None` if it is too long for one.
 fn update_vector(hasher: &mut Sha256, body: &[u8]) -> Option<()>
     ensures none { IfNone result (vector body.now ≡ None) }
     ensures some { OnSome result
@@ -158,7 +162,8 @@ fn update_vector(hasher: &mut Sha256, body: &[u8]) -> Option<()>
     Some(())
 }
 
-/// The digest that stands in a file of receipts for a good signature; `None` where an argument is too long for a vector.
+/// Returns the receipt of a signature: the digest that is listed if it is good. `None` if an argument is too long for a
+/// vector.
 pub fn receipt(suite: u16, key: &[u8], content: &[u8], signature: &[u8]) -> Option<[u8; 32]>
     ensures { result ≡ option_map sha256 (receipt_input suite key.now content.now signature.now) }
 {

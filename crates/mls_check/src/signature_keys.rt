@@ -2,15 +2,15 @@
 
 ghost use Rattle.std.specs.Prelude.{◌≡◌, ℕ, true, IfOk};
 ghost use Rattle.std.specs.Bool.{OnTrue};
-ghost use Rattle.mls_check.specs.Members.{FindsFailing, all_leaves, has_own_signature_key};
+ghost use Rattle.mls_check.specs.LeafValidation.{FindsFailing, all_leaves, has_own_signature_key};
 
-use crate::beginnings::{all_differ, beginning};
+use crate::key_prefixes::{all_differ, beginning};
 use crate::signatures::OutOfMemory;
 use mls_tree::PublicTree;
 use std::alloc::Global;
 use std::collections::BTreeSet;
 
-/// Whether the beginnings of the leaves' signature keys all differ, and so the keys.
+/// Returns whether the 8-byte prefixes of the leaves' signature keys are distinct. Then so are the keys.
 fn has_distinct_beginnings(alloc: Global, tree: &PublicTree) -> Result<bool, OutOfMemory>
     ensures { IfOk result (λ distinct. OnTrue distinct
         (all_leaves (has_own_signature_key tree.now.tree) 0 tree.now.tree ≡ true)) }
@@ -25,8 +25,8 @@ fn has_distinct_beginnings(alloc: Global, tree: &PublicTree) -> Result<bool, Out
     Ok(all_differ(beginnings))
 }
 
-/// The smallest leaf whose signature key another leaf has too. It is the last one met, going down
-/// from the last leaf, whose key a later leaf has.
+/// Returns the smallest leaf index of a leaf whose signature key another leaf has. It is the last one found in a walk
+/// from the last leaf down, whose key a later leaf has.
 fn first_repeated_by_set(alloc: Global, tree: &PublicTree) -> Result<Option<u32>, OutOfMemory>
     ensures { IfOk result (FindsFailing (has_own_signature_key tree.now.tree) tree.now.tree) }
 {
@@ -42,9 +42,9 @@ fn first_repeated_by_set(alloc: Global, tree: &PublicTree) -> Result<Option<u32>
     Ok(repeated)
 }
 
-/// The smallest leaf whose signature key another leaf has too. Nearly always there is none, which
-/// the keys' beginnings tell without a set of the keys.
-pub(crate) fn first_repeated_signature_key(
+/// Returns the smallest leaf index of a leaf whose signature key another leaf has (RFC 9420, 7.3). Nearly always there
+/// is none, and the prefixes of the keys show it.
+pub fn first_repeated_signature_key(
     alloc: Global,
     tree: &PublicTree,
 ) -> Result<Option<u32>, OutOfMemory>

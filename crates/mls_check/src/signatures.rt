@@ -1,27 +1,28 @@
-//! Signatures (RFC 9420, 5.1.2), which a checker that the caller hands in judges.
+//! Signatures (RFC 9420, 5.1.2), which a checker verifies that the caller supplies.
 
 ghost use Rattle.std.specs.Prelude.{◌≡◌, ℕ, List, Bool, true, IfOk, IsErr, IsSome};
 ghost use Rattle.mls_check.specs.Signatures.{is_signed, sign_content};
-ghost use Rattle.mls_wire.specs.Reading.{seen};
-ghost use Rattle.mls_wire.specs.Writing.{Makes};
+ghost use Rattle.mls_wire.specs.ReadContracts.{seen};
+ghost use Rattle.mls_wire.specs.WriteContracts.{Makes};
 
 use mls_wire::{CodecFault, Draft, MAX_BODY};
 use std::alloc::{AllocError, AllocFailed, Global};
 use thiserror::Error;
 
-/// Says whether a signature is good. The arithmetic of the signature schemes is the checker's own. Its type is a parameter
-/// of whoever asks it; a checker that is picked at run time is an enum of the ones to pick from.
+/// Verifies signatures. How, is for the implementor. The type of a checker is a parameter of the calls that use it. A
+/// checker that is chosen at run time is an enum.
 pub trait SignatureCheck: Drop {
-    /// What the checker says of a cipher suite, a public key, a signed content and a signature.
+    /// The verification function: whether a signature is good, from a cipher suite, a public key, a signed content and
+    /// the signature.
     ghost meaning: { Self → ℕ → List ℕ → List ℕ → List ℕ → Bool };
 
-    /// Whether `signature` is good for `content`, a SignContent (RFC 9420, 5.1.2), under the public key `key` in the
-    /// cipher suite `suite`.
+    /// Returns whether `signature` is good for `content`, a SignContent (RFC 9420, 5.1.2), under the public key `key`
+    /// in the cipher suite `suite`.
     fn good(&self, suite: u16, key: &[u8], content: &[u8], signature: &[u8]) -> bool
         ensures { result ≡ meaning self.now suite key.now content.now signature.now };
 }
 
-/// A checker that takes each signature as good.
+/// A checker that accepts each signature.
 #[derive(Clone, Copy, Debug)]
 pub struct Trusting;
 
@@ -33,7 +34,7 @@ impl SignatureCheck for Trusting {
     }
 }
 
-/// Memory ran out.
+/// An allocation failed.
 #[derive(Clone, Copy, Debug, PartialEq, Eq, Error)]
 #[error("out of memory")]
 pub struct OutOfMemory;
@@ -54,9 +55,12 @@ impl From<AllocError> for OutOfMemory {
     }
 }
 
-/// The SignContent of a label and a content (RFC 9420, 5.1.2). The fault is one of the vectors that are too long, or want
-/// of memory.
-#[tactic(auto, using(mls_wire::specs::Written::written), unfolding(crate::specs::Signatures::sign_content))]
+/// Returns the SignContent of a label and a content (RFC 9420, 5.1.2).
+///
+/// # Errors
+///
+/// `TooLong` if a part is over the limit of a vector, or `OutOfMemory`.
+#[tactic(auto, using(mls_wire::specs::WriteSequences::written), unfolding(crate::specs::Signatures::sign_content))]
 pub fn sign_content(alloc: Global, label: &str, content: &[u8]) -> Result<Vec<u8>, CodecFault>
     ensures { Makes (sign_content label.now content.now) (seen (λ v. v.items) result) }
 {
@@ -66,9 +70,9 @@ pub fn sign_content(alloc: Global, label: &str, content: &[u8]) -> Result<Vec<u8
     Ok(draft.finish())
 }
 
-/// VerifyWithLabel (RFC 9420, 5.1.2): whether the checker takes `signature` as good for the bytes `tbs` under the label
-/// `label`, which begins with `MLS 1.0 `. Bytes that are too long for a SignContent count as not signed, which is judged
-/// before memory is taken.
+/// VerifyWithLabel (RFC 9420, 5.1.2): returns whether the checker accepts `signature` for the bytes `tbs` under the
+/// label `label`, which begins with `MLS 1.0 `. Bytes that are too long for a SignContent are not signed, which is
+/// checked before anything is allocated.
 pub fn signed<C: SignatureCheck>(
     alloc: Global,
     checker: &C,

@@ -1,6 +1,6 @@
 use Rattle.std.proofs.Common.{rules}
 use Rattle.std.proofs.lemmas.Result.{err_from_is_err_and}
-use Rattle.mls_tree.specs.KeptTree.{plain}
+use Rattle.mls_tree.specs.PublicTreeModel.{plain}
 use Rattle.mls_check.proofs.GroupTrees.{tree_fails, members_fail, all_members}
 use Rattle.mls_check.proofs.group_tree.judge_tree.Goals as goal
 

@@ -3,7 +3,7 @@ use Rattle.mls_wire.specs.declared.fault.CodecFault.TheVariants.{Wire}
 use Rattle.mls_wire.specs.declared.fault.WireFault.{WireFault}
 use Rattle.mls_nodes.specs.Requirements.{FindsRequirements}
 use Rattle.mls_nodes.specs.declared.required_capabilities.RequiredCapabilities.{RequiredCapabilities}
-use Rattle.mls_tree.specs.KeptTree.{plain}
+use Rattle.mls_tree.specs.PublicTreeModel.{plain}
 use Rattle.mls_check.proofs.GroupTrees.{requirements_fail}
 use Rattle.mls_check.proofs.group_tree.validate_group_tree.Goals as goal
 

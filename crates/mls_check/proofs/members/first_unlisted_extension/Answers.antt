@@ -1,5 +1,5 @@
 use Rattle.std.proofs.Common.{arith}
-use Rattle.mls_check.specs.Members.{supports_own_extensions}
+use Rattle.mls_check.specs.LeafValidation.{supports_own_extensions}
 use Rattle.mls_check.proofs.Leaves.{all_leaves-below}
 use Rattle.mls_check.proofs.members.first_unlisted_extension.Goals as goal
 

@@ -1,4 +1,4 @@
-use Rattle.mls_check.specs.Members.{supports_own_extensions}
+use Rattle.mls_check.specs.LeafValidation.{supports_own_extensions}
 use Rattle.mls_check.proofs.Leaves.{HoldsBelow}
 use Rattle.mls_check.proofs.members.first_unlisted_extension.Given as goal
 

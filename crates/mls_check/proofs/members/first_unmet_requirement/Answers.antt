@@ -1,5 +1,5 @@
 use Rattle.std.proofs.Common.{sym, ◌∙◌, arith}
-use Rattle.mls_check.specs.Members.{supports_required}
+use Rattle.mls_check.specs.LeafValidation.{supports_required}
 use Rattle.mls_check.proofs.Leaves.{all_leaves-below}
 use Rattle.mls_check.proofs.members.first_unmet_requirement.Goals as goal
 

@@ -1,5 +1,5 @@
-use Rattle.mls_check.specs.Members.{supports_required}
-use Rattle.mls_check.specs.Requirements.{requirements_of}
+use Rattle.mls_check.specs.LeafValidation.{supports_required}
+use Rattle.mls_check.specs.SortedRequirements.{requirements_of}
 use Rattle.mls_check.proofs.Leaves.{HoldsBelow}
 use Rattle.mls_check.proofs.members.first_unmet_requirement.Given as goal
 

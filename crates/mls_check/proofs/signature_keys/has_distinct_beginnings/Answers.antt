@@ -1,8 +1,8 @@
 use Rattle.std.proofs.Common.{◌≡◌, ◌∙◌, true, ap, sym, subst, arith}
 use Rattle.std.specs.Prelude.{option_copied}
 use Rattle.mls_tree.specs.Tree.{leaf_count}
-use Rattle.mls_check.specs.Beginnings.{beginning}
-use Rattle.mls_check.specs.Members.{all_leaves, has_own_signature_key}
+use Rattle.mls_check.specs.KeyPrefix.{beginning}
+use Rattle.mls_check.specs.LeafValidation.{all_leaves, has_own_signature_key}
 use Rattle.mls_check.proofs.Differing.{AreApart, Begun-blank, Begun-key, apart-answered}
 use Rattle.mls_check.proofs.Keys.{signature_key_at, signature_key-set, signature_key-blank, own_keys-apart}
 use Rattle.mls_check.proofs.signature_keys.has_distinct_beginnings.Goals as goal

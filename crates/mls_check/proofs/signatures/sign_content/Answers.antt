@@ -1,6 +1,6 @@
 use Rattle.std.proofs.Common.{◌∙◌}
-use Rattle.mls_wire.specs.Spelling.{vector}
-use Rattle.mls_wire.specs.Written.{after_then}
+use Rattle.mls_wire.specs.Encoding.{vector}
+use Rattle.mls_wire.specs.WriteSequences.{after_then}
 use Rattle.mls_nodes.proofs.Drafted.{drafted}
 use Rattle.mls_check.specs.Signatures.{sign_content}
 use Rattle.mls_check.proofs.signatures.sign_content.Goals as goal

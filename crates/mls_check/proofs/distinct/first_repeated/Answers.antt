@@ -1,4 +1,0 @@
-use Rattle.mls_check.proofs.distinct.first_repeated.Goals as goal
-
-pub returns-then-branch : goal.returns-then-branch
-returns-then-branch c = rw c.if-branch.true at c.in_ok-has_distinct_beginnings.ensures

@@ -1,6 +1,0 @@
-use Rattle.std.proofs.Common.{ℕ, ◌<◌}
-use Rattle.mls_check.specs.Marks.{IsMarkedAt}
-use Rattle.mls_check.proofs.reached.first_unmarked.Given as goal
-
-abbrev pub invariant-loop-place : goal.invariant-loop-place
-invariant-loop-place l = (p : ℕ) → p < l.place → IsMarkedAt l.tree.tree l.reached p

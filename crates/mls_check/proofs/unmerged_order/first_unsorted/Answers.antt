@@ -1,0 +1,8 @@
+use Rattle.std.proofs.Common.{arith}
+use Rattle.mls_check.proofs.Placing.{sorted_everywhere}
+use Rattle.mls_check.proofs.unmerged_order.first_unsorted.Goals as goal
+
+pub returns : goal.returns
+returns c =
+    sorted_everywhere c.args.tree.now.tree c.place_count-place-end.result c.place_count-place-end.ensures.count
+    (λ p l. c.loop-place.invariant p (omega arith))

@@ -1,0 +1,118 @@
+//! What a leaf node's capabilities support (RFC 9420, 7.2).
+
+ghost use Rattle.std.specs.Prelude.{◌≡◌, ◌||◌, IfOk};
+ghost use Rattle.std.specs.List.{list_all};
+ghost use Rattle.std.specs.List.Sorted.{IsStrictlyIncreasing};
+ghost use Rattle.mls_check.specs.LeafValidation.{is_default_extension, is_default_proposal, lists_code, supports_extension, supports_proposal, supports_credential, supports_own_extensions, supports_required};
+ghost use Rattle.mls_check.specs.SortedRequirements.{requirements_of};
+
+use crate::signatures::OutOfMemory;
+use crate::sorted_codes::{has_code, rising_codes};
+use crate::sorted_requirements::SortedRequirements;
+use mls_nodes::LeafNode;
+use std::alloc::Global;
+
+/// Returns whether an extension type is supported if these are listed. The types 1 to 5 need not be listed.
+fn supports_extension(listed: &[u16], kind: u16) -> bool
+    requires { IsStrictlyIncreasing listed.now }
+    ensures { result ≡ (is_default_extension kind || lists_code listed.now kind) }
+{
+    let is_default = 0 < kind && kind <= 5;
+    is_default || has_code(listed, kind)
+}
+
+/// Returns whether a proposal type is supported if these are listed. The types 1 to 7 need not be listed.
+fn supports_proposal(listed: &[u16], kind: u16) -> bool
+    requires { IsStrictlyIncreasing listed.now }
+    ensures { result ≡ (is_default_proposal kind || lists_code listed.now kind) }
+{
+    let is_default = 0 < kind && kind <= 7;
+    is_default || has_code(listed, kind)
+}
+
+/// Returns whether a leaf supports a credential type.
+pub(crate) fn supports_credential(leaf: &LeafNode, kind: u16) -> bool
+    ensures { result ≡ supports_credential leaf.now kind }
+{
+    leaf.capabilities.credentials.as_slice().contains(&kind)
+}
+
+/// Returns whether a leaf supports the types of its own extensions (RFC 9420, 7.2 and 7.3): its capabilities list each
+/// of them, or it is one of the types 1 to 5. Allocates only for a leaf with extensions.
+///
+/// # Errors
+///
+/// `OutOfMemory`.
+#[tactic(auto, unfolding(crate::specs::LeafValidation::supports_own_extensions))]
+pub fn supports_own_extensions(alloc: Global, leaf: &LeafNode) -> Result<bool, OutOfMemory>
+    ensures { IfOk result (λ all. all ≡ supports_own_extensions leaf.now) }
+{
+    if leaf.extensions.as_slice().is_empty() {
+        return Ok(true);
+    }
+    let codes = rising_codes(alloc, leaf.capabilities.extensions.as_slice())?;
+    let listed = codes.as_slice();
+    let mut extensions = leaf.extensions.as_slice().iter();
+    Ok(extensions.all(|extension| supports_extension(listed, extension.kind)))
+}
+
+/// Returns whether a leaf supports these extension types.
+fn supports_extensions(alloc: Global, leaf: &LeafNode, kinds: &[u16]) -> Result<bool, OutOfMemory>
+    ensures { IfOk result (λ all. all ≡ list_all (supports_extension leaf.now) kinds.now) }
+{
+    if kinds.is_empty() {
+        return Ok(true);
+    }
+    let codes = rising_codes(alloc, leaf.capabilities.extensions.as_slice())?;
+    let listed = codes.as_slice();
+    Ok(kinds.iter().all(|&kind| supports_extension(listed, kind)))
+}
+
+/// Returns whether a leaf supports these proposal types.
+fn supports_proposals(alloc: Global, leaf: &LeafNode, kinds: &[u16]) -> Result<bool, OutOfMemory>
+    ensures { IfOk result (λ all. all ≡ list_all (supports_proposal leaf.now) kinds.now) }
+{
+    if kinds.is_empty() {
+        return Ok(true);
+    }
+    let codes = rising_codes(alloc, leaf.capabilities.proposals.as_slice())?;
+    let listed = codes.as_slice();
+    Ok(kinds.iter().all(|&kind| supports_proposal(listed, kind)))
+}
+
+/// Returns whether a leaf supports these credential types.
+fn supports_credentials(alloc: Global, leaf: &LeafNode, kinds: &[u16]) -> Result<bool, OutOfMemory>
+    ensures { IfOk result (λ all. all ≡ list_all (supports_credential leaf.now) kinds.now) }
+{
+    if kinds.is_empty() {
+        return Ok(true);
+    }
+    let codes = rising_codes(alloc, leaf.capabilities.credentials.as_slice())?;
+    let listed = codes.as_slice();
+    Ok(kinds.iter().all(|&kind| has_code(listed, kind)))
+}
+
+/// Returns whether a leaf supports what the group requires (RFC 9420, 11.1): its capabilities list each type of
+/// extension, proposal and credential, except the extension types 1 to 5 and the proposal types 1 to 7. Allocates a
+/// copy of each list of which something is required.
+///
+/// # Errors
+///
+/// `OutOfMemory`.
+#[tactic(auto, unfolding(crate::specs::LeafValidation::supports_required))]
+pub fn supports_required(
+    alloc: Global,
+    leaf: &LeafNode,
+    requirements: &SortedRequirements,
+) -> Result<bool, OutOfMemory>
+    ensures { IfOk result
+        (λ all. all ≡ supports_required (requirements_of requirements.now) leaf.now) }
+{
+    if !supports_extensions(alloc, leaf, requirements.extensions.as_slice())? {
+        return Ok(false);
+    }
+    if !supports_proposals(alloc, leaf, requirements.proposals.as_slice())? {
+        return Ok(false);
+    }
+    supports_credentials(alloc, leaf, requirements.credentials.as_slice())
+}

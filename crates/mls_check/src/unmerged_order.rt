@@ -1,0 +1,38 @@
+//! Whether every unmerged list is strictly increasing.
+
+ghost use Rattle.std.specs.Prelude.{◌≡◌, ◌↔◌, IsTrue};
+ghost use Rattle.std.specs.List.Sorted.{IsStrictlyIncreasing};
+ghost use Rattle.mls_check.specs.FirstFailure.{IsFirstFailureIn};
+ghost use Rattle.mls_check.specs.UnmergedLists.{IsSortedAt};
+
+use crate::node_count::place_count;
+use mls_tree::PublicTree;
+
+/// Returns whether each number is below the next.
+fn is_strictly_increasing(numbers: &[u32]) -> bool
+    ensures { IsTrue result ↔ IsStrictlyIncreasing numbers.now }
+{
+    numbers.is_sorted_by(|lower, upper| *lower < *upper)
+}
+
+/// Returns whether the unmerged list of the parent at a node index, if it has one, is strictly increasing.
+fn is_sorted_at(tree: &PublicTree, place: u32) -> bool
+    ensures { IsTrue result ↔ IsSortedAt tree.now.tree place }
+{
+    match tree.parent(place) {
+        Some(parent) => is_strictly_increasing(parent.unmerged.as_slice()),
+        None => true,
+    }
+}
+
+/// Returns the first node index of a parent whose unmerged list is not strictly increasing.
+pub(crate) fn first_unsorted(tree: &PublicTree) -> Option<u32>
+    ensures { IsFirstFailureIn (IsSortedAt tree.now.tree) result }
+{
+    for place in 0..place_count(tree) {
+        if !is_sorted_at(tree, place) {
+            return Some(place);
+        }
+    }
+    None
+}

@@ -1,5 +1,5 @@
 -- What the nodes that changed say of the whole tree.
-use Rattle.std.proofs.Common.{◌≡◌, ◌≢◌, ◌↔◌, ◌∙◌, ℕ, ◌*◌, List, Bool, true, false, not, ◌||◌, Option, Some, None, eqb, inl, inr, refl, sym, ap, arith}
+use Rattle.std.proofs.Common.{◌≡◌, ◌≢◌, ◌∙◌, ℕ, ◌*◌, List, Bool, true, false, not, ◌||◌, Some, None, eqb, inl, inr, refl, sym, ap, arith}
 use Rattle.std.specs.Str.{bytes_eq}
 use Rattle.std.proofs.lemmas.Bool.{cases_Bool, false≢true}
 use Rattle.std.proofs.lemmas.Bool.Decides.{nat_tests}
@@ -7,15 +7,16 @@ use Rattle.std.proofs.lemmas.Slice.Eq.{bytes_eq-Decides}
 use Rattle.mls_nodes.specs.declared.leaf.LeafNode.{LeafNode}
 use Rattle.mls_nodes.specs.declared.required_capabilities.RequiredCapabilities.{RequiredCapabilities}
 use Rattle.mls_tree.specs.Tree.{Tree, leaf_at}
-use Rattle.mls_tree.specs.ChangedPlaces.{HaveSameNodesBut}
-use Rattle.mls_check.specs.Distinct.{key_at, encryption_key, HaveOneKey, HasOwnKeyAt, IsDistinct}
-use Rattle.mls_check.specs.Members.{all_leaves, member_rule, supports_own_extensions, supports_required, supports_used_credentials, has_own_signature_key, is_leaf_signed, Members}
-use Rattle.mls_check.specs.Signatures.{Meaning}
+use Rattle.mls_tree.specs.ChangedNodes.{AgreeExceptAt}
+use Rattle.mls_check.specs.DistinctKeys.{HasOwnKeyAt, IsDistinct}
+use Rattle.mls_check.specs.LeafValidation.{all_leaves, member_rule, supports_own_extensions, supports_required, has_own_signature_key, is_leaf_signed, LeavesAreValid}
+use Rattle.mls_check.specs.Signatures.{VerifyFn}
 use Rattle.mls_check.proofs.Leaves.{all_leaves-from, all_leaves-at}
 use Rattle.mls_check.proofs.Rules.{extensions_hold, requirements_hold, credentials_hold, keys_hold, signatures_hold}
-use Rattle.mls_index.specs.Changed.{lists_place, AreOwnKeys, ChangedNodesSuffice, KeepsOwnRules, KeepRules, SupportCredentials, AreNewMembers, ChangedMembersSuffice}
-use Rattle.mls_index.specs.Keyed.{IsOwnKey, keyed, node_key}
-use Rattle.mls_index.specs.declared.keyed.KeyKind.TheVariants.{Encryption, Signature}
+use Rattle.mls_index.specs.IncrementalCheck.{lists_place, AreOwnKeys, ChangedNodesDecideKeys, SupportCredentials, AreNewMembers, ChangedLeavesDecideValidity}
+use Rattle.mls_index.specs.FirstChanged.{ChangedLeavesFindFailing}
+use Rattle.mls_index.specs.NodeKeys.{IsOwnKey, node_key}
+use Rattle.mls_index.specs.declared.node_key.KeyKind.TheVariants.{Encryption, Signature}
 use Rattle.mls_index.proofs.Standing.{same_leaf, leaf-keyed, signer}
 
 -- ---- encryption keys
@@ -26,7 +27,7 @@ own_key-at t p own q other twins = own q twins.key other twins.here twins.there
 at-own_key : (t : Tree) (p : ℕ) → HasOwnKeyAt t p → IsOwnKey Encryption t p
 at-own_key t p own q key other here there = own q other (record { key = key; here = here; there = there })
 
-module _ (places : List ℕ) (old new : Tree) (same : HaveSameNodesBut places old new) (distinct : IsDistinct old) where
+module _ (places : List ℕ) (old new : Tree) (same : AgreeExceptAt places old new) (distinct : IsDistinct old) where
   -- of two places with one key, neither changed
   unchanged_twins : AreOwnKeys Encryption places new → IsDistinct new
   unchanged_twins own p q other twins =
@@ -43,7 +44,7 @@ module _ (places : List ℕ) (old new : Tree) (same : HaveSameNodesBut places ol
         ]
       ]
 
-pub changed_keys : ChangedNodesSuffice
+pub changed_keys : ChangedNodesDecideKeys
 changed_keys places old new same distinct = (λ all p here. at-own_key new p (all p), unchanged_twins places old new same distinct)
 
 -- ---- leaves
@@ -52,7 +53,7 @@ changed_keys places old new same distinct = (λ all p here. at-own_key new p (al
 all_leaves-each : (test : ℕ → LeafNode → Bool) (t : Tree) → ((i : ℕ) (x : LeafNode) → leaf_at 0 t i ≡ Some x → test i x ≡ true) → all_leaves test 0 t ≡ true
 all_leaves-each test t h = all_leaves-from test 0 t (λ i x from low set. h i x set)
 
-module _ (places : List ℕ) (old new : Tree) (same : HaveSameNodesBut places old new) where
+module _ (places : List ℕ) (old new : Tree) (same : AgreeExceptAt places old new) where
   same_leaf-at : (i : ℕ) → lists_place places (2 * i) ≡ false → leaf_at 0 new i ≡ leaf_at 0 old i
   same_leaf-at i off = same_leaf old new i (same (2 * i) off)
 
@@ -64,6 +65,19 @@ module _ (places : List ℕ) (old new : Tree) (same : HaveSameNodesBut places ol
         | inl here ↦ now i x here set
         | inr kept ↦ all_leaves-at test 0 old was i x (sym (same_leaf-at i kept) ∙ set)
       ])
+
+-- the first leaf that fails it
+pub changed_first : ChangedLeavesFindFailing
+changed_first test places old new same was None h = changed_leaves places old new same test was h
+changed_first test places old new same was (Some i) h = record {
+  node = h.node;
+  set = h.set;
+  fails = h.fails;
+  smaller = λ j x low there. elim (cases_Bool (lists_place places (2 * j))) [
+    | inl here ↦ h.smaller j x low here there
+    | inr kept ↦ all_leaves-at test 0 old was j x (sym (same_leaf-at places old new same j kept) ∙ there)
+  ];
+}
 
 -- ---- signature keys
 
@@ -113,8 +127,8 @@ leaves-own_place t own p q key other here there =
     own_key-apart t a.at.index a.leaf (all_leaves-at (has_own_signature_key t) 0 t own a.at.index a.leaf a.at.is) b.at.index b.leaf b.at.is
     (λ e. other (b.at.place ∙ ap (λ i. 2 * i) e ∙ sym a.at.place)) (b.has ∙ sym a.has)
 
-module _ (places : List ℕ) (old new : Tree) (same : HaveSameNodesBut places old new) where
-  changed_signature_keys : all_leaves (has_own_signature_key old) 0 old ≡ true → AreOwnKeys Signature places new
+module _ (places : List ℕ) (old new : Tree) (same : AgreeExceptAt places old new) where
+  pub changed_signature_keys : all_leaves (has_own_signature_key old) 0 old ≡ true → AreOwnKeys Signature places new
       → all_leaves (has_own_signature_key new) 0 new ≡ true
   changed_signature_keys was own =
       all_leaves-each (has_own_signature_key new) new (λ i x set. elim (cases_Bool (lists_place places (2 * i))) [
@@ -129,12 +143,12 @@ module _ (places : List ℕ) (old new : Tree) (same : HaveSameNodesBut places ol
 
 -- ---- members
 
-module _ (G : Meaning) (suite : ℕ) (group_id : List ℕ) (required : RequiredCapabilities) (t : Tree) (m : Members G suite group_id required t) where
-  members-extensions : all_leaves (λ _ x. supports_own_extensions x) 0 t ≡ true
+module _ (G : VerifyFn) (suite : ℕ) (group_id : List ℕ) (required : RequiredCapabilities) (t : Tree) (m : LeavesAreValid G suite group_id required t) where
+  pub members-extensions : all_leaves (λ _ x. supports_own_extensions x) 0 t ≡ true
   unfolding member_rule
   members-extensions = m.rules 1
 
-  members-requirements : all_leaves (λ _ x. supports_required required x) 0 t ≡ true
+  pub members-requirements : all_leaves (λ _ x. supports_required required x) 0 t ≡ true
   unfolding member_rule
   members-requirements = m.rules 2
 
@@ -142,27 +156,27 @@ module _ (G : Meaning) (suite : ℕ) (group_id : List ℕ) (required : RequiredC
   unfolding member_rule
   members-credentials = m.rules 3
 
-  members-keys : all_leaves (has_own_signature_key t) 0 t ≡ true
+  pub members-keys : all_leaves (has_own_signature_key t) 0 t ≡ true
   unfolding member_rule
   members-keys = m.rules 4
 
-  members-signatures : all_leaves (is_leaf_signed G suite group_id) 0 t ≡ true
+  pub members-signatures : all_leaves (is_leaf_signed G suite group_id) 0 t ≡ true
   unfolding member_rule
   members-signatures = m.rules 5
 
-members-from : (G : Meaning) (suite : ℕ) (group_id : List ℕ) (required : RequiredCapabilities) (t : Tree)
+members-from : (G : VerifyFn) (suite : ℕ) (group_id : List ℕ) (required : RequiredCapabilities) (t : Tree)
     → all_leaves (λ _ x. supports_own_extensions x) 0 t ≡ true → all_leaves (λ _ x. supports_required required x) 0 t ≡ true
     → SupportCredentials t → all_leaves (has_own_signature_key t) 0 t ≡ true
-    → all_leaves (is_leaf_signed G suite group_id) 0 t ≡ true → Members G suite group_id required t
+    → all_leaves (is_leaf_signed G suite group_id) 0 t ≡ true → LeavesAreValid G suite group_id required t
 members-from G suite group_id required t a b c d e =
     signatures_hold G suite group_id required t
     (keys_hold G suite group_id required t
     (credentials_hold G suite group_id required t
     (requirements_hold G suite group_id required t (extensions_hold G suite group_id required t a) b) c) d) e
 
-module _ (G : Meaning) (suite : ℕ) (group_id : List ℕ) (required : RequiredCapabilities) (places : List ℕ) (old new : Tree)
-    (same : HaveSameNodesBut places old new) where
-  new_members : Members G suite group_id required old → AreNewMembers G suite group_id required places new → Members G suite group_id required new
+module _ (G : VerifyFn) (suite : ℕ) (group_id : List ℕ) (required : RequiredCapabilities) (places : List ℕ) (old new : Tree)
+    (same : AgreeExceptAt places old new) where
+  new_members : LeavesAreValid G suite group_id required old → AreNewMembers G suite group_id required places new → LeavesAreValid G suite group_id required new
   new_members m h =
       members-from G suite group_id required new
       (changed_leaves places old new same (λ _ x. supports_own_extensions x) (members-extensions G suite group_id required old m) (λ i x here set. (h.own i x here set).extensions))
@@ -171,7 +185,7 @@ module _ (G : Meaning) (suite : ℕ) (group_id : List ℕ) (required : RequiredC
       (changed_signature_keys places old new same (members-keys G suite group_id required old m) h.keys)
       (changed_leaves places old new same (is_leaf_signed G suite group_id) (members-signatures G suite group_id required old m) (λ i x here set. (h.own i x here set).signed))
 
-  are_new_members : Members G suite group_id required new → AreNewMembers G suite group_id required places new
+  are_new_members : LeavesAreValid G suite group_id required new → AreNewMembers G suite group_id required places new
   are_new_members m = record {
     own = λ i x here set. record {
       extensions = all_leaves-at (λ _ x. supports_own_extensions x) 0 new (members-extensions G suite group_id required new m) i x set;
@@ -182,6 +196,6 @@ module _ (G : Meaning) (suite : ℕ) (group_id : List ℕ) (required : RequiredC
     credentials = members-credentials G suite group_id required new m;
   }
 
-pub changed_members : ChangedMembersSuffice
+pub changed_members : ChangedLeavesDecideValidity
 changed_members G suite group_id required places old new same m =
     (are_new_members G suite group_id required places old new same, new_members G suite group_id required places old new same m)

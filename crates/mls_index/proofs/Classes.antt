@@ -5,7 +5,7 @@ use Rattle.std.proofs.lemmas.List.{get_or_past, set-set, set-get_or}
 use Rattle.mls_nodes.specs.declared.leaf.LeafNode.{LeafNode}
 use Rattle.mls_tree.specs.Tree.{Tree, leaf_count, leaf_at}
 use Rattle.mls_check.proofs.Leaves.{leaf_at-low}
-use Rattle.mls_index.specs.LeafClasses.{LeafClass, blank_class, class_of, class_at, AreClassesOf, taken_back}
+use Rattle.mls_index.specs.LeafCredentials.{LeafClass, blank_class, class_of, class_at, AreClassesOf, taken_back}
 
 pub same_classes : (t : Tree) (xs ys : List LeafClass) → ys ≡ xs → AreClassesOf t xs → AreClassesOf t ys
 same_classes t xs ys e h = subst (AreClassesOf t) (sym e) h

@@ -6,9 +6,9 @@ use Rattle.std.proofs.lemmas.Bool.{cases_eq, cases_lt}
 use Rattle.std.proofs.lemmas.Bool.Decides.{nat_tests}
 use Rattle.std.proofs.lemmas.List.{get_or-set_same, get_or-set_other, get_or_append_left, get_or_push, length_push, nil_from_length}
 use Rattle.mls_tree.specs.Tree.{Tree, leaf_count, leaf_at}
-use Rattle.mls_tree.specs.ChangedPlaces.{HaveSameNodesBut}
-use Rattle.mls_index.specs.LeafClasses.{LeafClass, blank_class, class_of, class_at, taken_back}
-use Rattle.mls_index.specs.CredentialCounts.{Count, AreSettledWith, AreCountsOf, CountBut, IsFilled}
+use Rattle.mls_tree.specs.ChangedNodes.{AgreeExceptAt}
+use Rattle.mls_index.specs.LeafCredentials.{LeafClass, blank_class, class_of, class_at, taken_back}
+use Rattle.mls_index.specs.CredentialCounts.{Count, HaveBase, AreCountsOf, CountBut, IsFilled}
 use Rattle.mls_index.specs.declared.credential_counts.CredentialCounts.{CredentialCounts}
 use Rattle.mls_index.proofs.Classes.{same_classes, class-beyond}
 use Rattle.mls_index.proofs.Standing.{same_leaf}
@@ -46,14 +46,14 @@ filled-all t n c e h = record {
 
 -- ---- settled counts
 
-pub settled-counts : (t : Tree) (c : CredentialCounts) → AreSettledWith t c → length c.replaced.items ≡ 0 → AreCountsOf t c
+pub settled-counts : (t : Tree) (c : CredentialCounts) → HaveBase t c → length c.replaced.items ≡ 0 → AreCountsOf t c
 settled-counts t c h none = record {
   counted = same_classes t (taken_back c.replaced.items c.classes.list.items) c.classes.list.items (ap (λ es. taken_back es c.classes.list.items) (sym (nil_from_length c.replaced.items none))) h;
   none_replaced = none;
 }
 
 -- counts of a tree are settled with it
-pub counts-settled : (t : Tree) (c : CredentialCounts) → AreCountsOf t c → AreSettledWith t c
+pub counts-settled : (t : Tree) (c : CredentialCounts) → AreCountsOf t c → HaveBase t c
 counts-settled t c h =
     same_classes t c.classes.list.items (taken_back c.replaced.items c.classes.list.items) (ap (λ es. taken_back es c.classes.list.items) (nil_from_length c.replaced.items h.none_replaced)) h.counted
 
@@ -90,5 +90,5 @@ pub but-none : (t : Tree) (c : CredentialCounts) → CountBut [] t c → Count t
 but-none t c h = record { at = λ i. h.at i refl }
 
 -- a tree that differs at some places
-pub but-changed : (places : List ℕ) (old new : Tree) (c : CredentialCounts) → HaveSameNodesBut places old new → Count old c → CountBut places new c
+pub but-changed : (places : List ℕ) (old new : Tree) (c : CredentialCounts) → AgreeExceptAt places old new → Count old c → CountBut places new c
 but-changed places old new c same h = record { at = λ i off. h.at i ∙ ap class_of (sym (same_leaf old new i (same (2 * i) off))) }

@@ -1,5 +1,5 @@
 -- Entries of a beginning and a place, in sets and in lists.
-use Rattle.std.proofs.Common.{◌≡◌, ◌≢◌, ◌∙◌, ◌⊎◌, ℕ, ◌≤◌, List, [], ◌∷◌, ◌++◌, Bool, true, false, cond, Option, Some, None, Ordering, eqb, inl, inr, refl, sym, ap, subst, arith, BTreeSet}
+use Rattle.std.proofs.Common.{◌≡◌, ◌≢◌, ◌∙◌, ◌⊎◌, ℕ, ◌≤◌, List, [], ◌∷◌, ◌++◌, Bool, true, false, cond, eqb, inl, inr, refl, sym, ap, subst, arith, BTreeSet}
 use Rattle.std.specs.Prelude.{◌||◌, ◌&&◌}
 use Rattle.std.specs.List.{list_any, filter}
 use Rattle.std.specs.BTreeSet.{contains, Updates, IsUnchanged, keys_between}
@@ -7,11 +7,10 @@ use Rattle.std.specs.BTreeMap.{is_at}
 use Rattle.std.specs.BTreeMap.Range.{range_contains}
 use Rattle.std.specs.declared.ops.Bound.{Bound}
 use Rattle.std.specs.declared.ops.Bound.TheVariants.{Included}
-use Rattle.std.specs.Ordering.{nat_cmp, ordering_then, is_eq, is_gt}
 use Rattle.std.proofs.lemmas.Bool.{cases_Bool, cases_eq, false≢true, and_parts}
 use Rattle.std.proofs.lemmas.Bool.Decides.{nat_tests}
 use Rattle.std.proofs.lemmas.List.Folds.{list_any-append}
-use Rattle.mls_index.specs.Changed.{lists_place}
+use Rattle.mls_index.specs.IncrementalCheck.{lists_place}
 use Rattle.mls_index.specs.KeyTable.{entry_cmp, has_entry, lists_entry}
 
 -- ---- one entry

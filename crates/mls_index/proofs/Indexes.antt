@@ -1,25 +1,25 @@
 -- The index of a tree, by its tables.
-use Rattle.std.proofs.Common.{◌≡◌, ℕ, List, ap, refl}
+use Rattle.std.proofs.Common.{ℕ, List, ap}
 use Rattle.std.specs.Prelude.{option_map}
 use Rattle.mls_tree.specs.Tree.{Tree}
-use Rattle.mls_tree.specs.ChangedPlaces.{HaveSameNodesBut}
-use Rattle.mls_check.specs.Beginnings.{beginning}
-use Rattle.mls_index.specs.Keyed.{begun, node_key}
+use Rattle.mls_tree.specs.ChangedNodes.{AgreeExceptAt}
+use Rattle.mls_index.specs.NodeKeys.{fingerprint}
+use Rattle.mls_index.specs.NodeKeys.{begun, node_key}
 use Rattle.mls_index.specs.KeyTable.{AreSameBut}
-use Rattle.mls_index.specs.TreeIndex.{IsBetween, IndexIsBetween, Covers, IndexCovers}
-use Rattle.mls_index.specs.declared.keyed.KeyKind.{KeyKind}
-use Rattle.mls_index.specs.declared.keyed.KeyKind.TheVariants.{Encryption, Signature}
+use Rattle.mls_index.specs.TreeIndex.{IndexHasBase, IndexContainsKeys}
+use Rattle.mls_index.specs.declared.node_key.KeyKind.{KeyKind}
+use Rattle.mls_index.specs.declared.node_key.KeyKind.TheVariants.{Encryption, Signature}
 use Rattle.mls_index.proofs.Tables.{between-covers}
 use Rattle.mls_index.proofs.Counting.{counts-settled}
 
-pub index_between : IndexIsBetween
+pub index_between : IndexHasBase
 index_between t i h = record {
   encryption = h.encryption.between;
   signature = h.signature.between;
   credentials = counts-settled t i.credentials h.credentials;
 }
 
-pub index_covers : IndexCovers
+pub index_covers : IndexContainsKeys
 index_covers t i h = record {
   encryption = between-covers (begun Encryption t) i.encryption h.encryption.between;
   signature = between-covers (begun Signature t) i.signature h.signature.between;
@@ -27,5 +27,5 @@ index_covers t i h = record {
 }
 
 -- trees with the same nodes have the same beginnings
-pub same_begun : (kind : KeyKind) (places : List ℕ) (old new : Tree) → HaveSameNodesBut places old new → AreSameBut places (begun kind old) (begun kind new)
-same_begun kind places old new same p off = ap (λ o. option_map beginning (node_key kind o)) (same p off)
+pub same_begun : (kind : KeyKind) (places : List ℕ) (old new : Tree) → AgreeExceptAt places old new → AreSameBut places (begun kind old) (begun kind new)
+same_begun kind places old new same p off = ap (λ o. option_map fingerprint (node_key kind o)) (same p off)

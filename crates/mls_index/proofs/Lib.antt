@@ -9,3 +9,4 @@ pub mod Fitting
 pub mod Classes
 pub mod Supporting
 pub mod Counting
+pub mod FirstFailing

@@ -1,7 +1,7 @@
 -- Places of a list that are met one after the other.
-use Rattle.std.proofs.Common.{◌≡◌, ◌≢◌, ◌∙◌, ℕ, List, [], ◌∷◌, true, false, inl, inr, refl, sym, ap, subst}
+use Rattle.std.proofs.Common.{◌≡◌, ◌≢◌, ◌∙◌, ℕ, List, [], ◌∷◌, true, false, inl, inr, sym, ap, subst}
 use Rattle.std.proofs.lemmas.Bool.{cases_eq, false≢true}
-use Rattle.mls_index.specs.Changed.{lists_place}
+use Rattle.mls_index.specs.IncrementalCheck.{lists_place}
 use Rattle.mls_index.proofs.Entries.{listed-here, listed-other, listed-more}
 
 -- something holds of the places that were met, and those that are left are places of the list

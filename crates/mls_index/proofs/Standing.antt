@@ -1,16 +1,16 @@
 -- The leaves of a tree by their places.
-use Rattle.std.proofs.Common.{◌≡◌, ◌≢◌, ◌∙◌, ℕ, ◌+◌, ◌*◌, ◌<◌, ◌≤◌, List, Option, Some, None, inl, inr, refl, sym, ap, arith}
+use Rattle.std.proofs.Common.{◌≡◌, ◌∙◌, ℕ, ◌+◌, ◌*◌, ◌≤◌, List, Option, Some, None, inl, inr, refl, sym, ap, arith}
 use Rattle.std.proofs.lemmas.Bool.{cases_eq, cases_lt, cases_order}
 use Rattle.std.proofs.lemmas.Option.{none-some, same_Some}
 use Rattle.mls_nodes.specs.declared.leaf.LeafNode.{LeafNode}
 use Rattle.mls_nodes.specs.declared.parent.ParentNode.{ParentNode}
-use Rattle.mls_nodes.specs.Value.{NodeValue, leaf_node, parent_node}
+use Rattle.mls_nodes.specs.NodeModel.{NodeValue, leaf_node, parent_node}
 use Rattle.mls_tree.specs.Tree.{Tree, leaf, branch, leaf_count, leaf_at, node_at, leaf_entry, parent_entry, Subtree, subtree_at, entry_of}
 use Rattle.mls_tree.proofs.Choices.{here, before, after, same, other}
 use Rattle.mls_tree.proofs.Positions.{node_at-listing, leaf_at-listing}
 use Rattle.mls_check.proofs.Leaves.{leaf_at-here, leaf_at-left, leaf_at-right, leaf_at-leaf, leaf_at-low}
-use Rattle.mls_index.specs.Keyed.{signature_key, keyed}
-use Rattle.mls_index.specs.declared.keyed.KeyKind.TheVariants.{Signature}
+use Rattle.mls_index.specs.NodeKeys.{signature_key, keyed}
+use Rattle.mls_index.specs.declared.node_key.KeyKind.TheVariants.{Signature}
 
 -- the leaf that a node is
 abbrev leaf_of : Option NodeValue → Option LeafNode

@@ -8,10 +8,10 @@ use Rattle.mls_nodes.specs.declared.credential.Credential.{Credential}
 use Rattle.mls_nodes.specs.declared.credential.Credential.TheVariants.{Basic, X509}
 use Rattle.mls_nodes.specs.declared.leaf.LeafNode.{LeafNode}
 use Rattle.mls_tree.specs.Tree.{Tree, leaf_at}
-use Rattle.mls_check.specs.Members.{credential_type, supports_credential, supports_used_credentials}
+use Rattle.mls_check.specs.LeafValidation.{credential_type, supports_credential, supports_used_credentials}
 use Rattle.mls_check.proofs.Leaves.{all_leaves-from, all_leaves-at}
-use Rattle.mls_index.specs.Changed.{SupportCredentials}
-use Rattle.mls_index.specs.LeafClasses.{LeafClass, blank_class, class_of, class_at, support_each_other, AreClassesOf}
+use Rattle.mls_index.specs.IncrementalCheck.{SupportCredentials}
+use Rattle.mls_index.specs.LeafCredentials.{LeafClass, blank_class, class_of, class_at, support_each_other, AreClassesOf}
 
 -- ---- whether some class of a list passes a test
 

@@ -1,21 +1,20 @@
 -- The steps by which tables of keys are made, and by which keys come and go.
-use Rattle.std.proofs.Common.{◌≡◌, ◌≢◌, ◌∙◌, ◌⊎◌, ℕ, zero, suc, ◌+◌, ◌*◌, ◌-◌, ◌<◌, ◌≤◌, List, [], ◌∷◌, ◌++◌, length, get_or, Bool, true, false, Option, Some, None, eqb, inl, inr, refl, sym, ap, subst, arith, BTreeSet}
+use Rattle.std.proofs.Common.{◌≡◌, ◌≢◌, ◌∙◌, ◌⊎◌, ℕ, zero, suc, ◌+◌, ◌*◌, ◌-◌, ◌<◌, ◌≤◌, List, [], ◌∷◌, ◌++◌, length, get_or, true, false, Option, Some, None, inl, inr, refl, sym, ap, subst, arith, BTreeSet}
 use Rattle.std.specs.Prelude.{option_map, slice_get, slice_set, unwrap_or}
 use Rattle.std.proofs.lemmas.Bool.{cases_Bool, cases_eq, cases_lt, false≢true}
 use Rattle.std.proofs.lemmas.Option.{none-some, same_Some}
-use Rattle.mls_nodes.specs.Value.{NodeValue}
 use Rattle.mls_tree.specs.Tree.{Tree, leaf_count, node_at}
 use Rattle.mls_tree.proofs.Arrays.{slice_get-set_same, slice_get-set_other}
-use Rattle.mls_check.specs.Beginnings.{beginning}
-use Rattle.mls_check.specs.Distinct.{encryption_key}
+use Rattle.mls_index.specs.NodeKeys.{fingerprint}
+use Rattle.mls_check.specs.DistinctKeys.{encryption_key}
 use Rattle.mls_check.proofs.Repeats.{no_key_above}
-use Rattle.mls_index.specs.Keyed.{node_key, keyed, begun}
-use Rattle.mls_index.specs.Changed.{lists_place}
-use Rattle.mls_index.specs.KeyTable.{has_entry, lists_entry, AreSameBut, settled_at, IsBetween, IsTableOf, Covers, IsFilled, IsSettling, HasEntered, HasLeft, CoversBut}
-use Rattle.mls_index.specs.declared.keyed.KeyKind.{KeyKind}
-use Rattle.mls_index.specs.declared.keyed.KeyKind.TheVariants.{Encryption, Signature}
+use Rattle.mls_index.specs.NodeKeys.{node_key, begun}
+use Rattle.mls_index.specs.IncrementalCheck.{lists_place}
+use Rattle.mls_index.specs.KeyTable.{has_entry, lists_entry, AreSameBut, settled_at, HasBase, IsTableOf, ContainsKeysOf, IsFilled, IsSettling, HasEntered, HasLeft, ContainsKeysBut}
+use Rattle.mls_index.specs.declared.node_key.KeyKind.{KeyKind}
+use Rattle.mls_index.specs.declared.node_key.KeyKind.TheVariants.{Encryption, Signature}
 use Rattle.mls_index.specs.declared.key_table.KeyTable.{KeyTable}
-use Rattle.mls_index.proofs.Entries.{WithEntry, WithoutEntry, no_entries, lists-nil, lists-kept, lists-last, lists-added, listed-here, listed-other}
+use Rattle.mls_index.proofs.Entries.{WithEntry, WithoutEntry, no_entries, lists-nil, lists-kept, lists-last, lists-added, listed-other}
 
 -- ---- beginnings at places
 
@@ -31,7 +30,7 @@ no_key Signature = refl
 pub begun-above : (kind : KeyKind) (t : Tree) (n p : ℕ) → n + 1 ≡ 2 * leaf_count t → n ≤ p → begun kind t p ≡ None
 begun-above kind t n p e high =
     let blank = no_node encryption_key (node_at t p) (no_key_above t n p e high) in
-    ap (λ o. option_map beginning (node_key kind o)) blank ∙ ap (option_map beginning) (no_key kind)
+    ap (λ o. option_map fingerprint (node_key kind o)) blank ∙ ap (option_map fingerprint) (no_key kind)
 
 pub begun-low : (kind : KeyKind) (t : Tree) (n p b : ℕ) → n + 1 ≡ 2 * leaf_count t → begun kind t p ≡ Some b → p < n
 begun-low kind t n p b e is = elim (cases_lt p n) [
@@ -113,7 +112,7 @@ is_it (Some c) b = elim (cases_eq c b) [
 ]
 
 -- each entry is of what stands at places, or came
-only_cases : (x : ℕ → Option ℕ) (k : KeyTable) → IsBetween x k → (b p : ℕ) → has_entry k.entries b p ≡ true
+only_cases : (x : ℕ → Option ℕ) (k : KeyTable) → HasBase x k → (b p : ℕ) → has_entry k.entries b p ≡ true
     → (x p ≡ Some b) ⊎ (lists_entry k.came.items b p ≡ true)
 only_cases x k h b p has = elim (cases_Bool (lists_entry k.came.items b p)) [
   | inl came ↦ inr came
@@ -195,7 +194,7 @@ put-had b p s there = record {
 }
 
 pub between-same : (x : ℕ → Option ℕ) (k n : KeyTable) → ((b p : ℕ) → has_entry n.entries b p ≡ has_entry k.entries b p)
-    → n.beginnings.items ≡ k.beginnings.items → n.came.items ≡ k.came.items → IsBetween x k → IsBetween x n
+    → n.beginnings.items ≡ k.beginnings.items → n.came.items ≡ k.came.items → HasBase x k → HasBase x n
 between-same x k n entries beginnings came h = record {
   settled = λ p. settled-same k n beginnings p ∙ h.settled p;
   all = λ b p e. entries b p ∙ h.all b p e;
@@ -207,7 +206,7 @@ between-same x k n entries beginnings came h = record {
 }
 
 pub between-settled : (x : ℕ → Option ℕ) (k n : KeyTable) → n.entries ≡ k.entries → n.came ≡ k.came
-    → ((p : ℕ) → settled_at n p ≡ settled_at k p) → IsBetween x k → IsBetween x n
+    → ((p : ℕ) → settled_at n p ≡ settled_at k p) → HasBase x k → HasBase x n
 between-settled x k n entries came settled h = record {
   settled = λ p. settled p ∙ h.settled p;
   all = λ b p e. ap (λ s. has_entry s b p) entries ∙ h.all b p e;
@@ -219,7 +218,7 @@ between-settled x k n entries came settled h = record {
 }
 
 pub between-more : (x : ℕ → Option ℕ) (k n : KeyTable) (b p : ℕ) → has_entry k.entries b p ≡ false → WithEntry k.entries n.entries b p
-    → n.came.items ≡ k.came.items ++ (b, p) ∷ [] → n.beginnings.items ≡ k.beginnings.items → IsBetween x k → IsBetween x n
+    → n.came.items ≡ k.came.items ++ (b, p) ∷ [] → n.beginnings.items ≡ k.beginnings.items → HasBase x k → HasBase x n
 between-more x k n b p free w came beginnings h = record {
   settled = λ q. settled-same k n beginnings q ∙ h.settled q;
   all = λ c q e. w.kept c q (h.all c q e);
@@ -240,7 +239,7 @@ between-more x k n b p free w came beginnings h = record {
 }
 
 pub covers-more : (y : ℕ → Option ℕ) (k n : KeyTable) (r : ℕ) (tail : List ℕ) (o : Option ℕ) → o ≡ y r → HasEntered o r k.entries n.entries
-    → CoversBut (r ∷ tail) y k → CoversBut tail y n
+    → ContainsKeysBut (r ∷ tail) y k → ContainsKeysBut tail y n
 covers-more y k n r tail o is w h b p off e = elim (cases_eq p r) [
   | inl same ↦ subst (λ q. has_entry n.entries b q ≡ true) (sym same) (w.here b (is ∙ ap y (sym same) ∙ e))
   | inr other ↦ w.kept b p (h b p (listed-other r p tail other ∙ off) e)
@@ -249,8 +248,8 @@ covers-more y k n r tail o is w h b p off e = elim (cases_eq p r) [
 -- the keys at the places that changed were entered
 pub covers-all : (x : ℕ → Option ℕ) (kind : KeyKind) (t : Tree) (places : List ℕ) (count : ℕ) (k m n : KeyTable) → count + 1 ≡ 2 * leaf_count t
     → m.entries ≡ k.entries → count ≤ length m.beginnings.items → n.beginnings ≡ m.beginnings
-    → Covers x k → AreSameBut places x (begun kind t) → (CoversBut places (begun kind t) m → CoversBut [] (begun kind t) n)
-    → Covers (begun kind t) n
+    → ContainsKeysOf x k → AreSameBut places x (begun kind t) → (ContainsKeysBut places (begun kind t) m → ContainsKeysBut [] (begun kind t) n)
+    → ContainsKeysOf (begun kind t) n
 covers-all x kind t places count k m n is entries room beginnings had same put =
     let wide : count ≤ length n.beginnings.items = subst (λ v. count ≤ length v.items) (sym beginnings) room in
     record {
@@ -282,7 +281,7 @@ left-gone b now p s n foreign w = record {
 
 -- keys that are covered stay so
 covers-left : (y : ℕ → Option ℕ) (k n : KeyTable) (p : ℕ) (left o : Option ℕ) → y p ≡ o → HasLeft left o p k.entries n.entries
-    → length n.beginnings.items ≡ length k.beginnings.items → Covers y k → Covers y n
+    → length n.beginnings.items ≡ length k.beginnings.items → ContainsKeysOf y k → ContainsKeysOf y n
 covers-left y k n p left o is w long h = record {
   entries = λ b q e. elim (w.kept b q (h.entries b q e)) [
     | inl stays ↦ stays
@@ -291,7 +290,7 @@ covers-left y k n p left o is w long h = record {
   room = λ b q e. subst (λ m. q < m) (sym long) (h.room b q e);
 }
 
-pub settling-first : (x y : ℕ → Option ℕ) (places : List ℕ) (k : KeyTable) → IsBetween x k → Covers y k → AreSameBut places x y → IsSettling y places k
+pub settling-first : (x y : ℕ → Option ℕ) (places : List ℕ) (k : KeyTable) → HasBase x k → ContainsKeysOf y k → AreSameBut places x y → IsSettling y places k
 settling-first x y places k h covers same = record {
   covers = covers;
   settled = λ p off. h.settled p ∙ same p off;
@@ -406,7 +405,7 @@ settling-last y k none h = record {
 
 -- an entry that came goes again
 pub between-less : (x : ℕ → Option ℕ) (k n : KeyTable) (b p : ℕ) → k.came.items ≡ n.came.items ++ (b, p) ∷ [] → WithoutEntry k.entries n.entries b p
-    → n.beginnings.items ≡ k.beginnings.items → IsBetween x k → IsBetween x n
+    → n.beginnings.items ≡ k.beginnings.items → HasBase x k → HasBase x n
 between-less x k n b p came w beginnings h = record {
   settled = λ q. settled-same k n beginnings q ∙ h.settled q;
   all = λ c q e. elim (w.kept c q (h.all c q e)) [
@@ -427,7 +426,7 @@ between-less x k n b p came w beginnings h = record {
   new = λ c q listed. h.new c q (ap (λ es. lists_entry es c q) came ∙ lists-kept n.came.items ((b, p) ∷ []) c q listed);
 }
 
-pub between-last : (x : ℕ → Option ℕ) (k : KeyTable) → k.came.items ≡ [] → IsBetween x k → IsTableOf x k
+pub between-last : (x : ℕ → Option ℕ) (k : KeyTable) → k.came.items ≡ [] → HasBase x k → IsTableOf x k
 between-last x k none h = record { between = h; none_came = none }
 
 -- ---- what a table covers
@@ -439,5 +438,5 @@ some_room k p b e = elim (cases_lt p (length k.beginnings.items)) [
 ]
 
 -- what a table is settled with
-pub between-covers : (x : ℕ → Option ℕ) (k : KeyTable) → IsBetween x k → Covers x k
+pub between-covers : (x : ℕ → Option ℕ) (k : KeyTable) → HasBase x k → ContainsKeysOf x k
 between-covers x k h = record { entries = h.all; room = λ b p e. some_room k p b (h.settled p ∙ e) }

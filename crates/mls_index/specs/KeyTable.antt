@@ -1,44 +1,44 @@
--- Where keys stand, by their beginnings. What stands at places is given as a function: the beginning of the key at each
--- place that has one.
+-- Node indices of keys, by fingerprint. The keys are given as a function `x` or `y`: from a node index to the
+-- fingerprint of the key there, if there is one. Used by contracts.
 use Rattle.std.specs.Prelude.{◌≡◌, ◌≢◌, ◌⊎◌, ◌&&◌, ℕ, ◌==◌, ◌<◌, List, [], Bool, true, false, Option, Some, None, length, slice_get, unwrap_or}
 use Rattle.std.specs.BTreeSet.{BTreeSet, contains}
 use Rattle.std.specs.Coded.{Coded-set, coded_bool, coded_ℕ, coded_option, coded_list, coded×}
 use Rattle.std.specs.List.{list_any}
 use Rattle.std.specs.Ordering.{nat_cmp, ordering_then}
 use Rattle.std.specs.declared.cmp.Ordering.{Ordering}
-use Rattle.mls_index.specs.Changed.{lists_place}
+use Rattle.mls_index.specs.IncrementalCheck.{lists_place}
 use Rattle.mls_index.specs.declared.key_table.KeyTable.{KeyTable}
 
--- the order of entries: a beginning, and a place
+-- `entry_cmp x y` is the order of entries, each a fingerprint and a node index.
 abbrev pub entry_cmp : ℕ × ℕ → ℕ × ℕ → Ordering
 entry_cmp x y = ordering_then (nat_cmp x.0 y.0) (nat_cmp x.1 y.1)
 
--- whether there is an entry of a beginning and a place
+-- `has_entry s b p`: there is an entry of this fingerprint and node index.
 unfoldable pub has_entry : BTreeSet (ℕ × ℕ) → ℕ → ℕ → Bool
 has_entry s b p = contains entry_cmp s (b, p)
 
--- whether a list has it
+-- `lists_entry es b p`: the list has this entry.
 unfoldable pub lists_entry : List (ℕ × ℕ) → ℕ → ℕ → Bool
 lists_entry es b p = list_any (λ e. (e.0 == b) && (e.1 == p)) es
 
--- outside the places that are listed there is the same
+-- `AreSameBut places x y`: both functions are equal outside the listed node indices.
 abbrev pub AreSameBut : List ℕ → (ℕ → Option ℕ) → (ℕ → Option ℕ) → Type 0
 AreSameBut places x y = (p : ℕ) → lists_place places p ≡ false → x p ≡ y p
 
--- the beginning that a table keeps of a place, as it was settled
+-- `settled_at k p` is the fingerprint that the table stores for a node index of its base tree.
 unfoldable pub settled_at : KeyTable → ℕ → Option ℕ
 settled_at k p = unwrap_or (slice_get k.beginnings.items p) None
 
--- what stands at places is what a table was settled with, and it has other entries only for keys that came since
-pub record IsBetween (x : ℕ → Option ℕ) (k : KeyTable) : Type 0 where
+-- `HasBase x k`: the base of the table is `x`. It has further entries only for keys that were added since.
+pub record HasBase (x : ℕ → Option ℕ) (k : KeyTable) : Type 0 where
   pub settled : (p : ℕ) → settled_at k p ≡ x p
   pub all : (b p : ℕ) → x p ≡ Some b → has_entry k.entries b p ≡ true
   pub only : (b p : ℕ) → has_entry k.entries b p ≡ true → lists_entry k.came.items b p ≡ false → x p ≡ Some b
   pub new : (b p : ℕ) → lists_entry k.came.items b p ≡ true → x p ≢ Some b
 
--- and none came: the entries are those of what stands at places
+-- `IsTableOf x k`: the entries are those of `x`, and none were added.
 pub record IsTableOf (x : ℕ → Option ℕ) (k : KeyTable) : Type 0 where
-  pub between : IsBetween x k
+  pub between : HasBase x k
   pub none_came : k.came.items ≡ []
 
 bool_set : (a b : Bool) → IsProp (a ≡ b)
@@ -53,27 +53,27 @@ entries_set es fs = Coded-set (coded_list (coded× coded_ℕ coded_ℕ)) es fs
 never : (g h : ⊥) → g ≡ h
 never g h = absurd g
 
-IsBetween-prop : (x : ℕ → Option ℕ) (k : KeyTable) → IsProp (IsBetween x k)
-IsBetween-prop x k g h = λ i. record {
+HasBase-prop : (x : ℕ → Option ℕ) (k : KeyTable) → IsProp (HasBase x k)
+HasBase-prop x k g h = λ i. record {
   settled = λ p. beginning_set (settled_at k p) (x p) (g.settled p) (h.settled p) i;
   all = λ b p is. bool_set (has_entry k.entries b p) true (g.all b p is) (h.all b p is) i;
   only = λ b p has old. beginning_set (x p) (Some b) (g.only b p has old) (h.only b p has old) i;
   new = λ b p came is. never (g.new b p came is) (h.new b p came is) i;
 }
 
--- that it is so has one proof at most
+-- `IsTableOf` has at most one proof.
 pub IsTableOf-prop : (x : ℕ → Option ℕ) (k : KeyTable) → IsProp (IsTableOf x k)
 IsTableOf-prop x k g h = λ i. record {
-  between = IsBetween-prop x k g.between h.between i;
+  between = HasBase-prop x k g.between h.between i;
   none_came = entries_set k.came.items [] g.none_came h.none_came i;
 }
 
--- a table has an entry for each of these, and keeps a beginning of each such place
-pub record Covers (y : ℕ → Option ℕ) (k : KeyTable) : Type 0 where
+-- `ContainsKeysOf y k`: the table has an entry for each key of `y`, and stores a fingerprint for each such node index.
+pub record ContainsKeysOf (y : ℕ → Option ℕ) (k : KeyTable) : Type 0 where
   pub entries : (b p : ℕ) → y p ≡ Some b → has_entry k.entries b p ≡ true
   pub room : (b p : ℕ) → y p ≡ Some b → p < length k.beginnings.items
 
--- a table that is being made of what stands at places: those below n have been met
+-- `IsFilled x n k`: the table has the keys of `x` at the node indices below n.
 pub record IsFilled (x : ℕ → Option ℕ) (n : ℕ) (k : KeyTable) : Type 0 where
   pub count : length k.beginnings.items ≡ n
   pub settled : (p : ℕ) → p < n → settled_at k p ≡ x p
@@ -81,25 +81,27 @@ pub record IsFilled (x : ℕ → Option ℕ) (n : ℕ) (k : KeyTable) : Type 0 w
   pub only : (b p : ℕ) → has_entry k.entries b p ≡ true → (p < n) × (x p ≡ Some b)
   pub none_came : k.came.items ≡ []
 
--- a table that is being settled with what stands at places: these are left, and the entries that came
+-- `IsSettling y rest k`: the base of the table becomes `y`. The node indices in `rest` and the added entries are left
+-- to do.
 pub record IsSettling (y : ℕ → Option ℕ) (rest : List ℕ) (k : KeyTable) : Type 0 where
-  pub covers : Covers y k
+  pub covers : ContainsKeysOf y k
   pub settled : (p : ℕ) → lists_place rest p ≡ false → settled_at k p ≡ y p
   pub only : (b p : ℕ) → has_entry k.entries b p ≡ true
       → (y p ≡ Some b) ⊎ ((lists_entry k.came.items b p ≡ true) ⊎ ((lists_place rest p ≡ true) × (settled_at k p ≡ Some b)))
 
--- the entries after one more, if there is one for a place
+-- `HasEntered o p s n`: the entries `n` are `s` with one more, if there is a fingerprint for the node index.
 pub record HasEntered (o : Option ℕ) (p : ℕ) (s n : BTreeSet (ℕ × ℕ)) : Type 0 where
   pub here : (b : ℕ) → o ≡ Some b → has_entry n b p ≡ true
   pub kept : (b q : ℕ) → has_entry s b q ≡ true → has_entry n b q ≡ true
   pub only : (b q : ℕ) → has_entry n b q ≡ true → (has_entry s b q ≡ true) ⊎ ((o ≡ Some b) × (p ≡ q))
 
--- the entries after the one that stood at a place is gone, unless it is the one that stands there now
+-- `HasLeft left now p s n`: the entries `n` are `s` without the one of the previous key, unless it is that of the key
+-- that is there now.
 pub record HasLeft (left now : Option ℕ) (p : ℕ) (s n : BTreeSet (ℕ × ℕ)) : Type 0 where
   pub gone : (b : ℕ) → left ≡ Some b → now ≢ Some b → has_entry n b p ≡ false
   pub only : (b q : ℕ) → has_entry n b q ≡ true → has_entry s b q ≡ true
   pub kept : (b q : ℕ) → has_entry s b q ≡ true → (has_entry n b q ≡ true) ⊎ ((now ≢ Some b) × (p ≡ q))
 
--- a table has an entry for each of these that stands outside some places
-abbrev pub CoversBut : List ℕ → (ℕ → Option ℕ) → KeyTable → Type 0
-CoversBut places y k = (b p : ℕ) → lists_place places p ≡ false → y p ≡ Some b → has_entry k.entries b p ≡ true
+-- `ContainsKeysBut places y k`: the table has an entry for each key of `y` outside some node indices.
+abbrev pub ContainsKeysBut : List ℕ → (ℕ → Option ℕ) → KeyTable → Type 0
+ContainsKeysBut places y k = (b p : ℕ) → lists_place places p ≡ false → y p ≡ Some b → has_entry k.entries b p ≡ true

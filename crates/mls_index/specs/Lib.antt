@@ -1,6 +1,7 @@
-pub mod Keyed
+pub mod NodeKeys
 pub mod KeyTable
 pub mod TreeIndex
-pub mod Changed
-pub mod LeafClasses
+pub mod IncrementalCheck
+pub mod LeafCredentials
 pub mod CredentialCounts
+pub mod FirstChanged

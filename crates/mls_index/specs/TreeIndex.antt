@@ -1,31 +1,32 @@
--- The index of a tree's keys and of its leaves' credentials.
+-- The index of a tree's keys and of its leaves' credentials. `t` is a tree, `i` the index. Used by contracts.
 use Rattle.mls_tree.specs.Tree.{Tree}
-use Rattle.mls_index.specs.Keyed.{begun}
+use Rattle.mls_index.specs.NodeKeys.{begun}
 use Rattle.mls_index.specs.KeyTable as table
 use Rattle.mls_index.specs.CredentialCounts as counts
-use Rattle.mls_index.specs.declared.keyed.KeyKind.TheVariants.{Encryption, Signature}
+use Rattle.mls_index.specs.declared.node_key.KeyKind.TheVariants.{Encryption, Signature}
 use Rattle.mls_index.specs.declared.tree_index.TreeIndex.{TreeIndex}
 
--- the index is settled with a tree: it has entries beside the tree's only for keys that came since, and counts the tree's
--- credentials once what was entered is taken back
-pub record IsBetween (t : Tree) (i : TreeIndex) : Type 0 where
-  pub encryption : table.IsBetween (begun Encryption t) i.encryption
-  pub signature : table.IsBetween (begun Signature t) i.signature
-  pub credentials : counts.AreSettledWith t i.credentials
+-- `HasBase t i`: `i` is the index of `t` with further entries for a changed tree. `TreeIndex::refuse` removes these and
+-- gives `IsIndexOf t`.
+pub record HasBase (t : Tree) (i : TreeIndex) : Type 0 where
+  pub encryption : table.HasBase (begun Encryption t) i.encryption
+  pub signature : table.HasBase (begun Signature t) i.signature
+  pub credentials : counts.HaveBase t i.credentials
 
--- the index is settled with a tree, and none came since
+-- `IsIndexOf t i`: `i` is the index of `t`. Its entries are the keys of `t`, and its counts are those of `t`.
 pub record IsIndexOf (t : Tree) (i : TreeIndex) : Type 0 where
   pub encryption : table.IsTableOf (begun Encryption t) i.encryption
   pub signature : table.IsTableOf (begun Signature t) i.signature
   pub credentials : counts.AreCountsOf t i.credentials
 
--- the index has an entry for each key of a tree, and counts its credentials
-pub record Covers (t : Tree) (i : TreeIndex) : Type 0 where
-  pub encryption : table.Covers (begun Encryption t) i.encryption
-  pub signature : table.Covers (begun Signature t) i.signature
+-- `ContainsKeysOf t i`: `i` has an entry for each key of `t`, perhaps others, and its counts are those of `t`. Look-ups
+-- for `t` are then right.
+pub record ContainsKeysOf (t : Tree) (i : TreeIndex) : Type 0 where
+  pub encryption : table.ContainsKeysOf (begun Encryption t) i.encryption
+  pub signature : table.ContainsKeysOf (begun Signature t) i.signature
   pub credentials : counts.Count t i.credentials
 
--- that it is that of a tree has one proof at most
+-- `IsIndexOf` has at most one proof.
 pub IsIndexOf-prop : (t : Tree) (i : TreeIndex) → IsProp (IsIndexOf t i)
 IsIndexOf-prop t i g h = λ j. record {
   encryption = table.IsTableOf-prop (begun Encryption t) i.encryption g.encryption h.encryption j;
@@ -33,10 +34,10 @@ IsIndexOf-prop t i g h = λ j. record {
   credentials = counts.AreCountsOf-prop t i.credentials g.credentials h.credentials j;
 }
 
--- an index that is that of a tree is settled with it
-abbrev pub IndexIsBetween : Type 0
-IndexIsBetween = (t : Tree) (i : TreeIndex) → IsIndexOf t i → IsBetween t i
+-- The index of a tree has it as its base.
+abbrev pub IndexHasBase : Type 0
+IndexHasBase = (t : Tree) (i : TreeIndex) → IsIndexOf t i → HasBase t i
 
--- and it covers it
-abbrev pub IndexCovers : Type 0
-IndexCovers = (t : Tree) (i : TreeIndex) → IsIndexOf t i → Covers t i
+-- The index of a tree contains its keys.
+abbrev pub IndexContainsKeys : Type 0
+IndexContainsKeys = (t : Tree) (i : TreeIndex) → IsIndexOf t i → ContainsKeysOf t i

@@ -1,104 +1,123 @@
-//! Whether the leaves of a tree that changed keep the rules for members that ask nothing of other leaves.
+//! The first changed leaf that fails a rule that needs no other leaf (RFC 9420, 7.3).
 
-ghost use Rattle.std.specs.Prelude.{◌≡◌, ◌↔◌, IsTrue, IfOk};
-ghost use Rattle.mls_check.specs.Requirements.{requirements_of};
-ghost use Rattle.mls_index.specs.Changed.{KeepsOwnRules, KeepRulesAt, KeepRules};
+ghost use Rattle.std.specs.Prelude.{◌≡◌, ◌∷◌, [], IfOk};
+ghost use Rattle.mls_check.specs.SortedRequirements.{RequireSame, requirements_of};
+ghost use Rattle.mls_index.specs.FirstChanged.{FindsFailingAt, RequireSame-prop, leaf_rule, smaller};
 
 use mls_check::{
-    OutOfMemory, RisingRequirements, SignatureCheck, is_leaf_signed, supports_own_extensions,
+    OutOfMemory, SignatureCheck, SortedRequirements, is_leaf_signed, supports_own_extensions,
     supports_required,
 };
-use mls_nodes::{LeafNode, RequiredCapabilities};
+use mls_nodes::{GroupContext, LeafNode, RequiredCapabilities};
 use mls_tree::PublicTree;
-use mls_wire::Opaque;
 use std::alloc::Global;
 
-/// Whether a leaf keeps the rules that ask nothing of other leaves.
-fn keeps_own_rules<C: SignatureCheck>(
+/// A rule of leaf node validation that needs no other leaf (RFC 9420, 7.3).
+#[derive(Clone, Copy, Debug, PartialEq, Eq)]
+pub enum LeafRule {
+    /// The leaf's capabilities list the types of its extensions.
+    Extensions,
+    /// They list the types that the group requires.
+    Requirements,
+    /// The checker accepts the leaf's signature.
+    Signature,
+}
+
+/// What these rules need besides the leaf: the GroupContext, what the group requires, and a checker. `sorted` is made of
+/// `required`.
+#[derive(Drop)]
+pub struct LeafRules<'a, C> {
+    /// The GroupContext.
+    pub context: &'a GroupContext,
+    /// What the group requires of its members (RFC 9420, 11.1).
+    pub required: &'a RequiredCapabilities,
+    /// The same, sorted.
+    pub sorted: &'a SortedRequirements,
+    /// What verifies signatures.
+    pub checker: &'a C,
+    ghost same: { RequireSame (requirements_of sorted.now) required.now } by { RequireSame-prop (requirements_of sorted.now) required.now },
+}
+
+/// Returns whether a leaf satisfies a rule.
+#[tactic(auto, unfolding(crate::specs::FirstChanged::leaf_rule))]
+fn satisfies<C: SignatureCheck>(
     alloc: Global,
-    suite: u16,
-    group_id: &Opaque,
-    rising: &RisingRequirements,
+    rules: &LeafRules<'_, C>,
+    rule: LeafRule,
     index: u32,
     leaf: &LeafNode,
-    checker: &C,
 ) -> Result<bool, OutOfMemory>
-    ensures { IfOk result (λ kept. IsTrue kept ↔ KeepsOwnRules
-        (C.meaning checker.now) suite group_id.now (requirements_of rising.now) index leaf.now) }
+    ensures { IfOk result (λ kept. kept ≡ leaf_rule (C.meaning rules.now.checker.now)
+        rules.now.context.now rules.now.required.now rule index leaf.now) }
 {
-    if !supports_own_extensions(alloc, leaf)? {
-        return Ok(false);
+    match rule {
+        LeafRule::Extensions => supports_own_extensions(alloc, leaf),
+        LeafRule::Requirements => supports_required(alloc, leaf, rules.sorted),
+        LeafRule::Signature => {
+            let context = rules.context;
+            let suite = context.cipher_suite;
+            is_leaf_signed(alloc, suite, &context.group_id, index, leaf, rules.checker)
+        }
     }
-    if !supports_required(alloc, leaf, rising)? {
-        return Ok(false);
-    }
-    is_leaf_signed(alloc, suite, group_id, index, leaf, checker)
 }
 
-/// Whether the leaf at a place, if there is a set one, keeps these rules.
-fn keeps_rules_at<C: SignatureCheck>(
+/// Returns the leaf index of the leaf at a node index, if it is a non-blank leaf that fails a rule.
+fn failing_at<C: SignatureCheck>(
     alloc: Global,
-    suite: u16,
-    group_id: &Opaque,
-    rising: &RisingRequirements,
+    rules: &LeafRules<'_, C>,
+    rule: LeafRule,
     tree: &PublicTree,
     place: u32,
-    checker: &C,
-) -> Result<bool, OutOfMemory>
-    ensures { IfOk result (λ kept. IsTrue kept ↔ KeepRulesAt
-        (C.meaning checker.now) suite group_id.now (requirements_of rising.now) place
-        tree.now.tree) }
+) -> Result<Option<u32>, OutOfMemory>
+    ensures { IfOk result (FindsFailingAt (leaf_rule (C.meaning rules.now.checker.now)
+        rules.now.context.now rules.now.required.now rule) (place ∷ []) tree.now.tree) }
 {
     if place % 2 == 1 {
-        return Ok(true);
+        return Ok(None);
     }
     let index = place / 2;
-    match tree.leaf(index) {
-        Some(leaf) => keeps_own_rules(alloc, suite, group_id, rising, index, leaf, checker),
-        None => Ok(true),
+    let Some(leaf) = tree.leaf(index) else {
+        return Ok(None);
+    };
+    if satisfies(alloc, rules, rule, index, leaf)? {
+        Ok(None)
+    } else {
+        Ok(Some(index))
     }
 }
 
-/// Whether each set leaf at these places keeps these rules, by requirements in rising order.
-fn keep_rising_rules<C: SignatureCheck>(
+/// Returns the smaller one of two leaf indices, if there are any.
+fn smaller(one: Option<u32>, other: Option<u32>) -> Option<u32>
+    ensures { result ≡ smaller one other }
+{
+    match (one, other) {
+        (None, other) => other,
+        (Some(one), Some(other)) if other < one => Some(other),
+        (Some(one), _) => Some(one),
+    }
+}
+
+/// Returns the smallest leaf index of a non-blank leaf at one of these node indices that fails a rule. A node index may
+/// be that of a parent or a blank leaf, of which nothing is checked.
+///
+/// # Errors
+///
+/// `OutOfMemory`.
+pub fn first_changed_failing<C: SignatureCheck>(
     alloc: Global,
-    suite: u16,
-    group_id: &Opaque,
-    rising: &RisingRequirements,
+    rules: &LeafRules<'_, C>,
+    rule: LeafRule,
     tree: &PublicTree,
     places: &[u32],
-    checker: &C,
-) -> Result<bool, OutOfMemory>
-    ensures { IfOk result (λ kept. IsTrue kept ↔ KeepRules
-        (C.meaning checker.now) suite group_id.now (requirements_of rising.now) places.now
-        tree.now.tree) }
+) -> Result<Option<u32>, OutOfMemory>
+    ensures { IfOk result (FindsFailingAt (leaf_rule (C.meaning rules.now.checker.now)
+        rules.now.context.now rules.now.required.now rule) places.now tree.now.tree) }
 {
+    let mut found = None;
     let mut rest = places;
     while let Some((place, tail)) = rest.split_first() {
-        if !keeps_rules_at(alloc, suite, group_id, rising, tree, *place, checker)? {
-            return Ok(false);
-        }
+        found = smaller(found, failing_at(alloc, rules, rule, tree, *place)?);
         rest = tail;
     }
-    Ok(true)
-}
-
-/// Whether each set leaf at these places of a tree keeps the rules for members (RFC 9420, 7.3) that ask nothing of
-/// other leaves: it supports the types of its extensions and what the group requires, and the checker takes its
-/// signature as good, in the group of this id and this cipher suite. A place may be a parent's or a blank leaf's, of
-/// which nothing is asked.
-pub fn changed_leaves_keep_rules<C: SignatureCheck>(
-    alloc: Global,
-    suite: u16,
-    group_id: &Opaque,
-    requirements: &RequiredCapabilities,
-    tree: &PublicTree,
-    places: &[u32],
-    checker: &C,
-) -> Result<bool, OutOfMemory>
-    ensures { IfOk result (λ kept. IsTrue kept ↔ KeepRules
-        (C.meaning checker.now) suite group_id.now requirements.now places.now tree.now.tree) }
-{
-    let rising = RisingRequirements::new(alloc, requirements)?;
-    keep_rising_rules(alloc, suite, group_id, &rising, tree, places, checker)
+    Ok(found)
 }

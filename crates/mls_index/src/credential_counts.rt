@@ -1,29 +1,29 @@
-//! Counts of the types of credentials that the leaves of a tree have and support.
+//! Counts of the credential types that the leaves of a tree have and support.
 
 ghost use Rattle.std.specs.Prelude.{◌≡◌, ◌<◌, ◌≤◌, ◌+◌, ◌↔◌, ◌∷◌, [], ℕ, List, IsTrue, IfOk, OnOk, OnErr, length};
 ghost use Rattle.mls_tree.specs.Tree.{Tree};
-ghost use Rattle.mls_tree.specs.ChangedPlaces.{HaveSameNodesBut};
-ghost use Rattle.mls_index.specs.Changed.{SupportCredentials};
-ghost use Rattle.mls_index.specs.CredentialCounts.{Count, AreSettledWith, AreCountsOf, CountBut, HasRoomFor, IsFilled};
+ghost use Rattle.mls_tree.specs.ChangedNodes.{AgreeExceptAt};
+ghost use Rattle.mls_index.specs.IncrementalCheck.{SupportCredentials};
+ghost use Rattle.mls_index.specs.CredentialCounts.{Count, HaveBase, AreCountsOf, CountBut, HasCapacityFor, IsFilled};
 
-use crate::leaf_classes::{CountedClasses, LeafClass};
+use crate::leaf_credentials::{CountedClasses, LeafClass};
 use mls_check::OutOfMemory;
 use mls_tree::PublicTree;
 use std::alloc::{AllocError, Global};
 
-/// How many leaves of a tree have a credential of each type, and how many don't support one (RFC 9420, 7.3). The counts
-/// are settled with a tree. When the tree changes, the leaves that changed are entered, and the change is accepted or
-/// refused.
+/// How many leaves of a tree have a credential of each type, and how many do not support one (RFC 9420, 7.3). The
+/// counts have a base tree. When the tree changes, the changed leaves are counted instead, and the change is accepted
+/// or refused.
 #[derive(Drop)]
 pub(crate) struct CredentialCounts {
-    /// What the leaves say.
+    /// The classes of the leaves.
     classes: CountedClasses,
-    /// What was replaced since the counts were settled, by leaf index.
+    /// The classes that were replaced, by leaf index.
     replaced: Vec<(u32, LeafClass)>,
 }
 
 impl CredentialCounts {
-    /// Counts of no leaves. Takes no memory.
+    /// Returns counts of no leaves. Does not allocate.
     fn new(alloc: Global) -> CredentialCounts
         ensures { (t : Tree) → IsFilled t 0 result }
     {
@@ -44,7 +44,7 @@ impl CredentialCounts {
         Ok(())
     }
 
-    /// The counts of a tree.
+    /// Returns the counts of a tree.
     pub(crate) fn of(alloc: Global, tree: &PublicTree) -> Result<CredentialCounts, OutOfMemory>
         ensures { IfOk result (AreCountsOf tree.now.tree) }
     {
@@ -53,7 +53,7 @@ impl CredentialCounts {
         Ok(counts)
     }
 
-    /// Makes room for so many leaves.
+    /// Makes entries for this many leaves.
     fn make_room(&mut self, count: u32) -> Result<(), AllocError>
         ensures same { (t : Tree) → AreCountsOf t self.old → AreCountsOf t self.new }
         ensures room { OnOk result (count ≤ length self.new.classes.list.items) }
@@ -64,11 +64,11 @@ impl CredentialCounts {
         Ok(())
     }
 
-    /// Counts the leaf at a place, and no longer the one that was counted there. At a parent's place nothing changes, nor
-    /// at one for which there is no room.
-    fn enter_at(&mut self, tree: &PublicTree, place: u32) -> Result<(), AllocError>
-        ensures between { (t : Tree) → AreSettledWith t self.old → AreSettledWith t self.new }
-        ensures counts { OnOk result ((rest : List ℕ) → HasRoomFor tree.now.tree self.old
+    /// Counts the leaf at a node index in place of the one that was counted there. Nothing changes for a parent, and
+    /// for a leaf without an entry.
+    fn insert_unmerged_at(&mut self, tree: &PublicTree, place: u32) -> Result<(), AllocError>
+        ensures between { (t : Tree) → HaveBase t self.old → HaveBase t self.new }
+        ensures counts { OnOk result ((rest : List ℕ) → HasCapacityFor tree.now.tree self.old
             → CountBut (place ∷ rest) tree.now.tree self.old
             → CountBut rest tree.now.tree self.new) }
         ensures room { length self.new.classes.list.items ≡ length self.old.classes.list.items }
@@ -85,44 +85,43 @@ impl CredentialCounts {
         Ok(())
     }
 
-    /// Counts the leaves at these places of a tree.
-    fn enter_all(&mut self, tree: &PublicTree, places: &[u32]) -> Result<(), AllocError>
-        ensures between { (t : Tree) → AreSettledWith t self.old → AreSettledWith t self.new }
-        ensures counts { OnOk result (HasRoomFor tree.now.tree self.old
+    /// Counts the leaves at these node indices of a tree.
+    fn insert_all(&mut self, tree: &PublicTree, places: &[u32]) -> Result<(), AllocError>
+        ensures between { (t : Tree) → HaveBase t self.old → HaveBase t self.new }
+        ensures counts { OnOk result (HasCapacityFor tree.now.tree self.old
             → CountBut places.now tree.now.tree self.old → Count tree.now.tree self.new) }
     {
         let mut rest = places;
         while let Some((place, tail)) = rest.split_first() {
-            self.enter_at(tree, *place)?;
+            self.insert_unmerged_at(tree, *place)?;
             rest = tail;
         }
         Ok(())
     }
 
-    /// Counts a tree that differs at these places from the one that the counts are settled with. What was entered
-    /// before is taken back first. A place may be listed twice, and may lie beyond the tree. Where memory runs out,
-    /// what is settled stays.
+    /// Counts a tree that differs at these node indices from the base tree. What was counted before is undone first. A
+    /// node index may be listed twice, and may be outside the tree. If an allocation fails, the base is unchanged.
     pub(crate) fn enter(&mut self, tree: &PublicTree, places: &[u32]) -> Result<(), OutOfMemory>
-        ensures between { (t : Tree) → AreSettledWith t self.old → AreSettledWith t self.new }
-        ensures counts { OnOk result ((t : Tree) → AreSettledWith t self.old
-            → HaveSameNodesBut places.now t tree.now.tree → Count tree.now.tree self.new) }
+        ensures between { (t : Tree) → HaveBase t self.old → HaveBase t self.new }
+        ensures counts { OnOk result ((t : Tree) → HaveBase t self.old
+            → AgreeExceptAt places.now t tree.now.tree → Count tree.now.tree self.new) }
     {
         self.refuse();
         self.make_room(tree.leaf_count())?;
-        self.enter_all(tree, places)?;
+        self.insert_all(tree, places)?;
         Ok(())
     }
 
-    /// Settles the counts with the tree that they count. Takes no memory.
+    /// Makes the counted tree the base tree. Does not allocate.
     pub(crate) fn accept(&mut self)
         ensures { (t : Tree) → Count t self.old → AreCountsOf t self.new }
     {
         self.replaced.clear();
     }
 
-    /// Takes back what was entered since the counts were settled. Takes no memory.
+    /// Undoes what was counted since. Does not allocate.
     pub(crate) fn refuse(&mut self)
-        ensures { (t : Tree) → AreSettledWith t self.old → AreCountsOf t self.new }
+        ensures { (t : Tree) → HaveBase t self.old → AreCountsOf t self.new }
     {
         while let Some((index, was)) = self.replaced.pop() {
             if (index as usize) < self.classes.len() {
@@ -131,7 +130,7 @@ impl CredentialCounts {
         }
     }
 
-    /// Whether each leaf supports the type of each leaf's credential.
+    /// Returns whether each leaf supports the credential type of each leaf.
     pub(crate) fn support_credentials(&self) -> bool
         ensures { (t : Tree) → Count t self.now → IsTrue result ↔ SupportCredentials t }
     {

@@ -1,28 +1,27 @@
-//! Where the keys of one kind stand in a tree, by their beginnings.
+//! Node indices of the keys of one kind, by fingerprint.
 
 ghost use Rattle.std.specs.Prelude.{◌≡◌, ◌<◌, ◌≤◌, ◌+◌, ◌^◌, ◌∷◌, ◌↔◌, [], ℕ, List, Option, Some, IsTrue, IfOk, OnOk, length, true};
-ghost use Rattle.mls_index.specs.Keyed.{begun, HasKey, IsOwnKey};
-ghost use Rattle.mls_index.specs.KeyTable.{has_entry, settled_at, AreSameBut, IsBetween, IsTableOf, Covers, CoversBut, IsFilled, IsSettling, HasEntered, HasLeft};
+ghost use Rattle.mls_index.specs.NodeKeys.{begun, HasKey, IsOwnKey};
+ghost use Rattle.mls_index.specs.KeyTable.{has_entry, settled_at, AreSameBut, HasBase, IsTableOf, ContainsKeysOf, ContainsKeysBut, IsFilled, IsSettling, HasEntered, HasLeft};
 
-use crate::keyed::{KeyKind, begun, has_key_at, is_number, keyed, place_count};
-use mls_check::beginning;
+use crate::node_key::{KeyKind, begun, fingerprint, has_key_at, is_number, keyed, place_count};
 use mls_tree::PublicTree;
 use std::alloc::{AllocError, Global};
 use std::collections::BTreeSet;
 
-/// Where keys of one kind stand: an entry for each key, of its beginning and its place. A table is settled with the
-/// keys of a tree; after that keys may come, which are accepted or refused.
+/// An entry for each key of one kind: its fingerprint and its node index. A table has a base tree. Then entries may be
+/// added for a changed tree, which are accepted or refused.
 #[derive(Drop)]
 pub(crate) struct KeyTable {
-    /// The beginning of each key, and its place.
+    /// The fingerprint of each key, and its node index.
     entries: BTreeSet<(u64, u32)>,
-    /// By place, the beginning of the key that the settled tree has there.
+    /// By node index, the fingerprint of the key of the base tree.
     beginnings: Vec<Option<u64>>,
-    /// The entries that were put in since the table was settled.
+    /// The entries that were added to those of the base tree.
     came: Vec<(u64, u32)>,
 }
 
-/// Puts in the entry of a key at a place, if there is one.
+/// Adds the entry of a key at a node index, if there is one.
 fn put_entry(
     entries: &mut BTreeSet<(u64, u32)>,
     number: Option<u64>,
@@ -37,7 +36,7 @@ fn put_entry(
     Ok(())
 }
 
-/// Takes out the entry of the key that stood at a place, unless the key that stands there now has the same.
+/// Removes the entry of the previous key at a node index, unless the key that is there now has the same.
 fn leave_entry(entries: &mut BTreeSet<(u64, u32)>, left: Option<u64>, now: Option<u64>, place: u32)
     ensures { HasLeft left now place entries.old entries.new }
 {
@@ -50,7 +49,7 @@ fn leave_entry(entries: &mut BTreeSet<(u64, u32)>, left: Option<u64>, now: Optio
 }
 
 impl KeyTable {
-    /// A table of no keys. Takes no memory.
+    /// Returns a table of no keys. Does not allocate.
     fn new(alloc: Global) -> KeyTable
         ensures { (x : ℕ → Option ℕ) → IsFilled x 0 result }
     {
@@ -61,7 +60,7 @@ impl KeyTable {
         }
     }
 
-    /// Settles the next place, where a key of this beginning stands.
+    /// Adds the next node index of the base tree, with the fingerprint of its key.
     fn append(&mut self, number: Option<u64>, place: u32) -> Result<(), AllocError>
         ensures { OnOk result ((x : ℕ → Option ℕ) → x place ≡ number
             → IsFilled x place self.old → IsFilled x (place + 1) self.new) }
@@ -71,7 +70,7 @@ impl KeyTable {
         Ok(())
     }
 
-    /// Settles the places of a tree, one after the other.
+    /// Adds the node indices of a tree, one after the other.
     fn fill(&mut self, tree: &PublicTree, kind: KeyKind) -> Result<(), AllocError>
         requires { IsFilled (begun kind tree.now.tree) 0 self.old }
         ensures { OnOk result (IsTableOf (begun kind tree.now.tree) self.new) }
@@ -82,7 +81,7 @@ impl KeyTable {
         Ok(())
     }
 
-    /// The table of a tree's keys.
+    /// Returns the table of a tree's keys.
     pub(crate) fn of(
         alloc: Global,
         tree: &PublicTree,
@@ -95,7 +94,7 @@ impl KeyTable {
         Ok(table)
     }
 
-    /// Makes room for the beginnings at so many places.
+    /// Makes entries for the fingerprints at this many node indices.
     fn make_room(&mut self, count: u32) -> Result<(), AllocError>
         ensures settled { (p : ℕ) → settled_at self.new p ≡ settled_at self.old p }
         ensures entries { self.new.entries ≡ self.old.entries }
@@ -108,9 +107,9 @@ impl KeyTable {
         Ok(())
     }
 
-    /// Puts in an entry for a key at a place, unless there is one.
-    fn enter_at(&mut self, number: Option<u64>, place: u32) -> Result<(), AllocError>
-        ensures between { (x : ℕ → Option ℕ) → IsBetween x self.old → IsBetween x self.new }
+    /// Adds an entry for a key at a node index, unless there is one.
+    fn insert_unmerged_at(&mut self, number: Option<u64>, place: u32) -> Result<(), AllocError>
+        ensures between { (x : ℕ → Option ℕ) → HasBase x self.old → HasBase x self.new }
         ensures entered { OnOk result (HasEntered number place self.old.entries self.new.entries) }
         ensures beginnings { self.new.beginnings ≡ self.old.beginnings }
     {
@@ -126,44 +125,44 @@ impl KeyTable {
         Ok(())
     }
 
-    /// Puts in an entry for each key at these places of a tree.
-    fn enter_all(
+    /// Adds an entry for each key at these node indices of a tree.
+    fn insert_all(
         &mut self,
         tree: &PublicTree,
         kind: KeyKind,
         places: &[u32],
     ) -> Result<(), AllocError>
-        ensures between { (x : ℕ → Option ℕ) → IsBetween x self.old → IsBetween x self.new }
-        ensures covers { OnOk result (CoversBut places.now (begun kind tree.now.tree) self.old
-            → CoversBut [] (begun kind tree.now.tree) self.new) }
+        ensures between { (x : ℕ → Option ℕ) → HasBase x self.old → HasBase x self.new }
+        ensures covers { OnOk result (ContainsKeysBut places.now (begun kind tree.now.tree) self.old
+            → ContainsKeysBut [] (begun kind tree.now.tree) self.new) }
         ensures beginnings { self.new.beginnings ≡ self.old.beginnings }
     {
         let mut rest = places;
         while let Some((place, tail)) = rest.split_first() {
-            self.enter_at(begun(tree, kind, *place), *place)?;
+            self.insert_unmerged_at(begun(tree, kind, *place), *place)?;
             rest = tail;
         }
         Ok(())
     }
 
-    /// Puts in an entry for each key at these places of a tree, and makes room so that the table can be settled with
-    /// the tree.
+    /// Adds an entry for each key at these node indices of a tree, and reserves memory so that the tree can become the
+    /// base tree.
     pub(crate) fn enter(
         &mut self,
         tree: &PublicTree,
         kind: KeyKind,
         places: &[u32],
     ) -> Result<(), AllocError>
-        ensures between { (x : ℕ → Option ℕ) → IsBetween x self.old → IsBetween x self.new }
-        ensures covers { OnOk result ((x : ℕ → Option ℕ) → Covers x self.old
+        ensures between { (x : ℕ → Option ℕ) → HasBase x self.old → HasBase x self.new }
+        ensures covers { OnOk result ((x : ℕ → Option ℕ) → ContainsKeysOf x self.old
             → AreSameBut places.now x (begun kind tree.now.tree)
-            → Covers (begun kind tree.now.tree) self.new) }
+            → ContainsKeysOf (begun kind tree.now.tree) self.new) }
     {
         self.make_room(place_count(tree))?;
-        self.enter_all(tree, kind, places)
+        self.insert_all(tree, kind, places)
     }
 
-    /// Settles a place, where a key of this beginning stands: the entry of the key that stood there before goes.
+    /// Stores the fingerprint of the key at a node index, and removes the entry of the previous key.
     fn settle_at(&mut self, number: Option<u64>, place: u32)
         ensures { (y : ℕ → Option ℕ) (rest : List ℕ) → y place ≡ number
             → IsSettling y (place ∷ rest) self.old → IsSettling y rest self.new }
@@ -177,7 +176,7 @@ impl KeyTable {
         self.beginnings[index] = number;
     }
 
-    /// Settles these places with the keys of a tree.
+    /// Stores the fingerprints at these node indices of a tree.
     fn settle(&mut self, tree: &PublicTree, kind: KeyKind, places: &[u32])
         ensures { IsSettling (begun kind tree.now.tree) places.now self.old
             → IsSettling (begun kind tree.now.tree) [] self.new }
@@ -189,7 +188,7 @@ impl KeyTable {
         }
     }
 
-    /// Takes out the entries that came and that no key of a tree has.
+    /// Removes the added entries that are of no key of a tree.
     fn leave_others(&mut self, tree: &PublicTree, kind: KeyKind)
         ensures { IsSettling (begun kind tree.now.tree) [] self.old
             → IsTableOf (begun kind tree.now.tree) self.new }
@@ -200,10 +199,10 @@ impl KeyTable {
         }
     }
 
-    /// Settles the table with a tree that it covers, which differs at these places from the one that it was settled
-    /// with. Takes no memory.
+    /// Makes a tree whose keys the table contains, and which differs at these node indices from the base tree, the base
+    /// tree. Does not allocate.
     pub(crate) fn accept(&mut self, tree: &PublicTree, kind: KeyKind, places: &[u32])
-        ensures { (x : ℕ → Option ℕ) → IsBetween x self.old → Covers (begun kind tree.now.tree) self.old
+        ensures { (x : ℕ → Option ℕ) → HasBase x self.old → ContainsKeysOf (begun kind tree.now.tree) self.old
             → AreSameBut places.now x (begun kind tree.now.tree)
             → IsTableOf (begun kind tree.now.tree) self.new }
     {
@@ -211,21 +210,21 @@ impl KeyTable {
         self.leave_others(tree, kind);
     }
 
-    /// Takes out what came since the table was settled. Takes no memory.
+    /// Removes the added entries. Does not allocate.
     pub(crate) fn refuse(&mut self)
-        ensures { (x : ℕ → Option ℕ) → IsBetween x self.old → IsTableOf x self.new }
+        ensures { (x : ℕ → Option ℕ) → HasBase x self.old → IsTableOf x self.new }
     {
         while let Some((number, place)) = self.came.pop() {
             self.entries.remove(&(number, place));
         }
     }
 
-    /// Whether some node of a tree has this key.
+    /// Returns whether some node of a tree has this key.
     pub(crate) fn has_key(&self, tree: &PublicTree, kind: KeyKind, key: &[u8]) -> bool
-        ensures { Covers (begun kind tree.now.tree) self.now
+        ensures { ContainsKeysOf (begun kind tree.now.tree) self.now
             → IsTrue result ↔ HasKey kind tree.now.tree key.now }
     {
-        let number = beginning(key);
+        let number = fingerprint(key);
         for entry in self.entries.range((number, 0)..=(number, u32::MAX)) {
             if has_key_at(tree, kind, entry.1, key) {
                 return true;
@@ -234,15 +233,15 @@ impl KeyTable {
         false
     }
 
-    /// Whether no other node of a tree has the key at a place.
+    /// Returns whether no other node of a tree has the key at a node index.
     pub(crate) fn has_own_key(&self, tree: &PublicTree, kind: KeyKind, place: u32) -> bool
-        ensures { Covers (begun kind tree.now.tree) self.now
+        ensures { ContainsKeysOf (begun kind tree.now.tree) self.now
             → IsTrue result ↔ IsOwnKey kind tree.now.tree place }
     {
         let Some(key) = keyed(tree, kind, place) else {
             return true;
         };
-        let number = beginning(key);
+        let number = fingerprint(key);
         for entry in self.entries.range((number, 0)..=(number, u32::MAX)) {
             if entry.1 != place && has_key_at(tree, kind, entry.1, key) {
                 return false;

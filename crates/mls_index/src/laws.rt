@@ -1,23 +1,30 @@
-//! Laws of trees that changed, and of their index.
+//! Theorems about changed trees, and about their index.
 
-ghost use Rattle.mls_index.specs.Changed.{ChangedNodesSuffice, ChangedMembersSuffice};
-ghost use Rattle.mls_index.specs.TreeIndex.{IndexIsBetween, IndexCovers};
+ghost use Rattle.mls_index.specs.IncrementalCheck.{ChangedNodesDecideKeys, ChangedLeavesDecideValidity};
+ghost use Rattle.mls_index.specs.FirstChanged.{ChangedLeavesFindFailing};
+ghost use Rattle.mls_index.specs.TreeIndex.{IndexHasBase, IndexContainsKeys};
 
-/// Where the encryption keys of a tree are distinct (RFC 9420, 12.4.2), those of the tree after a change are distinct
-/// just where the key of each node that changed is that node's own.
+/// If the encryption keys of a tree are distinct (RFC 9420, 12.4.2), those of the tree after a change are distinct if
+/// and only if no other node has the key of a changed node.
 pub fn changed_nodes_suffice()
-    ensures { ChangedNodesSuffice }
+    ensures { ChangedNodesDecideKeys }
 {}
 
-/// Where the leaves of a tree may be the members of a group (RFC 9420, 7.3), those of the tree after a change may be
-/// just where each leaf that changed supports its extensions and what the group requires, is signed, and has a
-/// signature key of its own, and each leaf supports the types of all credentials.
+/// If the leaf nodes of a tree are valid (RFC 9420, 7.3), those of the tree after a change are valid if and only if
+/// each changed leaf supports its extensions and what the group requires, is signed, and has a unique signature key,
+/// and each leaf supports the credential types of all leaves.
 pub fn changed_members_suffice()
-    ensures { ChangedMembersSuffice }
+    ensures { ChangedLeavesDecideValidity }
 {}
 
-/// An index that is that of a tree is settled with the tree, and covers it.
+/// If each leaf of a tree passes a test that asks nothing of other leaves, the first leaf that fails it after a change
+/// is the first of the leaves that changed.
+pub fn first_failing_leaf_changed()
+    ensures { ChangedLeavesFindFailing }
+{}
+
+/// The index of a tree has it as its base, and contains its keys.
 pub fn index_covers_its_tree()
-    ensures between { IndexIsBetween }
-    ensures covers { IndexCovers }
+    ensures between { IndexHasBase }
+    ensures covers { IndexContainsKeys }
 {}

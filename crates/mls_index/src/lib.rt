@@ -1,20 +1,21 @@
-//! An index of a ratchet tree, and the laws by which a tree that changed is judged by what changed in it (RFC 9420, 7.3
-//! and 12.4.2).
+//! An index of a ratchet tree, and the theorems by which a changed tree is checked from its changes (RFC 9420, 7.3 and
+//! 12.4.2).
 //!
-//! A commit changes few nodes of a large tree. Where the tree before it is known to be sound, the keys of these nodes
-//! are looked up in a [`TreeIndex`], which also tells whether each leaf supports the types of all credentials, and the
-//! rules for members that ask nothing of other leaves are asked of the leaves among them
-//! ([`changed_leaves_keep_rules`]): the [`laws`] say that the whole tree is then sound again.
+//! A commit changes few nodes of a large tree. If the tree before it has distinct encryption keys and valid leaf nodes,
+//! the keys of the changed nodes are looked up in a [`TreeIndex`], which also says whether each leaf supports the
+//! credential types of all leaves. The other rules are checked of the changed leaves only
+//! ([`first_changed_failing`]). The theorems in [`laws`] say that the whole tree then has distinct keys and valid
+//! leaf nodes again.
 #![tactic(auto)]
 
 mod changed_leaves;
 mod credential_counts;
 mod key_table;
-mod keyed;
 pub mod laws;
-mod leaf_classes;
+mod leaf_credentials;
+mod node_key;
 mod tree_index;
 
-pub use changed_leaves::changed_leaves_keep_rules;
-pub use keyed::KeyKind;
+pub use changed_leaves::{LeafRule, LeafRules, first_changed_failing};
+pub use node_key::KeyKind;
 pub use tree_index::TreeIndex;

@@ -1,11 +1,11 @@
 use Rattle.std.proofs.Common.{arith}
 use Rattle.mls_index.proofs.Counting.{but-changed}
-use Rattle.mls_index.specs.CredentialCounts.{HasRoomFor}
+use Rattle.mls_index.specs.CredentialCounts.{HasCapacityFor}
 use Rattle.mls_index.proofs.credential_counts.CredentialCounts.enter.Goals as goal
 
 pub returns-clause-counts : goal.returns-clause-counts
 returns-clause-counts c = λ t h same.
     let new = c.args.tree.now.tree in
     let ready = c.make_room.new.self in
-    let room : HasRoomFor new ready = omega (arith, c.in_ok-make_room.ensures.room, c.leaf_count.ensures) in
-    c.in_ok-enter_all.ensures.counts room (but-changed c.args.places.now t new ready same (c.in_ok-make_room.ensures.same t (c.refuse.ensures t h)).counted)
+    let room : HasCapacityFor new ready = omega (arith, c.in_ok-make_room.ensures.room, c.leaf_count.ensures) in
+    c.in_ok-insert_all.ensures.counts room (but-changed c.args.places.now t new ready same (c.in_ok-make_room.ensures.same t (c.refuse.ensures t h)).counted)

@@ -1,6 +1,6 @@
 use Rattle.std.proofs.Common.{◌≤◌, length, sym, arith}
 use Rattle.std.proofs.lemmas.List.{set_past}
-use Rattle.mls_index.specs.LeafClasses.{taken_back}
+use Rattle.mls_index.specs.LeafCredentials.{taken_back}
 use Rattle.mls_index.proofs.Classes.{same_classes, back-last}
 use Rattle.mls_index.proofs.credential_counts.CredentialCounts.refuse.Goals as goal
 

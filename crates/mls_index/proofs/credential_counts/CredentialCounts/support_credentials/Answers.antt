@@ -1,6 +1,6 @@
 use Rattle.std.proofs.Common.{sym, subst}
 use Rattle.std.specs.Prelude.{IsTrue, ◌↔◌}
-use Rattle.mls_index.specs.Changed.{SupportCredentials}
+use Rattle.mls_index.specs.IncrementalCheck.{SupportCredentials}
 use Rattle.mls_index.proofs.Supporting.{supporting}
 use Rattle.mls_index.proofs.credential_counts.CredentialCounts.support_credentials.Goals as goal
 

@@ -1,4 +1,4 @@
-use Rattle.mls_index.specs.Keyed.{begun}
+use Rattle.mls_index.specs.NodeKeys.{begun}
 use Rattle.mls_index.proofs.Tables.{settling-first}
 use Rattle.mls_index.proofs.key_table.KeyTable.accept.Goals as goal
 

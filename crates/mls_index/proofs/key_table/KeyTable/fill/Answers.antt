@@ -1,5 +1,5 @@
 use Rattle.std.proofs.Common.{◌≡◌, sym, subst, arith}
-use Rattle.mls_index.specs.Keyed.{begun}
+use Rattle.mls_index.specs.NodeKeys.{begun}
 use Rattle.mls_index.specs.KeyTable.{IsFilled}
 use Rattle.mls_index.proofs.Tables.{filled-all}
 use Rattle.mls_index.proofs.key_table.KeyTable.fill.Goals as goal

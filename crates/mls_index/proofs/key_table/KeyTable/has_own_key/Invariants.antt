@@ -1,5 +1,5 @@
 use Rattle.std.proofs.Common.{◌≢◌, Some}
-use Rattle.mls_index.specs.Keyed.{keyed}
+use Rattle.mls_index.specs.NodeKeys.{keyed}
 use Rattle.mls_index.proofs.Entries.{IsSought}
 use Rattle.mls_index.proofs.key_table.KeyTable.has_own_key.Given as goal
 

@@ -1,6 +1,6 @@
 use Rattle.std.proofs.Common.{◌∙◌, [], refl, sym}
 use Rattle.std.proofs.lemmas.List.{nil_from_length}
-use Rattle.mls_index.specs.Keyed.{begun}
+use Rattle.mls_index.specs.NodeKeys.{begun}
 use Rattle.mls_index.proofs.Tables.{settling-came, settling-same, settling-last}
 use Rattle.mls_index.proofs.key_table.KeyTable.leave_others.Goals as goal
 

@@ -1,5 +1,5 @@
 use Rattle.std.proofs.Common.{[], vec_len}
-use Rattle.mls_index.specs.Keyed.{begun}
+use Rattle.mls_index.specs.NodeKeys.{begun}
 use Rattle.mls_index.specs.KeyTable.{IsSettling}
 use Rattle.mls_index.proofs.key_table.KeyTable.leave_others.Given as goal
 

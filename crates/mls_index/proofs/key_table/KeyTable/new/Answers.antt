@@ -1,4 +1,3 @@
-use Rattle.std.proofs.Common.{refl}
 use Rattle.mls_index.proofs.Tables.{filled-first}
 use Rattle.mls_index.proofs.key_table.KeyTable.new.Goals as goal
 

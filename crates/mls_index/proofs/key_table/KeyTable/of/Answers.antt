@@ -1,4 +1,4 @@
-use Rattle.mls_index.specs.Keyed.{begun}
+use Rattle.mls_index.specs.NodeKeys.{begun}
 use Rattle.mls_index.proofs.key_table.KeyTable.of.Goals as goal
 
 pub fill-requires : goal.fill-requires

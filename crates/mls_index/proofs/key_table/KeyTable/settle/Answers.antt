@@ -1,5 +1,5 @@
 use Rattle.std.proofs.Common.{rules, sym, subst, ◌≡◌, ◌∷◌}
-use Rattle.mls_index.specs.Keyed.{begun}
+use Rattle.mls_index.specs.NodeKeys.{begun}
 use Rattle.mls_index.specs.KeyTable.{IsSettling}
 use Rattle.mls_index.proofs.key_table.KeyTable.settle.Goals as goal
 

@@ -1,5 +1,5 @@
-use Rattle.mls_index.specs.Keyed.{begun}
-use Rattle.mls_index.specs.declared.keyed.KeyKind.TheVariants.{Encryption, Signature}
+use Rattle.mls_index.specs.NodeKeys.{begun}
+use Rattle.mls_index.specs.declared.node_key.KeyKind.TheVariants.{Encryption, Signature}
 use Rattle.mls_index.proofs.Indexes.{same_begun}
 use Rattle.mls_index.proofs.tree_index.TreeIndex.accept.Goals as goal
 

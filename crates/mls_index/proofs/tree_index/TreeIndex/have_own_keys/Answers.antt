@@ -1,7 +1,7 @@
 use Rattle.std.proofs.Common.{◌≡◌, ◌∙◌, ◌∷◌, rules, refl, sym}
 use Rattle.std.proofs.lemmas.Bool.{false≢true}
 use Rattle.std.proofs.lemmas.List.{nil_from_length}
-use Rattle.mls_index.specs.Keyed.{IsOwnKey}
+use Rattle.mls_index.specs.NodeKeys.{IsOwnKey}
 use Rattle.mls_index.proofs.Meeting.{met-first, met-more, met-all, met-listed}
 use Rattle.mls_index.proofs.tree_index.TreeIndex.have_own_keys.Goals as goal
 

@@ -1,9 +1,9 @@
 use Rattle.std.proofs.Common.{arith}
-use Rattle.mls_tree.specs.KeptTree.{plain}
+use Rattle.mls_tree.specs.PublicTreeModel.{plain}
 use Rattle.mls_tree.specs.RatchetTree.{RatchetTree}
 use Rattle.mls_tree.proofs.Trees.{leaf_count-positive}
 use Rattle.mls_tree.proofs.Descent.{leaf_count-limit}
-use Rattle.mls_index.proofs.keyed.place_count.Goals as goal
+use Rattle.mls_index.proofs.node_key.place_count.Goals as goal
 
 pub overflow_mul-result : goal.overflow_mul-result
 overflow_mul-result c = let tree : RatchetTree = plain c.args.tree.now in omega (arith, c.leaf_count.ensures, leaf_count-limit tree)

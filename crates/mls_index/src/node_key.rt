@@ -1,13 +1,15 @@
-//! The keys of a tree by their places.
+//! The keys of a tree by node index.
 
 ghost use Rattle.std.specs.Prelude.{◌≡◌, ◌↔◌, ◌+◌, ◌*◌, ◌<◌, Some, IsTrue};
 ghost use Rattle.std.specs.Option.{option_copied};
+ghost use Rattle.sha2.specs.Sha256.{sha256};
 ghost use Rattle.mls_tree.specs.Tree.{leaf_count};
-ghost use Rattle.mls_index.specs.Keyed.{keyed, begun};
+ghost use Rattle.mls_index.specs.NodeKeys.{keyed, begun, fingerprint};
 
 use mls_check::beginning;
 use mls_nodes::Node;
 use mls_tree::PublicTree;
+use sha2::{Digest, Sha256};
 
 /// Which keys of a tree: the encryption keys of all nodes, or the signature keys of the leaves.
 #[derive(Clone, Copy, Debug, PartialEq, Eq)]
@@ -18,7 +20,7 @@ pub enum KeyKind {
     Signature,
 }
 
-/// The key of a kind that the tree has at a place.
+/// Returns the key of a kind at a node index.
 pub(crate) fn keyed(tree: &PublicTree, kind: KeyKind, place: u32) -> Option<&[u8]>
     ensures { option_copied result ≡ keyed kind tree.now.tree place }
 {
@@ -35,17 +37,35 @@ pub(crate) fn keyed(tree: &PublicTree, kind: KeyKind, place: u32) -> Option<&[u8
     }
 }
 
-/// The beginning of that key.
+/// Returns the SHA-256 digest of a key.
+fn digest(key: &[u8]) -> [u8; 32]
+    ensures { result ≡ sha256 key.now }
+{
+    let mut hasher = Sha256::new();
+    hasher.update(key);
+    hasher.finalize()
+}
+
+/// Returns the fingerprint of a key: the first eight bytes of its SHA-256, as a number. So nobody can choose it. Keys
+/// with equal fingerprints have to be compared themselves.
+#[tactic(auto, unfolding(crate::specs::NodeKeys::fingerprint))]
+pub(crate) fn fingerprint(key: &[u8]) -> u64
+    ensures { result ≡ fingerprint key.now }
+{
+    beginning(&digest(key))
+}
+
+/// Returns the fingerprint of the key at a node index.
 pub(crate) fn begun(tree: &PublicTree, kind: KeyKind, place: u32) -> Option<u64>
     ensures { result ≡ begun kind tree.now.tree place }
 {
     match keyed(tree, kind, place) {
-        Some(key) => Some(beginning(key)),
+        Some(key) => Some(fingerprint(key)),
         None => None,
     }
 }
 
-/// Whether the tree has this key at a place.
+/// Returns whether the tree has this key at a node index.
 pub(crate) fn has_key_at(tree: &PublicTree, kind: KeyKind, place: u32, key: &[u8]) -> bool
     ensures { IsTrue result ↔ (keyed kind tree.now.tree place ≡ Some key.now) }
 {
@@ -55,7 +75,7 @@ pub(crate) fn has_key_at(tree: &PublicTree, kind: KeyKind, place: u32, key: &[u8
     }
 }
 
-/// Whether a beginning is this number.
+/// Returns whether a fingerprint is this number.
 pub(crate) fn is_number(begun: Option<u64>, number: u64) -> bool
     ensures { IsTrue result ↔ (begun ≡ Some number) }
 {
@@ -65,7 +85,7 @@ pub(crate) fn is_number(begun: Option<u64>, number: u64) -> bool
     }
 }
 
-/// How many places the tree has.
+/// Returns the number of nodes of the tree.
 pub(crate) fn place_count(tree: &PublicTree) -> u32
     ensures count { result + 1 ≡ 2 * leaf_count tree.now.tree }
     ensures low { result < 2097152 }

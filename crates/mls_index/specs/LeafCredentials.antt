@@ -1,15 +1,15 @@
--- What the leaves of a tree say of types of credentials (RFC 9420, 5.3 and 7.2), listed by leaf index.
+-- What the leaves of a tree say of credential types (RFC 9420, 5.3 and 7.2), by leaf index. Used by contracts.
 use Rattle.std.specs.Prelude.{◌≡◌, ℕ, ◌==◌, Bool, false, not, ◌&&◌, ◌||◌, List, [], ◌∷◌, Option, Some, None, count_by, slice_index_or, slice_set}
 use Rattle.mls_nodes.specs.declared.leaf.LeafNode.{LeafNode}
 use Rattle.mls_tree.specs.Tree.{Tree, leaf_at}
-use Rattle.mls_check.specs.Members.{credential_type, supports_credential}
-pub use Rattle.mls_index.specs.declared.leaf_classes.LeafClass.{LeafClass}
+use Rattle.mls_check.specs.LeafValidation.{credential_type, supports_credential}
+pub use Rattle.mls_index.specs.declared.leaf_credentials.LeafClass.{LeafClass}
 
--- what a blank leaf says
+-- `blank_class` is the class of a blank leaf.
 abbrev pub blank_class : LeafClass
 blank_class = record { has_basic = false; has_x509 = false; lacks_basic = false; lacks_x509 = false }
 
--- what a leaf says: which type of credential it has, and which it doesn't support
+-- `class_of x` is the class of a leaf: which credential type it has, and which it does not support.
 abbrev pub class_of : Option LeafNode → LeafClass
 class_of None = blank_class
 class_of (Some x) = record {
@@ -19,25 +19,26 @@ class_of (Some x) = record {
   lacks_x509 = not (supports_credential x 2);
 }
 
--- what a list has for a leaf: beyond its end there are blank leaves
+-- `class_at classes i` is the class in a list for leaf i. After the end of the list leaves are blank.
 abbrev pub class_at : List LeafClass → ℕ → LeafClass
 class_at classes i = slice_index_or classes i blank_class
 
--- no class of a list passes a test
+-- `none_pass test classes`: no class of the list passes the test.
 abbrev pub none_pass : (LeafClass → Bool) → List LeafClass → Bool
 none_pass test classes = count_by test classes == 0
 
--- no leaf lacks a type of credential that some leaf has
+-- `support_each_other classes`: no leaf lacks a credential type that some leaf has.
 abbrev pub support_each_other : List LeafClass → Bool
 support_each_other classes =
     (none_pass (λ c. c.has_basic) classes || none_pass (λ c. c.lacks_basic) classes)
     && (none_pass (λ c. c.has_x509) classes || none_pass (λ c. c.lacks_x509) classes)
 
--- a list has what the leaves of a tree say
+-- `AreClassesOf t classes`: the list has the classes of the leaves of the tree.
 pub record AreClassesOf (t : Tree) (classes : List LeafClass) : Type 0 where
   pub at : (i : ℕ) → class_at classes i ≡ class_of (leaf_at 0 t i)
 
--- a list before some replacements, each an index and what stood there: the last is taken back first
+-- `taken_back replaced classes` is the list before some replacements, each an index and the previous class. The last
+-- one is undone first.
 abbrev pub taken_back : List (ℕ × LeafClass) → List LeafClass → List LeafClass
 taken_back [] classes = classes
 taken_back (e ∷ replaced) classes = slice_set (taken_back replaced classes) e.0 e.1

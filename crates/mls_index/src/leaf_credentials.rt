@@ -1,8 +1,8 @@
-//! What the leaves of a tree say of types of credentials (RFC 9420, 5.3 and 7.2), with counts.
+//! What the leaves of a tree say of credential types (RFC 9420, 5.3 and 7.2), with counts.
 
 ghost use Rattle.std.specs.Prelude.{◌≡◌, ◌+◌, ◌<◌, ◌≤◌, ◌^◌, ◌++◌, ◌∷◌, [], Some, OnOk, OnErr, cond, length, slice_set, slice_index_or, count_by};
 ghost use Rattle.mls_tree.specs.Tree.{leaf_at};
-ghost use Rattle.mls_index.specs.LeafClasses.{LeafClass, class_of, blank_class, support_each_other};
+ghost use Rattle.mls_index.specs.LeafCredentials.{LeafClass, class_of, blank_class, support_each_other};
 
 use mls_nodes::{Credential, LeafNode};
 use mls_tree::PublicTree;
@@ -14,7 +14,7 @@ const BASIC: u16 = 1;
 /// The code of x509 credentials.
 const X509: u16 = 2;
 
-/// What a leaf says of types of credentials: which one it has, and which it doesn't support.
+/// The class of a leaf: which credential type it has, and which it does not support.
 #[derive(Clone, Copy, Debug)]
 pub(crate) struct LeafClass {
     has_basic: bool,
@@ -24,7 +24,7 @@ pub(crate) struct LeafClass {
 }
 
 impl LeafClass {
-    /// What a blank leaf says.
+    /// Returns the class of a blank leaf.
     pub(crate) fn blank() -> LeafClass
         ensures { result ≡ blank_class }
     {
@@ -36,7 +36,7 @@ impl LeafClass {
         }
     }
 
-    /// What a set leaf says.
+    /// Returns the class of a non-blank leaf.
     fn of(leaf: &LeafNode) -> LeafClass
         ensures { result ≡ class_of (Some leaf.now) }
     {
@@ -59,7 +59,7 @@ impl LeafClass {
         }
     }
 
-    /// What a leaf of a tree says, be it blank or set.
+    /// Returns the class of a leaf of a tree, blank or not.
     pub(crate) fn at(tree: &PublicTree, index: u32) -> LeafClass
         ensures { result ≡ class_of (leaf_at 0 tree.now.tree index) }
     {
@@ -70,7 +70,7 @@ impl LeafClass {
     }
 }
 
-/// A count of leaves after one of them was replaced, from whether the old one and the new one are counted.
+/// Returns a count of leaves after one of them was replaced, from whether the old one and the new one are counted.
 fn recounted(count: usize, was: bool, is: bool) -> usize
     requires counted { cond was 1 0 ≤ count }
     requires fits { count + 1 < 2 ^ 64 }
@@ -79,7 +79,7 @@ fn recounted(count: usize, was: bool, is: bool) -> usize
     count - usize::from(was) + usize::from(is)
 }
 
-/// The classes of leaves, and how many leaves have each type of credential and how many lack it.
+/// The classes of leaves, and how many leaves have each credential type and how many lack it.
 #[derive(Drop)]
 pub(crate) struct CountedClasses {
     /// By leaf index.
@@ -95,7 +95,7 @@ pub(crate) struct CountedClasses {
 }
 
 impl CountedClasses {
-    /// No classes. Takes no memory.
+    /// Returns a list of no classes. Does not allocate.
     pub(crate) fn new(alloc: Global) -> CountedClasses
         ensures { result.list.items ≡ [] }
     {
@@ -108,7 +108,7 @@ impl CountedClasses {
         }
     }
 
-    /// How many classes there are.
+    /// Returns the number of classes.
     pub(crate) fn len(&self) -> usize
         ensures { result ≡ length self.now.list.items }
     {
@@ -129,7 +129,7 @@ impl CountedClasses {
         Ok(())
     }
 
-    /// Replaces the class of a leaf, and gives the one before.
+    /// Replaces the class of a leaf, and returns the previous one.
     pub(crate) fn replace(&mut self, index: usize, class: LeafClass) -> LeafClass
         requires { index < length self.old.list.items }
         ensures replaced { self.new.list.items ≡ slice_set self.old.list.items index class }
@@ -144,7 +144,7 @@ impl CountedClasses {
         was
     }
 
-    /// Whether no leaf lacks a type of credential that some leaf has.
+    /// Returns whether no leaf lacks a credential type that some leaf has.
     pub(crate) fn support_each_other(&self) -> bool
         ensures { result ≡ support_each_other self.now.list.items }
     {

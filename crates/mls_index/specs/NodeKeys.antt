@@ -1,0 +1,41 @@
+-- The keys of a tree by node index (RFC 9420, 7.3). `kind` says whether these are encryption keys or signature keys.
+-- Used by contracts.
+use Rattle.std.specs.Prelude.{◌≡◌, ◌≢◌, ℕ, List, Option, Some, None, option_map}
+use Rattle.mls_nodes.specs.NodeModel.{NodeValue, leaf_node, parent_node}
+use Rattle.mls_tree.specs.Tree.{Tree, node_at}
+use Rattle.mls_check.specs.KeyPrefix.{beginning}
+use Rattle.sha2.specs.Sha256.{sha256}
+use Rattle.mls_check.specs.DistinctKeys.{encryption_key}
+use Rattle.mls_index.specs.declared.node_key.KeyKind.{KeyKind}
+use Rattle.mls_index.specs.declared.node_key.KeyKind.TheVariants.{Encryption, Signature}
+
+-- `signature_key n` is the signature key of a leaf. A parent has none.
+abbrev pub signature_key : Option NodeValue → Option (List ℕ)
+signature_key None = None
+signature_key (Some (leaf_node x)) = Some x.signature_key
+signature_key (Some (parent_node _)) = None
+
+-- `node_key kind n` is the key of a kind that a node has.
+abbrev pub node_key : KeyKind → Option NodeValue → Option (List ℕ)
+node_key Encryption node = option_map encryption_key node
+node_key Signature node = signature_key node
+
+-- `keyed kind t p` is the key of a kind at a node index.
+abbrev pub keyed : KeyKind → Tree → ℕ → Option (List ℕ)
+keyed kind t p = node_key kind (node_at t p)
+
+-- `fingerprint key` is the first eight bytes of the SHA-256 of a key, as a number. So nobody can choose it.
+unfoldable pub fingerprint : List ℕ → ℕ
+fingerprint key = beginning (sha256 key)
+
+-- `begun kind t p` is the fingerprint of the key at a node index.
+abbrev pub begun : KeyKind → Tree → ℕ → Option ℕ
+begun kind t p = option_map fingerprint (keyed kind t p)
+
+-- `HasKey kind t key`: some node of the tree has this key.
+abbrev pub HasKey : KeyKind → Tree → List ℕ → Type 0
+HasKey kind t key = (p : ℕ) × (keyed kind t p ≡ Some key)
+
+-- `IsOwnKey kind t p`: no other node of the tree has the key of the node at a node index.
+abbrev pub IsOwnKey : KeyKind → Tree → ℕ → Type 0
+IsOwnKey kind t p = (q : ℕ) (key : List ℕ) → q ≢ p → keyed kind t p ≡ Some key → keyed kind t q ≡ Some key → ⊥

@@ -6,21 +6,21 @@ use Rattle.std.proofs.lemmas.List.{append_assoc, append-nil, drop_all}
 use Rattle.mls_nodes.specs.declared.leaf.LeafNode.{LeafNode}
 use Rattle.mls_msgs.specs.declared.key_package.KeyPackage.{KeyPackage}
 use Rattle.mls_msgs.specs.declared.proposal.Proposal.{Proposal}
-use Rattle.mls_msgs.specs.declared.proposal.Proposal.TheVariants.{Add, Update, Remove, ContextExtensions}
+use Rattle.mls_msgs.specs.declared.proposal.Proposal.TheVariants.{Add, Update, Remove, ContextExtensions, PreSharedKey, ReInit, ExternalInit}
 use Rattle.mls_nodes.specs.Limits.{leaf_limit}
 use Rattle.mls_tree.specs.Tree.{Tree, height, leaf_count, member_count, leaf_at}
-use Rattle.mls_tree.specs.Blanks.{first_blank_leaf, IsFirstBlank, AllLeavesSet, AreSetBelow}
-use Rattle.mls_tree.specs.Changes.{grow, add, add_at, added_leaf, grown_for, number_or, blank_tree, enter_unmerged, with_unmerged}
+use Rattle.mls_tree.specs.BlankLeaves.{first_blank_leaf, IsFirstBlank, AllLeavesSet, AreSetBelow}
+use Rattle.mls_tree.specs.TreeOperations.{grow, add, add_at, added_leaf, grown_for, number_or, blank_tree, enter_unmerged, with_unmerged}
 use Rattle.mls_tree.proofs.Trees.{leaf_count-positive}
 use Rattle.mls_tree.proofs.Kept.{leaf_at-change_above, leaf_count-change_above, leaf_at-grow}
 use Rattle.mls_tree.proofs.Added.{add-set_below}
 use Rattle.mls_tree.proofs.FirstBlanks.{first_blank_leaf-leftmost}
 use Rattle.mls_tree.proofs.Lookups.{leaf_at-past}
-use Rattle.mls_apply.specs.Outcome.{Grown, grown, after_leaf, after_adds, added_to, new_members}
-use Rattle.mls_apply.specs.Adding.{is_add, is_overfull_add, Adds}
-use Rattle.mls_apply.specs.declared.item.ListItem.{ListItem}
+use Rattle.mls_apply.specs.AppliedList.{Grown, grown, after_leaf, after_adds, added_to, new_members}
+use Rattle.mls_apply.specs.AddSteps.{is_add, is_overfull_add, Adds}
+use Rattle.mls_apply.specs.declared.list_item.ListItem.{ListItem}
 use Rattle.mls_apply.proofs.Updating.{next_item}
-use Rattle.mls_apply.proofs.Members.{member_count-change_above, member_count-put_leaf, member_count-grow, member_count-full}
+use Rattle.mls_apply.proofs.LeavesAreValid.{member_count-change_above, member_count-put_leaf, member_count-grow, member_count-full}
 
 -- ---- how many members are added
 
@@ -30,6 +30,9 @@ same_members (Add k) xs e = absurd (false≢true (sym e))
 same_members (Update x) xs e = refl
 same_members (Remove i) xs e = refl
 same_members (ContextExtensions es) xs e = refl
+same_members (PreSharedKey es) xs e = refl
+same_members (ReInit es) xs e = refl
+same_members (ExternalInit es) xs e = refl
 
 pub new_members-add : (x : ListItem) (xs : List ListItem) → is_add x.proposal ≡ true → length (new_members (x ∷ xs)) ≡ length (new_members xs) + 1
 unfolding new_members
@@ -40,6 +43,9 @@ new_members-add x xs e = go x.proposal e
     go (Update y) e = absurd (false≢true e)
     go (Remove i) e = absurd (false≢true e)
     go (ContextExtensions es) e = absurd (false≢true e)
+    go (PreSharedKey es) e = absurd (false≢true e)
+    go (ReInit es) e = absurd (false≢true e)
+    go (ExternalInit es) e = absurd (false≢true e)
 
 pub new_members-other : (x : ListItem) (xs : List ListItem) → is_add x.proposal ≡ false → length (new_members (x ∷ xs)) ≡ length (new_members xs)
 unfolding new_members
@@ -135,6 +141,9 @@ no_add (Add k) none = absurd (none k refl)
 no_add (Update x) none = refl
 no_add (Remove i) none = refl
 no_add (ContextExtensions es) none = refl
+no_add (PreSharedKey es) none = refl
+no_add (ReInit es) none = refl
+no_add (ExternalInit es) none = refl
 
 one_more : (added : List ℕ) (j : ℕ) (o : Option Grown)
     → option_map (behind added) (option_map (after_leaf j) o) ≡ option_map (behind (added ++ j ∷ [])) o

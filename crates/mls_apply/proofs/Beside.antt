@@ -7,8 +7,8 @@ use Rattle.mls_nodes.specs.declared.parent.ParentNode.{ParentNode}
 use Rattle.mls_tree.specs.Tree.{Tree, leaf, branch, leaf_count, Subtree, subtree_at}
 use Rattle.mls_tree.proofs.Choices.{below as if_less, from as if_not_less, same, other}
 use Rattle.mls_tree.proofs.Trees.{subtree_at-here, subtree_at-in_left, subtree_at-in_right}
-use Rattle.mls_hash.specs.SubtreeHashes.{IsLeafOf, IsSameBeside}
-use Rattle.mls_apply.specs.Merge.{Handed, handed, merged_from, merged}
+use Rattle.mls_hash.specs.SubtreeHashes.{IsLeafOf, AgreeOutside}
+use Rattle.mls_apply.specs.MergePath.{Handed, handed, merged_from, merged}
 
 -- the subtree at place p of a tree whose first leaf has the index `first` has leaf i
 abbrev IsUnder : ℕ → Tree → ℕ → ℕ → Type 0
@@ -106,5 +106,5 @@ module _ (H : List ℕ → List ℕ) (t u : Tree) (i : ℕ) (x : LeafNode) (keys
   pub merged-size : leaf_count u ≡ leaf_count t
   merged-size = like.size
 
-  pub merged-beside : IsSameBeside t u i
+  pub merged-beside : AgreeOutside t u i
   merged-beside p none = like.beside p (λ w. none (record { subtree = w.0; there = w.1; inside = w.2 }))

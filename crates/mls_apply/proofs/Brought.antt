@@ -7,7 +7,7 @@ use Rattle.mls_nodes.proofs.RequiredOnce.{required_by-found}
 use Rattle.mls_nodes.specs.Requirements.{FindsRequirements, extension_of}
 use Rattle.mls_nodes.specs.declared.extension.Extension.{Extension}
 use Rattle.mls_nodes.specs.declared.required_capabilities.RequiredCapabilities.{RequiredCapabilities}
-use Rattle.mls_apply.specs.Proposals.{are_valid_extensions}
+use Rattle.mls_apply.specs.ProposalRules.{are_valid_extensions}
 
 -- they were read
 pub valid_read : (extensions : List Extension) (r : RequiredCapabilities) → FindsRequirements (extension_of 3 extensions) (Ok r)

@@ -7,7 +7,7 @@ use Rattle.std.specs.BTreeSet.{contains, IsEmpty}
 use Rattle.std.proofs.lemmas.Bool.{false≢true}
 use Rattle.std.proofs.lemmas.List.{drop_all}
 use Rattle.std.proofs.lemmas.Bool.Decides.{nat_tests}
-use Rattle.mls_apply.specs.declared.item.ListItem.{ListItem}
+use Rattle.mls_apply.specs.declared.list_item.ListItem.{ListItem}
 use Rattle.mls_apply.specs.ListRules.{is_leaf_number, tells, tells_once}
 
 -- whether a leaf is one of those of g

@@ -6,9 +6,9 @@ use Rattle.mls_tree.specs.Tree.{Tree, leaf_count}
 use Rattle.mls_tree.specs.Paths.{filtered_direct_path}
 use Rattle.mls_tree.proofs.Trees.{subtree_at-root}
 use Rattle.mls_apply.specs.KeyCounts.{MergesTakeEachKey, HashesTakeEachKey}
-use Rattle.mls_apply.specs.Merge.{path_parent}
+use Rattle.mls_apply.specs.MergePath.{path_parent}
 use Rattle.mls_apply.specs.PathRules.{path_length}
-use Rattle.mls_apply.specs.Route.{Route, below, route, path_route, path_hash_at, carried}
+use Rattle.mls_apply.specs.PathParents.{Route, below, route, path_route, path_hash_at, carried}
 use Rattle.mls_apply.proofs.Routes.{OfRoute, made, merged-route, expected-route}
 
 module _ (H : List ℕ → List ℕ) (t : Tree) (i : ℕ) where

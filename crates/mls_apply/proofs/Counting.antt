@@ -11,9 +11,9 @@ use Rattle.mls_msgs.specs.declared.commit.PathNode.{PathNode}
 use Rattle.mls_msgs.specs.declared.commit.UpdatePath.{UpdatePath}
 use Rattle.mls_tree.specs.Tree.{leaf_count, Subtree}
 use Rattle.mls_tree.specs.Paths.{resolution, filtered_direct_path}
-use Rattle.mls_apply.specs.Outcome.{Grown}
+use Rattle.mls_apply.specs.AppliedList.{Grown}
 use Rattle.mls_apply.specs.PathRules.{has_ciphertexts, have_counts, without_added}
-use Rattle.mls_apply.specs.Route.{resolution_of, away_resolution}
+use Rattle.mls_apply.specs.PathParents.{resolution_of, away_resolution}
 use Rattle.mls_apply.proofs.Paths.{copath_resolutions-filtered}
 
 -- what is told of the resolution of a subtree that stands somewhere, by another word for the subtree

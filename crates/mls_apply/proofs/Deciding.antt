@@ -3,22 +3,22 @@ use Rattle.std.proofs.Common.{◌≡◌, ℕ, List, [], ◌∷◌, length, Bool,
 use Rattle.std.specs.Prelude.{is_some, ◌==◌, All, reverse}
 use Rattle.std.proofs.lemmas.Bool.Decides.{nat_tests}
 use Rattle.std.proofs.lemmas.List.{length-reverse}
-use Rattle.mls_wire.specs.Sizes.{vector_some}
-use Rattle.mls_wire.specs.Spelling.{vector}
+use Rattle.mls_wire.specs.EncodedSizes.{vector_some}
+use Rattle.mls_wire.specs.Encoding.{vector}
 use Rattle.mls_msgs.specs.declared.commit.UpdatePath.{UpdatePath}
 use Rattle.mls_tree.specs.Tree.{Tree, leaf_count, leaf_at}
 use Rattle.mls_tree.specs.TreeHash.{tree_hash}
 use Rattle.mls_apply.specs.declared.fault.ApplyFault.{ApplyFault}
 use Rattle.mls_apply.specs.declared.fault.ApplyFault.TheVariants.{UnknownReference, TooManyLeaves, NoSuchLeaf, PathLength, OutOfMemory}
-use Rattle.mls_apply.specs.declared.item.ListItem.{ListItem}
-use Rattle.mls_apply.specs.Answers.{IsAnswered, SomeItems, SomeListAnswer, SomeProposalAnswer, FailsList, SomeOutcome, SomeHashes, SomeMerge}
-use Rattle.mls_apply.specs.Items.{resolved}
+use Rattle.mls_apply.specs.declared.list_item.ListItem.{ListItem}
+use Rattle.mls_apply.specs.ResultsExist.{IsAnswered, ItemsExists, ListAnswerExists, ProposalAnswerExists, FailsList, OutcomeExists, HashesExists, MergeExists}
+use Rattle.mls_apply.specs.ResolvedList.{resolved}
 use Rattle.mls_apply.specs.ListRules.{list_rules, list_refusal}
-use Rattle.mls_apply.specs.Merge.{expected_hashes, merged}
-use Rattle.mls_apply.specs.Outcome.{Grown, without_adds, outcome}
+use Rattle.mls_apply.specs.MergePath.{expected_hashes, merged}
+use Rattle.mls_apply.specs.AppliedList.{Grown, without_adds, outcome}
 use Rattle.mls_apply.specs.PathRules.{keys_refusal, path_length, path_refusal, path_rules, node_keys}
-use Rattle.mls_apply.specs.Proposals.{checked_rules, checked_refusal}
-use Rattle.mls_apply.specs.Rules.{Rule, rule, first_failing}
+use Rattle.mls_apply.specs.ProposalRules.{checked_rules, checked_refusal}
+use Rattle.mls_apply.specs.RuleLists.{Rule, rule, first_failing}
 use Rattle.mls_apply.proofs.Expected.{hashes_there, path_merged}
 use Rattle.mls_apply.proofs.Making.{All-reverse}
 use Rattle.mls_apply.proofs.Refusals.{blank, keys-no_leaf, keys-other_length, keys-kept}
@@ -34,7 +34,7 @@ judged {A} Right rs others right = go (first_failing rs) refl
     go None e = inl (right e)
     go (Some fault) e = inr (fault, λ memory. others.never (e ∙ ap Some memory), e)
 
-pub some_items : SomeItems
+pub some_items : ItemsExists
 some_items committer known entries = go (resolved committer known entries) refl
   where
     go : (o : Option (List ListItem)) → resolved committer known entries ≡ o
@@ -42,19 +42,19 @@ some_items committer known entries = go (resolved committer known entries) refl
     go None e = inr (UnknownReference, λ h. absurd cc, (refl, e))
     go (Some items) e = inl (items, e)
 
-pub some_list_answer : SomeListAnswer
+pub some_list_answer : ListAnswerExists
 unfolding list_refusal
 some_list_answer committer items has_path =
     judged (λ _. list_refusal committer items has_path ≡ None) (list_rules committer items has_path)
     (one_more (λ e. cc) (one_more (λ e. cc) (one_more (λ e. cc) (one_more (λ e. cc) (one_more (λ e. cc) no_rules))))) (λ kept. (tt, kept))
 
-pub some_proposal_answer : SomeProposalAnswer
+pub some_proposal_answer : ProposalAnswerExists
 unfolding checked_refusal
 some_proposal_answer G context t sender p =
     judged (λ _. checked_refusal G context t sender p ≡ None) (checked_rules G context t sender p)
     (one_more (λ e. cc) (one_more (λ e. cc) (one_more (λ e. cc) (one_more (λ e. cc) (one_more (λ e. cc) no_rules))))) (λ kept. (tt, kept))
 
-pub some_outcome : SomeOutcome
+pub some_outcome : OutcomeExists
 some_outcome items t = go (without_adds items t) refl (outcome items t) refl
   where
     go : (o : Option Tree) → without_adds items t ≡ o → (p : Option Grown) → outcome items t ≡ p → IsAnswered (λ g. outcome items t ≡ Some g) (FailsList items t)
@@ -80,7 +80,7 @@ module _ (H : List ℕ → List ℕ) (t : Tree) (committer : ℕ) (keys : List (
       let found = taken_out (expected_hashes H t committer keys) (expected same) in
       inl (found.0, (keys-kept t committer keys e same, found.1))
 
-pub some_hashes : SomeHashes
+pub some_hashes : HashesExists
 some_hashes H t committer keys short there written =
     hashes H t committer keys short there written (is_some (leaf_at 0 t committer)) refl (length keys == path_length t committer) refl
 
@@ -97,7 +97,7 @@ path_merge H g committer path kept =
     let h = passed f.1 in
     path_merged H path g.tree committer h.0
 
-pub some_merge : SomeMerge
+pub some_merge : MergeExists
 unfolding path_refusal
 some_merge H g committer path =
     judged (λ new. (path_refusal H g committer path ≡ None) × (merged H g.tree committer path.leaf_node (node_keys path) ≡ Some new))

@@ -5,7 +5,7 @@ use Rattle.std.specs.Prelude.{if◌then◌else◌, nat_lt, All, reverse, option_
 use Rattle.std.proofs.lemmas.Bool.{false≢true}
 use Rattle.std.proofs.lemmas.List.Elements.{All-head, All-tail}
 use Rattle.std.proofs.lemmas.Option.{none-some, same_Some}
-use Rattle.mls_wire.specs.Spelling.{◌⊕◌, vector}
+use Rattle.mls_wire.specs.Encoding.{◌⊕◌, vector}
 use Rattle.mls_nodes.specs.declared.leaf.LeafNode.{LeafNode}
 use Rattle.mls_nodes.specs.declared.leaf_source.LeafSource.{LeafSource}
 use Rattle.mls_nodes.specs.declared.parent.ParentNode.{ParentNode}
@@ -14,8 +14,8 @@ use Rattle.mls_tree.specs.Tree.{Tree, leaf, branch, leaf_count}
 use Rattle.mls_tree.specs.TreeHash.{tree_hash, hash_of_parent, leaf_hash_input, parent_hash_input as hashed_parent}
 use Rattle.mls_tree.specs.Paths.{resolution, filtered_direct_path, where_resolved}
 use Rattle.mls_hash.specs.ParentHash.{parent_hash_input}
-use Rattle.mls_apply.specs.Merge.{Handed, handed, handed_by, path_parent, path_hash, merged_from, merged, hashes_from, expected_hashes, behind}
-use Rattle.mls_apply.specs.PathRules.{carries_first, has_expected_hash, node_keys}
+use Rattle.mls_apply.specs.MergePath.{Handed, handed, handed_by, path_parent, path_hash, merged_from, merged, hashes_from, expected_hashes, behind}
+use Rattle.mls_apply.specs.PathRules.{has_first_parent_hash, has_expected_hash, node_keys}
 use Rattle.mls_apply.proofs.Spellings.{taken_out, mapped, both_spelled, parts_some}
 
 -- ---- the hashes expected
@@ -159,7 +159,7 @@ module _ (H : List ℕ → List ℕ) (leaves i : ℕ) (x : LeafNode) where
           (handed H leaves first a hash keys)
           (λ n. mapped_there (behind n.parent hash) (λ t. branch a n.parent t) (hashes_from H leaves (first + leaf_count a) b i n.hash n.keys) (merged_from H leaves (first + leaf_count a) b i x n.hash n.keys) (in_right n.hash n.keys)) h
 
-carried_there : (source : LeafSource) (o : Option (List (List ℕ))) → carries_first source o ≡ true → IsSome o
+carried_there : (source : LeafSource) (o : Option (List (List ℕ))) → has_first_parent_hash source o ≡ true → IsSome o
 carried_there source None h = absurd (false≢true h)
 carried_there source (Some hs) h = refl
 

@@ -9,20 +9,20 @@ use Rattle.std.proofs.lemmas.Option.{none-some, same_Some, option_and_then_some,
 use Rattle.mls_nodes.specs.Limits.{leaf_limit}
 use Rattle.mls_nodes.specs.declared.leaf.LeafNode.{LeafNode}
 use Rattle.mls_msgs.specs.declared.proposal.Proposal.{Proposal}
-use Rattle.mls_msgs.specs.declared.proposal.Proposal.TheVariants.{Add, Update, Remove, ContextExtensions}
+use Rattle.mls_msgs.specs.declared.proposal.Proposal.TheVariants.{Add, Update, Remove, ContextExtensions, PreSharedKey, ReInit, ExternalInit}
 use Rattle.mls_tree.specs.Tree.{Tree, member_count, leaf_at}
 use Rattle.mls_tree.specs.RatchetTree.{HasShape}
-use Rattle.mls_tree.specs.Changes.{put_leaf, clear_path, update, remove}
+use Rattle.mls_tree.specs.TreeOperations.{put_leaf, clear_path, update, remove}
 use Rattle.mls_tree.proofs.Counting.{member_count-low}
 use Rattle.mls_tree.proofs.Descent.{leaf_count-limit}
 use Rattle.mls_tree.proofs.Kept.{leaf_at-shrink}
-use Rattle.mls_apply.specs.declared.item.ListItem.{ListItem}
-use Rattle.mls_apply.specs.ListRules.{replaced_leaf, removed_leaf, concerned_leaf, concerned_by, is_leaf_number, tells, tells_once}
-use Rattle.mls_apply.specs.Outcome.{after_update, after_updates, after_remove, after_removes, without_adds, new_members, LacksRoom}
-use Rattle.mls_apply.specs.Room.{replaced_by, removed_by, removed_leaves, number_in, removed_in, is_set_if_told, tell_set_leaves}
+use Rattle.mls_apply.specs.declared.list_item.ListItem.{ListItem}
+use Rattle.mls_apply.specs.ListRules.{replaced_leaf, removed_leaf, target_leaf, item_target, is_leaf_number, tells, tells_once}
+use Rattle.mls_apply.specs.AppliedList.{after_update, after_updates, after_remove, after_removes, without_adds, new_members, ExceedsCapacity}
+use Rattle.mls_apply.specs.TargetLeaves.{replaced_by, removed_by, removed_leaves, number_in, removed_in, is_set_if_told, tell_set_leaves}
 use Rattle.mls_apply.proofs.Leaves.{leaf_inside, kept_beside, put_there}
 use Rattle.mls_apply.proofs.Spellings.{taken_out}
-use Rattle.mls_apply.proofs.Members.{member_count-change_above, member_count-replaced, member_count-blanked, member_count-shrink}
+use Rattle.mls_apply.proofs.LeavesAreValid.{member_count-change_above, member_count-replaced, member_count-blanked, member_count-shrink}
 
 both : (a b : Bool) → (a && b) ≡ true → (a ≡ true) × (b ≡ true)
 both true b h = (refl, h)
@@ -110,17 +110,20 @@ module _ (f : ListItem → Option ℕ) where
           ap (λ k. is_some (leaf_at 0 t k)) (sym same) ∙ sym (ap (is_set_if_told t) h) ∙ (both (is_set_if_told t (f x)) (tell_set_leaves f t xs) all).0
 
 -- those that Updates and those that Removes concern
-concerned-parts : (t : Tree) (xs : List ListItem) → tell_set_leaves concerned_by t xs ≡ (tell_set_leaves replaced_by t xs && tell_set_leaves removed_by t xs)
+concerned-parts : (t : Tree) (xs : List ListItem) → tell_set_leaves item_target t xs ≡ (tell_set_leaves replaced_by t xs && tell_set_leaves removed_by t xs)
 concerned-parts t [] = refl
 concerned-parts t (x ∷ xs) =
     (λ k. one x.proposal k && concerned-parts t xs k)
     ∙ regrouped (is_set_if_told t (replaced_by x)) (is_set_if_told t (removed_by x)) (tell_set_leaves replaced_by t xs) (tell_set_leaves removed_by t xs)
   where
-    one : (p : Proposal) → is_set_if_told t (concerned_leaf x.sender p) ≡ (is_set_if_told t (replaced_leaf x.sender p) && is_set_if_told t (removed_leaf p))
+    one : (p : Proposal) → is_set_if_told t (target_leaf x.sender p) ≡ (is_set_if_told t (replaced_leaf x.sender p) && is_set_if_told t (removed_leaf p))
     one (Add k) = refl
     one (Update y) = and_true (is_some (leaf_at 0 t x.sender))
     one (Remove i) = refl
     one (ContextExtensions es) = refl
+    one (PreSharedKey es) = refl
+    one (ReInit es) = refl
+    one (ExternalInit es) = refl
 
     regrouped : (a b c d : Bool) → ((a && b) && (c && d)) ≡ ((a && c) && (b && d))
     regrouped true true c d = refl
@@ -151,6 +154,9 @@ updates_set (x ∷ xs) t = go (updates_set xs) x.proposal
     go later (Add k) = later t
     go later (Remove i) = later t
     go later (ContextExtensions es) = later t
+    go later (PreSharedKey es) = later t
+    go later (ReInit es) = later t
+    go later (ExternalInit es) = later t
     go later (Update y) = at later y (is_some (leaf_at 0 t x.sender)) refl
 
 -- the same leaves are set after them, and as many
@@ -165,6 +171,9 @@ updated : (sender : ℕ) (p : Proposal) (t u : Tree) → after_update sender p t
 updated sender (Add k) t u e = kept_members t u (sym (same_Some t u e))
 updated sender (Remove i) t u e = kept_members t u (sym (same_Some t u e))
 updated sender (ContextExtensions es) t u e = kept_members t u (sym (same_Some t u e))
+updated sender (PreSharedKey es) t u e = kept_members t u (sym (same_Some t u e))
+updated sender (ReInit es) t u e = kept_members t u (sym (same_Some t u e))
+updated sender (ExternalInit es) t u e = kept_members t u (sym (same_Some t u e))
 updated sender (Update y) t u e =
     let parts = cond_some (is_some (leaf_at 0 t sender)) (update t sender y) u e in
     let inside = leaf_inside t sender parts.0 in
@@ -210,6 +219,9 @@ removes_set (x ∷ xs) t = go (removes_set xs) x.proposal
     go later (Add k) = later t
     go later (Update y) = later t
     go later (ContextExtensions es) = later t
+    go later (PreSharedKey es) = later t
+    go later (ReInit es) = later t
+    go later (ExternalInit es) = later t
     go later (Remove i) = at later i (is_some (leaf_at 0 t i)) refl
 
 -- each takes one member
@@ -218,6 +230,9 @@ removed : (p : Proposal) (others : ℕ) (rest : List ℕ) (t u : Tree) → after
 removed (Add k) others rest t u e h = h ∙ ap member_count (sym (same_Some t u e))
 removed (Update y) others rest t u e h = h ∙ ap member_count (sym (same_Some t u e))
 removed (ContextExtensions es) others rest t u e h = h ∙ ap member_count (sym (same_Some t u e))
+removed (PreSharedKey es) others rest t u e h = h ∙ ap member_count (sym (same_Some t u e))
+removed (ReInit es) others rest t u e h = h ∙ ap member_count (sym (same_Some t u e))
+removed (ExternalInit es) others rest t u e h = h ∙ ap member_count (sym (same_Some t u e))
 removed (Remove i) others rest t u e h =
     let parts = cond_some (is_some (leaf_at 0 t i)) (remove t i) u e in
     let inside = leaf_inside t i parts.0 in
@@ -365,7 +380,7 @@ module _ (items : List ListItem) (t : Tree) where
       removes_count items s.0 v s.2 ∙ (updates_keep items t s.0 s.1).count
 
   -- each leaf that is removed may be one of a tree's
-  pub removed_low : (shape : HasShape t) → tell_set_leaves concerned_by t items ≡ true → (i : ℕ) → tells removed_by items (Some i) ≡ true → i < leaf_limit
+  pub removed_low : (shape : HasShape t) → tell_set_leaves item_target t items ≡ true → (i : ℕ) → tells removed_by items (Some i) ≡ true → i < leaf_limit
   removed_low shape all i e =
       let parts = both (tell_set_leaves replaced_by t items) (tell_set_leaves removed_by t items) (sym (concerned-parts t items) ∙ all) in
       let inside = leaf_inside t i (told_set removed_by t items parts.1 i e) in
@@ -374,7 +389,7 @@ module _ (items : List ListItem) (t : Tree) where
 
   -- a list whose leaves are set, none of which is removed twice, can be applied but for its Adds
   pub room_lacking : (leaf_limit + length (removed_leaves items) < member_count t + length (new_members items))
-      → tell_set_leaves concerned_by t items ≡ true → tells_once removed_by items ≡ true → LacksRoom items t
+      → tell_set_leaves item_target t items ≡ true → tells_once removed_by items ≡ true → ExceedsCapacity items t
   room_lacking many all once =
       let parts = both (tell_set_leaves replaced_by t items) (tell_set_leaves removed_by t items) (sym (concerned-parts t items) ∙ all) in
       let u = taken_out (after_updates items t) (updates_set items t ∙ parts.0) in
@@ -384,8 +399,8 @@ module _ (items : List ListItem) (t : Tree) where
       record { tree = v.0; applied = applied; full = omega arith }
 
   -- and no other one lacks room
-  pub lacking_room : LacksRoom items t
-      → (leaf_limit + length (removed_leaves items) < member_count t + length (new_members items)) × (tell_set_leaves concerned_by t items ≡ true) × (tells_once removed_by items ≡ true)
+  pub lacking_room : ExceedsCapacity items t
+      → (leaf_limit + length (removed_leaves items) < member_count t + length (new_members items)) × (tell_set_leaves item_target t items ≡ true) × (tells_once removed_by items ≡ true)
   lacking_room h =
       let s = steps items t h.tree h.applied in
       let replaced = sym (updates_set items t) ∙ ap is_some s.1 in

@@ -5,7 +5,7 @@ use Rattle.std.proofs.lemmas.Bool.{cases_lt, false≢true}
 use Rattle.mls_nodes.specs.declared.leaf.LeafNode.{LeafNode}
 use Rattle.mls_nodes.specs.declared.parent.ParentNode.{ParentNode}
 use Rattle.mls_tree.specs.Tree.{Tree, branch, leaf_count, leaf_at}
-use Rattle.mls_tree.specs.Changes.{put_leaf, clear_path}
+use Rattle.mls_tree.specs.TreeOperations.{put_leaf, clear_path}
 use Rattle.mls_tree.proofs.Kept.{leaf_at-put_leaf, leaf_at-put_leaf_other, leaf_at-change_above}
 use Rattle.mls_tree.proofs.Choices.{below, from}
 use Rattle.mls_tree.proofs.Lookups.{leaf_at-past}

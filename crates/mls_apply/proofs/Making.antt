@@ -6,14 +6,14 @@ use Rattle.std.proofs.lemmas.List.{append-nil, length-append, reverse-append, ma
 use Rattle.std.proofs.lemmas.List.Elements.{All-nil, All-cons, All-head, All-tail, All-pop, All-push, All-weaker}
 use Rattle.mls_nodes.specs.declared.parent.ParentNode.{ParentNode}
 use Rattle.mls_tree.specs.Tree.{Tree, leaf_count, IsParentPlace}
-use Rattle.mls_tree.specs.Changes.{put_parent}
+use Rattle.mls_tree.specs.TreeOperations.{put_parent}
 use Rattle.mls_tree.proofs.Kept.{leaf_count-put_parent}
 use Rattle.mls_tree.proofs.Lookups.{IsParentPlace-odd, IsParentPlace-bounds}
 use Rattle.mls_apply.specs.declared.new_parents.NewParent.{NewParent}
 use Rattle.mls_apply.specs.declared.new_parents.NewParents.{NewParents}
-use Rattle.mls_apply.specs.Merge.{path_parent}
-use Rattle.mls_apply.specs.Route.{Change, Route, below, route, changed, path_hash_at}
-use Rattle.mls_apply.specs.Seen.{change_of, route_of}
+use Rattle.mls_apply.specs.MergePath.{path_parent}
+use Rattle.mls_apply.specs.PathParents.{Change, Route, below, route, changed, path_hash_at}
+use Rattle.mls_apply.specs.PathModel.{change_of, route_of}
 use Rattle.mls_apply.proofs.Routes.{places_of, OfRoute, route-places}
 
 -- ---- parents made

@@ -16,11 +16,11 @@ use Rattle.mls_tree.specs.Paths.{resolution, filtered_direct_path, where_resolve
 use Rattle.mls_tree.proofs.Trees.{subtree_at-root}
 use Rattle.mls_hash.specs.ParentHash.{parent_hash_input}
 use Rattle.mls_hash.proofs.Strips.{strip-none}
-use Rattle.mls_check.specs.Reached.{source_hash, linked_hash, Link, Step, IsLeaf, Reached, from_leaf, from_parent, IsReachedHere}
+use Rattle.mls_check.specs.ParentHashValid.{source_hash, linked_hash, ParentHashLink, Step, IsLeaf, ParentHashValid, from_leaf, from_parent, IsParentHashValidHere}
 use Rattle.mls_check.proofs.Elements.{contains-nil, contains-cons, contains-head}
-use Rattle.mls_apply.specs.Merge.{Handed, handed, handed_by, path_parent, path_hash, merged_from, merged, hashes_from, expected_hashes, behind}
-use Rattle.mls_apply.specs.PathRules.{carries_first}
-use Rattle.mls_check.specs.SoundTree.{IsSoundTree}
+use Rattle.mls_apply.specs.MergePath.{Handed, handed, handed_by, path_parent, path_hash, merged_from, merged, hashes_from, expected_hashes, behind}
+use Rattle.mls_apply.specs.PathRules.{has_first_parent_hash}
+use Rattle.mls_check.specs.PreservedValidity.{IsParentHashValidTree}
 use Rattle.mls_check.proofs.Reaching.{in_left, in_right}
 use Rattle.mls_check.proofs.SoundSubtrees.{IsSoundSubtree, HasSoundSubtrees, subtrees_from, subtrees_whole, sound_leaf, sound_blank}
 
@@ -37,11 +37,11 @@ module _ (H : List ℕ → List ℕ) (leaves : ℕ) where
     stands : subtree_at first t place ≡ Some node
     linked : linked_hash (root_entry node.tree) ≡ Some hash
     alone : resolution leaves first t ≡ place ∷ []
-    ended : IsLeaf node.tree ⊎ Reached H leaves node
+    ended : IsLeaf node.tree ⊎ ParentHashValid H leaves node
 
   -- a path's parent has a link from the head of its half on the path
   head-link : (key hash h : List ℕ) (half other : Subtree) (head : IsHead half.first half.tree h) → path_hash H (path_parent key hash) other.first other.tree ≡ Some h
-      → Link H leaves (path_parent key hash) half other head.node
+      → ParentHashLink H leaves (path_parent key hash) half other head.node
   head-link key hash h half other head e = record {
     place = head.place;
     stands = head.stands;
@@ -58,7 +58,7 @@ module _ (H : List ℕ → List ℕ) (leaves : ℕ) where
   }
 
   -- so it is reached
-  by_head : (d s : Subtree) → Step H leaves d s → IsLeaf d.tree ⊎ Reached H leaves d → Reached H leaves s
+  by_head : (d s : Subtree) → Step H leaves d s → IsLeaf d.tree ⊎ ParentHashValid H leaves d → ParentHashValid H leaves s
   by_head d s step (inl l) = from_leaf d s step l
   by_head d s step (inr r) = from_parent d s step r
 
@@ -66,19 +66,19 @@ module _ (H : List ℕ → List ℕ) (leaves : ℕ) where
     abbrev set_top : Subtree
     set_top = record { first = first; tree = branch l (Some (path_parent key hash)) r }
 
-    reached-left : IsHead first l h → path_hash H (path_parent key hash) (first + leaf_count l) r ≡ Some h → Reached H leaves set_top
+    reached-left : IsHead first l h → path_hash H (path_parent key hash) (first + leaf_count l) r ≡ Some h → ParentHashValid H leaves set_top
     reached-left head e =
         let half : Subtree = record { first = first; tree = l } in
         let other : Subtree = record { first = first + leaf_count l; tree = r } in
         by_head head.node set_top (record { parent = path_parent key hash; half = half; other = other; halves = (refl, inl (refl, refl)); link = head-link key hash h half other head e }) head.ended
 
-    reached-right : IsHead (first + leaf_count l) r h → path_hash H (path_parent key hash) first l ≡ Some h → Reached H leaves set_top
+    reached-right : IsHead (first + leaf_count l) r h → path_hash H (path_parent key hash) first l ≡ Some h → ParentHashValid H leaves set_top
     reached-right head e =
         let half : Subtree = record { first = first + leaf_count l; tree = r } in
         let other : Subtree = record { first = first; tree = l } in
         by_head head.node set_top (record { parent = path_parent key hash; half = half; other = other; halves = (refl, inr (refl, refl)); link = head-link key hash h half other head e }) head.ended
 
-    set-head : Reached H leaves set_top → IsHead first (branch l (Some (path_parent key hash)) r) hash
+    set-head : ParentHashValid H leaves set_top → IsHead first (branch l (Some (path_parent key hash)) r) hash
     set-head reached = record {
       place = root_place first (branch l (Some (path_parent key hash)) r);
       node = set_top;
@@ -88,7 +88,7 @@ module _ (H : List ℕ → List ℕ) (leaves : ℕ) where
       ended = inr reached;
     }
 
-    sound-set : Reached H leaves set_top → IsSoundSubtree H leaves first (branch l (Some (path_parent key hash)) r)
+    sound-set : ParentHashValid H leaves set_top → IsSoundSubtree H leaves first (branch l (Some (path_parent key hash)) r)
     sound-set reached = record { sorted = λ k lt. absurd (omega (arith, lt)); placed = refl; reached = λ set. reached }
 
   -- a blank parent hands through
@@ -130,7 +130,7 @@ module _ (H : List ℕ → List ℕ) (leaves : ℕ) where
 
   -- a parent at a place is reached
   abbrev IsReachedIn : ℕ → Tree → ℕ → Type 0
-  IsReachedIn first t q = (s : Subtree) × (subtree_at first t q ≡ Some s) × Reached H leaves s
+  IsReachedIn first t q = (s : Subtree) × (subtree_at first t q ≡ Some s) × ParentHashValid H leaves s
 
   module _ (i : ℕ) (x : LeafNode) where
     -- the leaf carries the hash that comes down to it
@@ -193,7 +193,7 @@ module _ (H : List ℕ → List ℕ) (leaves : ℕ) where
           let all = path ++ where_resolved (resolution leaves (first + leaf_count l) r) (2 * (first + leaf_count l) - 1) in
           let hashed = ap (λ k. path_hash H (path_parent w.0 hash) (first + k) r) m.count ∙ w.2 in
           let below : IsCarried (behind (Some (path_parent w.0 hash)) hash hs) → IsCarried hs = carried-behind (Some (path_parent w.0 hash)) hash hs m.there in
-          let top : IsCarried (behind (Some (path_parent w.0 hash)) hash hs) → Reached H leaves (record { first = first; tree = branch u (Some (path_parent w.0 hash)) r })
+          let top : IsCarried (behind (Some (path_parent w.0 hash)) hash hs) → ParentHashValid H leaves (record { first = first; tree = branch u (Some (path_parent w.0 hash)) r })
           = λ c. reached-left first u r w.0 hash n.hash (m.head (below c)) hashed in
           subst (λ (q : Option ParentNode). IsMade first (branch l p r) (branch u q r) hash (behind q hash hs) all) (sym w.1) (record {
             count = ap (λ k. k + leaf_count r) m.count;
@@ -229,7 +229,7 @@ module _ (H : List ℕ → List ℕ) (leaves : ℕ) where
       made-right u m (inr w) =
           let all = path ++ where_resolved (resolution leaves first l) (2 * (first + leaf_count l) - 1) in
           let below : IsCarried (behind (Some (path_parent w.0 hash)) hash hs) → IsCarried hs = carried-behind (Some (path_parent w.0 hash)) hash hs m.there in
-          let top : IsCarried (behind (Some (path_parent w.0 hash)) hash hs) → Reached H leaves (record { first = first; tree = branch l (Some (path_parent w.0 hash)) u })
+          let top : IsCarried (behind (Some (path_parent w.0 hash)) hash hs) → ParentHashValid H leaves (record { first = first; tree = branch l (Some (path_parent w.0 hash)) u })
           = λ c. reached-right first l u w.0 hash n.hash (m.head (below c)) w.2 in
           subst (λ (q : Option ParentNode). IsMade first (branch l p r) (branch l q u) hash (behind q hash hs) all) (sym w.1) (record {
             count = ap (λ k. leaf_count l + k) m.count;
@@ -311,12 +311,12 @@ module _ (H : List ℕ → List ℕ) (leaves : ℕ) where
             r l (first + leaf_count l) first (λ q u. branch l q u)
             (λ u ks n m d. made-right first l p r hash ks (filtered_direct_path leaves (first + leaf_count l) r i) n u m d) right keys (handed H leaves first l hash keys) refl e f
 
-carries : (source : LeafSource) (h : List ℕ) (hs : List (List ℕ)) → carries_first source (Some (h ∷ hs)) ≡ true → source_hash source ≡ Some h
+carries : (source : LeafSource) (h : List ℕ) (hs : List (List ℕ)) → has_first_parent_hash source (Some (h ∷ hs)) ≡ true → source_hash source ≡ Some h
 carries (sources.KeyPackage lifetime) h hs e = absurd (false≢true e)
 carries sources.Update h hs e = absurd (false≢true e)
 carries (sources.Commit hash) h hs e = ap Some ((bytes_eq-Decides hash h).0 e)
 
-module _ (H : List ℕ → List ℕ) (t new : Tree) (i : ℕ) (x : LeafNode) (keys : List (List ℕ)) (c : carries_first x.source (expected_hashes H t i keys) ≡ true) (e : merged H t i x keys ≡ Some new) where
+module _ (H : List ℕ → List ℕ) (t new : Tree) (i : ℕ) (x : LeafNode) (keys : List (List ℕ)) (c : has_first_parent_hash x.source (expected_hashes H t i keys) ≡ true) (e : merged H t i x keys ≡ Some new) where
   -- what is made of the whole tree, by a leaf that carries the hash
   record IsMerged : Type 0 where
     hashes : List (List ℕ)
@@ -326,25 +326,25 @@ module _ (H : List ℕ → List ℕ) (t new : Tree) (i : ℕ) (x : LeafNode) (ke
   whole : IsMerged
   whole = go (expected_hashes H t i keys) refl c
     where
-      go : (o : Option (List (List ℕ))) → expected_hashes H t i keys ≡ o → carries_first x.source o ≡ true → IsMerged
+      go : (o : Option (List (List ℕ))) → expected_hashes H t i keys ≡ o → has_first_parent_hash x.source o ≡ true → IsMerged
       go None is c = absurd (false≢true c)
       go (Some []) is c = absurd (false≢true c)
       go (Some (hash ∷ hs)) is c =
           record { hashes = hash ∷ hs; made = merge_made H (leaf_count t) i x 0 t [] (reverse keys) new (hash ∷ hs) e is; carried = carries x.source hash hs c }
 
-  sound_in : IsSoundTree H t → IsSoundTree H new
+  sound_in : IsParentHashValidTree H t → IsParentHashValidTree H new
   sound_in h = subtrees_whole H (leaf_count t) new (sym whole.made.count) (whole.made.sound whole.carried (subtrees_from H t h))
 
-  reached_in : (place : ℕ) → Contains (filtered_direct_path (leaf_count t) 0 t i) place → IsReachedHere H new place
+  reached_in : (place : ℕ) → Contains (filtered_direct_path (leaf_count t) 0 t i) place → IsParentHashValidHere H new place
   reached_in place d =
       let s = whole.made.reached whole.carried place d in
-      (s.0, s.1, subst (λ n. Reached H n s.0) (sym whole.made.count) s.2)
+      (s.0, s.1, subst (λ n. ParentHashValid H n s.0) (sym whole.made.count) s.2)
 
 pub sound_merge : (H : List ℕ → List ℕ) (t new : Tree) (i : ℕ) (x : LeafNode) (keys : List (List ℕ))
-    → carries_first x.source (expected_hashes H t i keys) ≡ true → IsSoundTree H t → merged H t i x keys ≡ Some new → IsSoundTree H new
+    → has_first_parent_hash x.source (expected_hashes H t i keys) ≡ true → IsParentHashValidTree H t → merged H t i x keys ≡ Some new → IsParentHashValidTree H new
 sound_merge H t new i x keys c h e = sound_in H t new i x keys c e h
 
 pub reached_merge : (H : List ℕ → List ℕ) (t new : Tree) (i : ℕ) (x : LeafNode) (keys : List (List ℕ)) (place : ℕ)
-    → carries_first x.source (expected_hashes H t i keys) ≡ true → merged H t i x keys ≡ Some new
-    → Contains (filtered_direct_path (leaf_count t) 0 t i) place → IsReachedHere H new place
+    → has_first_parent_hash x.source (expected_hashes H t i keys) ≡ true → merged H t i x keys ≡ Some new
+    → Contains (filtered_direct_path (leaf_count t) 0 t i) place → IsParentHashValidHere H new place
 reached_merge H t new i x keys place c e d = reached_in H t new i x keys c e place d

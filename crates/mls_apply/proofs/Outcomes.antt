@@ -5,11 +5,11 @@ use Rattle.std.proofs.lemmas.Bool.{cases_lt, false≢true, or_parts}
 use Rattle.std.proofs.lemmas.Bool.Decides.{nat_tests}
 use Rattle.mls_nodes.specs.Limits.{leaf_limit}
 use Rattle.mls_msgs.specs.declared.proposal.Proposal.{Proposal}
-use Rattle.mls_msgs.specs.declared.proposal.Proposal.TheVariants.{Add, Update, Remove, ContextExtensions}
+use Rattle.mls_msgs.specs.declared.proposal.Proposal.TheVariants.{Add, Update, Remove, ContextExtensions, PreSharedKey, ReInit, ExternalInit}
 use Rattle.mls_tree.specs.Tree.{Tree, member_count}
-use Rattle.mls_apply.specs.ListRules.{concerned_leaf, has_concerned_leaf}
-use Rattle.mls_apply.specs.Outcome.{after_update, after_updates, after_remove, after_removes, after_adds, new_members, without_adds, with_members, outcome, LacksRoom}
-use Rattle.mls_apply.specs.declared.item.ListItem.{ListItem}
+use Rattle.mls_apply.specs.ListRules.{target_leaf, has_target_leaf}
+use Rattle.mls_apply.specs.AppliedList.{after_update, after_updates, after_remove, after_removes, after_adds, new_members, without_adds, with_members, outcome, ExceedsCapacity}
+use Rattle.mls_apply.specs.declared.list_item.ListItem.{ListItem}
 
 -- an Update can't be applied
 pub without_adds-unset : (items : List ListItem) (t : Tree) → after_updates items t ≡ None → without_adds items t ≡ None
@@ -39,18 +39,18 @@ module _ (items : List ListItem) (t u v : Tree) (updated : after_updates items t
         outcome-members ∙ ap (λ b. if b then after_adds (new_members items) v else None) e
 
     -- so it is where the list doesn't lack room
-    pub room_left : (LacksRoom items t → ⊥) → member_count v + length (new_members items) ≤ leaf_limit
+    pub room_left : (ExceedsCapacity items t → ⊥) → member_count v + length (new_members items) ≤ leaf_limit
     room_left never =
         elim (cases_lt leaf_limit (member_count v + length (new_members items))) [
           | inl full ↦ absurd (never (record { tree = v; applied = without_adds-some; full = full }))
           | inr room ↦ room
         ]
 
-    pub outcome-room : (LacksRoom items t → ⊥) → outcome items t ≡ after_adds (new_members items) v
+    pub outcome-room : (ExceedsCapacity items t → ⊥) → outcome items t ≡ after_adds (new_members items) v
     outcome-room never = outcome-adds (room_left never)
 
 -- where it does, there is no outcome
-pub outcome-lacking : (items : List ListItem) (t : Tree) → LacksRoom items t → IsSome (without_adds items t) × (outcome items t ≡ None)
+pub outcome-lacking : (items : List ListItem) (t : Tree) → ExceedsCapacity items t → IsSome (without_adds items t) × (outcome items t ≡ None)
 unfolding outcome with_members
 outcome-lacking items t h =
     let e : nat_le (member_count h.tree + length (new_members items)) leaf_limit ≡ false = (let full = h.full in grind (arith, nat_tests)) in (
@@ -60,22 +60,25 @@ outcome-lacking items t h =
 
 -- ---- a list without Updates and Removes
 
-adds_alone : (sender : ℕ) (p : Proposal) (t : Tree) → is_some (concerned_leaf sender p) ≡ false → (after_update sender p t ≡ Some t) × (after_remove p t ≡ Some t)
+adds_alone : (sender : ℕ) (p : Proposal) (t : Tree) → is_some (target_leaf sender p) ≡ false → (after_update sender p t ≡ Some t) × (after_remove p t ≡ Some t)
 adds_alone sender (Add k) t e = (refl, refl)
 adds_alone sender (Update x) t e = absurd (false≢true (sym e))
 adds_alone sender (Remove i) t e = absurd (false≢true (sym e))
 adds_alone sender (ContextExtensions es) t e = (refl, refl)
+adds_alone sender (PreSharedKey es) t e = (refl, refl)
+adds_alone sender (ReInit es) t e = (refl, refl)
+adds_alone sender (ExternalInit es) t e = (refl, refl)
 
-pub updates-no_leaf : (items : List ListItem) (t : Tree) → has_concerned_leaf items ≡ false → after_updates items t ≡ Some t
+pub updates-no_leaf : (items : List ListItem) (t : Tree) → has_target_leaf items ≡ false → after_updates items t ≡ Some t
 unfolding after_updates
 updates-no_leaf [] t e = refl
 updates-no_leaf (x ∷ xs) t e =
-    let parts = or_parts (is_some (concerned_leaf x.sender x.proposal)) (has_concerned_leaf xs) e in
+    let parts = or_parts (is_some (target_leaf x.sender x.proposal)) (has_target_leaf xs) e in
     ap (option_and_then (after_updates xs)) (adds_alone x.sender x.proposal t parts.0).0 ∙ updates-no_leaf xs t parts.1
 
-pub removes-no_leaf : (items : List ListItem) (t : Tree) → has_concerned_leaf items ≡ false → after_removes items t ≡ Some t
+pub removes-no_leaf : (items : List ListItem) (t : Tree) → has_target_leaf items ≡ false → after_removes items t ≡ Some t
 unfolding after_removes
 removes-no_leaf [] t e = refl
 removes-no_leaf (x ∷ xs) t e =
-    let parts = or_parts (is_some (concerned_leaf x.sender x.proposal)) (has_concerned_leaf xs) e in
+    let parts = or_parts (is_some (target_leaf x.sender x.proposal)) (has_target_leaf xs) e in
     ap (option_and_then (after_removes xs)) (adds_alone x.sender x.proposal t parts.0).1 ∙ removes-no_leaf xs t parts.1

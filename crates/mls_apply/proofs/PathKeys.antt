@@ -14,14 +14,14 @@ use Rattle.std.proofs.lemmas.Option.{none-some, same_Some}
 use Rattle.std.proofs.lemmas.Slice.Eq.{bytes_eq-Decides}
 use Rattle.mls_nodes.specs.declared.leaf.LeafNode.{LeafNode}
 use Rattle.mls_nodes.specs.declared.parent.ParentNode.{ParentNode}
-use Rattle.mls_nodes.specs.Value.{NodeValue}
+use Rattle.mls_nodes.specs.NodeModel.{NodeValue}
 use Rattle.mls_msgs.specs.declared.commit.PathNode.{PathNode}
 use Rattle.mls_msgs.specs.declared.commit.UpdatePath.{UpdatePath}
 use Rattle.mls_tree.specs.Tree.{Tree, leaf, branch, leaf_entry, parent_entry, listing}
 use Rattle.mls_tree.proofs.Positions.{node_at-listing}
-use Rattle.mls_index.specs.Keyed.{HasKey}
-use Rattle.mls_index.specs.declared.keyed.KeyKind.TheVariants.{Encryption}
-use Rattle.mls_check.specs.Distinct.{are_distinct, encryption_key, has_key, leaf_keys, parent_keys, tree_keys}
+use Rattle.mls_index.specs.NodeKeys.{HasKey}
+use Rattle.mls_index.specs.declared.node_key.KeyKind.TheVariants.{Encryption}
+use Rattle.mls_check.specs.DistinctKeys.{are_distinct, encryption_key, has_key, leaf_keys, parent_keys, tree_keys}
 use Rattle.mls_apply.specs.PathRules.{has_new_keys, path_keys}
 
 -- ---- sets of keys

@@ -13,7 +13,7 @@ use Rattle.mls_tree.proofs.Choices.{below as if_less, from as if_not_less}
 use Rattle.mls_tree.proofs.Lookups.{leaf_at-past}
 use Rattle.mls_tree.proofs.Trees.{subtree_at-left, subtree_at-right, subtree_at-root}
 use Rattle.mls_apply.specs.PathRules.{copath_resolutions, resolved_behind}
-use Rattle.mls_apply.specs.Route.{away_at, resolution_of, away_resolution}
+use Rattle.mls_apply.specs.PathParents.{away_at, resolution_of, away_resolution}
 use Rattle.mls_apply.proofs.Routes.{away-left, away-right}
 
 -- a leaf that is set is inside the tree

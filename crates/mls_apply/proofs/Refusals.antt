@@ -11,12 +11,12 @@ use Rattle.mls_tree.specs.Tree.{Tree, leaf_count, leaf_at}
 use Rattle.mls_tree.specs.Paths.{filtered_direct_path}
 use Rattle.mls_apply.specs.declared.fault.ApplyFault.{ApplyFault}
 use Rattle.mls_apply.specs.declared.fault.ApplyFault.TheVariants.{NoSuchLeaf, PathLength, PathSource, PathKeyUsed, CiphertextCount, PathParentHash}
-use Rattle.mls_apply.specs.Outcome.{Grown}
-use Rattle.mls_apply.specs.Rules.{rule}
-use Rattle.mls_apply.specs.PathRules.{keys_refusal, path_refusal, path_rules, path_length, has_path_length, has_new_keys, has_ciphertexts, has_expected_hash, carries_first, node_keys}
-use Rattle.mls_apply.specs.Proposals.{is_from_commit}
-use Rattle.mls_apply.specs.Route.{Change, Route, carried, path_route}
-use Rattle.mls_apply.specs.Seen.{hash_refusal}
+use Rattle.mls_apply.specs.AppliedList.{Grown}
+use Rattle.mls_apply.specs.RuleLists.{rule}
+use Rattle.mls_apply.specs.PathRules.{keys_refusal, path_refusal, path_rules, path_length, has_path_length, has_new_keys, has_ciphertexts, has_expected_hash, has_first_parent_hash, node_keys}
+use Rattle.mls_apply.specs.ProposalRules.{is_from_commit}
+use Rattle.mls_apply.specs.PathParents.{Change, Route, carried, path_route}
+use Rattle.mls_apply.specs.PathModel.{hash_refusal}
 use Rattle.mls_apply.proofs.Routes.{expected-route}
 use Rattle.mls_apply.proofs.RuleLists.{no_rules, one_more, it_fails}
 
@@ -143,10 +143,10 @@ module _ (g : Grown) (i : ℕ) (path : UpdatePath) (H : List ℕ → List ℕ) w
 
 -- whether a path carries the hash that comes down to its leaf
 pub has_expected_hash-route : (H : List ℕ → List ℕ) (path : UpdatePath) (t : Tree) (i : ℕ) (r : Route) (b : Bool) → path_route H t i (node_keys path) ≡ Some r
-    → ((hashes : List (List ℕ)) → b ≡ carries_first path.leaf_node.source (Some (r.hash ∷ hashes))) → has_expected_hash H path t i ≡ b
+    → ((hashes : List (List ℕ)) → b ≡ has_first_parent_hash path.leaf_node.source (Some (r.hash ∷ hashes))) → has_expected_hash H path t i ≡ b
 unfolding has_expected_hash
 has_expected_hash-route H path t i r b made e =
-    ap (carries_first path.leaf_node.source) (expected-route H t i (node_keys path) ∙ ap (option_map carried) made)
+    ap (has_first_parent_hash path.leaf_node.source) (expected-route H t i (node_keys path) ∙ ap (option_map carried) made)
     ∙ sym (e (reverse (map (λ (c : Change). c.parent.parent_hash) r.changes)))
 
 pub hash-refused : (H : List ℕ → List ℕ) (path : UpdatePath) (t : Tree) (i : ℕ) → has_expected_hash H path t i ≡ false → hash_refusal H path t i ≡ Some PathParentHash

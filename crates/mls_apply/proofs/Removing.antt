@@ -4,13 +4,13 @@ use Rattle.std.specs.Prelude.{if◌then◌else◌, is_some, option_and_then}
 use Rattle.std.proofs.lemmas.List.{drop_all}
 use Rattle.mls_nodes.specs.declared.parent.ParentNode.{ParentNode}
 use Rattle.mls_msgs.specs.declared.proposal.Proposal.{Proposal}
-use Rattle.mls_msgs.specs.declared.proposal.Proposal.TheVariants.{Add, Update, Remove, ContextExtensions}
+use Rattle.mls_msgs.specs.declared.proposal.Proposal.TheVariants.{Add, Update, Remove, ContextExtensions, PreSharedKey, ReInit, ExternalInit}
 use Rattle.mls_tree.specs.Tree.{Tree, leaf, branch, leaf_count, leaf_at}
-use Rattle.mls_tree.specs.Changes.{put_leaf, change_above, has_set_leaf, shrink, remove}
+use Rattle.mls_tree.specs.TreeOperations.{put_leaf, change_above, has_set_leaf, shrink, remove}
 use Rattle.mls_tree.proofs.Choices.{below}
 use Rattle.mls_tree.proofs.Kept.{leaf_at-shrink, leaf_at-none_set, leaf_count-put_leaf}
-use Rattle.mls_apply.specs.Outcome.{after_remove, after_removes}
-use Rattle.mls_apply.specs.declared.item.ListItem.{ListItem}
+use Rattle.mls_apply.specs.AppliedList.{after_remove, after_removes}
+use Rattle.mls_apply.specs.declared.list_item.ListItem.{ListItem}
 use Rattle.mls_apply.proofs.Leaves.{inside_from}
 
 -- the tree made smaller, where it has to be
@@ -54,6 +54,9 @@ stays (Add k) t none = refl
 stays (Update x) t none = refl
 stays (Remove i) t none = absurd (none i refl)
 stays (ContextExtensions es) t none = refl
+stays (PreSharedKey es) t none = refl
+stays (ReInit es) t none = refl
+stays (ExternalInit es) t none = refl
 
 pub removes-other : (x : ListItem) (xs : List ListItem) (t : Tree) → ((i : ℕ) → x.proposal ≡ Remove i → ⊥) → after_removes (x ∷ xs) t ≡ after_removes xs t
 unfolding after_removes

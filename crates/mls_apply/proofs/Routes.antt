@@ -7,13 +7,13 @@ use Rattle.std.proofs.lemmas.List.{reverse-append}
 use Rattle.mls_nodes.specs.declared.leaf.LeafNode.{LeafNode}
 use Rattle.mls_nodes.specs.declared.parent.ParentNode.{ParentNode}
 use Rattle.mls_tree.specs.Tree.{Tree, leaf, branch, leaf_count, root_place, Subtree, subtree_at}
-use Rattle.mls_tree.specs.Changes.{put_leaf, put_parent, change_above, clear_path}
+use Rattle.mls_tree.specs.TreeOperations.{put_leaf, put_parent, change_above, clear_path}
 use Rattle.mls_tree.specs.Paths.{resolution, filtered_direct_path, where_resolved}
 use Rattle.mls_tree.proofs.Choices.{below as if_less, from as if_not_less, here, before, after}
 use Rattle.mls_tree.proofs.Kept.{leaf_count-put_parent, leaf_count-change_above}
 use Rattle.mls_tree.proofs.Trees.{leaf_count-positive, subtree_at-left, subtree_at-right, subtree_at-root}
-use Rattle.mls_apply.specs.Merge.{Handed, handed, handed_by, merged_from, merged, path_parent, path_hash, behind, hashes_from, expected_hashes}
-use Rattle.mls_apply.specs.Route.{away_half, away_at, path_hash_at, Change, Route, below, route, path_route, changed, carried}
+use Rattle.mls_apply.specs.MergePath.{Handed, handed, handed_by, merged_from, merged, path_parent, path_hash, behind, hashes_from, expected_hashes}
+use Rattle.mls_apply.specs.PathParents.{copath_child, away_at, path_hash_at, Change, Route, below, route, path_route, changed, carried}
 
 -- ---- parents put in
 
@@ -107,13 +107,13 @@ module _ (t : Tree) (i : ℕ) where
   pub away-left : (first : ℕ) (l : Tree) (n : Option ParentNode) (r : Tree) → subtree_at 0 t (2 * (first + leaf_count l) - 1) ≡ Some (record { first = first; tree = branch l n r })
       → i < first + leaf_count l → away_at t i (2 * (first + leaf_count l) - 1) ≡ Some (record { first = first + leaf_count l; tree = r })
   away-left first l n r e lt =
-      ap (option_and_then (λ (s : Subtree). away_half i s.first s.tree)) e
+      ap (option_and_then (λ (s : Subtree). copath_child i s.first s.tree)) e
       ∙ if_less i (first + leaf_count l) (Some (record { first = first + leaf_count l; tree = r })) (Some (record { first = first; tree = l })) lt
 
   pub away-right : (first : ℕ) (l : Tree) (n : Option ParentNode) (r : Tree) → subtree_at 0 t (2 * (first + leaf_count l) - 1) ≡ Some (record { first = first; tree = branch l n r })
       → first + leaf_count l ≤ i → away_at t i (2 * (first + leaf_count l) - 1) ≡ Some (record { first = first; tree = l })
   away-right first l n r e ge =
-      ap (option_and_then (λ (s : Subtree). away_half i s.first s.tree)) e
+      ap (option_and_then (λ (s : Subtree). copath_child i s.first s.tree)) e
       ∙ if_not_less i (first + leaf_count l) (Some (record { first = first + leaf_count l; tree = r })) (Some (record { first = first; tree = l })) ge
 
 -- what is said of a route, if there is one

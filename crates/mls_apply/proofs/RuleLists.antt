@@ -2,7 +2,7 @@
 use Rattle.std.proofs.Common.{◌≡◌, ◌⊎◌, List, [], ◌∷◌, ◌++◌, Bool, Some, None, true, false, refl, sym, inl, inr}
 use Rattle.std.specs.Prelude.{if◌then◌else◌, option_map}
 use Rattle.std.proofs.lemmas.Option.{none-some, same_Some}
-use Rattle.mls_apply.specs.Rules.{Rule, rule, first_failing, renamed}
+use Rattle.mls_apply.specs.RuleLists.{Rule, rule, first_failing, renamed}
 
 -- a rule that fails in the first list is the first one of both
 pub first_failing-left : {E : Type 0} (rs qs : List (Rule E)) (e : E) → first_failing rs ≡ Some e → first_failing (rs ++ qs) ≡ Some e

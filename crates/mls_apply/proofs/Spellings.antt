@@ -2,7 +2,7 @@
 use Rattle.std.proofs.Common.{◌≡◌, ℕ, List, Option, Some, None, IsSome, refl, sym, subst}
 use Rattle.std.specs.Prelude.{option_map}
 use Rattle.std.specs.Int.{w8}
-use Rattle.mls_wire.specs.Spelling.{◌⊕◌, number, vector, optional}
+use Rattle.mls_wire.specs.Encoding.{◌⊕◌, number, vector, optional}
 use Rattle.mls_nodes.specs.Layout as layout
 use Rattle.mls_nodes.specs.declared.parent.ParentNode.{ParentNode}
 use Rattle.mls_tree.specs.TreeHash.{hash_of_parent, parent_hash_input}

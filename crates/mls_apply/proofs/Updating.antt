@@ -3,8 +3,8 @@ use Rattle.std.proofs.Common.{◌≡◌, ◌∙◌, ℕ, ◌+◌, ◌<◌, ◌�
 use Rattle.std.specs.Prelude.{option_and_then}
 use Rattle.std.proofs.lemmas.List.{drop_more, drop_all}
 use Rattle.mls_tree.specs.Tree.{Tree}
-use Rattle.mls_apply.specs.Outcome.{after_update, after_updates}
-use Rattle.mls_apply.specs.declared.item.ListItem.{ListItem}
+use Rattle.mls_apply.specs.AppliedList.{after_update, after_updates}
+use Rattle.mls_apply.specs.declared.list_item.ListItem.{ListItem}
 
 -- the rest of a list begins with its next item
 pub next_item : (items : List ListItem) (i : ℕ) (x : ListItem) → i < length items → x ≡ get_or items i x → drop i items ≡ x ∷ drop (i + 1) items

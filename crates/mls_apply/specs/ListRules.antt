@@ -1,84 +1,95 @@
--- The rules for the list of proposals that a commit applies (RFC 9420, 12.2 and 12.4).
+-- The rules for the proposal list of a commit (RFC 9420, 12.2 and 12.4). `items` is the list, with the sender of each
+-- proposal. Used by contracts.
 use Rattle.std.specs.Prelude.{ℕ, ◌==◌, ◌&&◌, ◌||◌, not, is_some, List, [], ◌∷◌, length, Bool, true, false, Option, Some, None}
 use Rattle.std.specs.List.{list_any}
 use Rattle.mls_msgs.specs.declared.proposal.Proposal.{Proposal}
-use Rattle.mls_msgs.specs.declared.proposal.Proposal.TheVariants.{Add, Update, Remove, ContextExtensions}
-use Rattle.mls_apply.specs.Rules.{Rule, rule, first_failing}
+use Rattle.mls_msgs.specs.declared.proposal.Proposal.TheVariants.{Add, Update, Remove, ContextExtensions, PreSharedKey, ReInit, ExternalInit}
+use Rattle.mls_apply.specs.RuleLists.{Rule, rule, first_failing}
 use Rattle.mls_apply.specs.declared.fault.ApplyFault.{ApplyFault}
 use Rattle.mls_apply.specs.declared.fault.ApplyFault.TheVariants.{UpdateByCommitter, RemovesCommitter, SameLeafTwice, TwoContextExtensions, PathMissing}
-use Rattle.mls_apply.specs.declared.item.ListItem.{ListItem}
-use Rattle.mls_apply.specs.Extensions.{brings_extensions, bring_once}
+use Rattle.mls_apply.specs.declared.list_item.ListItem.{ListItem}
+use Rattle.mls_apply.specs.ContextExtensions.{brings_extensions, bring_once}
 
--- the leaf that a proposal replaces: an Update its sender's (12.1.2)
+-- `replaced_leaf sender p` is the leaf that a proposal replaces: an Update the leaf of its sender (RFC 9420, 12.1.2).
 abbrev pub replaced_leaf : ℕ → Proposal → Option ℕ
 replaced_leaf sender (Add _) = None
 replaced_leaf sender (Update _) = Some sender
 replaced_leaf sender (Remove _) = None
 replaced_leaf sender (ContextExtensions _) = None
+replaced_leaf sender (PreSharedKey _) = None
+replaced_leaf sender (ReInit _) = None
+replaced_leaf sender (ExternalInit _) = None
 
--- the leaf that a proposal removes (12.1.3)
+-- `removed_leaf p` is the leaf that a proposal removes (RFC 9420, 12.1.3).
 abbrev pub removed_leaf : Proposal → Option ℕ
 removed_leaf (Add _) = None
 removed_leaf (Update _) = None
 removed_leaf (Remove i) = Some i
 removed_leaf (ContextExtensions _) = None
+removed_leaf (PreSharedKey _) = None
+removed_leaf (ReInit _) = None
+removed_leaf (ExternalInit _) = None
 
--- the leaf that an Update or a Remove concerns
-abbrev pub concerned_leaf : ℕ → Proposal → Option ℕ
-concerned_leaf sender (Add _) = None
-concerned_leaf sender (Update _) = Some sender
-concerned_leaf sender (Remove i) = Some i
-concerned_leaf sender (ContextExtensions _) = None
+-- `target_leaf sender p` is the leaf to which an Update or a Remove applies.
+abbrev pub target_leaf : ℕ → Proposal → Option ℕ
+target_leaf sender (Add _) = None
+target_leaf sender (Update _) = Some sender
+target_leaf sender (Remove i) = Some i
+target_leaf sender (ContextExtensions _) = None
+target_leaf sender (PreSharedKey _) = None
+target_leaf sender (ReInit _) = None
+target_leaf sender (ExternalInit _) = None
 
--- whether there is a leaf, and it has this number
+-- `is_leaf_number o i`: there is a leaf index, and it is i.
 abbrev pub is_leaf_number : Option ℕ → ℕ → Bool
 is_leaf_number None i = false
 is_leaf_number (Some j) i = j == i
 
--- no Update is the committer's own (12.2)
+-- `has_no_update_by committer items`: no Update is the committer's (RFC 9420, 12.2).
 unfoldable pub has_no_update_by : ℕ → List ListItem → Bool
 has_no_update_by committer items =
     not (list_any (λ x. is_leaf_number (replaced_leaf x.sender x.proposal) committer) items)
 
--- no Remove removes the committer (12.2)
+-- `has_no_remove_of committer items`: no Remove removes the committer (RFC 9420, 12.2).
 unfoldable pub has_no_remove_of : ℕ → List ListItem → Bool
 has_no_remove_of committer items = not (list_any (λ x. is_leaf_number (removed_leaf x.proposal) committer) items)
 
--- the leaf that an item replaces or removes
-abbrev pub concerned_by : ListItem → Option ℕ
-concerned_by x = concerned_leaf x.sender x.proposal
+-- `item_target x` is the leaf to which an item applies, if it is an Update or a Remove.
+abbrev pub item_target : ListItem → Option ℕ
+item_target x = target_leaf x.sender x.proposal
 
--- whether a leaf is among those that f tells of items
+-- `tells f items o`: there is a leaf index, and `f` maps some item to it.
 abbrev pub tells : (ListItem → Option ℕ) → List ListItem → Option ℕ → Bool
 tells f items None = false
 tells f items (Some i) = list_any (λ x. is_leaf_number (f x) i) items
 
--- f tells no leaf of two items
+-- `tells_once f items`: `f` maps no two items to one leaf index.
 abbrev pub tells_once : (ListItem → Option ℕ) → List ListItem → Bool
 tells_once f [] = true
 tells_once f (x ∷ xs) = not (tells f xs (f x)) && tells_once f xs
 
--- no two Updates or Removes concern one leaf (12.2)
-unfoldable pub concern_once : List ListItem → Bool
-concern_once items = tells_once concerned_by items
+-- `have_distinct_targets items`: no two Updates or Removes apply to one leaf (RFC 9420, 12.2).
+unfoldable pub have_distinct_targets : List ListItem → Bool
+have_distinct_targets items = tells_once item_target items
 
--- whether a list has an Update or a Remove
-abbrev pub has_concerned_leaf : List ListItem → Bool
-has_concerned_leaf items = list_any (λ x. is_some (concerned_leaf x.sender x.proposal)) items
+-- `has_target_leaf items`: the list has an Update or a Remove.
+abbrev pub has_target_leaf : List ListItem → Bool
+has_target_leaf items = list_any (λ x. is_some (target_leaf x.sender x.proposal)) items
 
--- a commit needs a path where its list is empty, has an Update or a Remove, or brings extensions (12.4)
+-- `needs_path items`: the commit must have a path. Its list is empty, or has an Update, a Remove or a
+-- GroupContextExtensions (RFC 9420, 12.4).
 unfoldable pub needs_path : List ListItem → Bool
-needs_path items = length items == 0 || has_concerned_leaf items || list_any brings_extensions items
+needs_path items = length items == 0 || has_target_leaf items || list_any brings_extensions items
 
--- the rules for the list, with or without a path
+-- `list_rules committer items has_path` is the rules for the list, in their order (RFC 9420, 12.2 and 12.4).
 abbrev pub list_rules : ℕ → List ListItem → Bool → List (Rule ApplyFault)
 list_rules committer items has_path =
     rule UpdateByCommitter (has_no_update_by committer items) ∷
     rule RemovesCommitter (has_no_remove_of committer items) ∷
-    rule SameLeafTwice (concern_once items) ∷
+    rule SameLeafTwice (have_distinct_targets items) ∷
     rule TwoContextExtensions (bring_once items) ∷
     rule PathMissing (has_path || not (needs_path items)) ∷ []
 
--- the first of them that fails
+-- `list_refusal committer items has_path` is the refusal of the first of them that fails.
 unfoldable pub list_refusal : ℕ → List ListItem → Bool → Option ApplyFault
 list_refusal committer items has_path = first_failing (list_rules committer items has_path)

@@ -1,25 +1,25 @@
-//! The Adds of a commit's list (RFC 9420, 12.1.1).
+//! The Adds of a proposal list (RFC 9420, 12.1.1).
 
 ghost use Rattle.std.specs.Prelude.{◌≡◌, ◌+◌, ◌<◌, ◌≤◌, ◌⊎◌, true, false, None, Some, Err, IfOk, IfErr, OnOk, length};
 ghost use Rattle.mls_nodes.specs.Limits.{leaf_limit};
 ghost use Rattle.mls_tree.specs.Tree.{leaf_count, member_count};
-ghost use Rattle.mls_tree.specs.Blanks.{first_blank_leaf, AreSetBelow};
-ghost use Rattle.mls_tree.specs.Changes.{added_leaf, grown_for, enter_unmerged, is_overfilled_above};
+ghost use Rattle.mls_tree.specs.BlankLeaves.{first_blank_leaf, AreSetBelow};
+ghost use Rattle.mls_tree.specs.TreeOperations.{added_leaf, grown_for, enter_unmerged, is_overfilled_above};
 ghost use Rattle.mls_tree.specs.Journals.{before};
-ghost use Rattle.mls_apply.specs.Outcome.{after_adds, grown, new_members};
-ghost use Rattle.mls_apply.specs.Adding.{is_overfull_add, Adds};
+ghost use Rattle.mls_apply.specs.AppliedList.{after_adds, grown, new_members};
+ghost use Rattle.mls_apply.specs.AddSteps.{is_overfull_add, Adds};
 
 use crate::fault::ApplyFault;
-use crate::item::ListItem;
-use crate::outcome::Leaves;
-use crate::replace::put_copy;
+use crate::leaf_changes::put_copy;
+use crate::list_application::Leaves;
+use crate::list_item::ListItem;
 use mls_msgs::Proposal;
 use mls_nodes::LeafNode;
 use mls_tree::{Journal, PublicTree, TreeError};
 use std::alloc::Global;
 
-/// The leaf that a new member gets: the leftmost blank one, or else the first of the half by which the tree then
-/// grows. The leaves before `start` are set.
+/// Returns the leaf of a new member: the leftmost blank one, or else the first one by which the tree is extended. The
+/// leaves before `start` must be non-blank.
 fn leaf_for_member(
     tree: &mut PublicTree,
     journal: &mut Journal,
@@ -45,8 +45,7 @@ fn leaf_for_member(
     }
 }
 
-/// Enters the number of a leaf into the lists of unmerged leaves above it. `TooManyLeaves` where one of them gets too
-/// long.
+/// Adds a leaf to the unmerged lists above it. `TooManyLeaves` if one of them would be too long.
 fn enter_unmerged(
     alloc: Global,
     tree: &mut PublicTree,
@@ -70,7 +69,7 @@ fn enter_unmerged(
     }
 }
 
-/// Adds a member with this leaf node, and says at which leaf. The leaves before `start` are set.
+/// Adds a member with this leaf node, and returns its leaf. The leaves before `start` must be non-blank.
 fn add_member(
     alloc: Global,
     tree: &mut PublicTree,
@@ -93,13 +92,13 @@ fn add_member(
     Ok(index)
 }
 
-/// Applies the Adds of a list, in its order, and says at which leaves. Each search for a blank leaf goes on behind
-/// the leaf that was added last.
+/// Applies the Adds of a list, in its order, and returns their leaves. Each search for a blank leaf continues after the
+/// leaf that was added last.
 pub(crate) fn apply_adds(
     alloc: Global,
     tree: &mut PublicTree,
     journal: &mut Journal,
-    items: &[ListItem],
+    items: &[ListItem<'_>],
 ) -> Result<Leaves, ApplyFault>
     requires { member_count tree.old.tree + length (new_members items.now) ≤ leaf_limit }
     ensures added { IfOk result (λ added.
@@ -113,7 +112,7 @@ pub(crate) fn apply_adds(
     let mut added = Vec::new(alloc);
     let mut start = 0;
     for item in items {
-        if let Proposal::Add(key_package) = &item.proposal {
+        if let Proposal::Add(key_package) = item.proposal {
             let index = add_member(alloc, tree, journal, start, &key_package.leaf_node)?;
             added.push(index)?;
             start = index + 1;

@@ -5,12 +5,12 @@ ghost use Rattle.std.specs.BTreeSet.{contains};
 ghost use Rattle.std.specs.List.{list_any};
 ghost use Rattle.std.specs.Ordering.{nat_cmp};
 ghost use Rattle.mls_tree.specs.Tree.{IsParentPlace};
-ghost use Rattle.mls_check.specs.Distinct.{are_distinct, has_key, tree_keys};
-ghost use Rattle.mls_index.specs.TreeIndex.{Covers};
+ghost use Rattle.mls_check.specs.DistinctKeys.{are_distinct, has_key, tree_keys};
+ghost use Rattle.mls_index.specs.TreeIndex.{ContainsKeysOf};
 ghost use Rattle.mls_apply.specs.PathRules.{has_new_keys, have_counts, path_keys};
-ghost use Rattle.mls_apply.specs.Route.{away_resolution};
+ghost use Rattle.mls_apply.specs.PathParents.{away_resolution};
 
-use crate::new_parents::away_half;
+use crate::new_parents::{PathPlaces, copath_child};
 use mls_index::{KeyKind, TreeIndex};
 use mls_msgs::{PathNode, UpdatePath};
 use mls_tree::PublicTree;
@@ -18,7 +18,7 @@ use mls_wire::Opaque;
 use std::alloc::{AllocError, Global};
 use std::collections::BTreeSet;
 
-/// Whether no key stands twice in a path, the leaf's among them.
+/// Returns whether no key is twice in a path, its leaf's included.
 fn has_distinct_keys(alloc: Global, path: &UpdatePath) -> Result<bool, AllocError>
     ensures { IfOk result (λ distinct. distinct ≡ are_distinct (path_keys path.now)) }
 {
@@ -32,17 +32,17 @@ fn has_distinct_keys(alloc: Global, path: &UpdatePath) -> Result<bool, AllocErro
     Ok(keys.insert(path.leaf_node.encryption_key.as_slice())?)
 }
 
-/// Whether a node of a tree that the index covers has this key.
+/// Returns whether a node of a tree whose keys the index contains has this key.
 fn uses_key(tree: &PublicTree, index: &TreeIndex, key: &Opaque) -> bool
-    requires { Covers tree.now.tree index.now }
+    requires { ContainsKeysOf tree.now.tree index.now }
     ensures { result ≡ has_key (tree_keys tree.now.tree) key.now }
 {
     index.has_key(tree, KeyKind::Encryption, key.as_slice())
 }
 
-/// Whether a node of the tree has one of the keys of a path.
+/// Returns whether a node of the tree has one of the keys of a path.
 fn uses_keys(tree: &PublicTree, index: &TreeIndex, path: &UpdatePath) -> bool
-    requires { Covers tree.now.tree index.now }
+    requires { ContainsKeysOf tree.now.tree index.now }
     ensures { result ≡ list_any (has_key (tree_keys tree.now.tree)) (path_keys path.now) }
 {
     let nodes = path.nodes.as_slice();
@@ -57,14 +57,15 @@ fn uses_keys(tree: &PublicTree, index: &TreeIndex, path: &UpdatePath) -> bool
     false
 }
 
-/// Whether no key of a path stands in the tree, which the index covers, or twice in the path (RFC 9420, 12.4.2).
+/// Returns whether no key of a path is in the tree, whose keys the index contains, or twice in the path (RFC 9420,
+/// 12.4.2).
 pub(crate) fn has_new_keys(
     alloc: Global,
     path: &UpdatePath,
     tree: &PublicTree,
     index: &TreeIndex,
 ) -> Result<bool, AllocError>
-    requires { Covers tree.now.tree index.now }
+    requires { ContainsKeysOf tree.now.tree index.now }
     ensures { IfOk result (λ new. new ≡ has_new_keys path.now tree.now.tree) }
 {
     if !has_distinct_keys(alloc, path)? {
@@ -73,7 +74,7 @@ pub(crate) fn has_new_keys(
     Ok(!uses_keys(tree, index, path))
 }
 
-/// The places of added leaves.
+/// Returns the node indices of added leaves.
 fn places_of(alloc: Global, added: &[u32]) -> Result<BTreeSet<u64>, AllocError>
     ensures { IfOk result (λ places. (p : ℕ)
         → contains nat_cmp places p ≡ list_any (λ j. p == 2 * j) added.now) }
@@ -85,8 +86,8 @@ fn places_of(alloc: Global, added: &[u32]) -> Result<BTreeSet<u64>, AllocError>
     Ok(places)
 }
 
-/// Whether the node of a path of a leaf at a place has to have so many ciphertexts: one for each node of the resolution
-/// of its half away from the leaf, but for those at the places of added leaves.
+/// Returns whether the path node at a node index must have this many ciphertexts: one for each node of the resolution
+/// of its child on the copath, without the added leaves.
 fn has_recipients(
     tree: &PublicTree,
     leaf: u32,
@@ -98,33 +99,32 @@ fn has_recipients(
     ensures { let resolution = away_resolution tree.now.tree leaf place in
         result ≡ (length (filter (λ p. not (contains nat_cmp added.now p)) resolution) == count) }
 {
-    let away = away_half(tree, leaf, place);
+    let away = copath_child(tree, leaf, place);
     match tree.has_resolution_len(away, added, count) {
         Ok(right) => right,
         Err(_) => unreachable!(),
     }
 }
 
-/// Whether each node of a path of a leaf has as many ciphertexts as it has to, where leaves were added (RFC 9420,
-/// 7.6). The nodes stand at these places.
+/// Returns whether each node of a path has the right number of ciphertexts, if these leaves were added (RFC 9420, 7.6).
+/// The nodes are at these node indices.
 pub(crate) fn have_counts(
     alloc: Global,
     tree: &PublicTree,
-    leaf: u32,
+    above: &PathPlaces<'_>,
     added: &[u32],
-    places: &[u32],
     nodes: &[PathNode],
 ) -> Result<bool, AllocError>
-    requires parents { All (IsParentPlace tree.now.tree) places.now }
-    requires paired { length nodes.now ≡ length places.now }
+    requires parents { All (IsParentPlace tree.now.tree) above.now.places.now }
+    requires paired { length nodes.now ≡ length above.now.places.now }
     ensures { IfOk result (λ good.
-        let resolutions = map (away_resolution tree.now.tree leaf) places.now in
+        let resolutions = map (away_resolution tree.now.tree above.now.leaf) above.now.places.now in
         good ≡ have_counts added.now resolutions nodes.now) }
 {
     let added = places_of(alloc, added)?;
     for (index, node) in nodes.iter().enumerate() {
         let count = node.ciphertexts.as_slice().len();
-        if !has_recipients(tree, leaf, places[index], &added, count) {
+        if !has_recipients(tree, above.leaf, above.places[index], &added, count) {
             return Ok(false);
         }
     }

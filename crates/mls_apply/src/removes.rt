@@ -1,18 +1,18 @@
-//! The Removes of a commit's list (RFC 9420, 12.1.3).
+//! The Removes of a proposal list (RFC 9420, 12.1.3).
 
 ghost use Rattle.std.specs.Prelude.{◌≡◌, ◌⊎◌, Some, None, Err, IsSome, OnOk, IfErr};
 ghost use Rattle.mls_tree.specs.Tree.{leaf_at};
-ghost use Rattle.mls_apply.specs.Outcome.{after_removes};
-ghost use Rattle.mls_tree.specs.Changes.{put_leaf, clear_path};
+ghost use Rattle.mls_apply.specs.AppliedList.{after_removes};
+ghost use Rattle.mls_tree.specs.TreeOperations.{put_leaf, clear_path};
 ghost use Rattle.mls_tree.specs.Journals.{before};
 
 use crate::fault::ApplyFault;
-use crate::item::ListItem;
+use crate::list_item::ListItem;
 use mls_msgs::Proposal;
 use mls_tree::{Journal, PublicTree};
 use std::alloc::Global;
 
-/// Makes a leaf and the parents above it blank. `NoSuchLeaf` where it isn't set.
+/// Makes a leaf and the parents above it blank. `NoSuchLeaf` if the leaf is blank.
 #[tactic(auto, using(crate::proofs::Leaves::leaf_inside))]
 fn clear_leaf(
     alloc: Global,
@@ -37,12 +37,12 @@ fn clear_leaf(
     Ok(())
 }
 
-/// Applies the Removes of a list, in its order. The tree is made smaller once, after the last of them.
+/// Applies the Removes of a list, in its order. The tree is truncated once, after the last of them.
 pub(crate) fn apply_removes(
     alloc: Global,
     tree: &mut PublicTree,
     journal: &mut Journal,
-    items: &[ListItem],
+    items: &[ListItem<'_>],
 ) -> Result<(), ApplyFault>
     ensures removed { OnOk result (after_removes items.now tree.old.tree ≡ Some tree.new.tree) }
     ensures no_such_leaf { result ≡ Err ApplyFault.NoSuchLeaf
@@ -53,7 +53,7 @@ pub(crate) fn apply_removes(
 {
     let mut has_removed = false;
     for item in items {
-        if let Proposal::Remove(index) = &item.proposal {
+        if let Proposal::Remove(index) = item.proposal {
             clear_leaf(alloc, tree, journal, *index)?;
             has_removed = true;
         }

@@ -1,12 +1,12 @@
-//! The Updates of a commit's list (RFC 9420, 12.1.2).
+//! The Updates of a proposal list (RFC 9420, 12.1.2).
 
 ghost use Rattle.std.specs.Prelude.{◌≡◌, ◌⊎◌, Some, None, Err, IfErr, OnOk};
 ghost use Rattle.mls_tree.specs.Journals.{before};
-ghost use Rattle.mls_apply.specs.Outcome.{after_update, after_updates};
+ghost use Rattle.mls_apply.specs.AppliedList.{after_update, after_updates};
 
 use crate::fault::ApplyFault;
-use crate::item::ListItem;
-use crate::replace::put_copy;
+use crate::leaf_changes::put_copy;
+use crate::list_item::ListItem;
 use mls_msgs::Proposal;
 use mls_tree::{Journal, PublicTree};
 use std::alloc::Global;
@@ -17,7 +17,7 @@ fn apply_update(
     alloc: Global,
     tree: &mut PublicTree,
     journal: &mut Journal,
-    item: &ListItem,
+    item: &ListItem<'_>,
 ) -> Result<(), ApplyFault>
     ensures updated { OnOk result
         (after_update item.now.sender item.now.proposal tree.old.tree ≡ Some tree.new.tree) }
@@ -27,7 +27,7 @@ fn apply_update(
         (e ≡ ApplyFault.NoSuchLeaf) ⊎ (e ≡ ApplyFault.OutOfMemory)) }
     ensures before { before journal.new tree.new.tree ≡ before journal.old tree.old.tree }
 {
-    let Proposal::Update(leaf) = &item.proposal else {
+    let Proposal::Update(leaf) = item.proposal else {
         return Ok(());
     };
     if tree.leaf(item.sender).is_none() {
@@ -43,7 +43,7 @@ pub(crate) fn apply_updates(
     alloc: Global,
     tree: &mut PublicTree,
     journal: &mut Journal,
-    items: &[ListItem],
+    items: &[ListItem<'_>],
 ) -> Result<(), ApplyFault>
     ensures updated { OnOk result (after_updates items.now tree.old.tree ≡ Some tree.new.tree) }
     ensures no_such_leaf { result ≡ Err ApplyFault.NoSuchLeaf

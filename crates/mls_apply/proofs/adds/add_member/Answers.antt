@@ -1,7 +1,7 @@
 use Rattle.std.proofs.Common.{◌∙◌, Some, sym, ap, arith}
-use Rattle.mls_tree.specs.KeptTree.{plain}
+use Rattle.mls_tree.specs.PublicTreeModel.{plain}
 use Rattle.mls_tree.specs.Tree.{Tree, leaf_count}
-use Rattle.mls_tree.specs.Changes.{put_leaf, with_unmerged, add_at, is_overfilled_above}
+use Rattle.mls_tree.specs.TreeOperations.{put_leaf, with_unmerged, add_at, is_overfilled_above}
 use Rattle.mls_tree.proofs.Kept.{leaf_count-change_above}
 use Rattle.mls_tree.proofs.Descent.{leaf_count-limit}
 use Rattle.mls_apply.proofs.adds.add_member.Goals as goal

@@ -1,8 +1,9 @@
 use Rattle.std.proofs.Common.{◌≡◌, Some, Err, ◌∙◌, ◌+◌, drop, ap, sym, subst}
 use Rattle.std.proofs.lemmas.Result.{err_from_is_err_and}
 use Rattle.mls_tree.specs.Journals.{before}
-use Rattle.mls_apply.specs.Outcome.{grown, after_adds, new_members}
+use Rattle.mls_apply.specs.AppliedList.{grown, after_adds, new_members}
 use Rattle.mls_apply.specs.declared.fault.ApplyFault.TheVariants.{TooManyLeaves}
+use Rattle.mls_apply.specs.declared.list_item.ListItem.{ListItem}
 use Rattle.mls_apply.proofs.Updating.{next_item}
 use Rattle.mls_apply.proofs.Adding.{Adding, adding-other, adding-room, adding-member, adding-refused, adding-all}
 use Rattle.mls_apply.proofs.adds.apply_adds.Goals.{in-Add+in_ok-index+in_ok-push, in_default}
@@ -16,7 +17,7 @@ add_member-requires-clause-room c =
     let t = c.loop-item.tree.tree in
     let whole = after_adds (new_members items) c.args.tree.now.tree in
     let here = subst (λ xs. Adding whole xs t c.loop-item.added.items c.loop-item.start) (next_item items i x c.loop-item-test.true c.item-item.is) c.loop-item.invariant.adding in
-    adding-room whole x (drop (i + 1) items) t c.loop-item.added.items c.loop-item.start here c.in-Add.key_package c.in-Add.is
+    adding-room whole x (drop (i + 1) items) t c.loop-item.added.items c.loop-item.start here c.in-Add.key_package (ap (λ (y : ListItem). y.proposal) (sym c.item.view_is) ∙ c.in-Add.is)
 
 pub returns-in_err-index-clause-too_many_leaves : goal.returns-in_err-index-clause-too_many_leaves
 returns-in_err-index-clause-too_many_leaves c =
@@ -30,7 +31,7 @@ returns-in_err-index-clause-too_many_leaves c =
     λ told.
     let joined = sym p.1 ∙ told in
     let fault : p.0 ≡ TooManyLeaves = cc in
-    adding-refused whole x (drop (i + 1) items) t c.loop-item.added.items c.loop-item.start here c.in-Add.key_package c.in-Add.is
+    adding-refused whole x (drop (i + 1) items) t c.loop-item.added.items c.loop-item.start here c.in-Add.key_package (ap (λ (y : ListItem). y.proposal) (sym c.item.view_is) ∙ c.in-Add.is)
     (c.in_err-index.ensures.too_many_leaves (ap Err (sym p.2 ∙ fault)))
 
 pub loop-item-preserved : goal.loop-item-preserved
@@ -47,14 +48,14 @@ loop-item-preserved c =
           record {
             adding =
                 rw (w.tree-is, w.added-is, w.start-is, w.in_ok-push.ensures.items)
-                (adding-member whole x rest t c.loop-item.added.items c.loop-item.start here w.in-Add.key_package w.in-Add.is w.in_ok-index.index w.add_member.new.tree.tree w.in_ok-index.ensures.added);
+                (adding-member whole x rest t c.loop-item.added.items c.loop-item.start here w.in-Add.key_package (ap (λ (y : ListItem). y.proposal) (sym c.item.view_is) ∙ w.in-Add.is) w.in_ok-index.index w.add_member.new.tree.tree (rw w.deref.ensures at w.in_ok-index.ensures.added));
             same_before = (λ k. before (w.journal-is k) (w.tree-is k).tree) ∙ w.add_member.ensures.before ∙ c.loop-item.invariant.same_before;
           }
       | in_default w ↦
           record {
             adding =
                 rw (w.tree-is, w.added-is, w.start-is)
-                (adding-other whole x rest t c.loop-item.added.items c.loop-item.start here w.in_default.not-Add);
+                (adding-other whole x rest t c.loop-item.added.items c.loop-item.start here (λ k e. w.in_default.not-Add k (ap (λ (y : ListItem). y.proposal) c.item.view_is ∙ e)));
             same_before = (λ k. before (w.journal-is k) (w.tree-is k).tree) ∙ c.loop-item.invariant.same_before;
           }
     ]

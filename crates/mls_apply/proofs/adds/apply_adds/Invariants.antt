@@ -1,6 +1,6 @@
 use Rattle.std.proofs.Common.{◌≡◌, drop}
 use Rattle.mls_tree.specs.Journals.{before}
-use Rattle.mls_apply.specs.Outcome.{after_adds, new_members}
+use Rattle.mls_apply.specs.AppliedList.{after_adds, new_members}
 use Rattle.mls_apply.proofs.Adding.{Adding}
 use Rattle.mls_apply.proofs.adds.apply_adds.Given as goal
 

@@ -1,7 +1,7 @@
 use Rattle.std.proofs.Common.{◌≡◌, ◌∙◌, Some, Err, sym, ap, inl, inr, arith, rules}
 use Rattle.mls_tree.specs.Tree.{height, leaf_count}
-use Rattle.mls_tree.specs.Blanks.{first_blank_leaf}
-use Rattle.mls_tree.specs.Changes.{blank_tree, number_or, grown_for}
+use Rattle.mls_tree.specs.BlankLeaves.{first_blank_leaf}
+use Rattle.mls_tree.specs.TreeOperations.{blank_tree, number_or, grown_for}
 use Rattle.mls_tree.proofs.Trees.{leaf_count-positive}
 use Rattle.mls_tree.proofs.FirstBlanks.{next_blank_leaf-first}
 use Rattle.mls_apply.proofs.Adding.{blank_inside, room_to_grow}

@@ -2,8 +2,8 @@ use Rattle.std.proofs.Common.{◌≡◌, map, vec_len}
 use Rattle.std.specs.Prelude.{All}
 use Rattle.mls_tree.specs.Tree.{IsParentPlace}
 use Rattle.mls_tree.specs.Journals.{before}
-use Rattle.mls_apply.specs.Route.{changed}
-use Rattle.mls_apply.specs.Seen.{change_of}
+use Rattle.mls_apply.specs.PathParents.{changed}
+use Rattle.mls_apply.specs.PathModel.{change_of}
 use Rattle.mls_apply.proofs.new_parents.put_parents_in_place.Given as goal
 
 abbrev pub invariant-loop-parent : goal.invariant-loop-parent

@@ -1,9 +1,9 @@
 use Rattle.std.proofs.Common.{◌≡◌, map, drop}
 use Rattle.mls_apply.specs.PathRules.{have_counts}
-use Rattle.mls_apply.specs.Route.{away_resolution}
+use Rattle.mls_apply.specs.PathParents.{away_resolution}
 use Rattle.mls_apply.proofs.path_rules.have_counts.Given as goal
 
 abbrev pub invariant-loop-index : goal.invariant-loop-index
 invariant-loop-index l =
-    have_counts l.fn.added (map (away_resolution l.tree.tree l.leaf) l.places) l.nodes
-    ≡ have_counts l.fn.added (map (away_resolution l.tree.tree l.leaf) (drop l.index l.places)) (drop l.index l.nodes)
+    have_counts l.fn.added (map (away_resolution l.tree.tree l.above.leaf) l.above.places.now) l.nodes
+    ≡ have_counts l.fn.added (map (away_resolution l.tree.tree l.above.leaf) (drop l.index l.above.places.now)) (drop l.index l.nodes)

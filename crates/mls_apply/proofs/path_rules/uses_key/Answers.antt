@@ -1,5 +1,5 @@
 use Rattle.std.proofs.Common.{◌∙◌, ap}
-use Rattle.mls_check.specs.Distinct.{has_key, tree_keys}
+use Rattle.mls_check.specs.DistinctKeys.{has_key, tree_keys}
 use Rattle.mls_apply.proofs.PathKeys.{stands}
 use Rattle.mls_apply.proofs.path_rules.uses_key.Goals as goal
 

@@ -1,6 +1,6 @@
 use Rattle.std.proofs.Common.{◌≡◌, map, drop}
 use Rattle.std.specs.List.{list_any}
-use Rattle.mls_check.specs.Distinct.{has_key, tree_keys}
+use Rattle.mls_check.specs.DistinctKeys.{has_key, tree_keys}
 use Rattle.mls_apply.specs.PathRules.{path_keys}
 use Rattle.mls_apply.proofs.path_rules.uses_keys.Given as goal
 

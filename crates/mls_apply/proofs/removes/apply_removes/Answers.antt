@@ -1,9 +1,10 @@
 use Rattle.std.proofs.Common.{◌∙◌, ◌+◌, Some, Err, drop, ap, sym}
 use Rattle.std.proofs.lemmas.Result.{err_from_is_err_and}
 use Rattle.mls_tree.specs.Tree.{Tree}
-use Rattle.mls_tree.specs.Changes.{shrink}
+use Rattle.mls_tree.specs.TreeOperations.{shrink}
 use Rattle.mls_tree.specs.Journals.{before}
-use Rattle.mls_apply.specs.Outcome.{after_removes}
+use Rattle.mls_apply.specs.AppliedList.{after_removes}
+use Rattle.mls_apply.specs.declared.list_item.ListItem.{ListItem}
 use Rattle.mls_apply.proofs.Updating.{next_item}
 use Rattle.mls_apply.proofs.Removing.{shrunk_if, removes-other, removes-set, removes-blank, removes-all}
 use Rattle.mls_apply.proofs.removes.apply_removes.Goals.{in-Remove+in_ok-clear_leaf, in_default}
@@ -19,7 +20,7 @@ returns-in_err-clear_leaf-clause-no_such_leaf c =
     let known = c.loop-item.invariant.known ∙ ap (λ xs. after_removes xs (shrunk_if removed t)) (next_item items c.loop-item.item-index x c.loop-item-test.true c.item-item.is) in
     let p = err_from_is_err_and c.from_residual.result c.from_residual.ensures.1 in
     λ told.
-    known ∙ removes-blank x rest removed t c.in-Remove.index c.in-Remove.is (c.in_err-clear_leaf.ensures.no_such_leaf (ap Err (sym p.2) ∙ sym p.1 ∙ told))
+    known ∙ removes-blank x rest removed t c.in-Remove.index (ap (λ (y : ListItem). y.proposal) (sym c.item.view_is) ∙ c.in-Remove.is) (c.in_err-clear_leaf.ensures.no_such_leaf (ap Err (sym p.2) ∙ sym p.1 ∙ told))
 
 pub loop-item-preserved : goal.loop-item-preserved
 loop-item-preserved c =
@@ -34,7 +35,7 @@ loop-item-preserved c =
           record {
             known =
                 known
-                ∙ removes-set x rest removed t w.in-Remove.index w.in-Remove.is w.in_ok-clear_leaf.ensures.set
+                ∙ removes-set x rest removed t w.in-Remove.index (ap (λ (y : ListItem). y.proposal) (sym c.item.view_is) ∙ w.in-Remove.is) w.in_ok-clear_leaf.ensures.set
                 ∙ ap (λ (v : Tree). after_removes rest (shrink v)) (sym w.in_ok-clear_leaf.ensures.cleared)
                 ∙ sym (λ k. after_removes rest (shrunk_if (w.has_removed-is k) (w.tree-is k).tree));
             same_before = (λ k. before (w.journal-is k) (w.tree-is k).tree) ∙ w.clear_leaf.ensures.before ∙ c.loop-item.invariant.same_before;
@@ -43,7 +44,7 @@ loop-item-preserved c =
           record {
             known =
                 known
-                ∙ removes-other x rest (shrunk_if removed t) w.in_default.not-Remove
+                ∙ removes-other x rest (shrunk_if removed t) (λ i e. w.in_default.not-Remove i (ap (λ (y : ListItem). y.proposal) c.item.view_is ∙ e))
                 ∙ sym (λ k. after_removes rest (shrunk_if (w.has_removed-is k) (w.tree-is k).tree));
             same_before = (λ k. before (w.journal-is k) (w.tree-is k).tree) ∙ c.loop-item.invariant.same_before;
           }

@@ -1,6 +1,6 @@
 use Rattle.std.proofs.Common.{◌≡◌, drop}
 use Rattle.mls_tree.specs.Journals.{before}
-use Rattle.mls_apply.specs.Outcome.{after_removes}
+use Rattle.mls_apply.specs.AppliedList.{after_removes}
 use Rattle.mls_apply.proofs.Removing.{shrunk_if}
 use Rattle.mls_apply.proofs.removes.apply_removes.Given as goal
 

@@ -1,6 +1,6 @@
 use Rattle.std.proofs.Common.{◌≡◌, drop}
 use Rattle.mls_tree.specs.Journals.{before}
-use Rattle.mls_apply.specs.Outcome.{after_updates}
+use Rattle.mls_apply.specs.AppliedList.{after_updates}
 use Rattle.mls_apply.proofs.updates.apply_updates.Given as goal
 
 abbrev pub invariant-loop-item : goal.invariant-loop-item

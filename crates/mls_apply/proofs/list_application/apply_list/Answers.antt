@@ -1,0 +1,15 @@
+use Rattle.std.proofs.Common.{◌∙◌, sym, ap, subst}
+use Rattle.std.proofs.lemmas.Bool.{false≢true}
+use Rattle.mls_tree.specs.PublicTreeModel.{KeptTree}
+use Rattle.mls_apply.specs.AppliedList.{ExceedsCapacity}
+use Rattle.mls_apply.proofs.Outcomes.{outcome-lacking}
+use Rattle.mls_apply.proofs.list_application.apply_list.Goals as goal
+
+pub returns-then-exceeds_capacity-clause-too_many_leaves : goal.returns-then-exceeds_capacity-clause-too_many_leaves
+returns-then-exceeds_capacity-clause-too_many_leaves c =
+    λ told. outcome-lacking c.args.items.now c.args.tree.now.tree (c.exceeds_capacity.ensures.0 c.if-exceeds_capacity.true)
+
+pub apply_items-requires : goal.apply_items-requires
+apply_items-requires c =
+    let same = ap (λ (t : KeptTree). t.tree) c.in_ok-after.ensures in
+    λ h. false≢true (sym c.if-exceeds_capacity.false ∙ c.exceeds_capacity.ensures.1 (subst (ExceedsCapacity c.args.items.now) same h))

@@ -1,7 +1,0 @@
-use Rattle.std.proofs.Common.{◌≡◌, ℕ, ◌*◌, ◌<◌, true}
-use Rattle.mls_apply.specs.ListRules.{tells_once}
-use Rattle.mls_apply.specs.Room.{removed_in}
-use Rattle.mls_apply.proofs.room.is_removed_once.Given as goal
-
-abbrev pub invariant-loop-window : goal.invariant-loop-window
-invariant-loop-window l = (w : ℕ) → w < l.window → tells_once (removed_in (w * 65536)) l.items ≡ true

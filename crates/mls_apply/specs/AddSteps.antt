@@ -1,0 +1,30 @@
+-- Members that are added one after the other, as the implementation does it. Internal: no public contract uses this.
+use Rattle.std.specs.Prelude.{◌≡◌, ℕ, ◌<◌, Bool, true, false}
+use Rattle.mls_nodes.specs.declared.leaf.LeafNode.{LeafNode}
+use Rattle.mls_msgs.specs.declared.proposal.Proposal.{Proposal}
+use Rattle.mls_msgs.specs.declared.proposal.Proposal.TheVariants.{Add, Update, Remove, ContextExtensions, PreSharedKey, ReInit, ExternalInit}
+use Rattle.mls_nodes.specs.Limits.{leaf_limit}
+use Rattle.mls_tree.specs.Tree.{Tree}
+use Rattle.mls_tree.specs.BlankLeaves.{first_blank_leaf}
+use Rattle.mls_tree.specs.TreeOperations.{add, added_leaf, grown_for, is_overfilled_above}
+
+-- `is_add p`: the proposal is an Add.
+abbrev pub is_add : Proposal → Bool
+is_add (Add _) = true
+is_add (Update _) = false
+is_add (Remove _) = false
+is_add (ContextExtensions _) = false
+is_add (PreSharedKey _) = false
+is_add (ReInit _) = false
+is_add (ExternalInit _) = false
+
+-- `is_overfull_add t`: an unmerged list would be too long if a member were added.
+abbrev pub is_overfull_add : Tree → Bool
+is_overfull_add t = is_overfilled_above 0 (grown_for (first_blank_leaf 0 t) t) (added_leaf t)
+
+-- `Adds old x j new`: `new` is `old` with a member at leaf j.
+pub record Adds (old : Tree) (x : LeafNode) (j : ℕ) (new : Tree) : Type 0 where
+  pub index : j ≡ added_leaf old
+  pub tree : new ≡ add old x
+  pub fits : is_overfull_add old ≡ false
+  pub small : j < leaf_limit

@@ -1,0 +1,36 @@
+-- The leaves to which Updates and Removes apply, in the tree before a list. Internal: no public contract uses this.
+use Rattle.std.specs.Prelude.{ℕ, ◌+◌, ◌-◌, nat_le, nat_lt, ◌&&◌, if◌then◌else◌, is_some, List, filter_map, Bool, true, Option, Some, None}
+use Rattle.std.specs.List.{list_all}
+use Rattle.mls_tree.specs.Tree.{Tree, leaf_at}
+use Rattle.mls_apply.specs.declared.list_item.ListItem.{ListItem}
+use Rattle.mls_apply.specs.ListRules.{replaced_leaf, removed_leaf}
+
+-- `replaced_by x` is the leaf that an item replaces.
+abbrev pub replaced_by : ListItem → Option ℕ
+replaced_by x = replaced_leaf x.sender x.proposal
+
+-- `removed_by x` is the leaf that an item removes.
+abbrev pub removed_by : ListItem → Option ℕ
+removed_by x = removed_leaf x.proposal
+
+-- `removed_leaves items` is the leaves that are removed, in the order of the list.
+abbrev pub removed_leaves : List ListItem → List ℕ
+removed_leaves items = filter_map removed_by items
+
+-- `number_in first o` is the position of a leaf among the 65,536 from `first` on, if it is one of them.
+abbrev pub number_in : ℕ → Option ℕ → Option ℕ
+number_in first None = None
+number_in first (Some i) = if nat_le first i && nat_lt i (first + 65536) then Some (i - first) else None
+
+-- `removed_in first x` is the position of the leaf that an item removes.
+abbrev pub removed_in : ℕ → ListItem → Option ℕ
+removed_in first x = number_in first (removed_by x)
+
+-- `is_set_if_told t o`: the leaf is non-blank, if there is a leaf index.
+abbrev pub is_set_if_told : Tree → Option ℕ → Bool
+is_set_if_told t None = true
+is_set_if_told t (Some i) = is_some (leaf_at 0 t i)
+
+-- `tell_set_leaves f t items`: each leaf to which `f` maps an item is non-blank.
+abbrev pub tell_set_leaves : (ListItem → Option ℕ) → Tree → List ListItem → Bool
+tell_set_leaves f t items = list_all (λ x. is_set_if_told t (f x)) items

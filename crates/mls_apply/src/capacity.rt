@@ -1,0 +1,166 @@
+//! Whether there is room for the Adds of a proposal list (RFC 9420, 12.3), before anything is allocated.
+//!
+//! How many members are left after the list's Removes is known from its length alone, unless it removes a leaf that
+//! isn't set at its turn: one that is blank, or the same one twice. To find a leaf that is removed twice without
+//! memory, the list is gone through once for each window of leaves, with a flag for each leaf of the window.
+
+ghost use Rattle.std.specs.Prelude.{◌≡◌, ◌≤◌, ◌<◌, ◌+◌, ◌↔◌, ℕ, IsTrue, true, Some, length};
+ghost use Rattle.mls_nodes.specs.Limits.{leaf_limit};
+ghost use Rattle.mls_tree.specs.Tree.{member_count};
+ghost use Rattle.mls_apply.specs.AddSteps.{is_add};
+ghost use Rattle.mls_apply.specs.ListRules.{item_target, tells, tells_once};
+ghost use Rattle.mls_apply.specs.AppliedList.{new_members, ExceedsCapacity};
+ghost use Rattle.mls_apply.specs.TargetLeaves.{removed_by, removed_leaves, removed_in, is_set_if_told, tell_set_leaves};
+
+use crate::list_item::ListItem;
+use crate::list_rules::target_leaf;
+use mls_msgs::Proposal;
+use mls_tree::PublicTree;
+
+/// The most members of a group.
+const MAX_MEMBERS: usize = 1_048_576;
+
+/// The number of leaves in a window.
+const WINDOW: usize = 65_536;
+
+/// Whether an item is an Add.
+fn is_add(item: &ListItem<'_>) -> bool
+    ensures { result ≡ is_add item.now.proposal }
+{
+    match item.proposal {
+        Proposal::Add(_) => true,
+        Proposal::Update(_) => false,
+        Proposal::Remove(_) => false,
+        Proposal::ContextExtensions(_) => false,
+        Proposal::PreSharedKey(_) => false,
+        Proposal::ReInit(_) => false,
+        Proposal::ExternalInit(_) => false,
+    }
+}
+
+/// How many items are Adds.
+fn add_count(items: &[ListItem<'_>]) -> usize
+    ensures { result ≡ length (new_members items.now) }
+{
+    let mut count = 0;
+    for item in items {
+        if is_add(item) {
+            count += 1;
+        }
+    }
+    count
+}
+
+/// The leaf that an item removes.
+fn removed_leaf(item: &ListItem<'_>) -> Option<u32>
+    ensures { result ≡ removed_by item.now }
+{
+    match item.proposal {
+        Proposal::Remove(leaf) => Some(*leaf),
+        Proposal::Add(_) => None,
+        Proposal::Update(_) => None,
+        Proposal::ContextExtensions(_) => None,
+        Proposal::PreSharedKey(_) => None,
+        Proposal::ReInit(_) => None,
+        Proposal::ExternalInit(_) => None,
+    }
+}
+
+/// How many items are Removes.
+fn remove_count(items: &[ListItem<'_>]) -> usize
+    ensures { result ≡ length (removed_leaves items.now) }
+{
+    let mut count = 0;
+    for item in items {
+        if removed_leaf(item).is_some() {
+            count += 1;
+        }
+    }
+    count
+}
+
+/// Whether the members and the Adds of a list are more than there may be members and than its Removes.
+fn exceeds_member_limit(tree: &PublicTree, items: &[ListItem<'_>]) -> bool
+    ensures { let members = member_count tree.now.tree in
+        IsTrue result ↔ (leaf_limit + length (removed_leaves items.now)
+        < members + length (new_members items.now)) }
+{
+    let added = add_count(items);
+    let removed = remove_count(items);
+    if added <= removed {
+        return false;
+    }
+    let members = tree.member_count() as usize;
+    added - removed > MAX_MEMBERS - members
+}
+
+/// Whether the leaf that an item replaces or removes is set in a tree, where there is one.
+fn is_concerned_set(tree: &PublicTree, item: &ListItem<'_>) -> bool
+    ensures { result ≡ is_set_if_told tree.now.tree (item_target item.now) }
+{
+    match target_leaf(item) {
+        Some(leaf) => tree.leaf(leaf).is_some(),
+        None => true,
+    }
+}
+
+/// Whether the leaf of each Update and of each Remove is set in a tree.
+fn are_set(tree: &PublicTree, items: &[ListItem<'_>]) -> bool
+    ensures { result ≡ tell_set_leaves item_target tree.now.tree items.now }
+{
+    items.iter().all(|item| is_concerned_set(tree, item))
+}
+
+/// The number that the leaf which an item removes has in the window from `first` on, if it is one of its leaves.
+fn removed_in(item: &ListItem<'_>, first: usize) -> Option<usize>
+    ensures { result ≡ removed_in first item.now }
+{
+    let leaf = removed_leaf(item)? as usize;
+    if leaf < first || leaf - first >= WINDOW {
+        return None;
+    }
+    Some(leaf - first)
+}
+
+/// Whether no leaf of the window from `first` on is removed twice.
+fn is_removed_once_in(items: &[ListItem<'_>], first: usize) -> bool
+    ensures { result ≡ tells_once (removed_in first) items.now }
+{
+    let mut removed = [false; WINDOW];
+    for item in items {
+        if let Some(number) = removed_in(item, first) {
+            if removed[number] {
+                return false;
+            }
+            removed[number] = true;
+        }
+    }
+    true
+}
+
+/// Whether no leaf is removed twice. Each that is removed may be one of a tree's.
+fn is_removed_once(items: &[ListItem<'_>]) -> bool
+    requires { (i : ℕ) → tells removed_by items.now (Some i) ≡ true → i < leaf_limit }
+    ensures { result ≡ tells_once removed_by items.now }
+{
+    for window in 0..MAX_MEMBERS / WINDOW {
+        if !is_removed_once_in(items, window * WINDOW) {
+            return false;
+        }
+    }
+    true
+}
+
+/// Whether the Updates and the Removes of a list can be applied to a tree, and there is no room for its Adds then.
+/// Takes no memory.
+pub(crate) fn exceeds_capacity(tree: &PublicTree, items: &[ListItem<'_>]) -> bool
+    ensures { IsTrue result ↔ ExceedsCapacity items.now tree.now.tree }
+{
+    if !exceeds_member_limit(tree, items) {
+        return false;
+    }
+    if !are_set(tree, items) {
+        return false;
+    }
+    is_removed_once(items)
+}

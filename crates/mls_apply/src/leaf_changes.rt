@@ -1,0 +1,47 @@
+//! Changes of single leaves, for the three kinds of proposals.
+
+ghost use Rattle.std.specs.Prelude.{◌≡◌, ◌<◌, Some, None, IfOk, IfErr, OnOk};
+ghost use Rattle.mls_tree.specs.Tree.{leaf_count};
+ghost use Rattle.mls_tree.specs.TreeOperations.{put_leaf, clear_path};
+ghost use Rattle.mls_tree.specs.Journals.{before};
+
+use crate::fault::ApplyFault;
+use mls_nodes::LeafNode;
+use mls_tree::{Journal, PublicTree};
+use mls_wire::copy_of;
+use std::alloc::{AllocError, Global};
+
+/// Returns an equal leaf node.
+pub(crate) fn leaf_of(alloc: Global, leaf: &LeafNode) -> Result<Box<LeafNode>, AllocError>
+    ensures { IfOk result (λ copy. copy.value ≡ leaf.now) }
+{
+    Ok(Box::new(alloc, copy_of(alloc, leaf)?)?)
+}
+
+/// Replaces a leaf of the tree by a copy of this one.
+pub(crate) fn put_copy(
+    alloc: Global,
+    tree: &mut PublicTree,
+    journal: &mut Journal,
+    index: u32,
+    leaf: &LeafNode,
+) -> Result<(), ApplyFault>
+    requires { index < leaf_count tree.old.tree }
+    ensures put { OnOk result (tree.new.tree ≡ put_leaf 0 tree.old.tree index (Some leaf.now)) }
+    ensures memory { IfErr result (λ e. e ≡ ApplyFault.OutOfMemory) }
+    ensures before { before journal.new tree.new.tree ≡ before journal.old tree.old.tree }
+{
+    let copy = leaf_of(alloc, leaf)?;
+    journal.set_leaf(tree, index, Some(copy))?;
+    Ok(())
+}
+
+/// Makes the parents above a leaf blank: its direct path (RFC 9420, 4.1.2).
+pub(crate) fn blank_direct_path(tree: &mut PublicTree, index: u32)
+    requires { index < leaf_count tree.old.tree }
+    ensures { tree.new.tree ≡ clear_path tree.old.tree index }
+{
+    let Ok(()) = tree.blank_path(index) else {
+        unreachable!();
+    };
+}

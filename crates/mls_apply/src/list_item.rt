@@ -1,0 +1,118 @@
+//! The proposal list of a commit (RFC 9420, 12.4).
+
+ghost use Rattle.std.specs.Prelude.{◌≡◌, ◌⊎◌, None, Some, IfOk, IfErr, Err};
+ghost use Rattle.mls_apply.specs.ResolvedList.{entry_item, resolved};
+
+use crate::fault::ApplyFault;
+use crate::pending_proposals::PendingProposals;
+use mls_msgs::{Commit, Proposal, ProposalOrRef};
+use mls_tree::HashValue;
+use std::alloc::Global;
+use std::marker::Model;
+
+/// A proposal of a commit's list. It borrows the proposal from the commit or from the pending proposals.
+///
+/// Contracts see the sender and the proposal itself.
+#[derive(Debug, Drop)]
+pub struct ListItem<'a> {
+    /// The leaf of the member that proposes it.
+    pub sender: u32,
+    /// The proposal.
+    pub proposal: &'a Proposal,
+}
+
+impl<'a> Model for ListItem<'a> {
+    ghost use Rattle.mls_apply.specs.ListItemModel.{ListItemModel};
+
+    ghost Value = { ListItemModel };
+
+    ghost view = { λ x. record { sender = x.sender; proposal = x.proposal.now } };
+}
+
+impl<'a> ListItem<'a> {
+    ghost use Rattle.mls_apply.specs.ContextExtensions.{brings_extensions};
+
+    /// Returns whether it is a GroupContextExtensions proposal (RFC 9420, 12.1.7).
+    pub fn brings_extensions(&self) -> bool
+        ensures { result ≡ brings_extensions self.now }
+    {
+        match self.proposal {
+            Proposal::ContextExtensions(_) => true,
+            Proposal::PreSharedKey(_) => false,
+            Proposal::ReInit(_) => false,
+            Proposal::ExternalInit(_) => false,
+            Proposal::Add(_) => false,
+            Proposal::Update(_) => false,
+            Proposal::Remove(_) => false,
+        }
+    }
+}
+
+/// A pending proposal: one that a member sent in the current epoch.
+#[derive(Debug, Drop)]
+pub struct KnownProposal {
+    /// The reference by which commits name it (RFC 9420, 5.2).
+    pub reference: HashValue,
+    /// The leaf of the member that sent it.
+    pub sender: u32,
+    /// The proposal.
+    pub proposal: Proposal,
+}
+
+/// Returns the item that an entry of a commit's list stands for, if its reference, where it is one, is that of a
+/// pending proposal.
+fn entry_item<'a>(
+    committer: u32,
+    known: &'a PendingProposals,
+    entry: &'a ProposalOrRef,
+) -> Option<ListItem<'a>>
+    ensures { result ≡ entry_item committer known.now entry.now }
+{
+    match entry {
+        ProposalOrRef::Proposal(proposal) => Some(ListItem {
+            sender: committer,
+            proposal,
+        }),
+        ProposalOrRef::Reference(reference) => {
+            let found = known.find(reference.as_slice())?;
+            Some(ListItem {
+                sender: found.sender,
+                proposal: &found.proposal,
+            })
+        }
+    }
+}
+
+/// Returns the list of proposals that a commit applies, in the order of its entries (RFC 9420, 12.4). A proposal in the
+/// commit itself is the committer's own. A reference stands for the first pending proposal that has it.
+///
+/// No proposal is copied: each item borrows its own.
+///
+/// # Errors
+///
+/// `UnknownReference` if some reference is that of no pending proposal; `OutOfMemory`.
+#[tactic(auto, using(crate::proofs::Resolving::resolved_step))]
+pub fn resolve_list<'a>(
+    alloc: Global,
+    commit: &'a Commit,
+    committer: u32,
+    known: &'a PendingProposals,
+) -> Result<Vec<ListItem<'a>>, ApplyFault>
+    ensures items { IfOk result (λ v.
+        resolved committer known.now commit.now.proposals ≡ Some v.items) }
+    ensures unknown { result ≡ Err ApplyFault.UnknownReference
+        → resolved committer known.now commit.now.proposals ≡ None }
+    ensures else_memory { IfErr result (λ e.
+        (e ≡ ApplyFault.UnknownReference) ⊎ (e ≡ ApplyFault.OutOfMemory)) }
+{
+    let mut items = Vec::new(alloc);
+    let mut rest = commit.proposals.as_slice();
+    while let Some((entry, tail)) = rest.split_first() {
+        let Some(item) = entry_item(committer, known, entry) else {
+            return Err(ApplyFault::UnknownReference);
+        };
+        items.push(item)?;
+        rest = tail;
+    }
+    Ok(items)
+}

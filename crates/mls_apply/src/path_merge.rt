@@ -1,0 +1,307 @@
+//! Update paths: the expected parent hashes, and the tree with a path merged (RFC 9420, 7.5, 7.6 and 7.9).
+
+ghost use Rattle.std.specs.Prelude.{◌≡◌, ◌≢◌, ◌<◌, ◌⊎◌, ◌↔◌, ◌∷◌, ℕ, List, Err, Some, None, IfOk, IfErr, OnOk, is_some, length, map, true};
+ghost use Rattle.mls_hash.specs.SuiteHash.{hash_of};
+ghost use Rattle.mls_tree.specs.Tree.{leaf_at, leaf_count};
+ghost use Rattle.mls_tree.specs.Paths.{filtered_direct_path};
+ghost use Rattle.mls_index.specs.TreeIndex.{ContainsKeysOf};
+ghost use Rattle.mls_apply.specs.MergePath.{expected_hashes, merged};
+ghost use Rattle.mls_apply.specs.AppliedList.{grown};
+ghost use Rattle.mls_apply.specs.PathRules.{has_first_parent_hash, keys_refusal, node_keys, path_refusal};
+ghost use Rattle.mls_apply.specs.ProposalRules.{is_from_commit};
+ghost use Rattle.mls_apply.specs.PathParents.{carried};
+ghost use Rattle.mls_apply.specs.PathModel.{hash_refusal, route_of};
+ghost use Rattle.mls_apply.specs.CommitterPath.{refusal_of, AreNewNodes};
+
+use crate::committer_path::CommitterPath;
+use crate::fault::ApplyFault;
+use crate::leaf_changes::leaf_of;
+use crate::list_application::{Applied, Leaves};
+use crate::new_parents::{NewNodes, NewParents, PathPlaces, fill, new_parents, put_path};
+use crate::path_rules::{has_new_keys, have_counts};
+use mls_hash::Suite;
+use mls_index::TreeIndex;
+use mls_msgs::{PathNode, UpdatePath};
+use mls_nodes::{LeafNode, LeafSource, ParentNode};
+use mls_tree::{HashValue, PublicTree, TreeError};
+use mls_wire::{Opaque, copy_of};
+use std::alloc::{AllocError, Global};
+
+/// Returns the node indices of the filtered direct path of a leaf, the lowest node first (RFC 9420, 4.1.2).
+///
+/// # Errors
+///
+/// `NoSuchLeaf` if and only if the leaf is blank or outside the tree, or `OutOfMemory`.
+fn path_places(alloc: Global, tree: &PublicTree, leaf: u32) -> Result<Vec<u32>, ApplyFault>
+    ensures places { IfOk result (λ places. let t = tree.now.tree in
+        places.items ≡ filtered_direct_path (leaf_count t) 0 t leaf) }
+    ensures set { OnOk result (is_some (leaf_at 0 tree.now.tree leaf) ≡ true) }
+    ensures not_set { (result ≡ Err ApplyFault.NoSuchLeaf)
+        ↔ (leaf_at 0 tree.now.tree leaf ≡ None) }
+    ensures else_memory { IfErr result (λ e.
+        (e ≡ ApplyFault.NoSuchLeaf) ⊎ (e ≡ ApplyFault.OutOfMemory)) }
+{
+    if tree.leaf(leaf).is_none() {
+        return Err(ApplyFault::NoSuchLeaf);
+    }
+    match tree.filtered_direct_path(alloc, leaf) {
+        Ok(places) => Ok(places),
+        Err(TreeError::OutOfMemory) => Err(ApplyFault::OutOfMemory),
+        Err(_) => unreachable!(),
+    }
+}
+
+/// Returns copies of keys.
+fn copies_of(alloc: Global, keys: &[Opaque]) -> Result<Vec<Opaque>, AllocError>
+    ensures { IfOk result (λ copies. copies.items ≡ keys.now) }
+{
+    let mut copies = Vec::new(alloc);
+    for key in keys {
+        copies.push(copy_of(alloc, key)?)?;
+    }
+    Ok(copies)
+}
+
+/// Returns copies of the keys of a path's nodes.
+fn node_keys(alloc: Global, nodes: &[PathNode]) -> Result<Vec<Opaque>, AllocError>
+    ensures { IfOk result (λ keys. keys.items ≡ map (λ n. n.encryption_key) nodes.now) }
+{
+    let mut keys = Vec::new(alloc);
+    for node in nodes {
+        keys.push(copy_of(alloc, &node.encryption_key)?)?;
+    }
+    Ok(keys)
+}
+
+/// Returns the parent hashes for a leaf and for each new parent above it, the leaf's first.
+fn carried(alloc: Global, new: NewParents) -> Result<Vec<Opaque>, AllocError>
+    ensures { IfOk result (λ hashes. hashes.items ≡ carried (route_of new)) }
+{
+    let NewParents { mut parents, hash } = new;
+    let mut hashes = Vec::new(alloc);
+    hashes.push(hash.to_opaque(alloc)?)?;
+    while let Some(parent) = parents.pop() {
+        let ParentNode { parent_hash, .. } = Box::into_inner(parent.node);
+        hashes.push(parent_hash)?;
+    }
+    Ok(hashes)
+}
+
+/// Returns the parent hashes that an update path of the committer with these keys, the lowest node's first, must have
+/// (RFC 9420, 7.9): first the leaf's, then one for each node. The last one is empty.
+///
+/// This is for callers of the library that make a path.
+///
+/// # Errors
+///
+/// `NoSuchLeaf` if the committer's leaf is blank, which is checked before anything is allocated; else `PathLength` if
+/// the number of keys is not that of the filtered direct path; or `OutOfMemory`.
+pub fn expected_parent_hashes(
+    alloc: Global,
+    suite: Suite,
+    tree: &PublicTree,
+    committer: u32,
+    keys: &[Opaque],
+) -> Result<Vec<Opaque>, ApplyFault>
+    ensures hashes { IfOk result (λ hashes.
+        expected_hashes (hash_of suite) tree.now.tree committer keys.now ≡ Some hashes.items) }
+    ensures kept { OnOk result (keys_refusal tree.now.tree committer keys.now ≡ None) }
+    ensures refused { IfErr result (λ e. e ≢ ApplyFault.OutOfMemory
+        → keys_refusal tree.now.tree committer keys.now ≡ Some e) }
+    ensures no_such_leaf { (result ≡ Err ApplyFault.NoSuchLeaf)
+        ↔ (keys_refusal tree.now.tree committer keys.now ≡ Some ApplyFault.NoSuchLeaf) }
+{
+    let places = path_places(alloc, tree, committer)?;
+    if keys.len() != places.len() {
+        return Err(ApplyFault::PathLength);
+    }
+    let keys = copies_of(alloc, keys)?;
+    let above = PathPlaces {
+        leaf: committer,
+        places: &places,
+    };
+    let new = new_parents(alloc, suite, tree, &above, keys)?;
+    Ok(carried(alloc, new)?)
+}
+
+/// Returns whether the source of a leaf node is commit (RFC 9420, 7.2).
+fn is_from_commit(source: &LeafSource) -> bool
+    ensures { result ≡ is_from_commit source.now }
+{
+    matches!(source, LeafSource::Commit { .. })
+}
+
+/// Returns whether the source of a leaf node is commit, with this parent hash.
+fn carries(source: &LeafSource, hash: &HashValue) -> bool
+    ensures { (hashes : List (List ℕ))
+        → result ≡ has_first_parent_hash source.now (Some (hash.now ∷ hashes)) }
+{
+    match source {
+        LeafSource::Commit { parent_hash } => parent_hash.as_slice() == hash.as_slice(),
+        _ => false,
+    }
+}
+
+/// Returns the node indices of the nodes of a path, if it satisfies the rules for paths except the last one, on the
+/// parent hash. No rule here takes a hash.
+fn checked_places(
+    alloc: Global,
+    tree: &PublicTree,
+    index: &TreeIndex,
+    path: &CommitterPath<'_>,
+) -> Result<Vec<u32>, ApplyFault>
+    requires { ContainsKeysOf tree.now.tree index.now }
+    ensures places { IfOk result (λ places. let t = tree.now.tree in
+        places.items ≡ filtered_direct_path (leaf_count t) 0 t path.now.leaf) }
+    ensures paired { IfOk result (λ places. length path.now.path.now.nodes ≡ length places.items) }
+    ensures inside { OnOk result (path.now.leaf < leaf_count tree.now.tree) }
+    ensures kept { OnOk result ((H : List ℕ → List ℕ)
+        → refusal_of H tree.now.tree path.now
+        ≡ hash_refusal H path.now.path.now tree.now.tree path.now.leaf) }
+    ensures refused { IfErr result (λ e. e ≢ ApplyFault.OutOfMemory → (H : List ℕ → List ℕ)
+        → refusal_of H tree.now.tree path.now ≡ Some e) }
+    ensures not_set { (result ≡ Err ApplyFault.NoSuchLeaf)
+        ↔ (leaf_at 0 tree.now.tree path.now.leaf ≡ None) }
+{
+    let nodes = path.path.nodes.as_slice();
+    let places = path_places(alloc, tree, path.leaf)?;
+    if nodes.len() != places.len() {
+        return Err(ApplyFault::PathLength);
+    }
+    if !is_from_commit(&path.path.leaf_node.source) {
+        return Err(ApplyFault::PathSource);
+    }
+    if !has_new_keys(alloc, path.path, tree, index)? {
+        return Err(ApplyFault::PathKeyUsed);
+    }
+    let added = path.added.as_slice();
+    let above = PathPlaces {
+        leaf: path.leaf,
+        places: &places,
+    };
+    if !have_counts(alloc, tree, &above, added, nodes)? {
+        return Err(ApplyFault::CiphertextCount);
+    }
+    Ok(places)
+}
+
+/// Returns the new nodes of a path that satisfies the other rules for paths, if its leaf has the parent hash that the
+/// path makes. The path's nodes are those at `places`.
+fn new_nodes(
+    alloc: Global,
+    suite: Suite,
+    tree: &PublicTree,
+    places: &[u32],
+    path: &CommitterPath<'_>,
+) -> Result<NewNodes, ApplyFault>
+    requires places { let t = tree.now.tree in
+        places.now ≡ filtered_direct_path (leaf_count t) 0 t path.now.leaf }
+    requires paired { length path.now.path.now.nodes ≡ length places.now }
+    requires inside { path.now.leaf < leaf_count tree.now.tree }
+    ensures made { IfOk result (AreNewNodes (hash_of suite) tree.now.tree path.now) }
+    ensures kept { OnOk result
+        (hash_refusal (hash_of suite) path.now.path.now tree.now.tree path.now.leaf ≡ None) }
+    ensures refused { IfErr result (λ e. e ≢ ApplyFault.OutOfMemory
+        → hash_refusal (hash_of suite) path.now.path.now tree.now.tree path.now.leaf ≡ Some e) }
+    ensures else_memory { IfErr result (λ e.
+        (e ≡ ApplyFault.PathParentHash) ⊎ (e ≡ ApplyFault.OutOfMemory)) }
+{
+    let keys = node_keys(alloc, path.path.nodes.as_slice())?;
+    let above = PathPlaces {
+        leaf: path.leaf,
+        places,
+    };
+    let new = new_parents(alloc, suite, tree, &above, keys)?;
+    if !carries(&path.path.leaf_node.source, &new.hash) {
+        return Err(ApplyFault::PathParentHash);
+    }
+    let leaf = leaf_of(alloc, &path.path.leaf_node)?;
+    Ok(NewNodes {
+        leaf,
+        parents: new.parents,
+    })
+}
+
+/// Returns the new nodes of a path, if it satisfies the rules for paths, by an index of the tree. The hashes that the
+/// tree caches of its subtrees are filled before the last rule is judged, and only then: parent hashes take them.
+///
+/// # Errors
+///
+/// `NoSuchLeaf` if the leaf is blank, before any allocation; else the first of `PathLength`, `PathSource`,
+/// `PathKeyUsed`, `CiphertextCount` and `PathParentHash` that applies; `OutOfMemory`. The tree is unchanged, except
+/// for hashes that are filled.
+pub(crate) fn filled_nodes(
+    alloc: Global,
+    suite: Suite,
+    tree: &mut PublicTree,
+    index: &TreeIndex,
+    path: &CommitterPath<'_>,
+) -> Result<NewNodes, ApplyFault>
+    requires { ContainsKeysOf tree.old.tree index.now }
+    ensures tree { tree.new.tree ≡ tree.old.tree }
+    ensures made { IfOk result (AreNewNodes (hash_of suite) tree.old.tree path.now) }
+    ensures kept { OnOk result (refusal_of (hash_of suite) tree.old.tree path.now ≡ None) }
+    ensures refused { IfErr result (λ e. e ≢ ApplyFault.OutOfMemory
+        → refusal_of (hash_of suite) tree.old.tree path.now ≡ Some e) }
+    ensures not_set { (result ≡ Err ApplyFault.NoSuchLeaf)
+        ↔ (leaf_at 0 tree.old.tree path.now.leaf ≡ None) }
+{
+    let places = checked_places(alloc, tree, index, path)?;
+    fill(alloc, suite, tree)?;
+    new_nodes(alloc, suite, tree, places.as_slice(), path)
+}
+
+/// Returns the tree with an update path of the committer merged (RFC 9420, 7.5). Its leaf is that of the path, the
+/// parents of its filtered direct path have the path's keys and no unmerged leaves, and the other parents above it are
+/// blank.
+///
+/// This is for callers of the library: a [`StagedTree`](crate::StagedTree) merges a path in place.
+///
+/// # Errors
+///
+/// `NoSuchLeaf` if the committer's leaf is blank, which is checked before anything is allocated; else the first of
+/// `PathLength`, `PathSource`, `PathKeyUsed`, `CiphertextCount` and `PathParentHash` that applies; or `OutOfMemory`.
+/// The arguments are returned as they were, except that slots of the tree's hash cache may have been filled.
+pub fn merge_path(
+    alloc: Global,
+    suite: Suite,
+    applied: Applied,
+    committer: u32,
+    path: &UpdatePath,
+) -> Result<PublicTree, (ApplyFault, Applied)>
+    ensures merged { IfOk result (λ tree. let keys = node_keys path.now in
+        merged (hash_of suite) applied.tree.tree committer path.now.leaf_node keys
+        ≡ Some tree.tree) }
+    ensures kept { let g = grown applied.tree.tree applied.added in
+        OnOk result (path_refusal (hash_of suite) g committer path.now ≡ None) }
+    ensures refused { let g = grown applied.tree.tree applied.added in
+        IfErr result (λ e. e.0 ≢ ApplyFault.OutOfMemory
+        → path_refusal (hash_of suite) g committer path.now ≡ Some e.0) }
+    ensures no_such_leaf { let g = grown applied.tree.tree applied.added in
+        (result ≡ Err (ApplyFault.NoSuchLeaf, applied))
+        ↔ (path_refusal (hash_of suite) g committer path.now ≡ Some ApplyFault.NoSuchLeaf) }
+    ensures handed_back { IfErr result (λ e.
+        (e.1.tree.tree ≡ applied.tree.tree) × (e.1.added ≡ applied.added)) }
+{
+    if applied.tree.leaf(committer).is_none() {
+        return Err((ApplyFault::NoSuchLeaf, applied));
+    }
+    let Applied { mut tree, added } = applied;
+    let Ok(index) = TreeIndex::of(alloc, &tree) else {
+        return Err((ApplyFault::OutOfMemory, Applied { tree, added }));
+    };
+    let of_committer = CommitterPath {
+        leaf: committer,
+        added: &added,
+        path,
+    };
+    let new = filled_nodes(alloc, suite, &mut tree, &index, &of_committer);
+    drop(index);
+    match new {
+        Ok(new) => {
+            put_path(&mut tree, committer, new);
+            Ok(tree)
+        }
+        Err(fault) => Err((fault, Applied { tree, added })),
+    }
+}

@@ -1,0 +1,236 @@
+//! The rules for a single proposal (RFC 9420, 12.1.1 to 12.1.3 and 12.1.7).
+
+ghost use Rattle.std.specs.Prelude.{◌≡◌, ◌≢◌, ◌↔◌, Some, None, Ok, Err, IfOk, IfErr, IsSome, OnOk, false};
+ghost use Rattle.mls_check.specs.Signatures.{is_signed_text};
+ghost use Rattle.mls_tree.specs.Tree.{leaf_at};
+ghost use Rattle.mls_apply.specs.ProposalRules.{is_from_key_package, is_from_update, is_package_signed};
+ghost use Rattle.mls_apply.specs.ProposalRules.{fits_group, fits_leaf, fits_if_add, fits_if_update};
+ghost use Rattle.mls_apply.specs.ProposalRules.{is_valid_add, is_valid_update, are_valid_extensions, checked_refusal};
+
+use crate::fault::ApplyFault;
+use mls_check::{OutOfMemory, SignatureCheck, is_leaf_signed, signed};
+use mls_msgs::{KEY_PACKAGE_LABEL, KeyPackage, Proposal, package_tbs};
+use mls_nodes::{Extensions, GroupContext, LeafNode, LeafSource, requirements_of};
+use mls_tree::PublicTree;
+use mls_wire::CodecFault;
+use std::alloc::Global;
+
+/// The context and the tree of a group in one epoch.
+#[derive(Drop)]
+pub struct EpochState<'a> {
+    /// The context.
+    pub context: &'a GroupContext,
+    /// The ratchet tree.
+    pub tree: &'a PublicTree,
+}
+
+/// Checks a proposal of a member by itself, in an epoch of its group (RFC 9420, 12.1.1 to 12.1.3 and 12.1.7). A
+/// content that is too long to sign counts as not signed.
+///
+/// # Errors
+///
+/// The first of these rules that fails, or `OutOfMemory`. Only signatures, which are checked last, and required
+/// capabilities need allocations.
+///
+/// 1. `NoSuchLeaf`: the sender's leaf is non-blank.
+/// 2. `AddInvalid`: a KeyPackage is of the group's version and cipher suite, the source of its leaf node is
+///    key_package, its init key is not the leaf's encryption key, and the signatures of the leaf node and of the
+///    KeyPackage are good under the leaf's signature key.
+/// 3. `UpdateInvalid`: the source of the new leaf node is update, its encryption key is not that of the sender's
+///    current leaf, and its signature, over the group id and the sender's index too, is good under its own signature
+///    key.
+/// 4. `RemoveInvalid`: the leaf of a Remove is non-blank.
+/// 5. `ContextExtensionsInvalid`: the required capabilities of a GroupContextExtensions can be read. Whether members
+///    have them is checked in the commit.
+#[tactic(auto, unfolding(crate::specs::ProposalRules::checked_refusal, crate::specs::ProposalRules::is_valid_remove))]
+pub fn check_proposal<C: SignatureCheck>(
+    alloc: Global,
+    epoch: &EpochState<'_>,
+    sender: u32,
+    proposal: &Proposal,
+    checker: &C,
+) -> Result<(), ApplyFault>
+    ensures valid { OnOk result
+        (checked_refusal (C.meaning checker.now) epoch.now.context.now epoch.now.tree.now.tree sender
+        proposal.now ≡ None) }
+    ensures refused { IfErr result (λ e. e ≢ ApplyFault.OutOfMemory
+        → checked_refusal (C.meaning checker.now) epoch.now.context.now epoch.now.tree.now.tree sender
+        proposal.now ≡ Some e) }
+    ensures no_such_leaf { (result ≡ Err ApplyFault.NoSuchLeaf)
+        ↔ (checked_refusal (C.meaning checker.now) epoch.now.context.now epoch.now.tree.now.tree sender
+        proposal.now ≡ Some ApplyFault.NoSuchLeaf) }
+    ensures unfit_add { IsSome (leaf_at 0 epoch.now.tree.now.tree sender)
+        → fits_if_add epoch.now.context.now proposal.now ≡ false
+        → result ≡ Err ApplyFault.AddInvalid }
+    ensures unfit_update { IsSome (leaf_at 0 epoch.now.tree.now.tree sender)
+        → fits_if_update epoch.now.tree.now.tree sender proposal.now ≡ false
+        → result ≡ Err ApplyFault.UpdateInvalid }
+    ensures remove_invalid { (result ≡ Err ApplyFault.RemoveInvalid)
+        ↔ (checked_refusal (C.meaning checker.now) epoch.now.context.now epoch.now.tree.now.tree sender
+        proposal.now ≡ Some ApplyFault.RemoveInvalid) }
+{
+    let tree = epoch.tree;
+    let context = epoch.context;
+    let Some(present) = tree.leaf(sender) else {
+        return Err(ApplyFault::NoSuchLeaf);
+    };
+    match proposal {
+        Proposal::Add(key_package) => {
+            if !is_valid_add(alloc, context, key_package, checker)? {
+                return Err(ApplyFault::AddInvalid);
+            }
+        }
+        Proposal::Update(leaf) => {
+            let replaced = Replaced { sender, present };
+            if !is_valid_update(alloc, context, &replaced, leaf, checker)? {
+                return Err(ApplyFault::UpdateInvalid);
+            }
+        }
+        Proposal::Remove(index) => {
+            if tree.leaf(*index).is_none() {
+                return Err(ApplyFault::RemoveInvalid);
+            }
+        }
+        Proposal::ContextExtensions(extensions) => {
+            if !are_valid_extensions(alloc, extensions)? {
+                return Err(ApplyFault::ContextExtensionsInvalid);
+            }
+        }
+        Proposal::PreSharedKey(_) => {}
+        Proposal::ReInit(_) => {}
+        Proposal::ExternalInit(_) => {}
+    }
+    Ok(())
+}
+
+/// Returns whether the required capabilities in extensions can be read.
+#[tactic(auto, using(crate::proofs::Brought::valid_read, crate::proofs::Brought::invalid_read))]
+fn are_valid_extensions(alloc: Global, extensions: &Extensions) -> Result<bool, OutOfMemory>
+    ensures { IfOk result (λ valid. valid ≡ are_valid_extensions extensions.now) }
+{
+    match requirements_of(alloc, extensions) {
+        Ok(_) => Ok(true),
+        Err(CodecFault::Wire(_)) => Ok(false),
+        Err(CodecFault::OutOfMemory) => Err(OutOfMemory),
+    }
+}
+
+/// Returns whether the source of a leaf node is key_package.
+fn is_from_key_package(source: &LeafSource) -> bool
+    ensures { result ≡ is_from_key_package source.now }
+{
+    matches!(source, LeafSource::KeyPackage(_))
+}
+
+/// Returns whether the source of a leaf node is update.
+fn is_from_update(source: &LeafSource) -> bool
+    ensures { result ≡ is_from_update source.now }
+{
+    matches!(source, LeafSource::Update)
+}
+
+/// Returns whether the signature of a KeyPackage is good (RFC 9420, 10.1).
+#[tactic(auto, unfolding(crate::specs::ProposalRules::is_package_signed))]
+fn is_package_signed<C: SignatureCheck>(
+    alloc: Global,
+    suite: u16,
+    key_package: &KeyPackage,
+    checker: &C,
+) -> Result<bool, OutOfMemory>
+    ensures { IfOk result (λ good.
+        good ≡ is_package_signed (C.meaning checker.now) suite key_package.now) }
+{
+    let tbs = match package_tbs(alloc, key_package) {
+        Ok(tbs) => tbs,
+        Err(CodecFault::Wire(_)) => return Ok(false),
+        Err(CodecFault::OutOfMemory) => return Err(OutOfMemory),
+    };
+    signed(
+        alloc,
+        checker,
+        suite,
+        key_package.leaf_node.signature_key.as_slice(),
+        KEY_PACKAGE_LABEL,
+        tbs.as_slice(),
+        key_package.signature.as_slice(),
+    )
+}
+
+/// Returns whether a KeyPackage fits a group. Signatures are not checked.
+#[tactic(auto, unfolding(crate::specs::ProposalRules::fits_group))]
+fn fits_group(context: &GroupContext, key_package: &KeyPackage) -> bool
+    ensures { result ≡ fits_group context.now key_package.now }
+{
+    let leaf = &key_package.leaf_node;
+    key_package.version == context.version
+        && key_package.cipher_suite == context.cipher_suite
+        && is_from_key_package(&leaf.source)
+        && key_package.init_key.as_slice() != leaf.encryption_key.as_slice()
+}
+
+/// Returns whether a KeyPackage may be added to a group. Its signatures are checked last. What is signed of its leaf
+/// node has no leaf index.
+#[tactic(auto, unfolding(crate::specs::ProposalRules::is_valid_add))]
+fn is_valid_add<C: SignatureCheck>(
+    alloc: Global,
+    context: &GroupContext,
+    key_package: &KeyPackage,
+    checker: &C,
+) -> Result<bool, OutOfMemory>
+    ensures valid { IfOk result (λ valid.
+        valid ≡ is_valid_add (C.meaning checker.now) context.now key_package.now) }
+    ensures unfit { fits_group context.now key_package.now ≡ false → result ≡ Ok false }
+{
+    if !fits_group(context, key_package) {
+        return Ok(false);
+    }
+    let leaf = &key_package.leaf_node;
+    let suite = context.cipher_suite;
+    if !is_leaf_signed(alloc, suite, &context.group_id, 0, leaf, checker)? {
+        return Ok(false);
+    }
+    is_package_signed(alloc, suite, key_package, checker)
+}
+
+/// Returns whether a leaf node may replace a member's current one. The signature is not checked.
+#[tactic(auto, unfolding(crate::specs::ProposalRules::fits_leaf))]
+fn fits_leaf(present: &LeafNode, leaf: &LeafNode) -> bool
+    ensures { result ≡ fits_leaf (Some present.now) leaf.now }
+{
+    is_from_update(&leaf.source)
+        && leaf.encryption_key.as_slice() != present.encryption_key.as_slice()
+}
+
+/// A member's leaf that a proposal replaces.
+#[derive(Drop)]
+struct Replaced<'a> {
+    sender: u32,
+    present: &'a LeafNode,
+}
+
+/// Returns whether a leaf node may replace a member's current one. Its signature is checked last.
+#[tactic(auto, unfolding(crate::specs::ProposalRules::is_valid_update))]
+fn is_valid_update<C: SignatureCheck>(
+    alloc: Global,
+    context: &GroupContext,
+    replaced: &Replaced<'_>,
+    leaf: &LeafNode,
+    checker: &C,
+) -> Result<bool, OutOfMemory>
+    ensures valid { IfOk result (λ valid.
+        valid ≡ is_valid_update (C.meaning checker.now) context.now replaced.now.sender
+        (Some replaced.now.present.now) leaf.now) }
+    ensures unfit { fits_leaf (Some replaced.now.present.now) leaf.now ≡ false → result ≡ Ok false }
+{
+    if !fits_leaf(replaced.present, leaf) {
+        return Ok(false);
+    }
+    is_leaf_signed(
+        alloc,
+        context.cipher_suite,
+        &context.group_id,
+        replaced.sender,
+        leaf,
+        checker,
+    )
+}

@@ -1,0 +1,353 @@
+//! A group's tree that a commit changes in place (RFC 9420, 12.4.2).
+//!
+//! A commit's list and its path change a large tree in place, and the tree after both is checked from its changes. A
+//! [`StagedTree`] has what this needs. Until it is settled, the changes can be undone.
+
+ghost use Rattle.std.specs.Prelude.{◌≡◌, ◌≢◌, ◌⊎◌, Err, None, Some, IsSome, IfOk, IfErr, OnOk, true};
+ghost use Rattle.mls_hash.specs.SuiteHash.{hash_of};
+ghost use Rattle.mls_tree.specs.ChangedNodes.{AgreeExceptAt};
+ghost use Rattle.mls_tree.specs.Journals.{before};
+ghost use Rattle.mls_tree.specs.Tree.{Tree};
+ghost use Rattle.mls_tree.specs.TreeHash.{tree_hash};
+ghost use Rattle.mls_index.specs.TreeIndex.{ContainsKeysOf, HasBase};
+ghost use Rattle.mls_apply.specs.AppliedList.{grown, outcome, without_adds, ExceedsCapacity};
+ghost use Rattle.mls_apply.specs.CommitterPath.{merged_by, refusal_of};
+ghost use Rattle.mls_check.specs.DistinctKeys.{has_distinct_keys};
+ghost use Rattle.mls_check.specs.LeafValidation.{FindsFailing, IsMemberFault, LeavesAreValid, all_leaves, has_own_signature_key, supports_required, supports_used_credentials};
+ghost use Rattle.mls_index.specs.FirstChanged.{leaf_rule};
+
+use crate::committer_path::CommitterPath;
+use crate::fault::ApplyFault;
+use crate::list_application::{Leaves, apply_list_in_place};
+use crate::list_item::ListItem;
+use crate::new_parents::{fill, put_path_in_place};
+use crate::path_merge::filled_nodes;
+use crate::requirements::same_requirements;
+use mls_check::{
+    MemberFault, OutOfMemory, SignatureCheck, first_repeated_signature_key,
+    first_unmet_requirement, first_unsupported_credential,
+};
+use mls_hash::{HashFault, Suite, tree_hash};
+use mls_index::{KeyKind, LeafRule, LeafRules, TreeIndex, first_changed_failing};
+use mls_nodes::RequiredCapabilities;
+use mls_tree::{HashValue, Journal, PublicTree};
+use std::alloc::{AllocError, Global};
+use std::marker::Model;
+
+/// A tree that is changed in place, with a journal of the changes and an index of its keys and of its leaves'
+/// credentials.
+///
+/// The changes are staged, until [`StagedTree::settle`] keeps them or [`StagedTree::take_back`] takes them back.
+/// Neither of the two allocates.
+///
+/// Contracts see four parts. `tree` is the tree as it is, and `base` the one before the changes. `indexed` says
+/// whether the index has what changed: nothing is judged or settled without it. `clean` says whether the index is that
+/// of `base`, with no entry beside it. A call that fails, also because it is out of memory, leaves `base` unchanged.
+#[derive(Drop)]
+pub struct StagedTree {
+    tree: PublicTree,
+    journal: Journal,
+    index: TreeIndex,
+    entered: Option<Vec<u32>>,
+    clean: bool,
+}
+
+impl Model for StagedTree {
+    ghost use Rattle.mls_apply.specs.Staged.{Staged, staged_coded};
+
+    ghost Value = { Staged };
+
+    ghost coded = { staged_coded };
+
+    ghost use Rattle.mls_apply.specs.StagedSeen.{IsStaged, staged};
+
+    ghost view = { staged };
+
+    ghost invariant = { IsStaged };
+}
+
+/// Adds the changed nodes of a tree, those that a journal has logged, to an index whose base is the tree before these
+/// changes. Returns their node indices. The index then also contains the keys of the tree.
+fn stage_changed_nodes(
+    alloc: Global,
+    tree: &PublicTree,
+    journal: &Journal,
+    index: &mut TreeIndex,
+) -> Result<Vec<u32>, OutOfMemory>
+    requires between { HasBase (before journal.now tree.now.tree) index.old }
+    ensures between { (t : Tree) → HasBase t index.old → HasBase t index.new }
+    ensures covers { OnOk result (ContainsKeysOf tree.now.tree index.new) }
+    ensures places { IfOk result (λ places.
+        AgreeExceptAt places.items (before journal.now tree.now.tree) tree.now.tree) }
+{
+    let places = journal.changed_places(alloc, tree)?;
+    index.enter(tree, places.as_slice())?;
+    Ok(places)
+}
+
+impl StagedTree {
+    /// Returns a tree without changes, which is indexed. The tree is returned as the error if an allocation fails.
+    pub fn of(alloc: Global, tree: PublicTree) -> Result<StagedTree, PublicTree>
+        ensures base { IfOk result (λ s. s.base ≡ tree.tree) }
+        ensures tree { IfOk result (λ s. s.tree ≡ tree.tree) }
+        ensures clean { IfOk result (λ s. s.clean ≡ true) }
+        ensures handed_back { IfErr result (λ back. back ≡ tree) }
+    {
+        match TreeIndex::of(alloc, &tree) {
+            Ok(index) => Ok(StagedTree {
+                tree,
+                journal: Journal::new(alloc),
+                index,
+                entered: None,
+                clean: true,
+            }),
+            Err(_) => Err(tree),
+        }
+    }
+
+    /// Returns the tree as it is.
+    pub fn tree(&self) -> &PublicTree
+        ensures { result.now.tree ≡ self.now.tree }
+    {
+        &self.tree
+    }
+
+    /// Applies a list of proposals (RFC 9420, 12.3), as [`apply_list`](crate::apply_list) does to a copy, and says
+    /// which leaves were added. After any fault a part of the list may have been applied.
+    pub fn apply_list(
+        &mut self,
+        alloc: Global,
+        items: &[ListItem<'_>],
+    ) -> Result<Leaves, ApplyFault>
+        ensures applied { IfOk result (λ added.
+            outcome items.now self.old.tree ≡ Some (grown self.new.tree added)) }
+        ensures no_such_leaf { result ≡ Err ApplyFault.NoSuchLeaf
+            → without_adds items.now self.old.tree ≡ None }
+        ensures too_many_leaves { result ≡ Err ApplyFault.TooManyLeaves
+            → IsSome (without_adds items.now self.old.tree) × (outcome items.now self.old.tree ≡ None) }
+        ensures no_room { ExceedsCapacity items.now self.old.tree → result ≡ Err ApplyFault.TooManyLeaves }
+        ensures else_memory { IfErr result (λ e.
+            (e ≡ ApplyFault.NoSuchLeaf) ⊎ (e ≡ ApplyFault.TooManyLeaves)
+            ⊎ (e ≡ ApplyFault.OutOfMemory)) }
+        ensures base { self.new.base ≡ self.old.base }
+    {
+        self.entered = None;
+        apply_list_in_place(alloc, &mut self.tree, &mut self.journal, items)
+    }
+
+    /// Merges an update path (RFC 9420, 7.5). The path's keys are looked up in the index, to which the
+    /// changes are added first.
+    ///
+    /// # Errors
+    ///
+    /// Those of [`merge_path`](crate::merge_path), in its order. The tree is unchanged, except after `OutOfMemory`,
+    /// when a part of the path may have been merged. No hash is computed for a path that is refused by a rule before
+    /// `PathParentHash`.
+    pub fn merge_path(
+        &mut self,
+        alloc: Global,
+        suite: Suite,
+        path: &CommitterPath<'_>,
+    ) -> Result<(), ApplyFault>
+        ensures merged { OnOk result
+            (merged_by (hash_of suite) self.old.tree path.now ≡ Some self.new.tree) }
+        ensures kept { OnOk result (refusal_of (hash_of suite) self.old.tree path.now ≡ None) }
+        ensures refused { IfErr result (λ e. e ≢ ApplyFault.OutOfMemory
+            → refusal_of (hash_of suite) self.old.tree path.now ≡ Some e) }
+        ensures stays { IfErr result
+            (λ e. e ≢ ApplyFault.OutOfMemory → self.new.tree ≡ self.old.tree) }
+        ensures base { self.new.base ≡ self.old.base }
+    {
+        self.entered = None;
+        self.clean = false;
+        let tree = &mut self.tree;
+        let journal = &mut self.journal;
+        drop(stage_changed_nodes(alloc, tree, journal, &mut self.index)?);
+        let new = filled_nodes(alloc, suite, tree, &self.index, path)?;
+        put_path_in_place(alloc, tree, journal, path.leaf, new)?;
+        Ok(())
+    }
+
+    /// Adds the changes to the index. Nothing else changes.
+    pub fn index_changes(&mut self, alloc: Global) -> Result<(), OutOfMemory>
+        ensures base { self.new.base ≡ self.old.base }
+        ensures tree { self.new.tree ≡ self.old.tree }
+        ensures indexed { OnOk result (self.new.indexed ≡ true) }
+    {
+        self.entered = None;
+        self.clean = false;
+        let places = stage_changed_nodes(alloc, &self.tree, &self.journal, &mut self.index)?;
+        self.entered = Some(places);
+        Ok(())
+    }
+
+    /// Returns whether the encryption keys of the tree are distinct (RFC 9420, 12.4.2). Those of the tree before the
+    /// changes must be. Only the keys of the changed nodes are looked up.
+    pub fn has_distinct_keys(&self) -> bool
+        requires indexed { self.now.indexed ≡ true }
+        requires distinct { has_distinct_keys self.now.base ≡ true }
+        ensures { result ≡ has_distinct_keys self.now.tree }
+    {
+        let Some(places) = &self.entered else {
+            unreachable!()
+        };
+        let (index, tree) = (&self.index, &self.tree);
+        index.have_own_keys(tree, KeyKind::Encryption, places.as_slice())
+    }
+
+    /// Returns the smallest leaf index of a leaf that fails a rule that needs no other leaf. Each leaf of the tree before
+    /// the changes must satisfy it.
+    fn first_failing<C: SignatureCheck>(
+        &self,
+        alloc: Global,
+        rules: &LeafRules<'_, C>,
+        rule: LeafRule,
+    ) -> Result<Option<u32>, OutOfMemory>
+        requires indexed { self.now.indexed ≡ true }
+        requires kept { all_leaves (leaf_rule (C.meaning rules.now.checker.now) rules.now.context.now
+            rules.now.required.now rule) 0 self.now.base ≡ true }
+        ensures { IfOk result (FindsFailing (leaf_rule (C.meaning rules.now.checker.now) rules.now.context.now
+            rules.now.required.now rule) self.now.tree) }
+    {
+        let Some(places) = &self.entered else {
+            unreachable!()
+        };
+        first_changed_failing(alloc, rules, rule, &self.tree, places.as_slice())
+    }
+
+    /// Returns the smallest leaf index of a leaf whose capabilities lack what the group requires. Each leaf of the tree
+    /// before the changes must satisfy what the group required then. All leaves are checked if the requirements change.
+    fn first_unmet<C: SignatureCheck>(
+        &self,
+        alloc: Global,
+        former: &RequiredCapabilities,
+        rules: &LeafRules<'_, C>,
+    ) -> Result<Option<u32>, OutOfMemory>
+        requires indexed { self.now.indexed ≡ true }
+        requires kept { all_leaves (λ _ x. supports_required former.now x) 0 self.now.base ≡ true }
+        ensures { IfOk result (FindsFailing (λ _ x. supports_required rules.now.required.now x) self.now.tree) }
+    {
+        if same_requirements(former, rules.required) {
+            return self.first_failing(alloc, rules, LeafRule::Requirements);
+        }
+        first_unmet_requirement(alloc, &self.tree, rules.required)
+    }
+
+    /// Returns the smallest leaf index of a leaf that does not support the credential type of some leaf. The leaves are
+    /// visited only if there is one.
+    fn first_unsupported(&self) -> Option<u32>
+        requires indexed { self.now.indexed ≡ true }
+        ensures { FindsFailing (λ _ x. supports_used_credentials self.now.tree x) self.now.tree result }
+    {
+        if self.index.support_credentials() {
+            return None;
+        }
+        first_unsupported_credential(&self.tree)
+    }
+
+    /// Returns the smallest leaf index of a leaf whose signature key another leaf has. The signature keys of the tree
+    /// before the changes must be distinct. The leaves are visited only if there is one.
+    fn first_repeated(&self, alloc: Global) -> Result<Option<u32>, OutOfMemory>
+        requires indexed { self.now.indexed ≡ true }
+        requires kept { all_leaves (has_own_signature_key self.now.base) 0 self.now.base ≡ true }
+        ensures { IfOk result (FindsFailing (has_own_signature_key self.now.tree) self.now.tree) }
+    {
+        let Some(places) = &self.entered else {
+            unreachable!()
+        };
+        let (index, tree) = (&self.index, &self.tree);
+        if index.have_own_keys(tree, KeyKind::Signature, places.as_slice()) {
+            return Ok(None);
+        }
+        first_repeated_signature_key(alloc, tree)
+    }
+
+    /// Checks that every non-blank leaf of the tree is a valid leaf node (RFC 9420, 7.3), as
+    /// [`mls_check::validate_members`] does. Those of the tree before the changes must be, under what the group required
+    /// then, `former`. Rules that need no other leaf are checked of the changed leaves alone, but for what the group
+    /// requires, if that changes. The others are decided by the index; all leaves are visited only to find the first one
+    /// that fails.
+    ///
+    /// # Errors
+    ///
+    /// Those of `validate_members`, in its order.
+    pub fn check_members<C: SignatureCheck>(
+        &self,
+        alloc: Global,
+        former: &RequiredCapabilities,
+        rules: &LeafRules<'_, C>,
+    ) -> Result<(), MemberFault>
+        requires indexed { self.now.indexed ≡ true }
+        requires kept { LeavesAreValid (C.meaning rules.now.checker.now) rules.now.context.now.cipher_suite
+            rules.now.context.now.group_id former.now self.now.base }
+        ensures members { OnOk result (LeavesAreValid (C.meaning rules.now.checker.now)
+            rules.now.context.now.cipher_suite rules.now.context.now.group_id rules.now.required.now self.now.tree) }
+        ensures fault { IfErr result (λ e. IsMemberFault (C.meaning rules.now.checker.now)
+            rules.now.context.now.cipher_suite rules.now.context.now.group_id rules.now.required.now self.now.tree e) }
+    {
+        if let Some(leaf) = self.first_failing(alloc, rules, LeafRule::Extensions)? {
+            return Err(MemberFault::ExtensionUnlisted(leaf));
+        }
+        if let Some(leaf) = self.first_unmet(alloc, former, rules)? {
+            return Err(MemberFault::RequirementUnmet(leaf));
+        }
+        if let Some(leaf) = self.first_unsupported() {
+            return Err(MemberFault::CredentialUnsupported(leaf));
+        }
+        if let Some(leaf) = self.first_repeated(alloc)? {
+            return Err(MemberFault::SignatureKeyRepeated(leaf));
+        }
+        if let Some(leaf) = self.first_failing(alloc, rules, LeafRule::Signature)? {
+            return Err(MemberFault::LeafSignature(leaf));
+        }
+        Ok(())
+    }
+
+    /// The tree hash of the tree (RFC 9420, 7.8). What is empty of the hashes that it keeps of its subtrees is filled,
+    /// and nothing else is hashed or changes.
+    pub fn hash(&mut self, alloc: Global, suite: Suite) -> Result<HashValue, AllocError>
+        ensures stays { self.new ≡ self.old }
+        ensures hash { IfOk result (λ hash. tree_hash (hash_of suite) 0 self.old.tree ≡ Some hash) }
+    {
+        fill(alloc, suite, &mut self.tree)?;
+        root_hash(alloc, suite, &self.tree)
+    }
+
+    /// Keeps the changes: the tree as it is becomes the base. Does not allocate.
+    pub fn settle(&mut self)
+        requires { self.old.indexed ≡ true }
+        ensures base { self.new.base ≡ self.old.tree }
+        ensures tree { self.new.tree ≡ self.old.tree }
+        ensures clean { self.new.clean ≡ true }
+    {
+        let Some(places) = self.entered.take() else {
+            unreachable!()
+        };
+        self.index.accept(&self.tree, places.as_slice());
+        self.journal.keep();
+        self.clean = true;
+    }
+
+    /// Undoes the changes: the tree is the base again. Does not allocate.
+    pub fn take_back(&mut self)
+        ensures base { self.new.base ≡ self.old.base }
+        ensures tree { self.new.tree ≡ self.old.base }
+        ensures clean { self.new.clean ≡ true }
+    {
+        self.entered = None;
+        self.index.refuse();
+        self.clean = true;
+        self.journal.take_back(&mut self.tree);
+    }
+}
+
+/// Returns the tree hash of a tree (RFC 9420, 7.8).
+fn root_hash(alloc: Global, suite: Suite, tree: &PublicTree) -> Result<HashValue, AllocError>
+    ensures { IfOk result (λ hash. tree_hash (hash_of suite) 0 tree.now.tree ≡ Some hash) }
+{
+    match tree_hash(alloc, suite, tree, tree.leaf_count() - 1) {
+        Ok(hash) => Ok(hash),
+        Err(HashFault::OutOfMemory) => Err(AllocError),
+        Err(_) => unreachable!(),
+    }
+}

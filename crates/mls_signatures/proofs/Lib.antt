@@ -1,0 +1,3 @@
+pub mod DuplicateMarks
+pub mod Agreement
+pub mod LeafLists

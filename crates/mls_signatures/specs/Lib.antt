@@ -1,0 +1,3 @@
+pub mod SignaturesToVerify
+pub mod Agreement
+pub mod Marks

@@ -1,0 +1,240 @@
+-- Which signatures have to be verified: those of a start (RFC 9420, 12.4.3.1), and those of a message of a group (5.1.2, 6.1,
+-- 7.2, 10.1). No checker is an argument, so they depend on no verification. Some may be listed that no rule checks, as if
+-- another rule refuses the message before.
+-- Used by contracts. `suite` and `group_id`: those of the group's context.
+use Rattle.std.specs.Prelude.{ℕ, ◌+◌, ◌==◌, ◌&&◌, not, nat_le, if◌then◌else◌, Bool, List, [], ◌∷◌, ◌++◌, filter, Option, Some, None, codes}
+use Rattle.std.specs.Str.{bytes_eq}
+use Rattle.mls_nodes.specs.declared.context.GroupContext.{GroupContext}
+use Rattle.mls_nodes.specs.declared.leaf.LeafNode.{LeafNode}
+use Rattle.mls_nodes.specs.LeafNodeTBS.{leaf_tbs}
+use Rattle.mls_tree.specs.Tree.{Tree, leaf, branch, leaf_count, leaf_at}
+use Rattle.mls_check.specs.Signatures.{sign_content}
+use Rattle.mls_msgs.specs.Tbs.{content_label, content_tbs, package_label, package_tbs, info_label, info_tbs}
+use Rattle.mls_msgs.specs.declared.authenticated.AuthenticatedParts.{AuthenticatedParts}
+use Rattle.mls_msgs.specs.declared.commit.Commit.{Commit}
+use Rattle.mls_msgs.specs.declared.commit.UpdatePath.{UpdatePath}
+use Rattle.mls_msgs.specs.declared.framed_content.Content.{Content}
+use Rattle.mls_msgs.specs.declared.framed_content.Content.TheVariants as contents
+use Rattle.mls_msgs.specs.declared.framed_content.Sender.{Sender}
+use Rattle.mls_msgs.specs.declared.framed_content.Sender.TheVariants as senders
+use Rattle.mls_msgs.specs.declared.group_info.GroupInfo.{GroupInfo}
+use Rattle.mls_msgs.specs.declared.key_package.KeyPackage.{KeyPackage}
+use Rattle.mls_msgs.specs.declared.message.Message.{Message}
+use Rattle.mls_msgs.specs.declared.message.Message.TheVariants as messages
+use Rattle.mls_msgs.specs.declared.proposal.Proposal.{Proposal}
+use Rattle.mls_msgs.specs.declared.proposal.Proposal.TheVariants as proposals
+use Rattle.mls_msgs.specs.declared.proposal.ProposalOrRef.{ProposalOrRef}
+use Rattle.mls_msgs.specs.declared.proposal.ProposalOrRef.TheVariants as entries
+use Rattle.mls_apply.specs.declared.list_item.KnownProposal.{KnownProposal}
+use Rattle.mls_apply.specs.declared.list_item.ListItem.{ListItem}
+use Rattle.mls_apply.specs.ResolvedList.{resolved}
+use Rattle.mls_apply.specs.ListRules.{replaced_leaf}
+use Rattle.mls_apply.specs.AppliedList.{Grown, outcome}
+use Rattle.mls_signatures.specs.declared.signature_to_verify.SignatureToVerify.{SignatureToVerify}
+
+-- ---- the signature of one thing that is signed, if it has one
+
+-- the signature over a SignContent (5.1.2); none if there is no SignContent
+abbrev pub sign_content_signatures : ℕ → List ℕ → List ℕ → Option (List ℕ) → List SignatureToVerify
+sign_content_signatures suite key signature None = []
+sign_content_signatures suite key signature (Some content) =
+    record { suite = suite; key = key; content = content; signature = signature } ∷ []
+
+-- the signature over bytes under a label (5.1.2); none if the bytes, or their SignContent, have no encoding
+abbrev pub labeled_signatures : ℕ → List ℕ → List ℕ → Option (List ℕ) → List ℕ → List SignatureToVerify
+labeled_signatures suite key label None signature = []
+labeled_signatures suite key label (Some tbs) signature =
+    sign_content_signatures suite key signature (sign_content label tbs)
+
+-- the signature of the leaf node at leaf index i (7.2)
+abbrev pub leaf_signatures : ℕ → List ℕ → ℕ → LeafNode → List SignatureToVerify
+leaf_signatures suite group_id i x =
+    labeled_signatures suite x.signature_key (codes "MLS 1.0 LeafNodeTBS")
+    (leaf_tbs x group_id i) x.signature
+
+-- the signature of a KeyPackage (10.1)
+abbrev pub package_signatures : ℕ → KeyPackage → List SignatureToVerify
+package_signatures suite k =
+    labeled_signatures suite k.leaf_node.signature_key package_label (package_tbs k) k.signature
+
+-- the signature of an AuthenticatedContent, under the key of the sender's leaf and over the group's context (6.1)
+abbrev pub framed_content_signatures : GroupContext → LeafNode → AuthenticatedParts → List SignatureToVerify
+framed_content_signatures context x a =
+    labeled_signatures context.cipher_suite x.signature_key content_label
+    (content_tbs a (Some context)) a.signature
+
+-- the signature of a GroupInfo, under the key of its signer's leaf (12.4.3); none if that leaf is blank
+abbrev pub info_signatures : GroupInfo → Option LeafNode → List SignatureToVerify
+info_signatures info None = []
+info_signatures info (Some x) =
+    labeled_signatures info.context.cipher_suite x.signature_key info_label
+    (info_tbs info) info.signature
+
+-- ---- those of the leaves of a tree
+
+-- the signature of the leaf at leaf index i; none if it is blank
+abbrev pub non_blank_leaf_signatures : ℕ → List ℕ → ℕ → Option LeafNode → List SignatureToVerify
+non_blank_leaf_signatures suite group_id i None = []
+non_blank_leaf_signatures suite group_id i (Some x) = leaf_signatures suite group_id i x
+
+-- the signatures of all leaves, from left to right, of a tree whose first leaf has the leaf index `first`
+abbrev pub tree_signatures : ℕ → List ℕ → ℕ → Tree → List SignatureToVerify
+tree_signatures suite group_id first (leaf x) = non_blank_leaf_signatures suite group_id first x
+tree_signatures suite group_id first (branch l _ r) =
+    tree_signatures suite group_id first l ++
+    tree_signatures suite group_id (first + leaf_count l) r
+
+-- the signatures of the leaves of a tree at these leaf indices, in their order
+abbrev pub signatures_at : ℕ → List ℕ → Tree → List ℕ → List SignatureToVerify
+signatures_at suite group_id t [] = []
+signatures_at suite group_id t (j ∷ js) =
+    non_blank_leaf_signatures suite group_id j (leaf_at 0 t j) ++ signatures_at suite group_id t js
+
+-- ---- without duplicates
+
+-- whether two are equal
+abbrev pub is_same : SignatureToVerify → SignatureToVerify → Bool
+is_same a b =
+    a.suite == b.suite && bytes_eq a.key b.key && bytes_eq a.content b.content
+    && bytes_eq a.signature b.signature
+
+-- those that are not equal to this one
+abbrev pub without : SignatureToVerify → List SignatureToVerify → List SignatureToVerify
+without a qs = filter (λ q. not (is_same a q)) qs
+
+-- the list without those that are equal to an earlier one, in its order
+abbrev pub deduplicated : List SignatureToVerify → List SignatureToVerify
+deduplicated [] = []
+deduplicated (q ∷ qs) = q ∷ without q (deduplicated qs)
+
+-- ---- those of a start (12.4.3.1)
+
+-- whether the version and the cipher suite of a GroupInfo are supported (17.1)
+abbrev pub is_supported : GroupInfo → Bool
+is_supported info =
+    info.context.version == 1
+    && nat_le 1 info.context.cipher_suite && nat_le info.context.cipher_suite 7
+
+-- the GroupInfo's, then each leaf's from left to right; none if the version or the cipher suite isn't supported
+abbrev pub all_start_signatures : GroupInfo → Tree → List SignatureToVerify
+all_start_signatures info t =
+    if is_supported info
+    then info_signatures info (leaf_at 0 t info.signer) ++
+    tree_signatures info.context.cipher_suite info.context.group_id 0 t
+    else []
+
+-- the signatures of a start, without duplicates
+abbrev pub start_signatures : GroupInfo → Tree → List SignatureToVerify
+start_signatures info t = deduplicated (all_start_signatures info t)
+
+-- ---- those of proposals (12.1)
+
+-- of an Add of member i the leaf's, then the KeyPackage's; of an Update the leaf's; of other proposals none
+abbrev pub proposal_signatures : GroupContext → ℕ → Proposal → List SignatureToVerify
+proposal_signatures context i (proposals.Add k) =
+    leaf_signatures context.cipher_suite context.group_id 0 k.leaf_node ++
+    package_signatures context.cipher_suite k
+proposal_signatures context i (proposals.Update x) =
+    leaf_signatures context.cipher_suite context.group_id i x
+proposal_signatures context i (proposals.Remove _) = []
+proposal_signatures context i (proposals.ContextExtensions _) = []
+proposal_signatures context i (proposals.PreSharedKey _) = []
+proposal_signatures context i (proposals.ReInit _) = []
+proposal_signatures context i (proposals.ExternalInit _) = []
+
+-- of an entry of a commit's list: those of a proposal by value; of a reference none
+abbrev pub entry_signatures : GroupContext → ℕ → ProposalOrRef → List SignatureToVerify
+entry_signatures context i (entries.Proposal p) = proposal_signatures context i p
+entry_signatures context i (entries.Reference _) = []
+
+-- of the entries of a commit's list, in their order
+abbrev pub entries_signatures : GroupContext → ℕ → List ProposalOrRef → List SignatureToVerify
+entries_signatures context i [] = []
+entries_signatures context i (e ∷ es) = entry_signatures context i e ++ entries_signatures context i es
+
+-- ---- those of the leaves that a commit adds or replaces (7.3, 12.4.2)
+
+-- an index before others, if there is one
+abbrev pub index_before : Option ℕ → List ℕ → List ℕ
+index_before None js = js
+index_before (Some j) js = j ∷ js
+
+-- the leaves that the Updates of a list replace, in its order
+abbrev pub replaced_leaves : List ListItem → List ℕ
+replaced_leaves [] = []
+replaced_leaves (x ∷ xs) =
+    index_before (replaced_leaf x.sender x.proposal) (replaced_leaves xs)
+
+-- the leaves that the list of a commit adds or replaces: the replaced ones, then the added ones
+abbrev pub new_leaves : List ListItem → Grown → List ℕ
+new_leaves items g = replaced_leaves items ++ g.added
+
+-- the signature of the leaf of an UpdatePath of member i; none without a path
+abbrev pub path_signatures : GroupContext → ℕ → Option UpdatePath → List SignatureToVerify
+path_signatures context i None = []
+path_signatures context i (Some path) =
+    leaf_signatures context.cipher_suite context.group_id i path.leaf_node
+
+-- of the leaves that a list adds or replaces, in the tree after it, then of the path's leaf; none if no tree is after the
+-- list
+abbrev pub applied_list_signatures : GroupContext → ℕ → Option UpdatePath → List ListItem → Option Grown
+    → List SignatureToVerify
+applied_list_signatures context i path items None = []
+applied_list_signatures context i path items (Some g) =
+    signatures_at context.cipher_suite context.group_id g.tree (new_leaves items g) ++
+    path_signatures context i path
+
+-- ---- those of a message of a group with this context, these pending proposals and this tree
+
+-- of a commit of member i those of its proposals by value, then those of the leaves that it adds or replaces; none if a
+-- reference is unknown
+abbrev pub commit_signatures : GroupContext → Tree → ℕ → Commit → Option (List ListItem)
+    → List SignatureToVerify
+commit_signatures context t i c None = []
+commit_signatures context t i c (Some items) =
+    entries_signatures context i c.proposals ++
+    applied_list_signatures context i c.path items (outcome items t)
+
+-- of what member i, whose leaf is x, has sent: the message's own, then those of the proposal or the commit; of application
+-- data none
+abbrev pub content_signatures : GroupContext → List KnownProposal → Tree → AuthenticatedParts → ℕ → LeafNode
+    → Content → List SignatureToVerify
+content_signatures context known t a i x (contents.Application _) = []
+content_signatures context known t a i x (contents.Proposal p) =
+    framed_content_signatures context x a ++ proposal_signatures context i p
+content_signatures context known t a i x (contents.Commit c) =
+    framed_content_signatures context x a
+    ++ commit_signatures context t i c (resolved i known c.proposals)
+
+-- of what member i has sent; none if its leaf is blank
+abbrev pub member_signatures : GroupContext → List KnownProposal → Tree → AuthenticatedParts → ℕ
+    → Option LeafNode → List SignatureToVerify
+member_signatures context known t a i None = []
+member_signatures context known t a i (Some x) = content_signatures context known t a i x a.content.content
+
+-- of what a sender has sent; none if it is no member
+abbrev pub sender_signatures : GroupContext → List KnownProposal → Tree → AuthenticatedParts → Sender
+    → List SignatureToVerify
+sender_signatures context known t a (senders.Member i) = member_signatures context known t a i (leaf_at 0 t i)
+sender_signatures context known t a (senders.External _) = []
+sender_signatures context known t a senders.NewMemberProposal = []
+sender_signatures context known t a senders.NewMemberCommit = []
+
+-- of an AuthenticatedContent; none if it is of another group or epoch (6.1)
+abbrev pub authenticated_signatures : GroupContext → List KnownProposal → Tree → AuthenticatedParts
+    → List SignatureToVerify
+authenticated_signatures context known t a =
+    if bytes_eq a.content.group_id context.group_id && a.content.epoch == context.epoch
+    then sender_signatures context known t a a.content.sender
+    else []
+
+-- of a message; none if it is no PublicMessage
+abbrev pub all_message_signatures : GroupContext → List KnownProposal → Tree → Message → List SignatureToVerify
+all_message_signatures context known t (messages.Public m) = authenticated_signatures context known t m.auth
+all_message_signatures context known t (messages.Unread _ _) = []
+all_message_signatures context known t (messages.GroupInfo _) = []
+all_message_signatures context known t (messages.KeyPackage _) = []
+
+-- the signatures of a message, without duplicates
+abbrev pub message_signatures : GroupContext → List KnownProposal → Tree → Message → List SignatureToVerify
+message_signatures context known t m = deduplicated (all_message_signatures context known t m)

@@ -1,0 +1,271 @@
+//! The signatures of a member's commit after the message's own (RFC 9420, 12.4), appended to a list.
+
+ghost use Rattle.std.specs.Prelude.{◌≡◌, ◌++◌, ◌∷◌, [], Some, IfOk, OnOk, option_map};
+ghost use Rattle.mls_apply.specs.ResolvedList.{resolved};
+ghost use Rattle.mls_apply.specs.AppliedList.{grown, outcome};
+ghost use Rattle.mls_apply.specs.Staged.{IsSettled};
+ghost use Rattle.mls_signatures.specs.SignaturesToVerify.{signatures_at, entry_signatures, entries_signatures, replaced_leaves, path_signatures, applied_list_signatures, commit_signatures};
+
+use crate::signature_list::{
+    push_leaf_signature, push_non_blank_leaf_signature, push_proposal_signatures,
+};
+use crate::signature_to_verify::SignatureToVerify;
+use mls_apply::{ApplyFault, Leaves, ListItem, PendingProposals, StagedTree, resolve_list};
+use mls_check::OutOfMemory;
+use mls_msgs::{Commit, Proposal, ProposalOrRef, UpdatePath};
+use mls_nodes::GroupContext;
+use mls_tree::PublicTree;
+use std::alloc::Global;
+
+/// A commit of a member, and the context of its group.
+#[derive(Clone, Copy)]
+pub(crate) struct MemberCommit<'a> {
+    pub(crate) context: &'a GroupContext,
+    pub(crate) committer: u32,
+    pub(crate) commit: &'a Commit,
+}
+
+/// Appends the signatures of an entry of a commit's list, if the entry is a proposal by value.
+fn push_entry_signatures(
+    alloc: Global,
+    context: &GroupContext,
+    committer: u32,
+    entry: &ProposalOrRef,
+    list: &mut Vec<SignatureToVerify>,
+) -> Result<(), OutOfMemory>
+    ensures { OnOk result (list.new.items ≡ list.old.items
+        ++ entry_signatures context.now committer entry.now) }
+{
+    match entry {
+        ProposalOrRef::Proposal(proposal) => {
+            push_proposal_signatures(alloc, context, committer, proposal, list)
+        }
+        ProposalOrRef::Reference(_) => Ok(()),
+    }
+}
+
+/// Appends the signatures of the proposals by value of a commit, in their order.
+fn push_entries_signatures(
+    alloc: Global,
+    context: &GroupContext,
+    committer: u32,
+    entries: &[ProposalOrRef],
+    list: &mut Vec<SignatureToVerify>,
+) -> Result<(), OutOfMemory>
+    ensures { OnOk result (list.new.items ≡ list.old.items
+        ++ entries_signatures context.now committer entries.now) }
+{
+    for entry in entries {
+        push_entry_signatures(alloc, context, committer, entry, list)?;
+    }
+    Ok(())
+}
+
+/// Appends the leaf that an item replaces, if the item is an Update.
+fn push_replaced_leaf(item: &ListItem, leaves: &mut Vec<u32>) -> Result<(), OutOfMemory>
+    ensures { OnOk result (leaves.new.items ≡ leaves.old.items ++ replaced_leaves (item.now ∷ [])) }
+{
+    match item.proposal {
+        Proposal::Update(_) => {
+            leaves.push(item.sender)?;
+            Ok(())
+        }
+        Proposal::Add(_) => Ok(()),
+        Proposal::Remove(_) => Ok(()),
+        Proposal::ContextExtensions(_) => Ok(()),
+        Proposal::PreSharedKey(_) => Ok(()),
+        Proposal::ReInit(_) => Ok(()),
+        Proposal::ExternalInit(_) => Ok(()),
+    }
+}
+
+/// Appends the leaves that the Updates of a list replace, in its order.
+fn push_replaced_leaves(items: &[ListItem], leaves: &mut Vec<u32>) -> Result<(), OutOfMemory>
+    ensures { OnOk result (leaves.new.items ≡ leaves.old.items ++ replaced_leaves items.now) }
+{
+    for item in items {
+        push_replaced_leaf(item, leaves)?;
+    }
+    Ok(())
+}
+
+/// Appends the signatures of the leaves of a tree at these leaf indices, in their order.
+fn push_signatures_at(
+    alloc: Global,
+    context: &GroupContext,
+    tree: &PublicTree,
+    indices: &[u32],
+    list: &mut Vec<SignatureToVerify>,
+) -> Result<(), OutOfMemory>
+    ensures { let suite = context.now.cipher_suite in
+        OnOk result (list.new.items ≡ list.old.items
+        ++ signatures_at suite context.now.group_id tree.now.tree indices.now) }
+{
+    for index in indices {
+        push_non_blank_leaf_signature(alloc, context, tree, *index, list)?;
+    }
+    Ok(())
+}
+
+/// Appends the signature of the leaf of a member's UpdatePath, if there is a path.
+fn push_path_signature(
+    alloc: Global,
+    context: &GroupContext,
+    committer: u32,
+    path: &Option<UpdatePath>,
+    list: &mut Vec<SignatureToVerify>,
+) -> Result<(), OutOfMemory>
+    ensures { OnOk result (list.new.items ≡ list.old.items
+        ++ path_signatures context.now committer path.now) }
+{
+    let Some(path) = path else {
+        return Ok(());
+    };
+    push_leaf_signature(alloc, context, committer, &path.leaf_node, list)
+}
+
+/// Returns the leaves that a list adds or replaces: the replaced ones, then these added ones.
+fn new_leaves(alloc: Global, items: &[ListItem], added: &Leaves) -> Result<Vec<u32>, OutOfMemory>
+    ensures { IfOk result (λ leaves. leaves.items ≡ replaced_leaves items.now ++ added.now) }
+{
+    let mut leaves = Vec::new(alloc);
+    push_replaced_leaves(items, &mut leaves)?;
+    leaves.extend_from_slice(added.as_slice())?;
+    Ok(leaves)
+}
+
+/// Appends the signatures of these leaves of the tree after a commit's list, then that of the leaf of its path.
+fn push_new_leaf_signatures(
+    alloc: Global,
+    commit: &MemberCommit<'_>,
+    tree: &PublicTree,
+    leaves: &[u32],
+    list: &mut Vec<SignatureToVerify>,
+) -> Result<(), OutOfMemory>
+    ensures { let context = commit.now.context.now in
+        OnOk result (list.new.items ≡ list.old.items
+        ++ (signatures_at context.cipher_suite context.group_id tree.now.tree leaves.now
+        ++ path_signatures context commit.now.committer commit.now.commit.now.path)) }
+{
+    push_signatures_at(alloc, commit.context, tree, leaves, list)?;
+    push_path_signature(
+        alloc,
+        commit.context,
+        commit.committer,
+        &commit.commit.path,
+        list,
+    )
+}
+
+/// Applies a list to the tree, and appends the signatures of the leaves that it adds or replaces, and of the path's leaf, if
+/// the list can be applied. A part of the list may have been applied, whatever is returned.
+fn apply_and_push_signatures(
+    alloc: Global,
+    commit: &MemberCommit<'_>,
+    items: &[ListItem],
+    tree: &mut StagedTree,
+    list: &mut Vec<SignatureToVerify>,
+) -> Result<(), OutOfMemory>
+    ensures signatures { let context = commit.now.context.now in
+        OnOk result (list.new.items ≡ list.old.items
+        ++ applied_list_signatures context commit.now.committer commit.now.commit.now.path items.now
+        (outcome items.now tree.old.tree)) }
+    ensures base { tree.new.base ≡ tree.old.base }
+{
+    let added = match tree.apply_list(alloc, items) {
+        Ok(added) => added,
+        Err(ApplyFault::NoSuchLeaf) => return Ok(()),
+        Err(ApplyFault::TooManyLeaves) => return Ok(()),
+        Err(ApplyFault::OutOfMemory) => return Err(OutOfMemory),
+        Err(_) => unreachable!(),
+    };
+    let leaves = new_leaves(alloc, items, &added);
+    drop(added);
+    push_new_leaf_signatures(alloc, commit, tree.tree(), leaves?.as_slice(), list)
+}
+
+/// Appends the signatures of the leaves that a commit's list adds or replaces, and of the path's leaf, if the list can be
+/// applied. The list is applied to the tree, and taken back.
+fn push_applied_list_signatures(
+    alloc: Global,
+    commit: &MemberCommit<'_>,
+    items: &[ListItem],
+    tree: &mut StagedTree,
+    list: &mut Vec<SignatureToVerify>,
+) -> Result<(), OutOfMemory>
+    requires { IsSettled tree.old }
+    ensures signatures { let context = commit.now.context.now in
+        OnOk result (list.new.items ≡ list.old.items
+        ++ applied_list_signatures context commit.now.committer commit.now.commit.now.path items.now
+        (outcome items.now tree.old.tree)) }
+    ensures base { tree.new.base ≡ tree.old.base }
+    ensures tree { tree.new.tree ≡ tree.old.tree }
+    ensures settled { IsSettled tree.new }
+{
+    let answer = apply_and_push_signatures(alloc, commit, items, tree, list);
+    tree.take_back();
+    answer
+}
+
+/// Appends the signatures of the proposals by value of a commit, then those of the leaves that it adds or replaces.
+fn push_list_signatures(
+    alloc: Global,
+    commit: &MemberCommit<'_>,
+    items: &[ListItem],
+    tree: &mut StagedTree,
+    list: &mut Vec<SignatureToVerify>,
+) -> Result<(), OutOfMemory>
+    requires { IsSettled tree.old }
+    ensures signatures { OnOk result (list.new.items ≡ list.old.items
+        ++ commit_signatures commit.now.context.now tree.old.tree commit.now.committer
+        commit.now.commit.now (Some items.now)) }
+    ensures base { tree.new.base ≡ tree.old.base }
+    ensures tree { tree.new.tree ≡ tree.old.tree }
+    ensures settled { IsSettled tree.new }
+{
+    let entries = commit.commit.proposals.as_slice();
+    push_entries_signatures(alloc, commit.context, commit.committer, entries, list)?;
+    push_applied_list_signatures(alloc, commit, items, tree, list)
+}
+
+/// Returns the list of proposals of a member's commit, if each reference is known.
+fn resolved_items<'a>(
+    alloc: Global,
+    commit: &MemberCommit<'a>,
+    known: &'a PendingProposals,
+) -> Result<Option<Vec<ListItem<'a>>>, OutOfMemory>
+    ensures { IfOk result (λ o. option_map (λ v. v.items) o
+        ≡ resolved commit.now.committer known.now commit.now.commit.now.proposals) }
+{
+    match resolve_list(alloc, commit.commit, commit.committer, known) {
+        Ok(items) => Ok(Some(items)),
+        Err(ApplyFault::UnknownReference) => Ok(None),
+        Err(ApplyFault::OutOfMemory) => Err(OutOfMemory),
+        Err(_) => unreachable!(),
+    }
+}
+
+/// Appends the signatures of a member's commit after the message's own, if each reference is known.
+pub(crate) fn push_commit_signatures(
+    alloc: Global,
+    commit: &MemberCommit<'_>,
+    known: &PendingProposals,
+    tree: &mut StagedTree,
+    list: &mut Vec<SignatureToVerify>,
+) -> Result<(), OutOfMemory>
+    requires { IsSettled tree.old }
+    ensures signatures { OnOk result (list.new.items ≡ list.old.items
+        ++ commit_signatures commit.now.context.now tree.old.tree commit.now.committer
+        commit.now.commit.now
+        (resolved commit.now.committer known.now commit.now.commit.now.proposals)) }
+    ensures base { tree.new.base ≡ tree.old.base }
+    ensures tree { tree.new.tree ≡ tree.old.tree }
+    ensures settled { IsSettled tree.new }
+{
+    let Some(items) = resolved_items(alloc, commit, known)? else {
+        return Ok(());
+    };
+    let answer = push_list_signatures(alloc, commit, items.as_slice(), tree, list);
+    drop(items);
+    answer
+}

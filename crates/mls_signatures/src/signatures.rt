@@ -1,0 +1,186 @@
+//! The signatures of a start and of a message, without duplicates.
+
+ghost use Rattle.std.specs.Prelude.{◌≡◌, ◌++◌, IfOk, OnOk};
+ghost use Rattle.mls_tree.specs.Tree.{leaf_at};
+ghost use Rattle.mls_apply.specs.Staged.{IsSettled};
+ghost use Rattle.mls_signatures.specs.SignaturesToVerify.{all_message_signatures, authenticated_signatures, member_signatures, message_signatures, start_signatures};
+
+use crate::commit_signatures::{MemberCommit, push_commit_signatures};
+use crate::duplicates::deduplicated;
+use crate::signature_list::{
+    push_framed_content_signature, push_proposal_signatures, push_start_signatures,
+};
+use crate::signature_to_verify::SignatureToVerify;
+use mls_apply::{PendingProposals, StagedTree};
+use mls_check::OutOfMemory;
+use mls_msgs::{Authenticated, Content, GroupInfo, Message, Sender};
+use mls_nodes::GroupContext;
+use mls_tree::PublicTree;
+use std::alloc::Global;
+
+/// Returns the signatures of a start from a GroupInfo and a tree (RFC 9420, 12.4.3.1), without duplicates: the GroupInfo's,
+/// if its signer's leaf is non-blank, then each leaf's from left to right. There are none if the version isn't 1 or the
+/// cipher suite isn't 1 to 7.
+///
+/// # Errors
+///
+/// [`OutOfMemory`].
+pub fn start_signatures(
+    alloc: Global,
+    info: &GroupInfo,
+    tree: &PublicTree,
+) -> Result<Vec<SignatureToVerify>, OutOfMemory>
+    ensures { IfOk result (λ v. v.items ≡ start_signatures info.now tree.now.tree) }
+{
+    let mut list = Vec::new(alloc);
+    match push_start_signatures(alloc, info, tree, &mut list) {
+        Ok(()) => deduplicated(alloc, list),
+        Err(memory) => {
+            drop(list);
+            Err(memory)
+        }
+    }
+}
+
+/// What the signatures of a message depend on besides the tree: the context of the group, and its pending proposals.
+#[derive(Clone, Copy)]
+struct Epoch<'a> {
+    context: &'a GroupContext,
+    known: &'a PendingProposals,
+}
+
+/// What a member has sent.
+#[derive(Clone, Copy)]
+struct Sent<'a> {
+    sender: u32,
+    auth: &'a Authenticated,
+}
+
+/// Appends the signatures of what a member has sent, if its leaf is non-blank.
+fn push_member_signatures(
+    alloc: Global,
+    epoch: &Epoch<'_>,
+    tree: &mut StagedTree,
+    sent: &Sent<'_>,
+    list: &mut Vec<SignatureToVerify>,
+) -> Result<(), OutOfMemory>
+    requires { IsSettled tree.old }
+    ensures signatures { OnOk result (list.new.items ≡ list.old.items
+        ++ member_signatures epoch.now.context.now epoch.now.known.now tree.old.tree sent.now.auth.now
+        sent.now.sender (leaf_at 0 tree.old.tree sent.now.sender)) }
+    ensures base { tree.new.base ≡ tree.old.base }
+    ensures tree { tree.new.tree ≡ tree.old.tree }
+    ensures settled { IsSettled tree.new }
+{
+    let context = epoch.context;
+    let sender = sent.sender;
+    let auth = sent.auth;
+    let Some(leaf) = tree.tree().leaf(sender) else {
+        return Ok(());
+    };
+    match &auth.content().content {
+        Content::Application(_) => Ok(()),
+        Content::Proposal(proposal) => {
+            push_framed_content_signature(alloc, context, leaf, auth, list)?;
+            push_proposal_signatures(alloc, context, sender, proposal, list)
+        }
+        Content::Commit(commit) => {
+            push_framed_content_signature(alloc, context, leaf, auth, list)?;
+            let commit = MemberCommit {
+                context,
+                committer: sender,
+                commit,
+            };
+            push_commit_signatures(alloc, &commit, epoch.known, tree, list)
+        }
+    }
+}
+
+/// Appends the signatures of an AuthenticatedContent, if it is of the group and its epoch, and from a member.
+fn push_authenticated_signatures(
+    alloc: Global,
+    epoch: &Epoch<'_>,
+    tree: &mut StagedTree,
+    auth: &Authenticated,
+    list: &mut Vec<SignatureToVerify>,
+) -> Result<(), OutOfMemory>
+    requires { IsSettled tree.old }
+    ensures signatures { OnOk result (list.new.items ≡ list.old.items
+        ++ authenticated_signatures epoch.now.context.now epoch.now.known.now tree.old.tree auth.now) }
+    ensures base { tree.new.base ≡ tree.old.base }
+    ensures tree { tree.new.tree ≡ tree.old.tree }
+    ensures settled { IsSettled tree.new }
+{
+    let content = auth.content();
+    if content.group_id.as_slice() != epoch.context.group_id.as_slice() {
+        return Ok(());
+    }
+    if content.epoch != epoch.context.epoch {
+        return Ok(());
+    }
+    let Sender::Member(sender) = content.sender else {
+        return Ok(());
+    };
+    let sent = Sent { sender, auth };
+    push_member_signatures(alloc, epoch, tree, &sent, list)
+}
+
+/// Appends the signatures of a message, if it is a PublicMessage.
+fn push_message_signatures(
+    alloc: Global,
+    epoch: &Epoch<'_>,
+    tree: &mut StagedTree,
+    message: &Message,
+    list: &mut Vec<SignatureToVerify>,
+) -> Result<(), OutOfMemory>
+    requires { IsSettled tree.old }
+    ensures signatures { OnOk result (list.new.items ≡ list.old.items
+        ++ all_message_signatures epoch.now.context.now epoch.now.known.now tree.old.tree message.now) }
+    ensures base { tree.new.base ≡ tree.old.base }
+    ensures tree { tree.new.tree ≡ tree.old.tree }
+    ensures settled { IsSettled tree.new }
+{
+    match message {
+        Message::Public(public) => {
+            push_authenticated_signatures(alloc, epoch, tree, public.auth(), list)
+        }
+        _ => Ok(()),
+    }
+}
+
+/// Returns the signatures of a message of a group with this context, these pending proposals and this tree, without
+/// duplicates (RFC 9420, 6): the message's own, if it is a PublicMessage of the group and its epoch and from a member; then
+/// of an Add the leaf's and the KeyPackage's, and of an Update the leaf's; of a commit those of its proposals by value, and
+/// of the leaves that it adds or replaces. Some may be returned that no rule checks, as if another rule refuses the message
+/// before.
+///
+/// The list of a commit is applied to the tree and taken back, so the tree must be settled. Its changes are taken back
+/// whatever is returned.
+///
+/// # Errors
+///
+/// [`OutOfMemory`].
+pub fn message_signatures(
+    alloc: Global,
+    context: &GroupContext,
+    known: &PendingProposals,
+    tree: &mut StagedTree,
+    message: &Message,
+) -> Result<Vec<SignatureToVerify>, OutOfMemory>
+    requires settled { IsSettled tree.old }
+    ensures signatures { IfOk result (λ v.
+        v.items ≡ message_signatures context.now known.now tree.old.tree message.now) }
+    ensures base { tree.new.base ≡ tree.old.base }
+    ensures tree { tree.new.tree ≡ tree.old.tree }
+    ensures settled { IsSettled tree.new }
+{
+    let epoch = Epoch { context, known };
+    let mut list = Vec::new(alloc);
+    match push_message_signatures(alloc, &epoch, tree, message, &mut list) {
+        Ok(()) => deduplicated(alloc, list),
+        Err(memory) => {
+            drop(list);
+            Err(memory)
+        }
+    }
+}

@@ -4,22 +4,22 @@ use Rattle.std.proofs.lemmas.Option.{none-some, same_Some}
 use Rattle.mls_nodes.proofs.RequiredOnce.{Requires-one}
 use Rattle.mls_msgs.specs.MessageExact.{message_again}
 use Rattle.mls_msgs.specs.declared.message.Message.{Message}
-use Rattle.mls_check.specs.Signatures.{Meaning}
-use Rattle.mls_apply.specs.Rules.{first_failing}
-use Rattle.mls_follow.specs.State.{State, Spells}
-use Rattle.mls_follow.specs.Rules.{message_rules}
-use Rattle.mls_follow.specs.Next.{Step, next}
-use Rattle.mls_follow.specs.Judging.{IsAcceptable, IsNext, IsFirstRefusal}
+use Rattle.mls_check.specs.Signatures.{VerifyFn}
+use Rattle.mls_apply.specs.RuleLists.{first_failing}
+use Rattle.mls_follow.specs.State.{State, EncodesMessage}
+use Rattle.mls_follow.specs.MessageRules.{message_rules}
+use Rattle.mls_follow.specs.NextState.{Step, next}
+use Rattle.mls_follow.specs.Acceptance.{IsAcceptable, IsNext, IsFirstRefusal}
 use Rattle.mls_follow.specs.Runs.{IsAnswer}
 use Rattle.mls_follow.specs.declared.refusal.Refusal.{Refusal}
 use Rattle.mls_follow.specs.declared.refusal.Refusal.TheVariants.{OutOfMemory}
 use Rattle.mls_follow.specs.declared.taken.Taken.{Taken}
 
 -- bytes spell one message
-pub one_message : (m n : Message) (bytes : List ℕ) → Spells m bytes → Spells n bytes → m ≡ n
+pub one_message : (m n : Message) (bytes : List ℕ) → EncodesMessage m bytes → EncodesMessage n bytes → m ≡ n
 one_message m n bytes a b = same_Some m n (sym (message_again m bytes a.spelled) ∙ message_again n bytes b.spelled)
 
-module _ (G : Meaning) (s : State) (bytes : List ℕ) where
+module _ (G : VerifyFn) (s : State) (bytes : List ℕ) where
   one_step : (x y : Step) → IsNext s bytes x → IsNext s bytes y → x ≡ y
   one_step x y a b =
       same_Some x y (sym a.after ∙ ap (next s) (one_message a.message b.message bytes a.spelled b.spelled) ∙ b.after)
@@ -53,5 +53,5 @@ module _ (G : Meaning) (s : State) (bytes : List ℕ) where
   one_answer (Err e) (Err f) x y p q =
       (ap Err (one_refusal e f (p.takes.1 (own e p.memory)) (q.takes.1 (own f q.memory))), p.takes.0 ∙ sym q.takes.0)
 
-pub only_answer : (G : Meaning) (s : State) (bytes : List ℕ) (a b : Result Taken Refusal) (x y : State) → IsAnswer G s bytes a x → IsAnswer G s bytes b y → (a ≡ b) × (x ≡ y)
+pub only_answer : (G : VerifyFn) (s : State) (bytes : List ℕ) (a b : Result Taken Refusal) (x y : State) → IsAnswer G s bytes a x → IsAnswer G s bytes b y → (a ≡ b) × (x ≡ y)
 only_answer G s bytes = one_answer G s bytes

@@ -4,32 +4,32 @@ use Rattle.std.specs.Prelude.{option_map, option_and_then, is_some, nat_lt}
 use Rattle.std.proofs.lemmas.Option.{none-some}
 use Rattle.mls_nodes.specs.declared.required_capabilities.RequiredCapabilities.{RequiredCapabilities}
 use Rattle.mls_tree.specs.Tree.{Tree, leaf_at}
-use Rattle.mls_hash.specs.Hashing.{hash_of}
-use Rattle.mls_check.specs.Distinct.{has_distinct_keys}
-use Rattle.mls_check.specs.Members.{Members, IsMemberFault, member_fault}
-use Rattle.mls_check.specs.Signatures.{Meaning}
+use Rattle.mls_hash.specs.SuiteHash.{hash_of}
+use Rattle.mls_check.specs.DistinctKeys.{has_distinct_keys}
+use Rattle.mls_check.specs.LeafValidation.{LeavesAreValid, IsMemberFault, member_fault}
+use Rattle.mls_check.specs.Signatures.{VerifyFn}
 use Rattle.mls_check.specs.declared.members.MemberFault.{MemberFault}
 use Rattle.mls_check.specs.declared.members.MemberFault.TheVariants as members
 use Rattle.mls_check.proofs.FirstFault.{fault-first, members-faultless}
 use Rattle.mls_msgs.specs.declared.authenticated.AuthenticatedParts.{AuthenticatedParts}
 use Rattle.mls_msgs.specs.declared.commit.Commit.{Commit}
 use Rattle.mls_msgs.specs.declared.commit.UpdatePath.{UpdatePath}
-use Rattle.mls_msgs.specs.declared.frame.Content.TheVariants as contents
+use Rattle.mls_msgs.specs.declared.framed_content.Content.TheVariants as contents
 use Rattle.mls_msgs.specs.declared.proposal.Proposal.{Proposal}
 use Rattle.mls_apply.specs.declared.fault.ApplyFault.{ApplyFault}
-use Rattle.mls_apply.specs.declared.item.ListItem.{ListItem}
-use Rattle.mls_apply.specs.Extensions.{brought}
-use Rattle.mls_apply.specs.Items.{resolved}
+use Rattle.mls_apply.specs.declared.list_item.ListItem.{ListItem}
+use Rattle.mls_apply.specs.ContextExtensions.{brought}
+use Rattle.mls_apply.specs.ResolvedList.{resolved}
 use Rattle.mls_apply.specs.ListRules.{list_rules, list_refusal}
-use Rattle.mls_apply.specs.Outcome.{Grown, outcome, without_adds, with_members, new_members}
+use Rattle.mls_apply.specs.AppliedList.{Grown, outcome, without_adds, with_members, new_members}
 use Rattle.mls_apply.specs.PathRules.{path_rules, path_refusal}
-use Rattle.mls_apply.specs.Proposals.{proposal_rules, checked_refusal}
-use Rattle.mls_apply.specs.Rules.{Rule, first_failing, renamed}
+use Rattle.mls_apply.specs.ProposalRules.{proposal_rules, checked_refusal}
+use Rattle.mls_apply.specs.RuleLists.{Rule, first_failing, renamed}
 use Rattle.mls_apply.proofs.RuleLists.{first_failing-left, first_failing-right, first_failing-renamed}
 use Rattle.mls_follow.specs.State.{State, last_epoch}
-use Rattle.mls_follow.specs.Rules.{refusal_of, is_new_proposal, offer_rules, commit_refusal, handshake_refusal, items_rules, inline_rules, outcome_rules, required_after, rules_under, path_rules_of, member_refusal, member_rules, tree_rules, resulting}
-use Rattle.mls_follow.specs.Changing.{change_rules, changed_tree}
-use Rattle.mls_follow.specs.Judging.{Refuses}
+use Rattle.mls_follow.specs.MessageRules.{refusal_of, is_new_proposal, proposal_message_rules, commit_refusal, handshake_refusal, items_rules, inline_rules, outcome_rules, required_after, rules_under, path_rules_of, member_refusal, member_rules, tree_rules, resulting}
+use Rattle.mls_follow.specs.CommitTree.{change_rules, changed_tree}
+use Rattle.mls_follow.specs.Acceptance.{Refuses}
 use Rattle.mls_follow.specs.declared.refusal.Refusal.{Refusal}
 use Rattle.mls_follow.specs.declared.refusal.Refusal.TheVariants.{Member}
 
@@ -39,7 +39,7 @@ unfolding outcome
 no_outcome items t e = ap (option_and_then (with_members (new_members items))) e
 
 -- a commit in an epoch that has a next one, whose list is resolved
-module _ (G : Meaning) (s : State) (required : RequiredCapabilities) (i : ℕ) (c : Commit) (later : nat_lt s.context.epoch last_epoch ≡ true)
+module _ (G : VerifyFn) (s : State) (required : RequiredCapabilities) (i : ℕ) (c : Commit) (later : nat_lt s.context.epoch last_epoch ≡ true)
     (items : List ListItem) (r : resolved i s.known c.proposals ≡ Some items) where
   -- the rules for the list, and for what follows it
   of_list : List (Rule Refusal)
@@ -74,7 +74,7 @@ module _ (G : Meaning) (s : State) (required : RequiredCapabilities) (i : ℕ) (
           ∙ first_failing-right of_list of_outcome (first_failing-renamed refusal_of (list_rules i items (is_some c.path)) ∙ ap (option_map refusal_of) kept)
 
 -- what follows the list of a commit
-module _ (G : Meaning) (s : State) (required : RequiredCapabilities) (i : ℕ) (path : Option UpdatePath) where
+module _ (G : VerifyFn) (s : State) (required : RequiredCapabilities) (i : ℕ) (path : Option UpdatePath) where
   -- the list has no outcome, or the path fails a rule
   pub change_failed : (o : Option Grown) (e : Refusal) → first_failing (change_rules (hash_of s.context.cipher_suite) i path o) ≡ Some e
       → first_failing (outcome_rules G s required i path o) ≡ Some e
@@ -91,14 +91,14 @@ module _ (G : Meaning) (s : State) (required : RequiredCapabilities) (i : ℕ) (
       ∙ ap (λ (x : Option Tree). first_failing (tree_rules G s required x)) e
 
 -- a commit is judged by the rules for commits
-pub of_commit : (G : Meaning) (s : State) (required : RequiredCapabilities) (a : AuthenticatedParts) (i : ℕ) (c : Commit)
+pub of_commit : (G : VerifyFn) (s : State) (required : RequiredCapabilities) (a : AuthenticatedParts) (i : ℕ) (c : Commit)
     → handshake_refusal G s required a i (contents.Commit c) ≡ commit_refusal G s required i c
 unfolding handshake_refusal commit_refusal
 of_commit G s required a i c = refl
 
 -- a new proposal of a member is judged by the rules for it alone
-pub offer_word : (G : Meaning) (s : State) (a : AuthenticatedParts) (i : ℕ) (p : Proposal) → is_new_proposal s a ≡ true → IsSome (leaf_at 0 s.tree i)
-    → first_failing (offer_rules G s a i p) ≡ option_map refusal_of (checked_refusal G s.context s.tree i p)
+pub offer_word : (G : VerifyFn) (s : State) (a : AuthenticatedParts) (i : ℕ) (p : Proposal) → is_new_proposal s a ≡ true → IsSome (leaf_at 0 s.tree i)
+    → first_failing (proposal_message_rules G s a i p) ≡ option_map refusal_of (checked_refusal G s.context s.tree i p)
 unfolding checked_refusal
 offer_word G s a i p new set = rw new (first_failing-renamed refusal_of (proposal_rules G s.context s.tree i p) ∙ rw set refl)
 
@@ -109,11 +109,11 @@ unfolding path_refusal
 path_word H g i path set = first_failing-renamed refusal_of (path_rules H g i path) ∙ rw set refl
 
 -- the tree after a commit, whose keys are distinct
-module _ (G : Meaning) (s : State) (required : RequiredCapabilities) (t : Tree) (distinct : has_distinct_keys t ≡ true) where
+module _ (G : VerifyFn) (s : State) (required : RequiredCapabilities) (t : Tree) (distinct : has_distinct_keys t ≡ true) where
   of_members : first_failing (tree_rules G s required (Some t)) ≡ first_failing (member_rules (member_fault G s.context.cipher_suite s.context.group_id required t))
   of_members = rw distinct refl
 
-  pub tree_kept : Members G s.context.cipher_suite s.context.group_id required t → first_failing (tree_rules G s required (Some t)) ≡ None
+  pub tree_kept : LeavesAreValid G s.context.cipher_suite s.context.group_id required t → first_failing (tree_rules G s required (Some t)) ≡ None
   tree_kept h =
       of_members
       ∙ ap (λ (o : Option MemberFault). first_failing (member_rules o)) ((members-faultless G s.context.cipher_suite s.context.group_id required t).0 h)

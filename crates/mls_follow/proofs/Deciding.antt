@@ -3,26 +3,27 @@ use Rattle.std.proofs.Common.{◌≡◌, ◌∙◌, ℕ, List, length, Bool, tru
 use Rattle.std.specs.Prelude.{nat_le}
 use Rattle.std.proofs.lemmas.Bool.{false≢true}
 use Rattle.std.proofs.lemmas.Bool.Decides.{nat_tests}
-use Rattle.std.proofs.lemmas.Option.{none-some}
+use Rattle.std.proofs.lemmas.Option.{none-some, same_Some}
 use Rattle.mls_nodes.specs.declared.required_capabilities.RequiredCapabilities.{RequiredCapabilities}
-use Rattle.mls_check.specs.Signatures.{Meaning}
+use Rattle.mls_check.specs.Signatures.{VerifyFn}
 use Rattle.mls_msgs.specs.MessageExact.{message_takes, message_again}
 use Rattle.mls_msgs.specs.MessageParsing.{message_at}
+use Rattle.mls_msgs.specs.Profile.{is_members_message}
 use Rattle.mls_msgs.specs.declared.message.Message.{Message}
-use Rattle.mls_apply.specs.Rules.{first_failing}
+use Rattle.mls_apply.specs.RuleLists.{first_failing}
 use Rattle.mls_wire.specs.Limits.{input_limit}
 use Rattle.mls_nodes.specs.Requirements.{Requires}
-use Rattle.mls_follow.specs.State.{State, Spells}
-use Rattle.mls_follow.specs.Rules.{message_rules}
-use Rattle.mls_follow.specs.Judging.{SpellNothing}
-use Rattle.mls_follow.specs.Runs.{IsAnswered, IsHeld, SomeAnswer}
+use Rattle.mls_follow.specs.State.{State, EncodesMessage}
+use Rattle.mls_follow.specs.MessageRules.{message_rules}
+use Rattle.mls_follow.specs.Acceptance.{EncodesNoMessage}
+use Rattle.mls_follow.specs.Runs.{IsAnswered, IsWellFormed, AnswerExists}
 use Rattle.mls_follow.specs.declared.refusal.Refusal.{Refusal}
 use Rattle.mls_follow.specs.declared.refusal.Refusal.TheVariants.{Malformed, OutOfMemory}
 use Rattle.mls_follow.specs.declared.taken.Taken.{Taken}
 use Rattle.mls_follow.proofs.OwnRules.{of_message}
 use Rattle.mls_follow.proofs.Advancing.{next_there}
 
-module _ (G : Meaning) (s : State) (required : RequiredCapabilities) (bytes : List ℕ) (held : IsHeld s) (requires : Requires s.context required) where
+module _ (G : VerifyFn) (s : State) (required : RequiredCapabilities) (bytes : List ℕ) (held : IsWellFormed s) (requires : Requires s.context required) where
   abbrev Answered : Type 0
   Answered = IsAnswered G s bytes
 
@@ -30,7 +31,7 @@ module _ (G : Meaning) (s : State) (required : RequiredCapabilities) (bytes : Li
   same_error e f h = cc
 
   -- the bytes spell no message
-  malformed : SpellNothing bytes → Answered
+  malformed : EncodesNoMessage bytes → Answered
   malformed none = (
     Err Malformed,
     s,
@@ -41,7 +42,7 @@ module _ (G : Meaning) (s : State) (required : RequiredCapabilities) (bytes : Li
   )
 
   -- they spell this one
-  judged : (m : Message) → Spells m bytes → (o : Option Refusal) → first_failing (message_rules G s required m) ≡ o → Answered
+  judged : (m : Message) → EncodesMessage m bytes → (o : Option Refusal) → first_failing (message_rules G s required m) ≡ o → Answered
   judged m spelled None kept =
       let step = next_there s held G required requires m (bytes, spelled) kept in (
         Ok step.step.taken,
@@ -60,12 +61,17 @@ module _ (G : Meaning) (s : State) (required : RequiredCapabilities) (bytes : Li
     },
   )
 
+  of_profile : (m : Message) → message_at bytes ≡ Some m → nat_le (length bytes) input_limit ≡ true → (b : Bool) → is_members_message m ≡ b → Answered
+  of_profile m e f true members =
+      judged m (record { spelled = message_takes bytes m e; members = members; bounded = grind (arith, nat_tests) }) (first_failing (message_rules G s required m)) refl
+  of_profile m e f false foreign =
+      malformed (λ n h. false≢true (sym foreign ∙ ap is_members_message (same_Some m n (sym e ∙ message_again n bytes h.spelled)) ∙ h.members))
+
   read : (o : Option Message) → message_at bytes ≡ o → (b : Bool) → nat_le (length bytes) input_limit ≡ b → Answered
   read None e b f = malformed (λ m h. none-some m (sym e ∙ message_again m bytes h.spelled))
   read (Some m) e false f =
       malformed (λ n h. let le = h.bounded in let t : nat_le (length bytes) input_limit ≡ true = grind (arith, nat_tests) in false≢true (sym f ∙ t))
-  read (Some m) e true f =
-      judged m (record { spelled = message_takes bytes m e; bounded = grind (arith, nat_tests) }) (first_failing (message_rules G s required m)) refl
+  read (Some m) e true f = of_profile m e f (is_members_message m) refl
 
-pub an_answer : SomeAnswer
+pub an_answer : AnswerExists
 an_answer G s required bytes held requires = read G s required bytes held requires (message_at bytes) refl (nat_le (length bytes) input_limit) refl

@@ -1,15 +1,15 @@
 -- Transcript hashes, and the step after a commit.
 use Rattle.std.proofs.Common.{◌≡◌, ◌++◌, ℕ, List, [], Option, Some, None, refl}
 use Rattle.std.proofs.lemmas.Option.{none-some}
-use Rattle.mls_wire.specs.Spelling.{vector}
-use Rattle.mls_wire.specs.Writing.{after}
+use Rattle.mls_wire.specs.Encoding.{vector}
+use Rattle.mls_wire.specs.WriteContracts.{after}
 use Rattle.mls_tree.specs.Tree.{Tree}
 use Rattle.mls_tree.specs.TreeHash.{tree_hash}
-use Rattle.mls_hash.specs.Hashing.{hash_of}
+use Rattle.mls_hash.specs.SuiteHash.{hash_of}
 use Rattle.mls_msgs.specs.declared.authenticated.AuthenticatedParts.{AuthenticatedParts}
 use Rattle.mls_follow.specs.State.{State}
 use Rattle.mls_follow.specs.Transcript.{confirmed_hash, interim_hash}
-use Rattle.mls_follow.specs.Next.{after_tree, committed}
+use Rattle.mls_follow.specs.NextState.{after_tree, committed}
 
 written : (text : Option (List ℕ)) (bytes : List ℕ) → after [] text ≡ Some bytes → text ≡ Some bytes
 unfolding after

@@ -6,14 +6,14 @@ use Rattle.mls_nodes.specs.Requirements.{Requires}
 use Rattle.mls_nodes.specs.declared.required_capabilities.RequiredCapabilities.{RequiredCapabilities}
 use Rattle.mls_tree.specs.RatchetTree.{RatchetTree}
 use Rattle.mls_tree.specs.TreeHash.{tree_hash}
-use Rattle.mls_hash.specs.Hashing.{hash_of}
-use Rattle.mls_check.specs.Signatures.{Meaning}
+use Rattle.mls_hash.specs.SuiteHash.{hash_of}
+use Rattle.mls_check.specs.Signatures.{VerifyFn}
 use Rattle.mls_msgs.specs.Layout.{proposal}
 use Rattle.mls_msgs.specs.declared.group_info.GroupInfo.{GroupInfo}
 use Rattle.mls_follow.specs.State.{State}
-use Rattle.mls_follow.specs.Next.{Step, next}
-use Rattle.mls_follow.specs.Judging.{IsAcceptable, IsNext}
-use Rattle.mls_follow.specs.Runs.{Takes, Call, IsRun, IsHeld, RunsAreAnswered}
+use Rattle.mls_follow.specs.NextState.{Step, next}
+use Rattle.mls_follow.specs.Acceptance.{IsAcceptable, IsNext}
+use Rattle.mls_follow.specs.Runs.{Takes, Call, IsRun, IsWellFormed, RunsAreAnswered}
 use Rattle.mls_follow.specs.Start.{IsStart}
 use Rattle.mls_follow.specs.declared.refusal.Refusal.{Refusal}
 use Rattle.mls_follow.specs.declared.taken.Taken.{Taken}
@@ -24,12 +24,12 @@ use Rattle.mls_apply.proofs.Spellings.{put_back}
 
 -- a state that a follower may hold, whose group's requirements can be read
 record IsSteady (s : State) : Type 0 where
-  held : IsHeld s
+  held : IsWellFormed s
   required : RequiredCapabilities
   requires : Requires s.context required
 
 -- it starts in one
-start_steady : (G : Meaning) (info : GroupInfo) (handed : Option RatchetTree) (s : State) → IsStart G info handed s → IsSteady s
+start_steady : (G : VerifyFn) (info : GroupInfo) (handed : Option RatchetTree) (s : State) → IsStart G info handed s → IsSteady s
 start_steady G info handed s h =
     let valid = h.has_signer.has_members.valid_tree in
     subst IsSteady (sym h.state) (record {
@@ -42,7 +42,7 @@ start_steady G info handed s h =
       requires = valid.readable.requires;
     })
 
-module _ (G : Meaning) (s : State) (steady : IsSteady s) (bytes : List ℕ) where
+module _ (G : VerifyFn) (s : State) (steady : IsSteady s) (bytes : List ℕ) where
   -- what is accepted leads to one
   accepted_steady : (step : Step) → IsAcceptable G s bytes → IsNext s bytes step → IsSteady step.state
   accepted_steady step a n =
@@ -54,7 +54,7 @@ module _ (G : Meaning) (s : State) (steady : IsSteady s) (bytes : List ℕ) wher
   taken_steady (Ok taken) new h = accepted_steady (record { taken = taken; state = new }) h.0 h.1
   taken_steady (Err e) new h = subst IsSteady (sym h.0) steady
 
-run_steady : (G : Meaning) (s : State) (calls : List Call) (new : State) → IsSteady s → IsRun G s calls new → IsSteady new
+run_steady : (G : VerifyFn) (s : State) (calls : List Call) (new : State) → IsSteady s → IsRun G s calls new → IsSteady new
 run_steady G s [] new steady h = subst IsSteady (sym h) steady
 run_steady G s (call ∷ calls) new steady h =
     run_steady G h.0 calls new (taken_steady G s steady call.bytes call.answer h.0 h.1) h.2

@@ -5,12 +5,12 @@ use Rattle.std.proofs.lemmas.Bool.{false≢true}
 use Rattle.std.proofs.lemmas.Option.{none-some, same_Some}
 use Rattle.mls_nodes.specs.declared.context.GroupContext.{GroupContext}
 use Rattle.mls_msgs.specs.declared.proposal.Proposal.{Proposal}
-use Rattle.mls_msgs.specs.declared.proposal.Proposal.TheVariants.{Add, Update, Remove, ContextExtensions}
+use Rattle.mls_msgs.specs.declared.proposal.Proposal.TheVariants.{Add, Update, Remove, ContextExtensions, PreSharedKey, ReInit, ExternalInit}
 use Rattle.mls_msgs.specs.declared.proposal.ProposalOrRef.{ProposalOrRef}
 use Rattle.mls_tree.specs.Tree.{Tree, leaf_at}
-use Rattle.mls_check.specs.Signatures.{Meaning}
-use Rattle.mls_apply.specs.Proposals.{checked_rules, adds_validly, updates_validly, removes_validly, extends_validly, asked_inline, all_inline}
-use Rattle.mls_apply.specs.Rules.{rule, first_failing}
+use Rattle.mls_check.specs.Signatures.{VerifyFn}
+use Rattle.mls_apply.specs.ProposalRules.{checked_rules, valid_if_add, valid_if_update, valid_if_remove, valid_if_extensions, holds_if_by_value, all_inline}
+use Rattle.mls_apply.specs.RuleLists.{rule, first_failing}
 use Rattle.mls_apply.specs.declared.fault.ApplyFault.{ApplyFault}
 use Rattle.mls_apply.specs.declared.fault.ApplyFault.TheVariants as faults
 use Rattle.mls_follow.specs.declared.refusal.Refusal.TheVariants.{AddInvalid, UpdateInvalid, RemoveInvalid, ContextExtensionsInvalid}
@@ -47,44 +47,56 @@ none_fails true true true false x h = absurd (none-some faults.RemoveInvalid (sy
 none_fails true true true true false h = absurd (none-some faults.ContextExtensionsInvalid (sym h))
 none_fails true true true true true h = (refl, refl, refl, refl)
 
-module _ (G : Meaning) (context : GroupContext) (t : Tree) (i : ℕ) where
+module _ (G : VerifyFn) (context : GroupContext) (t : Tree) (i : ℕ) where
   -- a proposal without a fault
   pub faultless : (p : Proposal) → first_failing (checked_rules G context t i p) ≡ None
-      → (adds_validly G context p ≡ true) × (updates_validly G context t i p ≡ true) × (removes_validly t p ≡ true) × (extends_validly p ≡ true)
-  faultless p h = none_fails (is_some (leaf_at 0 t i)) (adds_validly G context p) (updates_validly G context t i p) (removes_validly t p) (extends_validly p) h
+      → (valid_if_add G context p ≡ true) × (valid_if_update G context t i p ≡ true) × (valid_if_remove t p ≡ true) × (valid_if_extensions p ≡ true)
+  faultless p h = none_fails (is_some (leaf_at 0 t i)) (valid_if_add G context p) (valid_if_update G context t i p) (valid_if_remove t p) (valid_if_extensions p) h
 
   fault_of : (p : Proposal) (e : ApplyFault) → first_failing (checked_rules G context t i p) ≡ Some e
-      → FailsAs (is_some (leaf_at 0 t i)) (adds_validly G context p) (updates_validly G context t i p) (removes_validly t p) (extends_validly p) e
-  fault_of p e h = fails_as (is_some (leaf_at 0 t i)) (adds_validly G context p) (updates_validly G context t i p) (removes_validly t p) (extends_validly p) e h
+      → FailsAs (is_some (leaf_at 0 t i)) (valid_if_add G context p) (valid_if_update G context t i p) (valid_if_remove t p) (valid_if_extensions p) e
+  fault_of p e h = fails_as (is_some (leaf_at 0 t i)) (valid_if_add G context p) (valid_if_update G context t i p) (valid_if_remove t p) (valid_if_extensions p) e h
 
   -- a proposal with one: it is of that kind
   pub add_fault : (p : Proposal) → first_failing (checked_rules G context t i p) ≡ Some faults.AddInvalid
-      → (adds_validly G context p ≡ false) × (updates_validly G context t i p ≡ true) × (removes_validly t p ≡ true) × (extends_validly p ≡ true)
+      → (valid_if_add G context p ≡ false) × (valid_if_update G context t i p ≡ true) × (valid_if_remove t p ≡ true) × (valid_if_extensions p ≡ true)
   add_fault (Add k) h = (fault_of (Add k) faults.AddInvalid h, refl, refl, refl)
   add_fault (Update x) h = absurd (false≢true (sym (fault_of (Update x) faults.AddInvalid h)))
   add_fault (Remove j) h = absurd (false≢true (sym (fault_of (Remove j) faults.AddInvalid h)))
   add_fault (ContextExtensions es) h = absurd (false≢true (sym (fault_of (ContextExtensions es) faults.AddInvalid h)))
+  add_fault (PreSharedKey es) h = absurd (false≢true (sym (fault_of (PreSharedKey es) faults.AddInvalid h)))
+  add_fault (ReInit es) h = absurd (false≢true (sym (fault_of (ReInit es) faults.AddInvalid h)))
+  add_fault (ExternalInit es) h = absurd (false≢true (sym (fault_of (ExternalInit es) faults.AddInvalid h)))
 
   pub update_fault : (p : Proposal) → first_failing (checked_rules G context t i p) ≡ Some faults.UpdateInvalid
-      → (adds_validly G context p ≡ true) × (updates_validly G context t i p ≡ false) × (removes_validly t p ≡ true) × (extends_validly p ≡ true)
+      → (valid_if_add G context p ≡ true) × (valid_if_update G context t i p ≡ false) × (valid_if_remove t p ≡ true) × (valid_if_extensions p ≡ true)
   update_fault (Add k) h = absurd (false≢true (sym (fault_of (Add k) faults.UpdateInvalid h)))
   update_fault (Update x) h = (refl, fault_of (Update x) faults.UpdateInvalid h, refl, refl)
   update_fault (Remove j) h = absurd (false≢true (sym (fault_of (Remove j) faults.UpdateInvalid h)))
   update_fault (ContextExtensions es) h = absurd (false≢true (sym (fault_of (ContextExtensions es) faults.UpdateInvalid h)))
+  update_fault (PreSharedKey es) h = absurd (false≢true (sym (fault_of (PreSharedKey es) faults.UpdateInvalid h)))
+  update_fault (ReInit es) h = absurd (false≢true (sym (fault_of (ReInit es) faults.UpdateInvalid h)))
+  update_fault (ExternalInit es) h = absurd (false≢true (sym (fault_of (ExternalInit es) faults.UpdateInvalid h)))
 
   pub remove_fault : (p : Proposal) → first_failing (checked_rules G context t i p) ≡ Some faults.RemoveInvalid
-      → (adds_validly G context p ≡ true) × (updates_validly G context t i p ≡ true) × (removes_validly t p ≡ false) × (extends_validly p ≡ true)
+      → (valid_if_add G context p ≡ true) × (valid_if_update G context t i p ≡ true) × (valid_if_remove t p ≡ false) × (valid_if_extensions p ≡ true)
   remove_fault (Add k) h = absurd (false≢true (sym (fault_of (Add k) faults.RemoveInvalid h)))
   remove_fault (Update x) h = absurd (false≢true (sym (fault_of (Update x) faults.RemoveInvalid h)))
   remove_fault (Remove j) h = (refl, refl, fault_of (Remove j) faults.RemoveInvalid h, refl)
   remove_fault (ContextExtensions es) h = absurd (false≢true (sym (fault_of (ContextExtensions es) faults.RemoveInvalid h)))
+  remove_fault (PreSharedKey es) h = absurd (false≢true (sym (fault_of (PreSharedKey es) faults.RemoveInvalid h)))
+  remove_fault (ReInit es) h = absurd (false≢true (sym (fault_of (ReInit es) faults.RemoveInvalid h)))
+  remove_fault (ExternalInit es) h = absurd (false≢true (sym (fault_of (ExternalInit es) faults.RemoveInvalid h)))
 
   pub extensions_fault : (p : Proposal) → first_failing (checked_rules G context t i p) ≡ Some faults.ContextExtensionsInvalid
-      → (adds_validly G context p ≡ true) × (updates_validly G context t i p ≡ true) × (removes_validly t p ≡ true) × (extends_validly p ≡ false)
+      → (valid_if_add G context p ≡ true) × (valid_if_update G context t i p ≡ true) × (valid_if_remove t p ≡ true) × (valid_if_extensions p ≡ false)
   extensions_fault (Add k) h = absurd (false≢true (sym (fault_of (Add k) faults.ContextExtensionsInvalid h)))
   extensions_fault (Update x) h = absurd (false≢true (sym (fault_of (Update x) faults.ContextExtensionsInvalid h)))
   extensions_fault (Remove j) h = absurd (false≢true (sym (fault_of (Remove j) faults.ContextExtensionsInvalid h)))
   extensions_fault (ContextExtensions es) h = (refl, refl, refl, fault_of (ContextExtensions es) faults.ContextExtensionsInvalid h)
+  extensions_fault (PreSharedKey es) h = absurd (false≢true (sym (fault_of (PreSharedKey es) faults.ContextExtensionsInvalid h)))
+  extensions_fault (ReInit es) h = absurd (false≢true (sym (fault_of (ReInit es) faults.ContextExtensionsInvalid h)))
+  extensions_fault (ExternalInit es) h = absurd (false≢true (sym (fault_of (ExternalInit es) faults.ContextExtensionsInvalid h)))
 
   -- there is no other
   pub no_other_fault : (p : Proposal) (e : ApplyFault) → IsSome (leaf_at 0 t i) → first_failing (checked_rules G context t i p) ≡ Some e
@@ -106,10 +118,10 @@ and_assoc true b c = refl
 and_assoc false b c = refl
 
 all_inline_step : (asked : Proposal → Bool) (entry : ProposalOrRef) (rest : List ProposalOrRef) (so_far now whole : Bool)
-    → whole ≡ (so_far && all_inline asked (entry ∷ rest)) → now ≡ asked_inline asked entry → whole ≡ ((so_far && now) && all_inline asked rest)
+    → whole ≡ (so_far && all_inline asked (entry ∷ rest)) → now ≡ holds_if_by_value asked entry → whole ≡ ((so_far && now) && all_inline asked rest)
 unfolding all_inline
 all_inline_step asked entry rest so_far now whole e f =
-    e ∙ and_assoc so_far (asked_inline asked entry) (all_inline asked rest) ∙ ap (λ b. (so_far && b) && all_inline asked rest) (sym f)
+    e ∙ and_assoc so_far (holds_if_by_value asked entry) (all_inline asked rest) ∙ ap (λ b. (so_far && b) && all_inline asked rest) (sym f)
 
 all_inline_end : (asked : Proposal → Bool) (so_far whole : Bool) → whole ≡ (so_far && all_inline asked []) → whole ≡ so_far
 unfolding all_inline
@@ -127,7 +139,7 @@ module _ (adds updates removes extends : Proposal → Bool) (whole : List Propos
   before_all = record { adds_left = refl; updates_left = refl; removes_left = refl; extensions_left = refl }
 
   pub judged_more : (entry : ProposalOrRef) (rest tail : List ProposalOrRef) (a u r x b v s y d w t z : Bool) → rest ≡ entry ∷ tail → JudgedSoFar rest a u r x
-      → b ≡ asked_inline adds entry → v ≡ asked_inline updates entry → s ≡ asked_inline removes entry → y ≡ asked_inline extends entry
+      → b ≡ holds_if_by_value adds entry → v ≡ holds_if_by_value updates entry → s ≡ holds_if_by_value removes entry → y ≡ holds_if_by_value extends entry
       → d ≡ (a && b) → w ≡ (u && v) → t ≡ (r && s) → z ≡ (x && y) → JudgedSoFar tail d w t z
   judged_more entry rest tail a u r x b v s y d w t z split so_far e f g l h j k m = rw (h, j, k, m) (
       let now = subst (λ (es : List ProposalOrRef). JudgedSoFar es a u r x) split so_far in

@@ -8,35 +8,35 @@ use Rattle.std.proofs.lemmas.Option.{none-some, same_Some, option_and_then_some}
 use Rattle.mls_nodes.specs.declared.leaf.LeafNode.{LeafNode}
 use Rattle.mls_nodes.specs.declared.required_capabilities.RequiredCapabilities.{RequiredCapabilities}
 use Rattle.mls_tree.specs.Tree.{Tree, leaf_at}
-use Rattle.mls_check.specs.Signatures.{Meaning}
+use Rattle.mls_check.specs.Signatures.{VerifyFn}
 use Rattle.mls_msgs.specs.declared.authenticated.AuthenticatedParts.{AuthenticatedParts}
 use Rattle.mls_msgs.specs.declared.commit.Commit.{Commit}
-use Rattle.mls_msgs.specs.declared.frame.Content.{Content}
-use Rattle.mls_msgs.specs.declared.frame.Content.TheVariants as contents
-use Rattle.mls_msgs.specs.declared.frame.Sender.{Sender}
-use Rattle.mls_msgs.specs.declared.frame.Sender.TheVariants as senders
+use Rattle.mls_msgs.specs.declared.framed_content.Content.{Content}
+use Rattle.mls_msgs.specs.declared.framed_content.Content.TheVariants as contents
+use Rattle.mls_msgs.specs.declared.framed_content.Sender.{Sender}
+use Rattle.mls_msgs.specs.declared.framed_content.Sender.TheVariants as senders
 use Rattle.mls_msgs.specs.declared.message.Message.{Message}
 use Rattle.mls_msgs.specs.declared.message.Message.TheVariants as messages
 use Rattle.mls_msgs.specs.declared.proposal.Proposal.{Proposal}
-use Rattle.mls_msgs.specs.declared.proposal.Proposal.TheVariants.{Add, Update, Remove, ContextExtensions}
+use Rattle.mls_msgs.specs.declared.proposal.Proposal.TheVariants.{Add, Update, Remove, ContextExtensions, PreSharedKey, ReInit, ExternalInit}
 use Rattle.mls_msgs.specs.declared.proposal.ProposalOrRef.{ProposalOrRef}
 use Rattle.mls_msgs.specs.declared.proposal.ProposalOrRef.TheVariants as entries
-use Rattle.mls_apply.specs.declared.item.ListItem.{ListItem}
-use Rattle.mls_apply.specs.declared.item.KnownProposal.{KnownProposal}
-use Rattle.mls_apply.specs.Extensions.{brought, brought_before, extensions_of}
-use Rattle.mls_apply.specs.Items.{find_known, item_of, entry_item, with_first, resolved}
-use Rattle.mls_apply.specs.Proposals.{all_inline, asked_inline, extends_validly, are_valid_extensions}
-use Rattle.mls_apply.specs.Rules.{first_failing}
+use Rattle.mls_apply.specs.declared.list_item.ListItem.{ListItem}
+use Rattle.mls_apply.specs.declared.list_item.KnownProposal.{KnownProposal}
+use Rattle.mls_apply.specs.ContextExtensions.{brought, brought_before, extensions_of}
+use Rattle.mls_apply.specs.ResolvedList.{find_known, item_of, entry_item, with_first, resolved}
+use Rattle.mls_apply.specs.ProposalRules.{all_inline, holds_if_by_value, valid_if_extensions, are_valid_extensions}
+use Rattle.mls_apply.specs.RuleLists.{first_failing}
 use Rattle.mls_apply.proofs.Merging.{came_from}
 use Rattle.mls_apply.proofs.RuleLists.{AreKept, passed, refused}
 use Rattle.mls_follow.specs.State.{State}
-use Rattle.mls_follow.specs.Readable.{AreReadable, FollowersKnowReadable, CommitsAreReadable}
-use Rattle.mls_follow.specs.Rules.{required_after, offer_rules, content_rules, leaf_rules, sender_rules, frame_rules, message_rules, reference_of}
-use Rattle.mls_follow.specs.Next.{Step, after_proposal, committed, after_tree, commit_tree, extensions_after, with_extensions, after_commit, after_content, after_sender, next}
+use Rattle.mls_follow.specs.ReadableExtensions.{AreReadable, FollowersKnowReadable, CommitsAreReadable}
+use Rattle.mls_follow.specs.MessageRules.{required_after, proposal_message_rules, content_rules, leaf_rules, sender_rules, frame_rules, message_rules, reference_of}
+use Rattle.mls_follow.specs.NextState.{Step, after_proposal, committed, after_tree, commit_tree, extensions_after, with_extensions, after_commit, after_content, after_sender, next}
 use Rattle.mls_follow.specs.Transcript.{confirmed_hash, interim_hash}
 use Rattle.mls_tree.specs.TreeHash.{tree_hash}
-use Rattle.mls_hash.specs.Hashing.{hash_of}
-use Rattle.mls_follow.specs.Judging.{IsAcceptable, IsNext}
+use Rattle.mls_hash.specs.SuiteHash.{hash_of}
+use Rattle.mls_follow.specs.Acceptance.{IsAcceptable, IsNext}
 use Rattle.mls_follow.specs.Runs.{Takes, Call, IsRun}
 use Rattle.mls_follow.specs.declared.refusal.Refusal.{Refusal}
 use Rattle.mls_follow.specs.declared.taken.Taken.{Taken}
@@ -45,23 +45,23 @@ use Rattle.mls_follow.proofs.Answering.{one_message}
 -- ---- the list of a commit
 
 abbrev IsReadable : ListItem → Type 0
-IsReadable x = extends_validly x.proposal ≡ true
+IsReadable x = valid_if_extensions x.proposal ≡ true
 
 found_readable : (known : List KnownProposal) (reference : List ℕ) (x : ListItem) → AreReadable known → option_map item_of (find_known known reference) ≡ Some x → IsReadable x
 found_readable [] reference x all e = absurd (none-some x e)
 found_readable (k ∷ ks) reference x all e =
-    go (bytes_eq k.reference reference) (λ f. found_readable ks reference x (All-tail (λ k. extends_validly k.proposal ≡ true) k ks all) f) e
+    go (bytes_eq k.reference reference) (λ f. found_readable ks reference x (All-tail (λ k. valid_if_extensions k.proposal ≡ true) k ks all) f) e
   where
     go : (b : Bool) → (option_map item_of (find_known ks reference) ≡ Some x → IsReadable x)
         → option_map item_of (if b then Some k else find_known ks reference) ≡ Some x → IsReadable x
-    go true later e = subst IsReadable (same_Some (item_of k) x e) (All-head (λ k. extends_validly k.proposal ≡ true) k ks all)
+    go true later e = subst IsReadable (same_Some (item_of k) x e) (All-head (λ k. valid_if_extensions k.proposal ≡ true) k ks all)
     go false later e = later e
 
 both_true : (a b : Bool) → (a && b) ≡ true → (a ≡ true) × (b ≡ true)
 both_true true b e = (refl, e)
 both_true false b e = absurd (false≢true e)
 
-item_readable : (i : ℕ) (known : List KnownProposal) (entry : ProposalOrRef) (x : ListItem) → AreReadable known → asked_inline extends_validly entry ≡ true
+item_readable : (i : ℕ) (known : List KnownProposal) (entry : ProposalOrRef) (x : ListItem) → AreReadable known → holds_if_by_value valid_if_extensions entry ≡ true
     → entry_item i known entry ≡ Some x → IsReadable x
 item_readable i known (entries.Proposal p) x all h e = subst IsReadable (same_Some (record { sender = i; proposal = p }) x e) h
 item_readable i known (entries.Reference reference) x all h e = found_readable known reference x all e
@@ -72,17 +72,20 @@ brought_readable : (required : RequiredCapabilities) (x : ListItem) (rest : Opti
 unfolding are_valid_extensions
 brought_readable required x rest h later = go x.proposal h
   where
-    go : (p : Proposal) → extends_validly p ≡ true → IsSome (required_after required (brought_before (extensions_of p) rest))
+    go : (p : Proposal) → valid_if_extensions p ≡ true → IsSome (required_after required (brought_before (extensions_of p) rest))
     go (Add k) h = later
     go (Update y) h = later
     go (Remove j) h = later
     go (ContextExtensions es) h = h
+    go (PreSharedKey es) h = later
+    go (ReInit es) h = later
+    go (ExternalInit es) h = later
 
 pub commit_readable : CommitsAreReadable
 unfolding all_inline
 commit_readable committer known [] items required all inline e = subst (λ (xs : List ListItem). IsSome (required_after required (brought xs))) (same_Some [] items e) refl
 commit_readable committer known (entry ∷ es) items required all inline e =
-    let b = both_true (asked_inline extends_validly entry) (all_inline extends_validly es) inline in
+    let b = both_true (holds_if_by_value valid_if_extensions entry) (all_inline valid_if_extensions es) inline in
     go (entry_item committer known entry) (resolved committer known es)
     (λ x f. item_readable committer known entry x all b.0 f)
     (λ xs f. commit_readable committer known es xs required all b.1 f) e
@@ -118,11 +121,11 @@ commit-forgets s a i c step e =
     (λ t f g. tree-forgets (with_extensions s (extensions_after s.context.extensions (resolved i s.known c.proposals))) a t step g)
 
 knows_none : (known : List KnownProposal) → known ≡ [] → AreReadable known
-knows_none known none = subst AreReadable (sym none) (All-nil (λ k. extends_validly k.proposal ≡ true))
+knows_none known none = subst AreReadable (sym none) (All-nil (λ k. valid_if_extensions k.proposal ≡ true))
 
-module _ (G : Meaning) (s : State) (all : AreReadable s.known) (required : RequiredCapabilities) where
+module _ (G : VerifyFn) (s : State) (all : AreReadable s.known) (required : RequiredCapabilities) where
   -- a proposal that is known now was judged
-  offer-readable : (a : AuthenticatedParts) (i : ℕ) (p : Proposal) → AreKept (offer_rules G s a i p) → extends_validly p ≡ true
+  offer-readable : (a : AuthenticatedParts) (i : ℕ) (p : Proposal) → AreKept (proposal_message_rules G s a i p) → valid_if_extensions p ≡ true
   offer-readable a i p kept =
       let b = passed kept in
       let c = passed b.1 in
@@ -130,12 +133,12 @@ module _ (G : Meaning) (s : State) (all : AreReadable s.known) (required : Requi
       let e = passed d.1 in
       (passed e.1).0
 
-  proposal-readable : (i : ℕ) (p : Proposal) (o : Option (List ℕ)) (step : Step) → extends_validly p ≡ true → option_map (after_proposal s i p) o ≡ Some step
+  proposal-readable : (i : ℕ) (p : Proposal) (o : Option (List ℕ)) (step : Step) → valid_if_extensions p ≡ true → option_map (after_proposal s i p) o ≡ Some step
       → AreReadable step.state.known
   proposal-readable i p o step h e =
       let w = came_from (after_proposal s i p) o step e in
       subst (λ (u : Step). AreReadable u.state.known) w.2
-      (All-push (λ k. extends_validly k.proposal ≡ true) s.known (record { reference = w.0; sender = i; proposal = p }) all h)
+      (All-push (λ k. valid_if_extensions k.proposal ≡ true) s.known (record { reference = w.0; sender = i; proposal = p }) all h)
 
   module _ (a : AuthenticatedParts) (step : Step) where
     content-readable : (i : ℕ) (x : LeafNode) (content : Content) → AreKept (content_rules G s required a i x content) → after_content s a i content ≡ Some step
@@ -162,7 +165,7 @@ module _ (G : Meaning) (s : State) (all : AreReadable s.known) (required : Requi
   step-readable (messages.GroupInfo g) step kept e = absurd (none-some step e)
   step-readable (messages.KeyPackage k) step kept e = absurd (none-some step e)
 
-module _ (G : Meaning) (s : State) (all : AreReadable s.known) (bytes : List ℕ) where
+module _ (G : VerifyFn) (s : State) (all : AreReadable s.known) (bytes : List ℕ) where
   accepted-readable : (step : Step) → IsAcceptable G s bytes → IsNext s bytes step → AreReadable step.state.known
   accepted-readable step a n =
       step-readable G s all a.required a.message step a.kept (ap (next s) (one_message a.message n.message bytes a.spelled n.spelled) ∙ n.after)
@@ -171,7 +174,7 @@ module _ (G : Meaning) (s : State) (all : AreReadable s.known) (bytes : List ℕ
   taken-readable (Ok taken) new h = accepted-readable (record { taken = taken; state = new }) h.0 h.1
   taken-readable (Err e) new h = subst (λ (u : State). AreReadable u.known) (sym h.0) all
 
-run-readable : (G : Meaning) (s : State) (calls : List Call) (new : State) → AreReadable s.known → IsRun G s calls new → AreReadable new.known
+run-readable : (G : VerifyFn) (s : State) (calls : List Call) (new : State) → AreReadable s.known → IsRun G s calls new → AreReadable new.known
 run-readable G s [] new all h = subst (λ (u : State). AreReadable u.known) (sym h) all
 run-readable G s (call ∷ calls) new all h = run-readable G h.0 calls new (taken-readable G s all call.bytes call.answer h.0 h.1) h.2
 

@@ -6,24 +6,24 @@ use Rattle.std.proofs.lemmas.Option.{none-some}
 use Rattle.mls_nodes.specs.declared.leaf.LeafNode.{LeafNode}
 use Rattle.mls_nodes.specs.declared.required_capabilities.RequiredCapabilities.{RequiredCapabilities}
 use Rattle.mls_tree.specs.Tree.{leaf_at}
-use Rattle.mls_check.specs.Signatures.{Meaning}
+use Rattle.mls_check.specs.Signatures.{VerifyFn}
 use Rattle.mls_msgs.specs.declared.authenticated.AuthenticatedParts.{AuthenticatedParts}
-use Rattle.mls_msgs.specs.declared.frame.Content.{Content}
-use Rattle.mls_msgs.specs.declared.frame.Content.TheVariants as contents
-use Rattle.mls_msgs.specs.declared.frame.Sender.{Sender}
-use Rattle.mls_msgs.specs.declared.frame.Sender.TheVariants as senders
+use Rattle.mls_msgs.specs.declared.framed_content.Content.{Content}
+use Rattle.mls_msgs.specs.declared.framed_content.Content.TheVariants as contents
+use Rattle.mls_msgs.specs.declared.framed_content.Sender.{Sender}
+use Rattle.mls_msgs.specs.declared.framed_content.Sender.TheVariants as senders
 use Rattle.mls_msgs.specs.declared.message.Message.{Message}
 use Rattle.mls_msgs.specs.declared.message.Message.TheVariants as messages
 use Rattle.mls_msgs.specs.declared.proposal.Proposal.{Proposal}
-use Rattle.mls_apply.specs.declared.item.KnownProposal.{KnownProposal}
-use Rattle.mls_apply.specs.Rules.{first_failing}
+use Rattle.mls_apply.specs.declared.list_item.KnownProposal.{KnownProposal}
+use Rattle.mls_apply.specs.RuleLists.{first_failing}
 use Rattle.mls_apply.proofs.Merging.{came_from}
 use Rattle.mls_apply.proofs.RuleLists.{AreKept, passed, refused}
 use Rattle.mls_follow.specs.State.{State}
-use Rattle.mls_follow.specs.Order.{IsKnownSigned, AreKnownSigned, FollowersKnowSigned}
-use Rattle.mls_follow.specs.Rules.{content_rules, leaf_rules, sender_rules, frame_rules, message_rules, reference_of}
-use Rattle.mls_follow.specs.Next.{Step, after_proposal, after_content, after_sender, next}
-use Rattle.mls_follow.specs.Judging.{IsAcceptable, IsNext}
+use Rattle.mls_follow.specs.ProposalSignatures.{IsKnownSigned, AreKnownSigned, FollowersKnowSigned}
+use Rattle.mls_follow.specs.MessageRules.{content_rules, leaf_rules, sender_rules, frame_rules, message_rules, reference_of}
+use Rattle.mls_follow.specs.NextState.{Step, after_proposal, after_content, after_sender, next}
+use Rattle.mls_follow.specs.Acceptance.{IsAcceptable, IsNext}
 use Rattle.mls_follow.specs.Runs.{Takes, Call, IsRun}
 use Rattle.mls_follow.specs.declared.refusal.Refusal.{Refusal}
 use Rattle.mls_follow.specs.declared.taken.Taken.{Taken}
@@ -31,12 +31,12 @@ use Rattle.mls_follow.proofs.Answering.{one_message}
 use Rattle.mls_follow.proofs.KnownReadable.{commit-forgets}
 
 -- a state that knows none
-knows_none : (G : Meaning) (s : State) → s.known ≡ [] → AreKnownSigned G s
+knows_none : (G : VerifyFn) (s : State) → s.known ≡ [] → AreKnownSigned G s
 knows_none G s none =
     subst (λ (known : List KnownProposal). All (IsKnownSigned G s.context s.tree) known) (sym none)
     (All-nil (IsKnownSigned G s.context s.tree))
 
-module _ (G : Meaning) (s : State) (all : AreKnownSigned G s) (required : RequiredCapabilities) where
+module _ (G : VerifyFn) (s : State) (all : AreKnownSigned G s) (required : RequiredCapabilities) where
   proposal-signed : (i : ℕ) (p : Proposal) (o : Option (List ℕ)) (step : Step)
       → ((reference : List ℕ) → o ≡ Some reference
       → IsKnownSigned G s.context s.tree (record { reference = reference; sender = i; proposal = p }))
@@ -85,7 +85,7 @@ module _ (G : Meaning) (s : State) (all : AreKnownSigned G s) (required : Requir
   step-signed (messages.GroupInfo g) step kept e = absurd (none-some step e)
   step-signed (messages.KeyPackage k) step kept e = absurd (none-some step e)
 
-module _ (G : Meaning) (s : State) (all : AreKnownSigned G s) (bytes : List ℕ) where
+module _ (G : VerifyFn) (s : State) (all : AreKnownSigned G s) (bytes : List ℕ) where
   accepted-signed : (step : Step) → IsAcceptable G s bytes → IsNext s bytes step → AreKnownSigned G step.state
   accepted-signed step a n =
       step-signed G s all a.required a.message step a.kept
@@ -95,7 +95,7 @@ module _ (G : Meaning) (s : State) (all : AreKnownSigned G s) (bytes : List ℕ)
   taken-signed (Ok taken) new h = accepted-signed (record { taken = taken; state = new }) h.0 h.1
   taken-signed (Err e) new h = subst (AreKnownSigned G) (sym h.0) all
 
-run-signed : (G : Meaning) (s : State) (calls : List Call) (new : State) → AreKnownSigned G s → IsRun G s calls new → AreKnownSigned G new
+run-signed : (G : VerifyFn) (s : State) (calls : List Call) (new : State) → AreKnownSigned G s → IsRun G s calls new → AreKnownSigned G new
 run-signed G s [] new all h = subst (AreKnownSigned G) (sym h) all
 run-signed G s (call ∷ calls) new all h = run-signed G h.0 calls new (taken-signed G s all call.bytes call.answer h.0 h.1) h.2
 

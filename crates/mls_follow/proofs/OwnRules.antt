@@ -3,27 +3,27 @@ use Rattle.std.proofs.Common.{ℕ, List, Option, Some, None}
 use Rattle.mls_nodes.specs.declared.leaf.LeafNode.{LeafNode}
 use Rattle.mls_nodes.specs.declared.required_capabilities.RequiredCapabilities.{RequiredCapabilities}
 use Rattle.mls_tree.specs.Tree.{Tree, leaf_at}
-use Rattle.mls_hash.specs.Hashing.{hash_of}
-use Rattle.mls_check.specs.Signatures.{Meaning}
+use Rattle.mls_hash.specs.SuiteHash.{hash_of}
+use Rattle.mls_check.specs.Signatures.{VerifyFn}
 use Rattle.mls_check.specs.declared.members.MemberFault.{MemberFault}
 use Rattle.mls_msgs.specs.declared.authenticated.AuthenticatedParts.{AuthenticatedParts}
 use Rattle.mls_msgs.specs.declared.commit.Commit.{Commit}
 use Rattle.mls_msgs.specs.declared.commit.UpdatePath.{UpdatePath}
-use Rattle.mls_msgs.specs.declared.frame.Content.{Content}
-use Rattle.mls_msgs.specs.declared.frame.Content.TheVariants as contents
-use Rattle.mls_msgs.specs.declared.frame.Sender.{Sender}
-use Rattle.mls_msgs.specs.declared.frame.Sender.TheVariants as senders
+use Rattle.mls_msgs.specs.declared.framed_content.Content.{Content}
+use Rattle.mls_msgs.specs.declared.framed_content.Content.TheVariants as contents
+use Rattle.mls_msgs.specs.declared.framed_content.Sender.{Sender}
+use Rattle.mls_msgs.specs.declared.framed_content.Sender.TheVariants as senders
 use Rattle.mls_msgs.specs.declared.message.Message.{Message}
 use Rattle.mls_msgs.specs.declared.message.Message.TheVariants as messages
 use Rattle.mls_msgs.specs.declared.proposal.Proposal.{Proposal}
-use Rattle.mls_apply.specs.declared.item.ListItem.{ListItem}
-use Rattle.mls_apply.specs.Extensions.{brought}
-use Rattle.mls_apply.specs.Items.{resolved}
-use Rattle.mls_apply.specs.Outcome.{Grown, outcome}
-use Rattle.mls_apply.specs.Rules.{Rule}
+use Rattle.mls_apply.specs.declared.list_item.ListItem.{ListItem}
+use Rattle.mls_apply.specs.ContextExtensions.{brought}
+use Rattle.mls_apply.specs.ResolvedList.{resolved}
+use Rattle.mls_apply.specs.AppliedList.{Grown, outcome}
+use Rattle.mls_apply.specs.RuleLists.{Rule}
 use Rattle.mls_apply.proofs.RuleLists.{AreOthers, no_rules, one_more, others_both}
 use Rattle.mls_follow.specs.State.{State}
-use Rattle.mls_follow.specs.Rules.{offer_rules, member_rules, tree_rules, resulting, path_rules_of, outcome_rules, required_after, rules_under, items_rules, commit_rules, content_rules, leaf_rules, sender_rules, frame_rules, message_rules}
+use Rattle.mls_follow.specs.MessageRules.{proposal_message_rules, member_rules, tree_rules, resulting, path_rules_of, outcome_rules, required_after, rules_under, items_rules, commit_rules, content_rules, leaf_rules, sender_rules, frame_rules, message_rules}
 use Rattle.mls_follow.specs.declared.refusal.Refusal.{Refusal}
 use Rattle.mls_follow.specs.declared.refusal.Refusal.TheVariants.{OutOfMemory}
 
@@ -31,7 +31,7 @@ use Rattle.mls_follow.specs.declared.refusal.Refusal.TheVariants.{OutOfMemory}
 abbrev pub AreOwn : List (Rule Refusal) → Type 0
 AreOwn rs = AreOthers OutOfMemory rs
 
-module _ (G : Meaning) (s : State) (required : RequiredCapabilities) where
+module _ (G : VerifyFn) (s : State) (required : RequiredCapabilities) where
   of_members : (o : Option MemberFault) → AreOwn (member_rules o)
   of_members None = no_rules
   of_members (Some f) = one_more (λ e. cc) no_rules
@@ -51,11 +51,11 @@ module _ (G : Meaning) (s : State) (required : RequiredCapabilities) where
       others_both (path_rules_of (hash_of s.context.cipher_suite) g i path) (tree_rules G s required (resulting (hash_of s.context.cipher_suite) g i path))
       (of_path (hash_of s.context.cipher_suite) g i path) (of_tree (resulting (hash_of s.context.cipher_suite) g i path))
 
-of_under : (G : Meaning) (s : State) (i : ℕ) (path : Option UpdatePath) (o : Option Grown) (required : Option RequiredCapabilities) → AreOwn (rules_under G s i path o required)
+of_under : (G : VerifyFn) (s : State) (i : ℕ) (path : Option UpdatePath) (o : Option Grown) (required : Option RequiredCapabilities) → AreOwn (rules_under G s i path o required)
 of_under G s i path o None = one_more (λ e. cc) no_rules
 of_under G s i path o (Some required) = of_outcome G s required i path o
 
-module _ (G : Meaning) (s : State) (required : RequiredCapabilities) where
+module _ (G : VerifyFn) (s : State) (required : RequiredCapabilities) where
   of_items : (i : ℕ) (c : Commit) (o : Option (List ListItem)) → AreOwn (items_rules G s required i c o)
   of_items i c None = one_more (λ e. cc) no_rules
   of_items i c (Some items) =
@@ -63,7 +63,7 @@ module _ (G : Meaning) (s : State) (required : RequiredCapabilities) where
       (one_more (λ e. cc) (one_more (λ e. cc) (one_more (λ e. cc) (one_more (λ e. cc) (one_more (λ e. cc)
       (of_under G s i c.path (outcome items s.tree) (required_after required (brought items)))))))))))
 
-  of_offer : (a : AuthenticatedParts) (i : ℕ) (p : Proposal) → AreOwn (offer_rules G s a i p)
+  of_offer : (a : AuthenticatedParts) (i : ℕ) (p : Proposal) → AreOwn (proposal_message_rules G s a i p)
   of_offer a i p = one_more (λ e. cc) (one_more (λ e. cc) (one_more (λ e. cc) (one_more (λ e. cc) (one_more (λ e. cc) no_rules))))
 
   of_commit : (i : ℕ) (c : Commit) → AreOwn (commit_rules G s required i c)

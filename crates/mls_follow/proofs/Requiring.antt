@@ -10,9 +10,9 @@ use Rattle.mls_nodes.specs.Requirements.{FindsRequirements, Requires, RequiresBy
 use Rattle.mls_nodes.specs.declared.context.GroupContext.{GroupContext}
 use Rattle.mls_nodes.specs.declared.extension.Extension.{Extension}
 use Rattle.mls_nodes.specs.declared.required_capabilities.RequiredCapabilities.{RequiredCapabilities}
-use Rattle.mls_apply.specs.Extensions.{brought, new_extensions}
-use Rattle.mls_apply.specs.declared.item.ListItem.{ListItem}
-use Rattle.mls_follow.specs.Rules.{required_after}
+use Rattle.mls_apply.specs.ContextExtensions.{brought, new_extensions}
+use Rattle.mls_apply.specs.declared.list_item.ListItem.{ListItem}
+use Rattle.mls_follow.specs.MessageRules.{required_after}
 
 module _ (context : GroupContext) (required : RequiredCapabilities) (items : List ListItem) (requires : Requires context required) where
   -- it is what the extensions of the next context require

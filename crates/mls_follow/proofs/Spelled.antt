@@ -3,25 +3,25 @@ use Rattle.std.proofs.Common.{◌≡◌, ◌∙◌, ◌++◌, ℕ, ◌≤◌, Li
 use Rattle.std.specs.Prelude.{nat_eq, if◌then◌else◌, option_map, option_and_then}
 use Rattle.std.specs.Int.{w8, w16, w64}
 use Rattle.std.proofs.lemmas.Option.{none-some, same_Some}
-use Rattle.mls_wire.specs.Joined.{joined, join}
-use Rattle.mls_wire.specs.Sizes.{vector_some}
-use Rattle.mls_wire.specs.Spelling.{◌⊕◌, number, vector}
-use Rattle.mls_hash.specs.Hashing.{hash_of, ref_hash_input}
+use Rattle.mls_wire.specs.EncodingConcat.{joined, join}
+use Rattle.mls_wire.specs.EncodedSizes.{vector_some}
+use Rattle.mls_wire.specs.Encoding.{◌⊕◌, number, vector}
+use Rattle.mls_hash.specs.SuiteHash.{hash_of, ref_hash_input}
 use Rattle.mls_msgs.specs.Authenticated.{tag_if, frame_format, signed_frame, frame_auth, authenticated_content}
 use Rattle.mls_msgs.specs.Layout.{commit, sender, proposal, content, framed_content, is_member, is_commit}
 use Rattle.mls_msgs.specs.Message.{header, message}
 use Rattle.mls_msgs.specs.PublicMessage.{public_frame, public_message}
-use Rattle.mls_msgs.specs.Signed.{confirmed_input, reference_label}
+use Rattle.mls_msgs.specs.Tbs.{confirmed_input, reference_label}
 use Rattle.mls_msgs.specs.declared.authenticated.AuthenticatedParts.{AuthenticatedParts}
 use Rattle.mls_msgs.specs.declared.commit.Commit.{Commit}
-use Rattle.mls_msgs.specs.declared.frame.Content.{Content}
-use Rattle.mls_msgs.specs.declared.frame.Content.TheVariants as contents
-use Rattle.mls_msgs.specs.declared.frame.FramedContent.{FramedContent}
+use Rattle.mls_msgs.specs.declared.framed_content.Content.{Content}
+use Rattle.mls_msgs.specs.declared.framed_content.Content.TheVariants as contents
+use Rattle.mls_msgs.specs.declared.framed_content.FramedContent.{FramedContent}
 use Rattle.mls_msgs.specs.declared.message.Message.TheVariants as messages
 use Rattle.mls_msgs.specs.declared.proposal.Proposal.{Proposal}
 use Rattle.mls_msgs.specs.declared.public_message.PublicParts.{PublicParts}
 use Rattle.mls_apply.proofs.Spellings.{both_spelled, mapped}
-use Rattle.mls_follow.specs.Judging.{ReferencesExist}
+use Rattle.mls_follow.specs.Acceptance.{ReferencesExist}
 
 there : (o : Option (List ℕ)) (x : List ℕ) → o ≡ Some x → IsSome o
 there o x e = subst (λ (y : Option (List ℕ)). IsSome y) (sym e) refl

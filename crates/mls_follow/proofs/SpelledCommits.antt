@@ -7,7 +7,7 @@ use Rattle.std.proofs.lemmas.Bool.{cases_lt}
 use Rattle.std.proofs.lemmas.Bool.Decides.{nat_tests}
 use Rattle.std.proofs.lemmas.Option.{none-some, same_Some, cond_some, option_and_then_some}
 use Rattle.std.proofs.lemmas.List.Elements.{All-nil, All-cons, All-head, All-tail}
-use Rattle.mls_wire.specs.Spelling.{◌⊕◌, number, vector, list, optional}
+use Rattle.mls_wire.specs.Encoding.{◌⊕◌, number, vector, list, optional}
 use Rattle.mls_nodes.specs.Extension.{extension}
 use Rattle.mls_nodes.specs.Layout as layout
 use Rattle.mls_nodes.specs.declared.leaf.LeafNode.{LeafNode}
@@ -17,24 +17,24 @@ use Rattle.mls_msgs.specs.declared.commit.PathNode.{PathNode}
 use Rattle.mls_msgs.specs.declared.commit.UpdatePath.{UpdatePath}
 use Rattle.mls_msgs.specs.declared.key_package.KeyPackage.{KeyPackage}
 use Rattle.mls_msgs.specs.declared.proposal.Proposal.{Proposal}
-use Rattle.mls_msgs.specs.declared.proposal.Proposal.TheVariants.{Add, Update, Remove, ContextExtensions}
+use Rattle.mls_msgs.specs.declared.proposal.Proposal.TheVariants.{Add, Update, Remove, ContextExtensions, PreSharedKey, ReInit, ExternalInit}
 use Rattle.mls_msgs.specs.declared.proposal.ProposalOrRef.{ProposalOrRef}
 use Rattle.mls_msgs.specs.declared.proposal.ProposalOrRef.TheVariants as entries
 use Rattle.mls_tree.specs.Tree.{Tree, height, leaf_count, member_count, leaf_at}
 use Rattle.mls_tree.specs.RatchetTree.{HasShape}
-use Rattle.mls_tree.specs.Blanks.{first_blank_leaf}
-use Rattle.mls_tree.specs.Changes.{put_leaf, clear_path, update, remove, with_unmerged, is_overfilled_above, enter_unmerged, add_at, add, added_leaf, grown_for, number_or, blank_tree}
+use Rattle.mls_tree.specs.BlankLeaves.{first_blank_leaf}
+use Rattle.mls_tree.specs.TreeOperations.{put_leaf, clear_path, update, remove, with_unmerged, is_overfilled_above, enter_unmerged, add_at, add, added_leaf, grown_for, number_or, blank_tree}
 use Rattle.mls_tree.proofs.Kept.{height-change_above, IsPerfect-change_above, height-put_leaf, IsPerfect-put_leaf, HasShape-grow, HasShape-shrink}
 use Rattle.mls_tree.proofs.Numbers.{leaves_at-pow, leaves_at-le, leaves_at-low}
 use Rattle.mls_tree.proofs.Trees.{leaf_count-perfect, leaf_count-positive}
-use Rattle.mls_apply.specs.declared.item.ListItem.{ListItem}
-use Rattle.mls_apply.specs.declared.item.KnownProposal.{KnownProposal}
-use Rattle.mls_apply.specs.Items.{find_known, item_of, entry_item, with_first, resolved}
+use Rattle.mls_apply.specs.declared.list_item.ListItem.{ListItem}
+use Rattle.mls_apply.specs.declared.list_item.KnownProposal.{KnownProposal}
+use Rattle.mls_apply.specs.ResolvedList.{find_known, item_of, entry_item, with_first, resolved}
 use Rattle.mls_nodes.specs.Limits.{leaf_limit}
-use Rattle.mls_apply.specs.Outcome.{Grown, after_update, after_updates, after_remove, after_removes, added_to, new_members, after_leaf, after_adds, with_members, outcome}
+use Rattle.mls_apply.specs.AppliedList.{Grown, after_update, after_updates, after_remove, after_removes, added_to, new_members, after_leaf, after_adds, with_members, outcome}
 use Rattle.mls_apply.specs.PathRules.{node_keys}
 use Rattle.mls_apply.proofs.Adding.{blank_inside, member_count-add}
-use Rattle.mls_apply.proofs.Members.{member_count-full}
+use Rattle.mls_apply.proofs.LeavesAreValid.{member_count-full}
 use Rattle.mls_apply.proofs.Expected.{AreKeys}
 use Rattle.mls_apply.proofs.Spellings.{left_spelled, right_spelled}
 use Rattle.mls_follow.proofs.Spellings.{number_spelled, list_each}
@@ -57,6 +57,9 @@ IsLeafSpelled (Add k) = IsSome (layout.leaf k.leaf_node)
 IsLeafSpelled (Update x) = IsSome (layout.leaf x)
 IsLeafSpelled (Remove i) = Unit {0}
 IsLeafSpelled (ContextExtensions es) = Unit {0}
+IsLeafSpelled (PreSharedKey es) = Unit {0}
+IsLeafSpelled (ReInit es) = Unit {0}
+IsLeafSpelled (ExternalInit es) = Unit {0}
 
 leaf_of_proposal : (p : Proposal) → IsSome (proposal p) → IsLeafSpelled p
 unfolding proposal
@@ -64,6 +67,9 @@ leaf_of_proposal (Add k) h = key_package_leaf k (right_spelled (number w16 1) (k
 leaf_of_proposal (Update x) h = right_spelled (number w16 2) (layout.leaf x) h
 leaf_of_proposal (Remove i) h = tt
 leaf_of_proposal (ContextExtensions es) h = tt
+leaf_of_proposal (PreSharedKey es) h = tt
+leaf_of_proposal (ReInit es) h = tt
+leaf_of_proposal (ExternalInit es) h = tt
 
 -- the items of a list
 abbrev pub AreSpelled : List ListItem → Type 0
@@ -122,6 +128,9 @@ update_fit : (sender : ℕ) (p : Proposal) (t u : Tree) → IsLeafSpelled p → 
 update_fit sender (Add k) t u s h e = subst IsFit (same_Some t u e) h
 update_fit sender (Remove i) t u s h e = subst IsFit (same_Some t u e) h
 update_fit sender (ContextExtensions es) t u s h e = subst IsFit (same_Some t u e) h
+update_fit sender (PreSharedKey es) t u s h e = subst IsFit (same_Some t u e) h
+update_fit sender (ReInit es) t u s h e = subst IsFit (same_Some t u e) h
+update_fit sender (ExternalInit es) t u s h e = subst IsFit (same_Some t u e) h
 update_fit sender (Update x) t u s h e =
     subst IsFit (cond_some (is_some (leaf_at 0 t sender)) (update t sender x) u e).1 (record {
       shape = HasShape-replaced 0 t sender (Some x) h.shape;
@@ -132,6 +141,9 @@ remove_fit : (p : Proposal) (t u : Tree) → IsFit t → after_remove p t ≡ So
 remove_fit (Add k) t u h e = subst IsFit (same_Some t u e) h
 remove_fit (Update x) t u h e = subst IsFit (same_Some t u e) h
 remove_fit (ContextExtensions es) t u h e = subst IsFit (same_Some t u e) h
+remove_fit (PreSharedKey es) t u h e = subst IsFit (same_Some t u e) h
+remove_fit (ReInit es) t u h e = subst IsFit (same_Some t u e) h
+remove_fit (ExternalInit es) t u h e = subst IsFit (same_Some t u e) h
 remove_fit (Remove i) t u h e =
     subst IsFit (cond_some (is_some (leaf_at 0 t i)) (remove t i) u e).1 (record {
       shape = HasShape-shrink (clear_path (put_leaf 0 t i None) i) (HasShape-replaced 0 t i None h.shape);
@@ -164,6 +176,9 @@ members_spelled (x ∷ xs) all =
     go (Update y) s h = h
     go (Remove i) s h = h
     go (ContextExtensions es) s h = h
+    go (PreSharedKey es) s h = h
+    go (ReInit es) s h = h
+    go (ExternalInit es) s h = h
 
 -- a tree that has to grow is not as large as a tree may be
 low_enough : (t : Tree) → HasShape t → first_blank_leaf 0 t ≡ None → member_count t + 1 ≤ leaf_limit → height t < 20

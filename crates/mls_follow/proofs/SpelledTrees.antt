@@ -5,19 +5,19 @@ use Rattle.std.specs.Int.{w8, w32}
 use Rattle.std.proofs.lemmas.Bool.{or_parts}
 use Rattle.std.proofs.lemmas.Option.{none-some, same_Some, option_and_then_some}
 use Rattle.std.proofs.lemmas.List.Elements.{All-head, All-tail}
-use Rattle.mls_wire.specs.Sizes.{vector_some}
-use Rattle.mls_wire.specs.Spelling.{◌⊕◌, number, vector, optional}
+use Rattle.mls_wire.specs.EncodedSizes.{vector_some}
+use Rattle.mls_wire.specs.Encoding.{◌⊕◌, number, vector, optional}
 use Rattle.mls_nodes.specs.Layout as layout
 use Rattle.mls_nodes.specs.declared.leaf.LeafNode.{LeafNode}
 use Rattle.mls_nodes.specs.declared.parent.ParentNode.{ParentNode}
 use Rattle.mls_tree.specs.Tree.{Tree, leaf, branch, height, leaf_count, IsPerfect}
 use Rattle.mls_tree.specs.TreeHash.{tree_hash, leaf_hash_input, parent_hash_input}
-use Rattle.mls_tree.specs.Blanks.{first_blank_leaf}
+use Rattle.mls_tree.specs.BlankLeaves.{first_blank_leaf}
 use Rattle.mls_tree.specs.Paths.{resolution}
-use Rattle.mls_tree.specs.Changes.{put_leaf, change_above, clear_path, has_set_leaf, shrink, blank_tree, grow, update, remove, with_unmerged, is_overfilled, is_overfilled_above, enter_unmerged, add, added_leaf, grown_for}
+use Rattle.mls_tree.specs.TreeOperations.{put_leaf, change_above, clear_path, has_set_leaf, shrink, blank_tree, grow, update, remove, with_unmerged, is_overfilled, is_overfilled_above, enter_unmerged, add, added_leaf, grown_for}
 use Rattle.mls_tree.proofs.Kept.{either}
 use Rattle.mls_hash.specs.ParentHash as parents
-use Rattle.mls_apply.specs.Merge.{Handed, handed, handed_by, path_parent, path_hash, merged_from}
+use Rattle.mls_apply.specs.MergePath.{Handed, handed, handed_by, path_parent, path_hash, merged_from}
 use Rattle.mls_apply.proofs.Expected.{AreKeys}
 use Rattle.mls_apply.proofs.Spellings.{put_back, both_spelled, right_spelled, mapped_some, parts_some}
 use Rattle.mls_follow.proofs.Spellings.{number_spelled, none_unmerged, parent_spelled, entered_spelled}

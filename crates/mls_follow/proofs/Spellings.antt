@@ -5,13 +5,13 @@ use Rattle.std.specs.Int.{Width, w32}
 use Rattle.std.specs.List.{list_any}
 use Rattle.std.proofs.lemmas.Bool.Decides.{nat_tests}
 use Rattle.std.proofs.lemmas.List.Elements.{All-nil, All-cons}
-use Rattle.mls_wire.specs.Lists.{sized_parts}
-use Rattle.mls_wire.specs.Numbers.{number_made, wide32, items_width}
-use Rattle.mls_wire.specs.Sizes.{vector_some}
-use Rattle.mls_wire.specs.Spelling.{◌⊕◌, number, vector, sized, items, list, optional}
+use Rattle.mls_wire.specs.ListsExact.{sized_parts}
+use Rattle.mls_wire.specs.IntegersExact.{number_made, wide32, items_width}
+use Rattle.mls_wire.specs.EncodedSizes.{vector_some}
+use Rattle.mls_wire.specs.Encoding.{◌⊕◌, number, vector, sized, items, list, optional}
 use Rattle.mls_nodes.specs.Layout.{unmerged, parent}
 use Rattle.mls_nodes.specs.declared.parent.ParentNode.{ParentNode}
-use Rattle.mls_tree.specs.Changes.{insert_before, insert_number, with_unmerged, is_overfilled}
+use Rattle.mls_tree.specs.TreeOperations.{insert_before, insert_number, with_unmerged, is_overfilled}
 use Rattle.mls_tree.proofs.Kept.{either}
 use Rattle.mls_apply.proofs.Spellings.{taken_out, put_back, both_spelled, left_spelled, right_spelled}
 use mir.Val.{bits}

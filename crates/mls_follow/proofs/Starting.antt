@@ -5,17 +5,17 @@ use Rattle.mls_nodes.specs.declared.leaf.LeafNode.{LeafNode}
 use Rattle.mls_tree.specs.RatchetTree.{RatchetTree}
 use Rattle.mls_tree.specs.Tree.{leaf_at}
 use Rattle.mls_check.proofs.GroupTrees.{members_too, requirements_too, invalid_too, strangers_too}
-use Rattle.mls_check.specs.GroupTree.{IsFollowed, HasMembers, FailsSuite, IsGroupTreeFault}
-use Rattle.mls_check.specs.Signatures.{Meaning}
+use Rattle.mls_check.specs.GroupTree.{IsSupportedContext, HasMembers, FailsSuite, IsGroupTreeFault}
+use Rattle.mls_check.specs.Signatures.{VerifyFn}
 use Rattle.mls_check.specs.declared.group_tree.GroupTreeFault.{GroupTreeFault}
 use Rattle.mls_check.specs.declared.group_tree.GroupTreeFault.TheVariants as groups
 use Rattle.mls_msgs.specs.declared.group_info.GroupInfo.{GroupInfo}
-use Rattle.mls_follow.specs.Start.{UsesTree, IsSignedIn, StartsWith, FailsWith, FailsSigned, IsStart, first_state, IsStartFault, is_info_signed, info_interim, start_fault_of}
+use Rattle.mls_follow.specs.Start.{UsesTree, IsSignedIn, StartsWith, FailsWith, FailsSigned, IsStart, initial_state, IsStartFault, is_info_signed, info_interim, start_fault_of}
 use Rattle.mls_follow.specs.declared.start_fault.StartFault.{StartFault}
 use Rattle.mls_follow.specs.declared.start_fault.StartFault.TheVariants.{UnsupportedVersion, UnsupportedSuite, SignerNotMember, InfoSignature}
 
 -- a later fault of an info that is followed is neither of the first two
-module _ (G : Meaning) (info : GroupInfo) (handed : Option RatchetTree) (fault : StartFault) (followed : IsFollowed info.context) (h : IsStartFault G info handed fault) where
+module _ (G : VerifyFn) (info : GroupInfo) (handed : Option RatchetTree) (fault : StartFault) (followed : IsSupportedContext info.context) (h : IsStartFault G info handed fault) where
   pub version_followed : (fault ≡ UnsupportedVersion) ↔ (info.context.version ≢ 1)
   version_followed = (λ e. subst (λ (f : StartFault). IsStartFault G info handed f) e h, λ other. absurd (other followed.version))
 
@@ -23,11 +23,11 @@ module _ (G : Meaning) (info : GroupInfo) (handed : Option RatchetTree) (fault :
   suite_followed = (λ e. subst (λ (f : StartFault). IsStartFault G info handed f) e h, λ fails. absurd (fails.unsupported followed.suite))
 
 -- the signer's leaf isn't set
-pub unset : (G : Meaning) (info : GroupInfo) (t : RatchetTree) → leaf_at 0 t.tree info.signer ≡ None → FailsSigned G info t SignerNotMember
+pub unset : (G : VerifyFn) (info : GroupInfo) (t : RatchetTree) → leaf_at 0 t.tree info.signer ≡ None → FailsSigned G info t SignerNotMember
 unset G info t blank handed required h = record { tree = t; required = required; has_members = h; blank = blank }
 
 -- it has not signed
-pub unsigned : (G : Meaning) (info : GroupInfo) (t : RatchetTree) (signer : LeafNode) → leaf_at 0 t.tree info.signer ≡ Some signer
+pub unsigned : (G : VerifyFn) (info : GroupInfo) (t : RatchetTree) (signer : LeafNode) → leaf_at 0 t.tree info.signer ≡ Some signer
     → is_info_signed G info signer ≡ false → FailsSigned G info t InfoSignature
 unsigned G info t signer set bad handed required h = record {
   tree = t;
@@ -36,7 +36,7 @@ unsigned G info t signer set bad handed required h = record {
   unsigned = bad;
 }
 
-module _ (G : Meaning) (info : GroupInfo) (t : RatchetTree) where
+module _ (G : VerifyFn) (info : GroupInfo) (t : RatchetTree) where
   module _ (handed : Option RatchetTree) (uses : UsesTree handed info.extensions t) where
     -- a tree that is this one is the info's
     too : (u : RatchetTree) → u ≡ t → UsesTree handed info.extensions u
@@ -71,13 +71,13 @@ module _ (G : Meaning) (info : GroupInfo) (t : RatchetTree) where
     }
 
 -- what comes of a tree comes of any that is equal to it
-pub starts_again : (G : Meaning) (info : GroupInfo) (t u : RatchetTree) (interim : List ℕ) → t ≡ u → StartsWith G info t interim → StartsWith G info u interim
+pub starts_again : (G : VerifyFn) (info : GroupInfo) (t u : RatchetTree) (interim : List ℕ) → t ≡ u → StartsWith G info t interim → StartsWith G info u interim
 starts_again G info t u interim e h = subst (λ (v : RatchetTree). StartsWith G info v interim) e h
 
-pub fails_again : (G : Meaning) (info : GroupInfo) (t u : RatchetTree) (fault : StartFault) → t ≡ u → FailsWith G info t fault → FailsWith G info u fault
+pub fails_again : (G : VerifyFn) (info : GroupInfo) (t u : RatchetTree) (fault : StartFault) → t ≡ u → FailsWith G info t fault → FailsWith G info u fault
 fails_again G info t u fault e h = subst (λ (v : RatchetTree). FailsWith G info v fault) e h
 
 -- a start in a tree is one in any that is equal to it
-pub start_again : (G : Meaning) (info : GroupInfo) (handed : Option RatchetTree) (t u : RatchetTree) (interim : List ℕ) → u ≡ t
-    → IsStart G info handed (first_state info t interim) → IsStart G info handed (first_state info u interim)
-start_again G info handed t u interim e h = subst (λ v. IsStart G info handed (first_state info v interim)) (sym e) h
+pub start_again : (G : VerifyFn) (info : GroupInfo) (handed : Option RatchetTree) (t u : RatchetTree) (interim : List ℕ) → u ≡ t
+    → IsStart G info handed (initial_state info t interim) → IsStart G info handed (initial_state info u interim)
+start_again G info handed t u interim e h = subst (λ v. IsStart G info handed (initial_state info v interim)) (sym e) h

@@ -7,22 +7,22 @@ use Rattle.std.proofs.lemmas.Bool.Decides.{nat_tests}
 use Rattle.std.proofs.lemmas.Option.{none-some, same_Some, option_and_then_some, cond_some}
 use Rattle.mls_nodes.specs.declared.leaf.LeafNode.{LeafNode}
 use Rattle.mls_msgs.specs.declared.proposal.Proposal.{Proposal}
-use Rattle.mls_msgs.specs.declared.proposal.Proposal.TheVariants.{Add, Update, Remove, ContextExtensions}
+use Rattle.mls_msgs.specs.declared.proposal.Proposal.TheVariants.{Add, Update, Remove, ContextExtensions, PreSharedKey, ReInit, ExternalInit}
 use Rattle.mls_tree.specs.Tree.{Tree, height, leaf_at, leaf_count, member_count}
-use Rattle.mls_tree.specs.Blanks.{first_blank_leaf, IsFirstBlank, AllLeavesSet}
-use Rattle.mls_tree.specs.Changes.{put_leaf, clear_path, update, remove, grow, add, add_at, added_leaf, grown_for, number_or, blank_tree, is_overfilled_above}
+use Rattle.mls_tree.specs.BlankLeaves.{first_blank_leaf, IsFirstBlank, AllLeavesSet}
+use Rattle.mls_tree.specs.TreeOperations.{put_leaf, clear_path, update, remove, grow, add, add_at, added_leaf, grown_for, number_or, blank_tree, is_overfilled_above}
 use Rattle.mls_tree.proofs.Added.{leaf_at-add_at_other}
 use Rattle.mls_tree.proofs.FirstBlanks.{first_blank_leaf-leftmost}
 use Rattle.mls_tree.proofs.Trees.{leaf_count-positive}
 use Rattle.mls_tree.proofs.Kept.{leaf_at-shrink, leaf_at-grow}
 use Rattle.mls_apply.proofs.Leaves.{leaf_inside, kept_beside}
 use Rattle.mls_apply.proofs.SoundOutcomes.{unless, where_so, mapped}
-use Rattle.mls_apply.specs.declared.item.ListItem.{ListItem}
-use Rattle.mls_apply.specs.Extensions.{bring_once}
-use Rattle.mls_apply.specs.ListRules.{list_refusal, is_leaf_number, replaced_leaf, removed_leaf, has_no_update_by, has_no_remove_of, concern_once, needs_path}
+use Rattle.mls_apply.specs.declared.list_item.ListItem.{ListItem}
+use Rattle.mls_apply.specs.ContextExtensions.{bring_once}
+use Rattle.mls_apply.specs.ListRules.{list_refusal, is_leaf_number, replaced_leaf, removed_leaf, has_no_update_by, has_no_remove_of, have_distinct_targets, needs_path}
 use Rattle.mls_nodes.specs.Limits.{leaf_limit}
-use Rattle.mls_apply.specs.Outcome.{Grown, outcome, with_members, new_members, after_leaf, after_adds, after_update, after_updates, after_remove, after_removes}
-use Rattle.mls_apply.specs.Rules.{Rule, rule, first_failing}
+use Rattle.mls_apply.specs.AppliedList.{Grown, outcome, with_members, new_members, after_leaf, after_adds, after_update, after_updates, after_remove, after_removes}
+use Rattle.mls_apply.specs.RuleLists.{Rule, rule, first_failing}
 use Rattle.mls_apply.specs.declared.fault.ApplyFault.{ApplyFault}
 use Rattle.mls_apply.specs.declared.fault.ApplyFault.TheVariants.{UpdateByCommitter, RemovesCommitter, SameLeafTwice, TwoContextExtensions, PathMissing}
 
@@ -41,6 +41,9 @@ after_update-stays : (i sender : ℕ) (p : Proposal) (t u : Tree) → is_leaf_nu
 after_update-stays i sender (Add k) t u away e set = subst (λ (v : Tree). IsSome (leaf_at 0 v i)) (same_Some t u e) set
 after_update-stays i sender (Remove k) t u away e set = subst (λ (v : Tree). IsSome (leaf_at 0 v i)) (same_Some t u e) set
 after_update-stays i sender (ContextExtensions es) t u away e set = subst (λ (v : Tree). IsSome (leaf_at 0 v i)) (same_Some t u e) set
+after_update-stays i sender (PreSharedKey es) t u away e set = subst (λ (v : Tree). IsSome (leaf_at 0 v i)) (same_Some t u e) set
+after_update-stays i sender (ReInit es) t u away e set = subst (λ (v : Tree). IsSome (leaf_at 0 v i)) (same_Some t u e) set
+after_update-stays i sender (ExternalInit es) t u away e set = subst (λ (v : Tree). IsSome (leaf_at 0 v i)) (same_Some t u e) set
 after_update-stays i sender (Update x) t u away e set =
     let parts = cond_some (is_some (leaf_at 0 t sender)) (update t sender x) u e in
     subst (λ (v : Tree). IsSome (leaf_at 0 v i)) parts.1 (ap is_some (changed_other t i sender (Some x) parts.0 away) ∙ set)
@@ -49,6 +52,9 @@ after_remove-stays : (i : ℕ) (p : Proposal) (t u : Tree) → is_leaf_number (r
 after_remove-stays i (Add k) t u away e set = subst (λ (v : Tree). IsSome (leaf_at 0 v i)) (same_Some t u e) set
 after_remove-stays i (Update x) t u away e set = subst (λ (v : Tree). IsSome (leaf_at 0 v i)) (same_Some t u e) set
 after_remove-stays i (ContextExtensions es) t u away e set = subst (λ (v : Tree). IsSome (leaf_at 0 v i)) (same_Some t u e) set
+after_remove-stays i (PreSharedKey es) t u away e set = subst (λ (v : Tree). IsSome (leaf_at 0 v i)) (same_Some t u e) set
+after_remove-stays i (ReInit es) t u away e set = subst (λ (v : Tree). IsSome (leaf_at 0 v i)) (same_Some t u e) set
+after_remove-stays i (ExternalInit es) t u away e set = subst (λ (v : Tree). IsSome (leaf_at 0 v i)) (same_Some t u e) set
 after_remove-stays i (Remove j) t u away e set =
     let parts = cond_some (is_some (leaf_at 0 t j)) (remove t j) u e in
     subst (λ (v : Tree). IsSome (leaf_at 0 v i)) parts.1
@@ -101,7 +107,7 @@ holds false o x e = absurd (none-some x (sym e))
 
 abbrev past_removes : List ListItem → Bool → List (Rule ApplyFault)
 past_removes items has_path =
-    rule SameLeafTwice (concern_once items) ∷ rule TwoContextExtensions (bring_once items) ∷ rule PathMissing (has_path || not (needs_path items)) ∷ []
+    rule SameLeafTwice (have_distinct_targets items) ∷ rule TwoContextExtensions (bring_once items) ∷ rule PathMissing (has_path || not (needs_path items)) ∷ []
 
 abbrev list_rest : ℕ → List ListItem → Bool → List (Rule ApplyFault)
 list_rest i items has_path = rule RemovesCommitter (has_no_remove_of i items) ∷ past_removes items has_path

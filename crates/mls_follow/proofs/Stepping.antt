@@ -8,35 +8,35 @@ use Rattle.mls_nodes.specs.declared.leaf.LeafNode.{LeafNode}
 use Rattle.mls_nodes.specs.declared.required_capabilities.RequiredCapabilities.{RequiredCapabilities}
 use Rattle.mls_tree.specs.Tree.{Tree, leaf_at}
 use Rattle.mls_tree.specs.TreeHash.{tree_hash}
-use Rattle.mls_hash.specs.Hashing.{hash_of}
-use Rattle.mls_check.specs.Distinct.{has_distinct_keys}
-use Rattle.mls_check.specs.Members.{Members, member_fault}
-use Rattle.mls_check.specs.Signatures.{Meaning}
+use Rattle.mls_hash.specs.SuiteHash.{hash_of}
+use Rattle.mls_check.specs.DistinctKeys.{has_distinct_keys}
+use Rattle.mls_check.specs.LeafValidation.{LeavesAreValid, member_fault}
+use Rattle.mls_check.specs.Signatures.{VerifyFn}
 use Rattle.mls_check.specs.declared.members.MemberFault.{MemberFault}
 use Rattle.mls_check.proofs.FirstFault.{members-faultless}
 use Rattle.mls_msgs.specs.declared.authenticated.AuthenticatedParts.{AuthenticatedParts}
 use Rattle.mls_msgs.specs.declared.commit.Commit.{Commit}
 use Rattle.mls_msgs.specs.declared.commit.UpdatePath.{UpdatePath}
-use Rattle.mls_msgs.specs.declared.frame.Content.{Content}
-use Rattle.mls_msgs.specs.declared.frame.Content.TheVariants as contents
-use Rattle.mls_msgs.specs.declared.frame.Sender.{Sender}
-use Rattle.mls_msgs.specs.declared.frame.Sender.TheVariants as senders
+use Rattle.mls_msgs.specs.declared.framed_content.Content.{Content}
+use Rattle.mls_msgs.specs.declared.framed_content.Content.TheVariants as contents
+use Rattle.mls_msgs.specs.declared.framed_content.Sender.{Sender}
+use Rattle.mls_msgs.specs.declared.framed_content.Sender.TheVariants as senders
 use Rattle.mls_msgs.specs.declared.message.Message.{Message}
 use Rattle.mls_msgs.specs.declared.message.Message.TheVariants as messages
 use Rattle.mls_msgs.specs.declared.proposal.Proposal.{Proposal}
-use Rattle.mls_apply.specs.declared.item.ListItem.{ListItem}
-use Rattle.mls_apply.specs.Extensions.{brought, new_extensions}
-use Rattle.mls_apply.specs.Items.{resolved}
+use Rattle.mls_apply.specs.declared.list_item.ListItem.{ListItem}
+use Rattle.mls_apply.specs.ContextExtensions.{brought, new_extensions}
+use Rattle.mls_apply.specs.ResolvedList.{resolved}
 use Rattle.mls_apply.specs.ListRules.{list_rules}
-use Rattle.mls_apply.specs.Outcome.{Grown, outcome}
-use Rattle.mls_apply.specs.Rules.{first_failing, renamed}
+use Rattle.mls_apply.specs.AppliedList.{Grown, outcome}
+use Rattle.mls_apply.specs.RuleLists.{first_failing, renamed}
 use Rattle.mls_apply.proofs.Merging.{came_from}
 use Rattle.mls_apply.proofs.RuleLists.{AreKept, passed, passed_both, refused}
 use Rattle.mls_follow.specs.State.{State}
 use Rattle.mls_follow.specs.Transcript.{confirmed_hash, interim_hash}
-use Rattle.mls_follow.specs.Rules.{refusal_of, reference_of, inline_rules, member_rules, tree_rules, resulting, path_rules_of, outcome_rules, required_after, rules_under, items_rules, commit_rules, content_rules, leaf_rules, sender_rules, frame_rules, message_rules}
-use Rattle.mls_follow.specs.Next.{Step, after_proposal, committed, after_tree, commit_tree, extensions_after, with_extensions, after_commit, after_content, after_sender, next}
-use Rattle.mls_follow.specs.Judging.{IsAcceptable, IsNext}
+use Rattle.mls_follow.specs.MessageRules.{refusal_of, reference_of, inline_rules, member_rules, tree_rules, resulting, path_rules_of, outcome_rules, required_after, rules_under, items_rules, commit_rules, content_rules, leaf_rules, sender_rules, frame_rules, message_rules}
+use Rattle.mls_follow.specs.NextState.{Step, after_proposal, committed, after_tree, commit_tree, extensions_after, with_extensions, after_commit, after_content, after_sender, next}
+use Rattle.mls_follow.specs.Acceptance.{IsAcceptable, IsNext}
 use Rattle.mls_follow.specs.Runs.{Takes}
 use Rattle.mls_follow.specs.declared.refusal.Refusal.{Refusal}
 use Rattle.mls_follow.specs.declared.taken.Taken.{Taken}
@@ -49,7 +49,7 @@ pub record Stays (s t : State) : Type 0 where
   pub tree : t.tree ≡ s.tree
 
 -- a commit moves the tree: by a list and a path, and the tree after both keeps the rules under what is then required
-pub record Moves (G : Meaning) (s t : State) : Type 0 where
+pub record Moves (G : VerifyFn) (s t : State) : Type 0 where
   pub suite : t.context.cipher_suite ≡ s.context.cipher_suite
   pub group_id : t.context.group_id ≡ s.context.group_id
   pub required : RequiredCapabilities
@@ -64,7 +64,7 @@ pub record Moves (G : Meaning) (s t : State) : Type 0 where
   pub path_kept : AreKept (path_rules_of (hash_of s.context.cipher_suite) grown committer path)
   pub merged : resulting (hash_of s.context.cipher_suite) grown committer path ≡ Some t.tree
 
-module _ (G : Meaning) (s : State) (required : RequiredCapabilities) (requires : Requires s.context required) where
+module _ (G : VerifyFn) (s : State) (required : RequiredCapabilities) (requires : Requires s.context required) where
   -- either of these
   abbrev Leads : State → Type 0
   Leads t = Stays s t ⊎ Moves G s t
@@ -169,7 +169,7 @@ module _ (G : Meaning) (s : State) (required : RequiredCapabilities) (requires :
   stays_or_moves (messages.KeyPackage k) step kept e = absurd (none-some step e)
 
 -- whatever is answered to some bytes
-pub taken : (G : Meaning) (s : State) (bytes : List ℕ) (answer : Result Taken Refusal) (new : State) → Takes G s bytes answer new → Stays s new ⊎ Moves G s new
+pub taken : (G : VerifyFn) (s : State) (bytes : List ℕ) (answer : Result Taken Refusal) (new : State) → Takes G s bytes answer new → Stays s new ⊎ Moves G s new
 taken G s bytes (Ok t) new h =
     let a : IsAcceptable G s bytes = h.0 in
     let n : IsNext s bytes (record { taken = t; state = new }) = h.1 in
@@ -183,11 +183,11 @@ pub no_fault : (o : Option MemberFault) → AreKept (member_rules o) → o ≡ N
 no_fault None h = refl
 no_fault (Some f) h = absurd (refused h)
 
-module _ (G : Meaning) (s t : State) (m : Moves G s t) where
+module _ (G : VerifyFn) (s t : State) (m : Moves G s t) where
   pub moved_keys : has_distinct_keys t.tree ≡ true
   moved_keys = (passed m.tree_kept).0
 
-  pub moved_members : Members G t.context.cipher_suite t.context.group_id m.required t.tree
+  pub moved_members : LeavesAreValid G t.context.cipher_suite t.context.group_id m.required t.tree
   moved_members =
       rw (m.suite, m.group_id)
       ((members-faultless G s.context.cipher_suite s.context.group_id m.required t.tree).1

@@ -2,28 +2,28 @@
 use Rattle.std.proofs.Common.{◌≡◌, ◌≢◌, ◌∙◌, ℕ, List, Some, None, Result, Ok, Err, refl, sym, ap, inr}
 use Rattle.std.specs.Prelude.{OnOk, IfOk, IfErr, OnErr}
 use Rattle.mls_nodes.specs.declared.required_capabilities.RequiredCapabilities.{RequiredCapabilities}
-use Rattle.mls_check.specs.Signatures.{Meaning}
+use Rattle.mls_check.specs.Signatures.{VerifyFn}
 use Rattle.mls_msgs.specs.declared.authenticated.AuthenticatedParts.{AuthenticatedParts}
 use Rattle.mls_msgs.specs.declared.message.Message.{Message}
 use Rattle.mls_msgs.specs.declared.message.Message.TheVariants as messages
 use Rattle.mls_msgs.specs.declared.public_message.PublicParts.{PublicParts}
-use Rattle.mls_apply.specs.Rules.{first_failing}
+use Rattle.mls_apply.specs.RuleLists.{first_failing}
 use Rattle.mls_nodes.specs.Requirements.{Requires}
-use Rattle.mls_follow.specs.State.{State, Spells}
-use Rattle.mls_follow.specs.Rules.{frame_refusal, frame_rules, message_rules}
-use Rattle.mls_follow.specs.Next.{after_sender}
-use Rattle.mls_follow.specs.Judging.{IsAcceptable, IsNext, IsFirstRefusal, Refuses}
+use Rattle.mls_follow.specs.State.{State, EncodesMessage}
+use Rattle.mls_follow.specs.MessageRules.{frame_refusal, frame_rules, message_rules}
+use Rattle.mls_follow.specs.NextState.{after_sender}
+use Rattle.mls_follow.specs.Acceptance.{IsAcceptable, IsNext, IsFirstRefusal, Refuses}
 use Rattle.mls_follow.specs.Runs.{Takes}
 use Rattle.mls_follow.specs.declared.refusal.Refusal.{Refusal}
 use Rattle.mls_follow.specs.declared.refusal.Refusal.TheVariants.{NotPublic, OutOfMemory}
 use Rattle.mls_follow.specs.declared.taken.Taken.{Taken}
 
 -- the shut word
-frame_word : (G : Meaning) (s : State) (required : RequiredCapabilities) (a : AuthenticatedParts) → frame_refusal G s required a ≡ first_failing (frame_rules G s required a)
+frame_word : (G : VerifyFn) (s : State) (required : RequiredCapabilities) (a : AuthenticatedParts) → frame_refusal G s required a ≡ first_failing (frame_rules G s required a)
 unfolding frame_refusal
 frame_word G s required a = refl
 
-module _ (G : Meaning) (s : State) (required : RequiredCapabilities) (requires : Requires s.context required) where
+module _ (G : VerifyFn) (s : State) (required : RequiredCapabilities) (requires : Requires s.context required) where
   -- a frame is judged
   module _ (p : PublicParts) (a : AuthenticatedParts) (same : a ≡ p.auth) where
     word : first_failing (frame_rules G s required p.auth) ≡ frame_refusal G s required a
@@ -33,7 +33,7 @@ module _ (G : Meaning) (s : State) (required : RequiredCapabilities) (requires :
         → OnOk r (frame_refusal G s required a ≡ None)
         → IfOk r (λ taken. after_sender s a a.content.sender ≡ Some (record { taken = taken; state = new }))
         → IfErr r (Refuses (frame_refusal G s required a)) → OnErr r (new ≡ s)
-        → (bytes : List ℕ) → Spells (messages.Public p) bytes → Takes G s bytes r new
+        → (bytes : List ℕ) → EncodesMessage (messages.Public p) bytes → Takes G s bytes r new
     frame_taken (Ok taken) new kept next refused stays bytes spelled = (
       record { message = messages.Public p; spelled = spelled; required = required; requires = requires; kept = word ∙ kept },
       record { message = messages.Public p; spelled = spelled; after = ap (λ (x : AuthenticatedParts). after_sender s x x.content.sender) (sym same) ∙ next },
@@ -48,11 +48,11 @@ module _ (G : Meaning) (s : State) (required : RequiredCapabilities) (requires :
   not_public (messages.GroupInfo g) other = refl
   not_public (messages.KeyPackage k) other = refl
 
-  pub other_refused : (m : Message) → ((p : PublicParts) → m ≢ messages.Public p) → (bytes : List ℕ) → Spells m bytes → Takes G s bytes (Err NotPublic) s
+  pub other_refused : (m : Message) → ((p : PublicParts) → m ≢ messages.Public p) → (bytes : List ℕ) → EncodesMessage m bytes → Takes G s bytes (Err NotPublic) s
   other_refused m other bytes spelled =
       (refl, λ own. inr (record { message = m; spelled = spelled; required = required; requires = requires; fails = not_public m other }))
 
-module _ (G : Meaning) (s : State) (bytes : List ℕ) where
+module _ (G : VerifyFn) (s : State) (bytes : List ℕ) where
   -- the clauses, one by one
   pub is_accepted : (r : Result Taken Refusal) (new : State) → Takes G s bytes r new → OnOk r (IsAcceptable G s bytes)
   is_accepted (Ok taken) new h = h.0

@@ -4,8 +4,8 @@ use Rattle.std.specs.Prelude.{nat_le, if◌then◌else◌}
 use Rattle.std.proofs.lemmas.Option.{none-some, same_Some}
 use Rattle.mls_nodes.specs.Limits.{leaf_limit}
 use Rattle.mls_tree.specs.Tree.{Tree, member_count}
-use Rattle.mls_apply.specs.Outcome.{Grown, grown, after_updates, after_removes, after_adds, new_members, with_members, outcome}
-use Rattle.mls_apply.specs.declared.item.ListItem.{ListItem}
+use Rattle.mls_apply.specs.AppliedList.{Grown, grown, after_updates, after_removes, after_adds, new_members, with_members, outcome}
+use Rattle.mls_apply.specs.declared.list_item.ListItem.{ListItem}
 
 nothing_added : (t : Tree) (g : Grown) (b : Bool) → (if b then Some (grown t []) else None) ≡ Some g → t ≡ g.tree
 nothing_added t g true e = ap (λ (h : Grown). h.tree) (same_Some (grown t []) g e)

@@ -1,5 +1,6 @@
--- Where a follower starts (RFC 9420, 12.4.3.1): eight conditions, in their order. Six are those of any group with its tree
--- (`mls_check`, `specs/GroupTree`), of the context and the tree of a group info.
+-- Where a follower starts (RFC 9420, 12.4.3 and 12.4.3.1): eight conditions, in their order. The first six are those of
+-- a GroupContext with its tree (`mls_check/specs/GroupTree`), for the context and the tree of a GroupInfo. `handed` is
+-- the tree that the caller passes, if there is one. Used by contracts.
 use Rattle.std.specs.Prelude.{◌≡◌, ◌≢◌, ℕ, List, [], Bool, true, false, Option, Some, None}
 use Rattle.mls_nodes.specs.Requirements.{extension_of}
 use Rattle.mls_nodes.specs.declared.extension.Extension.{Extension}
@@ -7,101 +8,102 @@ use Rattle.mls_nodes.specs.declared.leaf.LeafNode.{LeafNode}
 use Rattle.mls_nodes.specs.declared.required_capabilities.RequiredCapabilities.{RequiredCapabilities}
 use Rattle.mls_tree.specs.Tree.{leaf_at}
 use Rattle.mls_tree.specs.RatchetTree.{RatchetTree}
-use Rattle.mls_hash.specs.Hashing.{hash_of}
-use Rattle.mls_check.specs.Signatures.{Meaning, is_signed_text}
-use Rattle.mls_check.specs.GroupTree.{IsFollowed, HasMembers, FailsSuite, FailsRequirements, FailsValid, FailsMembers}
+use Rattle.mls_hash.specs.SuiteHash.{hash_of}
+use Rattle.mls_check.specs.Signatures.{VerifyFn, is_signed_text}
+use Rattle.mls_check.specs.GroupTree.{IsSupportedContext, HasMembers, FailsSuite, FailsRequirements, FailsValid, FailsMembers}
 use Rattle.mls_check.specs.declared.group_tree.GroupTreeFault.{GroupTreeFault}
 use Rattle.mls_check.specs.declared.group_tree.GroupTreeFault.TheVariants as groups
-use Rattle.mls_msgs.specs.Signed.{info_label, info_tbs}
+use Rattle.mls_msgs.specs.Tbs.{info_label, info_tbs}
 use Rattle.mls_msgs.specs.declared.group_info.GroupInfo.{GroupInfo}
 use Rattle.mls_follow.specs.State.{State}
-use Rattle.mls_tree.specs.Reading.{IsTreeOf}
+use Rattle.mls_tree.specs.TreeDecoding.{IsTreeOf}
 use Rattle.mls_follow.specs.Transcript.{interim_hash}
 use Rattle.mls_follow.specs.declared.start_fault.StartFault.{StartFault}
 use Rattle.mls_follow.specs.declared.start_fault.StartFault.TheVariants.{UnsupportedVersion, UnsupportedSuite, NoTree, RequirementsUnreadable, Tree, Member, SignerNotMember, InfoSignature, OutOfMemory}
 
--- the tree of a group info's extension of type 2, where it has one (12.4.3.3)
+-- `IsTreeIn data t`: the data of the extension of type 2 is the encoding of the tree (RFC 9420, 12.4.3.3).
 abbrev pub IsTreeIn : Option (List ℕ) → RatchetTree → Type 0
 IsTreeIn None t = ⊥
 IsTreeIn (Some body) t = IsTreeOf body t
 
--- the tree of a group info: the one handed in, or else the one in the info's first extension of
--- type 2 (12.4.3.3)
+-- `UsesTree handed extensions t`: `t` is the tree that the caller passes, or else the one in the first extension of
+-- type 2 of the GroupInfo (RFC 9420, 12.4.3.3).
 abbrev pub UsesTree : Option RatchetTree → List Extension → RatchetTree → Type 0
 UsesTree (Some handed) extensions t = t ≡ handed
 UsesTree None extensions t = IsTreeIn (extension_of 2 extensions) t
 
--- there is none
+-- `UsesNoTree handed extensions`: there is no such tree.
 abbrev pub UsesNoTree : Option RatchetTree → List Extension → Type 0
 UsesNoTree handed extensions = (t : RatchetTree) → UsesTree handed extensions t → ⊥
 
--- 1 to 6: the version and the suite are followed, there is a tree, the group's requirements can be read, the tree is
--- valid, and its leaves are members: HasMembers, of the context and the trees that the info uses
+-- Conditions 1 to 6: the version and the suite are supported, there is a tree, the required capabilities can be read,
+-- the tree is valid, and its leaf nodes are valid. That is `HasMembers` of the context and the tree of the GroupInfo.
 
--- 7: and the signer's leaf is set (12.4.3)
+-- Condition 7, with those before it: the signer's leaf is non-blank (RFC 9420, 12.4.3).
 pub record HasSigner
-    (G : Meaning) (info : GroupInfo) (handed : Option RatchetTree) (t : RatchetTree)
+    (G : VerifyFn) (info : GroupInfo) (handed : Option RatchetTree) (t : RatchetTree)
     (signer : LeafNode) : Type 0 where
   pub required : RequiredCapabilities
   pub has_members : HasMembers G info.context (UsesTree handed info.extensions) t required
   pub set : leaf_at 0 t.tree info.signer ≡ Some signer
 
--- 8: whether a leaf has signed the group info (12.4.3)
-unfoldable pub is_info_signed : Meaning → GroupInfo → LeafNode → Bool
+-- Condition 8: the signature of the GroupInfo is good under the key of the leaf `x` (RFC 9420, 12.4.3).
+unfoldable pub is_info_signed : VerifyFn → GroupInfo → LeafNode → Bool
 is_info_signed G info x =
     is_signed_text G info.context.cipher_suite x.signature_key info_label (info_tbs info)
     info.signature
 
--- the interim transcript hash of a group info (8.2)
+-- `info_interim info` is the interim transcript hash of a GroupInfo (RFC 9420, 8.2).
 abbrev pub info_interim : GroupInfo → Option (List ℕ)
 info_interim info =
     interim_hash (hash_of info.context.cipher_suite) info.context.confirmed
     (Some info.confirmation_tag)
 
--- the state of a group info, a tree and an interim transcript hash, with no known proposals
-abbrev pub first_state : GroupInfo → RatchetTree → List ℕ → State
-first_state info t interim = record {
+-- `initial_state info t interim` is the state of a GroupInfo, a tree and an interim transcript hash, with no pending
+-- proposals.
+abbrev pub initial_state : GroupInfo → RatchetTree → List ℕ → State
+initial_state info t interim = record {
   context = info.context;
   tree = t.tree;
   interim = interim;
   known = [];
 }
 
--- a follower starts from a group info in this state: all eight conditions hold
+-- `IsStart G info handed s`: a follower starts from the GroupInfo in this state. All eight conditions hold.
 pub record IsStart
-    (G : Meaning) (info : GroupInfo) (handed : Option RatchetTree) (s : State) : Type 0 where
+    (G : VerifyFn) (info : GroupInfo) (handed : Option RatchetTree) (s : State) : Type 0 where
   pub tree : RatchetTree
   pub signer : LeafNode
   pub has_signer : HasSigner G info handed tree signer
   pub signed : is_info_signed G info signer ≡ true
   pub interim : List ℕ
   pub hashed : info_interim info ≡ Some interim
-  pub state : s ≡ first_state info tree interim
+  pub state : s ≡ initial_state info tree interim
 
--- ---- why none does: the first condition that fails
+-- ---- why no follower starts: the first condition that fails
 
--- 3 fails: there is no tree
+-- `FailsTree info handed`: condition 3 fails, there is no tree.
 pub record FailsTree (info : GroupInfo) (handed : Option RatchetTree) : Type 0 where
-  pub followed : IsFollowed info.context
+  pub followed : IsSupportedContext info.context
   pub none : UsesNoTree handed info.extensions
 
--- 7 fails: the signer's leaf isn't set
-pub record FailsSigner (G : Meaning) (info : GroupInfo) (handed : Option RatchetTree) : Type 0 where
+-- `FailsSigner G info handed`: condition 7 fails, the signer's leaf is blank.
+pub record FailsSigner (G : VerifyFn) (info : GroupInfo) (handed : Option RatchetTree) : Type 0 where
   pub tree : RatchetTree
   pub required : RequiredCapabilities
   pub has_members : HasMembers G info.context (UsesTree handed info.extensions) tree required
   pub blank : leaf_at 0 tree.tree info.signer ≡ None
 
--- 8 fails: the signer has not signed the info
+-- `FailsSignature G info handed`: condition 8 fails, the signature of the GroupInfo is not good.
 pub record FailsSignature
-    (G : Meaning) (info : GroupInfo) (handed : Option RatchetTree) : Type 0 where
+    (G : VerifyFn) (info : GroupInfo) (handed : Option RatchetTree) : Type 0 where
   pub tree : RatchetTree
   pub signer : LeafNode
   pub has_signer : HasSigner G info handed tree signer
   pub unsigned : is_info_signed G info signer ≡ false
 
--- what a fault says; want of memory says nothing
-abbrev pub IsStartFault : Meaning → GroupInfo → Option RatchetTree → StartFault → Type 0
+-- `IsStartFault G info handed fault`: the fault is that of the first condition that fails. `OutOfMemory` says nothing.
+abbrev pub IsStartFault : VerifyFn → GroupInfo → Option RatchetTree → StartFault → Type 0
 IsStartFault G info handed UnsupportedVersion = info.context.version ≢ 1
 IsStartFault G info handed UnsupportedSuite = FailsSuite info.context
 IsStartFault G info handed NoTree = FailsTree info handed
@@ -115,34 +117,34 @@ IsStartFault G info handed SignerNotMember = FailsSigner G info handed
 IsStartFault G info handed InfoSignature = FailsSignature G info handed
 IsStartFault G info handed OutOfMemory = Unit {0}
 
--- ---- of a group info whose version and suite are followed, and of a tree
+-- ---- internal: of a GroupInfo whose version and suite are supported, and of a tree
 
--- where the tree is the info's, a follower starts, with this interim transcript hash
-abbrev pub StartsWith : Meaning → GroupInfo → RatchetTree → List ℕ → Type 0
+-- `StartsWith G info t interim`: if the GroupInfo has the tree, a follower starts, with this interim transcript hash.
+abbrev pub StartsWith : VerifyFn → GroupInfo → RatchetTree → List ℕ → Type 0
 StartsWith G info t interim =
     (handed : Option RatchetTree) → UsesTree handed info.extensions t
-    → IsStart G info handed (first_state info t interim)
+    → IsStart G info handed (initial_state info t interim)
 
--- where the tree is the info's, none does, for this fault
-abbrev pub FailsWith : Meaning → GroupInfo → RatchetTree → StartFault → Type 0
+-- `FailsWith G info t fault`: if the GroupInfo has the tree, no follower starts, for this fault.
+abbrev pub FailsWith : VerifyFn → GroupInfo → RatchetTree → StartFault → Type 0
 FailsWith G info t fault =
     (handed : Option RatchetTree) → UsesTree handed info.extensions t
     → IsStartFault G info handed fault
 
--- the signer's leaf is set in the tree and has signed the group info
-pub record IsSignedIn (G : Meaning) (info : GroupInfo) (t : RatchetTree) : Type 0 where
+-- `IsSignedIn G info t`: the signer's leaf is non-blank, and the signature of the GroupInfo is good.
+pub record IsSignedIn (G : VerifyFn) (info : GroupInfo) (t : RatchetTree) : Type 0 where
   pub signer : LeafNode
   pub set : leaf_at 0 t.tree info.signer ≡ Some signer
   pub signed : is_info_signed G info signer ≡ true
 
--- where the leaves of the tree, which is the info's, are members, none starts, for this fault
-abbrev pub FailsSigned : Meaning → GroupInfo → RatchetTree → StartFault → Type 0
+-- `FailsSigned G info t fault`: if the leaf nodes of the tree are valid, no follower starts, for this fault.
+abbrev pub FailsSigned : VerifyFn → GroupInfo → RatchetTree → StartFault → Type 0
 FailsSigned G info t fault =
     (handed : Option RatchetTree) (required : RequiredCapabilities)
     → HasMembers G info.context (UsesTree handed info.extensions) t required
     → IsStartFault G info handed fault
 
--- how a fault of a group's tree is told of a start
+-- `start_fault_of fault` is the same fault of a tree as a `StartFault`.
 abbrev pub start_fault_of : GroupTreeFault → StartFault
 start_fault_of groups.RequirementsUnreadable = RequirementsUnreadable
 start_fault_of (groups.Tree fault) = Tree fault

@@ -1,40 +1,40 @@
 //! The public state of a group, and what an accepted message changes in it.
 
 ghost use Rattle.std.specs.Prelude.{◌≡◌, ◌<◌, Some, IsSome, IsTrue, IfOk, OnErr};
-ghost use Rattle.mls_hash.specs.Hashing.{hash_of};
-ghost use Rattle.mls_tree.specs.KeptTree.{plain};
-ghost use Rattle.mls_tree.specs.TreeHash.{tree_hash};
+ghost use Rattle.mls_hash.specs.SuiteHash.{hash_of};
 ghost use Rattle.mls_msgs.specs.Layout.{is_commit};
-ghost use Rattle.mls_msgs.specs.Signed.{confirmed_input};
+ghost use Rattle.mls_msgs.specs.Tbs.{confirmed_input};
 ghost use Rattle.mls_nodes.specs.Requirements.{Requires, RequiresBy};
 ghost use Rattle.mls_nodes.proofs.RequiredOnce.{Requires-prop};
+ghost use Rattle.mls_apply.specs.Staged.{IsSettled, IsSettled-prop};
 ghost use Rattle.mls_follow.specs.State.{last_epoch};
 ghost use Rattle.mls_follow.specs.Transcript.{confirmed_hash, interim_hash};
 
+use crate::next_extensions::NextExtensions;
 use crate::refusal::Refusal;
 use crate::taken::Taken;
-use crate::terms::Terms;
 use crate::transcript::{confirmed_hash, interim_hash};
-use mls_apply::KnownProposal;
-use mls_hash::{HashFault, Suite, fill_hashes, tree_hash};
+use mls_apply::{KnownProposal, PendingProposals, StagedTree};
+use mls_hash::Suite;
 use mls_msgs::{Authenticated, Proposal};
 use mls_nodes::{GroupContext, RequiredCapabilities};
-use mls_tree::{HashValue, PublicTree};
+use mls_tree::HashValue;
 use mls_wire::{Opaque, copy_of};
 use std::alloc::{AllocError, Global};
 
-/// The public state of a group: its context, its tree, the interim transcript hash and the proposals that are
-/// known in the present epoch; and, once read of these, the cipher suite and what the group requires of its members.
+/// The public state of a group: its context, its tree, the interim transcript hash and the pending proposals; and, read
+/// from these, the cipher suite and what the group requires of its members.
 #[derive(Drop)]
 pub(crate) struct Group {
     pub(crate) context: GroupContext,
-    pub(crate) tree: PublicTree,
+    pub(crate) tree: StagedTree,
     pub(crate) interim: HashValue,
-    pub(crate) known: Vec<KnownProposal>,
+    pub(crate) known: PendingProposals,
     pub(crate) suite: Suite,
     pub(crate) required: RequiredCapabilities,
     ghost same_suite: { suite ≡ context.cipher_suite },
     ghost requires_these: { Requires context required } by { Requires-prop context required },
+    ghost settled: { IsSettled tree } by { IsSettled-prop tree },
 }
 
 /// The transcript hashes after a commit.
@@ -45,10 +45,10 @@ pub(crate) struct Transcript {
 }
 
 impl Group {
-    ghost use Rattle.mls_follow.specs.GroupSeen.{group_state};
-    ghost use Rattle.mls_follow.specs.Next.{after_proposal, committed, with_extensions};
+    ghost use Rattle.mls_follow.specs.GroupModel.{group_state};
+    ghost use Rattle.mls_follow.specs.NextState.{after_proposal, committed, with_extensions};
 
-    /// Knows a proposal under its reference.
+    /// Stores a pending proposal under its reference.
     pub(crate) fn keep(
         &mut self,
         alloc: Global,
@@ -60,18 +60,18 @@ impl Group {
             (group_state self.old) sender proposal.now reference
             ≡ record { taken = taken; state = group_state self.new }) }
         ensures stays { OnErr result (group_state self.new ≡ group_state self.old) }
-        ensures tree { self.new.tree ≡ self.old.tree }
     {
         let proposal = copy_of(alloc, proposal)?;
-        self.known.push(KnownProposal {
+        let known = KnownProposal {
             reference,
             sender,
             proposal,
-        })?;
+        };
+        self.known.push(alloc, known)?;
         Ok(Taken::Proposal(reference))
     }
 
-    /// The transcript hashes after a commit.
+    /// Returns the transcript hashes after a commit.
     pub(crate) fn transcript(
         &self,
         alloc: Global,
@@ -97,13 +97,17 @@ impl Group {
     }
 
     /// Moves to the next epoch, whose tree is in place and has this tree hash, on these terms. It takes no memory.
-    pub(crate) fn enter(&mut self, tree_hash: Opaque, transcript: Transcript, terms: Terms) -> Taken
+    pub(crate) fn enter(
+        &mut self,
+        tree_hash: Opaque,
+        transcript: Transcript,
+        terms: NextExtensions,
+    ) -> Taken
         requires later { self.old.context.epoch < last_epoch }
         requires terms { RequiresBy terms.extensions terms.required }
         ensures next { committed (with_extensions (group_state self.old) terms.extensions)
             self.old.tree.tree tree_hash transcript.confirmed transcript.interim
             ≡ record { taken = result; state = group_state self.new } }
-        ensures tree { self.new.tree ≡ self.old.tree }
     {
         self.context.epoch += 1;
         self.context.extensions = terms.extensions;
@@ -114,42 +118,4 @@ impl Group {
         self.known.clear();
         Taken::Commit(self.context.epoch)
     }
-}
-
-/// Fills the hashes that a tree keeps of its subtrees, so that each is hashed once.
-pub(crate) fn fill(alloc: Global, suite: Suite, tree: &mut PublicTree) -> Result<(), AllocError>
-    ensures tree { tree.new.tree ≡ tree.old.tree }
-    ensures plain { plain tree.new ≡ plain tree.old }
-{
-    match fill_hashes(alloc, suite, tree) {
-        Ok(_) => Ok(()),
-        Err(HashFault::OutOfMemory) => Err(AllocError),
-        Err(_) => unreachable!(),
-    }
-}
-
-/// The tree hash of a tree (RFC 9420, 7.8).
-fn root_hash(alloc: Global, suite: Suite, tree: &PublicTree) -> Result<HashValue, AllocError>
-    ensures { IfOk result (λ hash. tree_hash (hash_of suite) 0 tree.now.tree ≡ Some hash) }
-{
-    match tree_hash(alloc, suite, tree, tree.leaf_count() - 1) {
-        Ok(hash) => Ok(hash),
-        Err(HashFault::OutOfMemory) => Err(AllocError),
-        Err(_) => unreachable!(),
-    }
-}
-
-/// The tree hash of a tree. What is empty of the hashes that it keeps of its subtrees is filled, and nothing else is
-/// hashed.
-pub(crate) fn filled_hash(
-    alloc: Global,
-    suite: Suite,
-    tree: &mut PublicTree,
-) -> Result<Opaque, AllocError>
-    ensures tree { tree.new.tree ≡ tree.old.tree }
-    ensures hash { IfOk result (λ hash. tree_hash (hash_of suite) 0 tree.old.tree ≡ Some hash) }
-{
-    fill(alloc, suite, tree)?;
-    let root = root_hash(alloc, suite, tree)?;
-    root.to_opaque(alloc)
 }

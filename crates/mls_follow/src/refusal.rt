@@ -5,114 +5,111 @@ use mls_check::{MemberFault, OutOfMemory};
 use std::alloc::{AllocError, AllocFailed};
 use thiserror::Error;
 
-/// Why a message is refused: the first rule, in this order, that it fails. For a commit the rules for the
-/// proposals in it, [`Refusal::AddInvalid`] to [`Refusal::RemoveInvalid`] and then
-/// [`Refusal::ContextExtensionsInvalid`], stand between [`Refusal::UnknownReference`] and
-/// [`Refusal::UpdateByCommitter`], and [`Refusal::TwoContextExtensions`] before [`Refusal::PathMissing`]. For a
-/// proposal [`Refusal::ContextExtensionsInvalid`] stands beside [`Refusal::RemoveInvalid`].
+/// Why a message is refused: the first rule that it fails. docs/FORMATS.md has the rules in their order. The variants
+/// are in the order of their numbers.
 #[derive(Clone, Copy, Debug, PartialEq, Eq, Error)]
 pub enum Refusal {
-    /// The bytes spell no message, or are more than 268,435,456 (RFC 9420, 6).
+    /// The bytes are the encoding of no message, or more than 268,435,456 (RFC 9420, 6).
     #[error("the bytes spell no message")]
     Malformed,
-    /// The message is no public message: it is of another wire format than 1 (RFC 9420, 6.2).
+    /// The message is not a PublicMessage: its wire format is not 1 (RFC 9420, 6.2).
     #[error("the message is not in the open")]
     NotPublic,
-    /// The message's group id is another one than the context's (RFC 9420, 6.1).
+    /// The message's group id is not that of the GroupContext (RFC 9420, 6.1).
     #[error("the message is of another group")]
     WrongGroup,
-    /// The message's epoch is another one than the present one (RFC 9420, 6.1).
+    /// The message's epoch is not the current one (RFC 9420, 6.1).
     #[error("the message is of another epoch")]
     WrongEpoch,
-    /// No member sent it, or the sender's leaf isn't set (RFC 9420, 6.1). External senders and new members
-    /// are not followed.
+    /// The sender is not a member, or its leaf is blank (RFC 9420, 6.1). Messages of external senders and new members
+    /// are refused.
     #[error("the sender is no member")]
     SenderNotMember,
-    /// The message has an application's data, which is never sent in the open (RFC 9420, 6.2).
+    /// The content is application data, which is never sent as a PublicMessage (RFC 9420, 6.2).
     #[error("the message is no proposal and no commit")]
     NotHandshake,
-    /// The signature over the message and the present context isn't good under the key of the sender's
-    /// present leaf (RFC 9420, 6.1).
+    /// The signature over the message and the current GroupContext is not good under the key of the sender's leaf
+    /// (RFC 9420, 6.1).
     #[error("the message's signature is not good")]
     BadSignature,
-    /// A proposal whose reference is known in this epoch already (RFC 9420, 5.2).
+    /// A proposal that is pending already, by its reference (RFC 9420, 5.2; own rule).
     #[error("the proposal is known")]
-    AlreadyKnown,
-    /// An added key package isn't valid (RFC 9420, 12.1.1): it is of another version or cipher suite than the
-    /// group, its leaf isn't meant for a key package, its key is the leaf's, or one of its two signatures
-    /// isn't good.
+    KnownProposal,
+    /// The KeyPackage of an Add is not valid (RFC 9420, 10.1 and 12.1.1): it is of another version or cipher suite than
+    /// the group, the source of its leaf node is not key_package, its init key is the leaf's encryption key, or one of
+    /// its two signatures is not good.
     #[error("an added key package is not valid")]
     AddInvalid,
-    /// A leaf that replaces its sender's isn't valid (RFC 9420, 12.1.2): it isn't meant for an update, keeps
-    /// the present encryption key, or its signature isn't good.
+    /// The leaf node of an Update is not valid (RFC 9420, 7.3 and 12.1.2): its source is not update, it has the
+    /// encryption key of the sender's current leaf, or its signature is not good.
     #[error("an updated leaf is not valid")]
     UpdateInvalid,
-    /// A leaf that is to be removed isn't set (RFC 9420, 12.1.3).
+    /// The leaf of a Remove is blank (RFC 9420, 12.1.3).
     #[error("a removed leaf is not set")]
     RemoveInvalid,
-    /// A commit in epoch 18,446,744,073,709,551,615, which has no next one.
+    /// A commit in epoch 18,446,744,073,709,551,615, the largest that a GroupContext can hold (RFC 9420, 8.1; own
+    /// rule).
     #[error("the epoch is the last one")]
     LastEpoch,
-    /// A commit refers to a proposal that isn't known in this epoch (RFC 9420, 12.4).
+    /// A commit refers to a proposal that is not pending (RFC 9420, 12.4).
     #[error("a proposal is not known")]
     UnknownReference,
-    /// A commit's list has an Update of the committer's own leaf (RFC 9420, 12.2).
+    /// The proposal list of a commit has an Update of the committer's leaf (RFC 9420, 12.2).
     #[error("the committer updates its own leaf")]
     UpdateByCommitter,
-    /// A commit's list removes the committer (RFC 9420, 12.2).
+    /// The proposal list of a commit removes the committer (RFC 9420, 12.2).
     #[error("the committer is removed")]
     RemovesCommitter,
-    /// Two Updates or Removes of a commit's list concern one leaf (RFC 9420, 12.2).
+    /// Two Updates or Removes of a proposal list apply to one leaf (RFC 9420, 12.2).
     #[error("two proposals concern one leaf")]
     SameLeafTwice,
-    /// A commit without a path, though its list is empty, has an Update or a Remove, or brings extensions to
-    /// the context (RFC 9420, 12.4).
+    /// A commit has no path, and its list is empty or has an Update, a Remove or a GroupContextExtensions (RFC 9420,
+    /// 12.4).
     #[error("a path is missing")]
     PathMissing,
-    /// The group would get more than 1,048,576 members, or a list of unmerged leaves more than 1,048,576 entries.
+    /// The group would have more than 1,048,576 members, or an unmerged list more than 1,048,576 entries (own limits).
     #[error("a tree has at most 1,048,576 leaves")]
     TooManyLeaves,
-    /// A path has another number of nodes than the committer's filtered direct path (RFC 9420, 7.6).
+    /// The number of nodes of a path is not that of the committer's filtered direct path (RFC 9420, 7.6).
     #[error("a path has another number of nodes than the filtered direct path")]
     PathLength,
-    /// A path's leaf isn't meant for a commit (RFC 9420, 7.2).
+    /// The source of a path's leaf node is not commit (RFC 9420, 7.3 and 12.4.2).
     #[error("the leaf of a path is not meant for a commit")]
     PathSource,
-    /// A key of a path stands in the tree already, or twice in the path (RFC 9420, 12.4.2).
+    /// A key of a path is in the tree, or twice in the path (RFC 9420, 12.4.2).
     #[error("a key of a path is used already")]
     PathKeyUsed,
-    /// A path's node has another number of ciphertexts than the resolution that it is for has nodes, without
-    /// the leaves that the commit adds (RFC 9420, 7.6).
+    /// The number of ciphertexts of a path node is not that of the nodes of its resolution, without the leaves that the
+    /// commit adds (RFC 9420, 7.6).
     #[error("a node of a path has another number of ciphertexts than its resolution")]
     CiphertextCount,
-    /// The parent hash in a path's leaf isn't the one expected (RFC 9420, 7.9).
+    /// The parent hash of a path's leaf node is not the expected one (RFC 9420, 7.9.2).
     #[error("the parent hash of a path's leaf is not the one expected")]
     PathParentHash,
-    /// Two nodes of the tree after a commit have one encryption key (RFC 9420, 7.3).
+    /// Two nodes of the tree after a commit have one encryption key (RFC 9420, 7.3 and 12.4.3.1).
     #[error("two nodes have one encryption key")]
     KeyRepeated,
-    /// The leaves of the tree after a commit are no members of the group, for this fault (RFC 9420, 7.3). They
-    /// are judged by what the context requires after the commit.
+    /// A leaf node of the tree after a commit is not valid, for this fault (RFC 9420, 7.3). It is checked under what
+    /// the context requires after the commit.
     #[error("{0}")]
     Member(MemberFault),
-    /// Two proposals of a commit's list bring extensions to the context (RFC 9420, 12.2).
+    /// A proposal list has two GroupContextExtensions proposals (RFC 9420, 12.2).
     #[error("two proposals bring extensions to the context")]
     TwoContextExtensions,
-    /// What the extensions that a proposal brings to the context require of members can't be read (RFC 9420,
-    /// 11.1 and 12.1.7).
+    /// The required capabilities of a GroupContextExtensions proposal cannot be read (RFC 9420, 11.1 and 12.1.7).
     #[error("the extensions brought to the context can't be read")]
     ContextExtensionsInvalid,
-    /// An allocation was refused. It says nothing of the message.
+    /// An allocation failed. It says nothing of the message.
     #[error("out of memory")]
     OutOfMemory,
 }
 
 impl Refusal {
     ghost use Rattle.std.specs.Prelude.{◌≡◌};
-    ghost use Rattle.mls_follow.specs.Numbers.{number_of};
+    ghost use Rattle.mls_follow.specs.RefusalNumbers.{number_of};
 
-    /// The number by which reports name the refusal: 0 for want of memory, else that of the rule in the order
-    /// above, from 1 on.
+    /// Returns the number by which reports name the refusal: 0 for `OutOfMemory`, else from 1 on in the order of the
+    /// variants.
     pub fn number(&self) -> u8
         ensures { result ≡ number_of self.now }
     {
@@ -125,7 +122,7 @@ impl Refusal {
             Refusal::SenderNotMember => 5,
             Refusal::NotHandshake => 6,
             Refusal::BadSignature => 7,
-            Refusal::AlreadyKnown => 8,
+            Refusal::KnownProposal => 8,
             Refusal::AddInvalid => 9,
             Refusal::UpdateInvalid => 10,
             Refusal::RemoveInvalid => 11,
@@ -184,7 +181,7 @@ impl From<OutOfMemory> for Refusal {
 
 impl From<MemberFault> for Refusal {
     ghost use Rattle.std.specs.Prelude.{◌≡◌};
-    ghost use Rattle.mls_follow.specs.Rules.{member_refusal};
+    ghost use Rattle.mls_follow.specs.MessageRules.{member_refusal};
 
     ghost from_gives = { λ fault e. e ≡ member_refusal fault };
 
@@ -198,7 +195,7 @@ impl From<MemberFault> for Refusal {
 
 impl From<ApplyFault> for Refusal {
     ghost use Rattle.std.specs.Prelude.{◌≡◌};
-    ghost use Rattle.mls_follow.specs.Rules.{refusal_of};
+    ghost use Rattle.mls_follow.specs.MessageRules.{refusal_of};
 
     ghost from_gives = { λ fault e. e ≡ refusal_of fault };
 

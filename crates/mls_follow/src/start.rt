@@ -1,57 +1,68 @@
 //! What a follower starts from (RFC 9420, 12.4.3.1).
 
-ghost use Rattle.std.specs.Prelude.{◌≡◌, ◌≢◌, ◌↔◌, ℕ, List, Option, None, Some, Err, IfOk, IfErr, OnOk, OnErr};
-ghost use Rattle.mls_check.specs.Signatures.{Meaning};
-ghost use Rattle.mls_tree.specs.KeptTree.{plain};
+ghost use Rattle.std.specs.Prelude.{◌≡◌, ◌≢◌, ◌↔◌, ℕ, List, Option, None, Some, Err, IfOk, IfErr, OnOk, OnErr, IsErrAnd, option_map};
+ghost use Rattle.mls_check.specs.Signatures.{VerifyFn};
+ghost use Rattle.mls_tree.specs.PublicTreeModel.{plain};
 ghost use Rattle.mls_tree.specs.RatchetTree.{RatchetTree};
 ghost use Rattle.mls_nodes.specs.Requirements.{extension_of, Requires};
-ghost use Rattle.mls_check.specs.GroupTree.{IsFollowed, HasMembers, FailsSuite};
-ghost use Rattle.mls_index.specs.TreeIndex.{IsIndexOf};
-ghost use Rattle.mls_follow.specs.Start.{UsesTree, UsesNoTree, IsStart, IsStartFault, StartsWith, FailsWith, IsSignedIn, FailsSigned, first_state, info_interim, is_info_signed};
+ghost use Rattle.mls_check.specs.GroupTree.{IsSupportedContext, HasMembers, FailsSuite};
+ghost use Rattle.mls_apply.specs.Staged.{IsSettled};
+ghost use Rattle.mls_follow.specs.CommitTree.{state_in};
+ghost use Rattle.mls_follow.specs.Start.{UsesTree, UsesNoTree, IsStart, IsStartFault, StartsWith, FailsWith, IsSignedIn, FailsSigned, info_interim, is_info_signed};
 
-use crate::group::fill;
 use crate::start_fault::StartFault;
 use crate::transcript::interim_hash;
+use mls_apply::StagedTree;
 use mls_check::{OutOfMemory, SignatureCheck, signed, validate_group_tree};
-use mls_hash::Suite;
-use mls_index::TreeIndex;
+use mls_hash::{HashFault, Suite, fill_hashes};
 use mls_msgs::{GROUP_INFO_LABEL, GroupInfo, info_tbs};
 use mls_nodes::{LeafNode, NodeFault, RequiredCapabilities, find_extension};
 use mls_tree::{HashValue, PublicTree};
 use mls_wire::CodecFault;
-use std::alloc::Global;
+use std::alloc::{AllocError, Global};
 
-/// The type of the extension that holds a ratchet tree (RFC 9420, 12.4.3.3).
+/// The extension type of a ratchet_tree (RFC 9420, 12.4.3.3).
 const RATCHET_TREE: u16 = 2;
 
-/// A refused start, with all that was handed in, as it was, but for the hashes that the tree keeps of its subtrees.
+/// A refused start, with all arguments as they were. Only slots of the tree's hash cache may have been filled.
 #[derive(Drop)]
 pub struct StartRefused<C> {
-    /// The first check that failed.
+    /// The first condition that failed.
     pub fault: StartFault,
-    /// The group info.
+    /// The GroupInfo.
     pub info: GroupInfo,
-    /// The tree, where one was handed in.
+    /// The tree, if one was passed.
     pub tree: Option<PublicTree>,
-    /// The checker of signatures.
+    /// The checker.
     pub checker: C,
 }
 
-/// What is found of a group info and a tree that a follower starts from, and the tree's index.
+/// What is found of a GroupInfo and a tree from which a follower starts.
 #[derive(Drop)]
 pub(crate) struct Judged {
     pub(crate) required: RequiredCapabilities,
     pub(crate) interim: HashValue,
-    pub(crate) index: TreeIndex,
 }
 
-/// The cipher suite of a group info whose version and suite are followed.
-pub(crate) fn followed_suite(info: &GroupInfo) -> Result<Suite, StartFault>
-    ensures followed { OnOk result (IsFollowed info.now.context) }
+/// Fills the hash cache of a tree, so that each subtree is hashed once.
+fn fill(alloc: Global, suite: Suite, tree: &mut PublicTree) -> Result<(), AllocError>
+    ensures tree { tree.new.tree ≡ tree.old.tree }
+    ensures plain { plain tree.new ≡ plain tree.old }
+{
+    match fill_hashes(alloc, suite, tree) {
+        Ok(_) => Ok(()),
+        Err(HashFault::OutOfMemory) => Err(AllocError),
+        Err(_) => unreachable!(),
+    }
+}
+
+/// Returns the cipher suite of a GroupInfo whose version and suite are supported.
+pub(crate) fn supported_suite(info: &GroupInfo) -> Result<Suite, StartFault>
+    ensures followed { OnOk result (IsSupportedContext info.now.context) }
     ensures suite { IfOk result (λ suite. suite ≡ info.now.context.cipher_suite) }
-    ensures refused { IfErr result (λ e. (G : Meaning) (handed : Option RatchetTree)
+    ensures refused { IfErr result (λ e. (G : VerifyFn) (handed : Option RatchetTree)
         → IsStartFault G info.now handed e) }
-    ensures unfollowed { OnErr result (¬ IsFollowed info.now.context) }
+    ensures unfollowed { OnErr result (¬ IsSupportedContext info.now.context) }
     ensures unsupported_version { (result ≡ Err StartFault.UnsupportedVersion)
         ↔ (info.now.context.version ≢ 1) }
     ensures unsupported_suite { (result ≡ Err StartFault.UnsupportedSuite) ↔ FailsSuite info.now.context }
@@ -65,8 +76,11 @@ pub(crate) fn followed_suite(info: &GroupInfo) -> Result<Suite, StartFault>
     }
 }
 
-/// The tree in a group info's first extension of type 2 (RFC 9420, 12.4.3.3): `NoTree` where there is none that can be
-/// read, but for want of memory.
+/// Returns the tree in a GroupInfo's first extension of type 2 (RFC 9420, 12.4.3.3).
+///
+/// # Errors
+///
+/// `NoTree` if and only if there is none that can be read, or `OutOfMemory`.
 pub fn tree_in(alloc: Global, info: &GroupInfo) -> Result<PublicTree, StartFault>
     ensures tree { IfOk result (λ t. UsesTree None info.now.extensions (plain t)) }
     ensures none { IfErr result (λ e. e ≢ StartFault.OutOfMemory → (e ≡ StartFault.NoTree)
@@ -84,7 +98,7 @@ pub fn tree_in(alloc: Global, info: &GroupInfo) -> Result<PublicTree, StartFault
     }
 }
 
-/// Whether a leaf has signed the group info.
+/// Returns whether the signature of the GroupInfo is good under the key of a leaf.
 #[tactic(auto, unfolding(crate::specs::Start::is_info_signed))]
 fn is_info_signed<C: SignatureCheck>(
     alloc: Global,
@@ -111,7 +125,7 @@ fn is_info_signed<C: SignatureCheck>(
     )
 }
 
-/// Whether the leaf of a group info's signer is set and has signed it.
+/// Checks that the leaf of a GroupInfo's signer is non-blank and has signed it.
 fn check_signer<C: SignatureCheck>(
     alloc: Global,
     info: &GroupInfo,
@@ -130,16 +144,16 @@ fn check_signer<C: SignatureCheck>(
     Ok(())
 }
 
-/// What the group of an info that is followed requires, where the tree is the group's and its leaves are members. The
-/// hashes that the tree keeps of its subtrees are filled before.
-fn judged_tree<C: SignatureCheck>(
+/// Returns what the group of a supported GroupInfo requires, if the tree is valid for its context and its leaf nodes
+/// are valid. Fills the hash cache of the tree first.
+fn validated_requirements<C: SignatureCheck>(
     alloc: Global,
     suite: Suite,
     info: &GroupInfo,
     tree: &mut PublicTree,
     checker: &C,
 ) -> Result<RequiredCapabilities, StartFault>
-    requires followed { IsFollowed info.now.context }
+    requires followed { IsSupportedContext info.now.context }
     requires suite_of_context { suite ≡ info.now.context.cipher_suite }
     ensures tree { plain tree.new ≡ plain tree.old }
     ensures members { IfOk result (HasMembers (C.meaning checker.now) info.now.context
@@ -153,52 +167,44 @@ fn judged_tree<C: SignatureCheck>(
     }
 }
 
-/// The interim transcript hash of a group info that its signer has signed, and the index of the tree.
-fn judged_interim<C: SignatureCheck>(
+/// Returns the interim transcript hash of a GroupInfo that its signer has signed.
+fn verified_interim_hash<C: SignatureCheck>(
     alloc: Global,
     suite: Suite,
     info: &GroupInfo,
     tree: &PublicTree,
     checker: &C,
-) -> Result<(HashValue, TreeIndex), StartFault>
+) -> Result<HashValue, StartFault>
     requires suite_of_context { suite ≡ info.now.context.cipher_suite }
     ensures signed { OnOk result (IsSignedIn (C.meaning checker.now) info.now (plain tree.now)) }
-    ensures hashed { IfOk result (λ found. info_interim info.now ≡ Some found.0) }
-    ensures indexed { IfOk result (λ found. IsIndexOf tree.now.tree found.1) }
+    ensures hashed { IfOk result (λ interim. info_interim info.now ≡ Some interim) }
     ensures refused { IfErr result (FailsSigned (C.meaning checker.now) info.now (plain tree.now)) }
 {
     check_signer(alloc, info, tree, checker)?;
     let confirmed = info.context.confirmed.as_slice();
-    let interim = interim_hash(alloc, suite, confirmed, &info.confirmation_tag)?;
-    let index = TreeIndex::of(alloc, tree)?;
-    Ok((interim, index))
+    Ok(interim_hash(alloc, suite, confirmed, &info.confirmation_tag)?)
 }
 
-/// What is found of a group info that is followed, where a follower starts with this tree: the tree is judged as the
-/// group's, and its leaves as members, and then the info's signature. The tree is indexed at last.
-pub(crate) fn judge<C: SignatureCheck>(
+/// Returns what is found of a supported GroupInfo and a tree from which a follower starts. Checks the tree, then its
+/// leaf nodes, then the signature of the GroupInfo.
+fn judge<C: SignatureCheck>(
     alloc: Global,
     suite: Suite,
     info: &GroupInfo,
     tree: &mut PublicTree,
     checker: &C,
 ) -> Result<Judged, StartFault>
-    requires followed { IsFollowed info.now.context }
+    requires followed { IsSupportedContext info.now.context }
     requires suite_of_context { suite ≡ info.now.context.cipher_suite }
     ensures tree { plain tree.new ≡ plain tree.old }
     ensures required { IfOk result (λ judged. Requires info.now.context judged.required) }
     ensures started { IfOk result (λ judged. StartsWith
         (C.meaning checker.now) info.now (plain tree.old) judged.interim) }
-    ensures indexed { IfOk result (λ judged. IsIndexOf tree.new.tree judged.index) }
     ensures refused { IfErr result (FailsWith (C.meaning checker.now) info.now (plain tree.old)) }
 {
-    let required = judged_tree(alloc, suite, info, tree, checker)?;
-    match judged_interim(alloc, suite, info, tree, checker) {
-        Ok((interim, index)) => Ok(Judged {
-            required,
-            interim,
-            index,
-        }),
+    let required = validated_requirements(alloc, suite, info, tree, checker)?;
+    match verified_interim_hash(alloc, suite, info, tree, checker) {
+        Ok(interim) => Ok(Judged { required, interim }),
         Err(fault) => {
             drop(required);
             Err(fault)
@@ -206,29 +212,91 @@ pub(crate) fn judge<C: SignatureCheck>(
     }
 }
 
-/// The same of the tree in the group info, with that tree.
-pub(crate) fn judge_own<C: SignatureCheck>(
+/// Does the same with a tree that is passed, and indexes it last. On error the tree is returned.
+fn check_tree<C: SignatureCheck>(
+    alloc: Global,
+    suite: Suite,
+    info: &GroupInfo,
+    mut tree: PublicTree,
+    checker: &C,
+) -> Result<(StagedTree, Judged), (StartFault, PublicTree)>
+    requires followed { IsSupportedContext info.now.context }
+    requires suite_of_context { suite ≡ info.now.context.cipher_suite }
+    ensures tree { IfOk result (λ found. found.0.tree ≡ tree.tree) }
+    ensures settled { IfOk result (λ found. IsSettled found.0) }
+    ensures required { IfOk result (λ found. Requires info.now.context found.1.required) }
+    ensures started { IfOk result (λ found. StartsWith
+        (C.meaning checker.now) info.now (plain tree) found.1.interim) }
+    ensures refused { IfErr result (λ r. FailsWith (C.meaning checker.now) info.now (plain tree) r.0) }
+    ensures handed_back { IfErr result (λ r. plain r.1 ≡ plain tree) }
+{
+    match judge(alloc, suite, info, &mut tree, checker) {
+        Ok(judged) => match StagedTree::of(alloc, tree) {
+            Ok(tree) => Ok((tree, judged)),
+            Err(tree) => {
+                drop(judged);
+                Err((StartFault::OutOfMemory, tree))
+            }
+        },
+        Err(fault) => Err((fault, tree)),
+    }
+}
+
+/// Does the same with the tree in the GroupInfo.
+fn check_embedded_tree<C: SignatureCheck>(
     alloc: Global,
     suite: Suite,
     info: &GroupInfo,
     checker: &C,
-) -> Result<(PublicTree, Judged), StartFault>
-    requires followed { IsFollowed info.now.context }
+) -> Result<(StagedTree, Judged), StartFault>
+    requires followed { IsSupportedContext info.now.context }
     requires suite_of_context { suite ≡ info.now.context.cipher_suite }
+    ensures settled { IfOk result (λ found. IsSettled found.0) }
     ensures required { IfOk result (λ found. Requires info.now.context found.1.required) }
     ensures started { IfOk result (λ found. IsStart (C.meaning checker.now) info.now None
-        (first_state info.now (plain found.0) found.1.interim)) }
-    ensures indexed { IfOk result (λ found. IsIndexOf found.0.tree found.1.index) }
+        (state_in info.now found.0.tree found.1.interim)) }
     ensures refused { IfErr result (IsStartFault (C.meaning checker.now) info.now None) }
     ensures no_extension { extension_of 2 info.now.extensions ≡ None
         → result ≡ Err StartFault.NoTree }
 {
-    let mut tree = tree_in(alloc, info)?;
-    match judge(alloc, suite, info, &mut tree, checker) {
-        Ok(judged) => Ok((tree, judged)),
-        Err(fault) => {
+    let tree = tree_in(alloc, info)?;
+    match check_tree(alloc, suite, info, tree, checker) {
+        Ok(found) => Ok(found),
+        Err((fault, tree)) => {
             drop(tree);
             Err(fault)
         }
+    }
+}
+
+/// Does the same with the tree that is passed, or else with the one in the GroupInfo. On error returns what was passed.
+pub(crate) fn check_start<C: SignatureCheck>(
+    alloc: Global,
+    suite: Suite,
+    info: &GroupInfo,
+    tree: Option<PublicTree>,
+    checker: &C,
+) -> Result<(StagedTree, Judged), (StartFault, Option<PublicTree>)>
+    requires followed { IsSupportedContext info.now.context }
+    requires suite_of_context { suite ≡ info.now.context.cipher_suite }
+    ensures settled { IfOk result (λ found. IsSettled found.0) }
+    ensures required { IfOk result (λ found. Requires info.now.context found.1.required) }
+    ensures started { IfOk result (λ found. IsStart (C.meaning checker.now) info.now
+        (option_map plain tree) (state_in info.now found.0.tree found.1.interim)) }
+    ensures refused { IfErr result (λ r. IsStartFault (C.meaning checker.now) info.now
+        (option_map plain tree) r.0) }
+    ensures handed_back { IfErr result (λ r. option_map plain r.1 ≡ option_map plain tree) }
+    ensures no_extension { tree ≡ None → extension_of 2 info.now.extensions ≡ None
+        → IsErrAnd result (λ r. r.0 ≡ StartFault.NoTree) }
+{
+    match tree {
+        Some(tree) => match check_tree(alloc, suite, info, tree, checker) {
+            Ok(found) => Ok(found),
+            Err((fault, tree)) => Err((fault, Some(tree))),
+        },
+        None => match check_embedded_tree(alloc, suite, info, checker) {
+            Ok(found) => Ok(found),
+            Err(fault) => Err((fault, None)),
+        },
     }
 }

@@ -1,48 +1,48 @@
-//! Why a group can't be followed from a group info (RFC 9420, 12.4.3.1).
+//! Why no follower starts from a GroupInfo (RFC 9420, 12.4.3.1).
 
 use mls_check::{GroupTreeFault, MemberFault, OutOfMemory, TreeFault};
 use std::alloc::AllocError;
 use thiserror::Error;
 
-/// Why a group can't be followed from a group info: the first check that fails, in this order.
+/// Why no follower starts from a GroupInfo: the first condition that fails, in this order.
 #[derive(Clone, Copy, Debug, PartialEq, Eq, Error)]
 pub enum StartFault {
-    /// The group's version isn't 1 (RFC 9420, 6).
+    /// The group's version is not 1 (RFC 9420, 6).
     #[error("the version is not followed")]
     UnsupportedVersion,
-    /// The group's cipher suite isn't one from 1 to 7 (RFC 9420, 17.1).
+    /// The group's cipher suite is not one from 1 to 7 (RFC 9420, 17.1).
     #[error("the cipher suite is not followed")]
     UnsupportedSuite,
-    /// No tree was handed in, and the info has no extension of type 2, or the first one can't be read (RFC
-    /// 9420, 12.4.3.3).
+    /// No tree was passed, and the GroupInfo has no extension of type 2, or the first one cannot be read (RFC 9420,
+    /// 12.4.3.3).
     #[error("there is no tree")]
     NoTree,
-    /// The group's required capabilities can't be read (RFC 9420, 11.1).
+    /// The group's required capabilities cannot be read (RFC 9420, 11.1).
     #[error("the required capabilities can't be read")]
     RequirementsUnreadable,
-    /// The tree isn't valid, for this fault (RFC 9420, 7.9.2 and 12.4.3.1).
+    /// The tree is not valid, for this fault (RFC 9420, 7.9.2 and 12.4.3.1).
     #[error("{0}")]
     Tree(TreeFault),
-    /// The tree's leaves are no members of the group, for this fault (RFC 9420, 7.3).
+    /// A leaf node of the tree is not valid, for this fault (RFC 9420, 7.3).
     #[error("{0}")]
     Member(MemberFault),
-    /// The signer's leaf isn't set (RFC 9420, 12.4.3).
+    /// The signer's leaf is blank (RFC 9420, 12.4.3).
     #[error("the signer is no member")]
     SignerNotMember,
-    /// The signer has not signed the group info (RFC 9420, 12.4.3).
+    /// The signature of the GroupInfo is not good (RFC 9420, 12.4.3).
     #[error("the group info's signature is not good")]
     InfoSignature,
-    /// An allocation was refused. It says nothing of the group info.
+    /// An allocation failed. It says nothing of the GroupInfo.
     #[error("out of memory")]
     OutOfMemory,
 }
 
 impl StartFault {
     ghost use Rattle.std.specs.Prelude.{◌≡◌};
-    ghost use Rattle.mls_follow.specs.Numbers.{start_number_of};
+    ghost use Rattle.mls_follow.specs.RefusalNumbers.{start_number_of};
 
-    /// The number by which reports name the fault: 0 for want of memory, else that of the check in the order
-    /// above, from 1 on.
+    /// Returns the number by which reports name the fault: 0 for `OutOfMemory`, else from 1 on in the order of the
+    /// variants.
     pub fn number(&self) -> u8
         ensures { result ≡ start_number_of self.now }
     {

@@ -1,247 +1,237 @@
-//! How a group takes what one of its members has sent.
+//! How a group processes what one of its members has sent.
 
-ghost use Rattle.std.specs.Prelude.{◌≡◌, ◌<◌, ℕ, List, Some, None, IsSome, IsTrue, IfOk, IfErr, OnOk, OnErr, is_some, option_and_then};
+ghost use Rattle.std.specs.Prelude.{◌≡◌, ◌<◌, ℕ, List, Some, None, IsSome, IsTrue, IfOk, IfErr, OnOk, OnErr, option_and_then};
 ghost use Rattle.mls_nodes.specs.Requirements.{RequiresBy};
 ghost use Rattle.mls_tree.specs.Tree.{leaf_at};
 ghost use Rattle.mls_msgs.specs.Layout.{is_commit};
-ghost use Rattle.mls_msgs.specs.Signed.{confirmed_input};
-ghost use Rattle.mls_msgs.specs.declared.frame.Content.TheVariants as contents;
-ghost use Rattle.mls_hash.specs.Hashing.{hash_of};
-ghost use Rattle.mls_apply.specs.Extensions.{brought, new_extensions};
-ghost use Rattle.mls_apply.specs.ListRules.{list_refusal};
-ghost use Rattle.mls_apply.specs.Outcome.{outcome};
-ghost use Rattle.mls_apply.specs.Rules.{first_failing};
-ghost use Rattle.mls_index.specs.TreeIndex.{IsIndexOf};
-ghost use Rattle.mls_follow.specs.Changing.{changed_tree};
-ghost use Rattle.mls_follow.specs.GroupSeen.{group_state};
-ghost use Rattle.mls_follow.specs.Judged.{IsJudged};
-ghost use Rattle.mls_follow.specs.Rules.{frame_refusal, handshake_refusal, outcome_rules, required_after, rules_under, reference_of};
-ghost use Rattle.mls_follow.specs.Next.{after_content, after_sender, after_tree, with_extensions};
-ghost use Rattle.mls_follow.specs.State.{IsInput, Spells, last_epoch};
-ghost use Rattle.mls_follow.specs.Judging.{Refuses};
+ghost use Rattle.mls_msgs.specs.Tbs.{confirmed_input};
+ghost use Rattle.mls_msgs.specs.declared.framed_content.Content.TheVariants as contents;
+ghost use Rattle.mls_hash.specs.SuiteHash.{hash_of};
+ghost use Rattle.mls_apply.specs.ContextExtensions.{brought, new_extensions};
+ghost use Rattle.mls_apply.specs.AppliedList.{outcome};
+ghost use Rattle.mls_apply.specs.RuleLists.{first_failing};
+ghost use Rattle.mls_follow.specs.CommitTree.{changed_tree};
+ghost use Rattle.mls_follow.specs.GroupModel.{group_state, with_known};
+ghost use Rattle.mls_follow.specs.FollowerInvariant.{IsJudged};
+ghost use Rattle.mls_follow.specs.MessageRules.{frame_refusal, handshake_refusal, outcome_rules, required_after, rules_under, reference_of};
+ghost use Rattle.mls_follow.specs.NextState.{after_content, after_sender, after_tree, with_extensions};
+ghost use Rattle.mls_follow.specs.State.{HasEncoding, EncodesMessage, last_epoch};
+ghost use Rattle.mls_follow.specs.Acceptance.{Refuses};
 ghost use Rattle.mls_follow.specs.Runs.{Takes};
 
-use crate::commit::{change_tree, check_items};
-use crate::frame::check_frame;
+use crate::changed_tree_check::TreeRules;
+use crate::commit_changes::{check_items, stage_commit};
+use crate::framed_content_rules::check_frame;
 use crate::group::Group;
-use crate::judging::judge_change;
-use crate::offer::check_offer;
+use crate::next_extensions::{NextExtensions, next_extensions_after};
+use crate::proposal_message::check_proposal_message;
 use crate::refusal::Refusal;
+use crate::resolved::{MemberMessage, ReceivedCommit, ResolvedCommit};
 use crate::taken::Taken;
-use crate::terms::{Terms, terms_after};
-use mls_apply::ListItem;
+use mls_apply::PendingProposals;
 use mls_check::SignatureCheck;
-use mls_index::TreeIndex;
-use mls_msgs::{Authenticated, Commit, Content, Message, Proposal, UpdatePath};
-use mls_tree::Journal;
+use mls_msgs::{Authenticated, Commit, Content, Message, Proposal};
 use std::alloc::Global;
+use std::mem::replace;
 
 impl Group {
-    /// Takes a proposal that a member has sent and signed.
-    #[tactic(auto, unfolding(crate::specs::Rules::handshake_refusal))]
+    /// Processes a proposal that a member has sent and signed.
+    #[tactic(auto, unfolding(crate::specs::MessageRules::handshake_refusal))]
     fn take_proposal<C: SignatureCheck>(
         &mut self,
         alloc: Global,
         checker: &C,
-        auth: &Authenticated,
-        sender: u32,
+        message: &MemberMessage<'_>,
         proposal: &Proposal,
     ) -> Result<Taken, Refusal>
-        requires member { IsSome (leaf_at 0 self.old.tree.tree sender) }
-        requires referenced { IsSome (reference_of self.old.context auth.now) }
+        requires member { IsSome (leaf_at 0 self.old.tree.tree message.now.sender) }
+        requires referenced { IsSome (reference_of self.old.context message.now.auth.now) }
         ensures kept { OnOk result (handshake_refusal (C.meaning checker.now)
             (group_state self.old) self.old.required
-            auth.now sender (contents.Proposal proposal.now) ≡ None) }
-        ensures next { IfOk result (λ taken. after_content (group_state self.old) auth.now sender
+            message.now.auth.now message.now.sender (contents.Proposal proposal.now) ≡ None) }
+        ensures next { IfOk result (λ taken. after_content (group_state self.old) message.now.auth.now message.now.sender
             (contents.Proposal proposal.now) ≡ Some
             (record { taken = taken; state = group_state self.new })) }
         ensures refused { IfErr result (Refuses (handshake_refusal (C.meaning checker.now)
             (group_state self.old)
-            self.old.required auth.now sender (contents.Proposal proposal.now))) }
+            self.old.required message.now.auth.now message.now.sender (contents.Proposal proposal.now))) }
         ensures stays { OnErr result (group_state self.new ≡ group_state self.old) }
     {
-        let reference = check_offer(alloc, self, checker, auth, sender, proposal)?;
-        Ok(self.keep(alloc, reference, sender, proposal)?)
+        let reference = check_proposal_message(alloc, self, checker, message, proposal)?;
+        Ok(self.keep(alloc, reference, message.sender, proposal)?)
     }
 
-    /// Changes the tree in place as a member's commit with these items does, whose list keeps its rules, and moves to
-    /// the next epoch on these terms, where the path and the tree after both keep their rules. Any refusal, also for
-    /// want of memory, takes the changes back; the last step takes no memory.
+    /// Changes the tree in place as a commit does, and begins the next epoch with these extensions, if the path and the
+    /// tree after both satisfy their rules. Any error undoes the changes. The last step does not allocate.
     fn apply_commit<C: SignatureCheck>(
         &mut self,
         alloc: Global,
         checker: &C,
-        index: &mut TreeIndex,
-        auth: &Authenticated,
-        committer: u32,
-        items: &[ListItem],
-        path: &Option<UpdatePath>,
-        terms: Terms,
+        commit: &ResolvedCommit<'_>,
+        terms: NextExtensions,
     ) -> Result<Taken, Refusal>
-        requires member { IsSome (leaf_at 0 self.old.tree.tree committer) }
+        requires member { IsSome (leaf_at 0 self.old.tree.tree commit.now.committer) }
         requires later { self.old.context.epoch < last_epoch }
-        requires list { list_refusal committer items.now (is_some path.now) ≡ None }
-        requires hashed { IsSome (confirmed_input auth.now) }
-        requires commit { IsTrue (is_commit auth.now.content.content) }
         requires terms { RequiresBy terms.extensions terms.required }
         requires judged { IsJudged (C.meaning checker.now) (group_state self.old) }
-        requires indexed { IsIndexOf self.old.tree.tree index.old }
-        ensures kept { let o = outcome items.now self.old.tree.tree in
+        ensures kept { let o = outcome commit.now.items.items self.old.tree.tree in
             OnOk result (first_failing (outcome_rules (C.meaning checker.now)
-            (group_state self.old) terms.required committer path.now o) ≡ None) }
-        ensures next { let o = outcome items.now self.old.tree.tree in
+            (group_state self.old) terms.required commit.now.committer commit.now.path.now o)
+            ≡ None) }
+        ensures next { let o = outcome commit.now.items.items self.old.tree.tree in
             let H = hash_of self.old.context.cipher_suite in
             let s = with_extensions (group_state self.old) terms.extensions in
-            IfOk result (λ taken. option_and_then (after_tree s auth.now)
-            (changed_tree H committer path.now o)
+            IfOk result (λ taken. option_and_then (after_tree s commit.now.auth.now)
+            (changed_tree H commit.now.committer commit.now.path.now o)
             ≡ Some (record { taken = taken; state = group_state self.new })) }
-        ensures refused { let o = outcome items.now self.old.tree.tree in
+        ensures refused { let o = outcome commit.now.items.items self.old.tree.tree in
             IfErr result (Refuses (first_failing (outcome_rules (C.meaning checker.now)
-            (group_state self.old) terms.required committer path.now o))) }
+            (group_state self.old) terms.required commit.now.committer commit.now.path.now o))) }
         ensures stays { OnErr result (group_state self.new ≡ group_state self.old) }
-        ensures indexed { IsIndexOf self.new.tree.tree index.new }
     {
-        let transcript = match self.transcript(alloc, auth) {
+        let transcript = match self.transcript(alloc, commit.auth) {
             Ok(transcript) => transcript,
             Err(_) => {
                 drop(terms);
                 return Err(Refusal::OutOfMemory);
             }
         };
-        let mut journal = Journal::new(alloc);
-        let suite = self.suite;
-        let tree = &mut self.tree;
-        match change_tree(
-            alloc,
-            suite,
-            tree,
-            &mut journal,
-            index,
-            committer,
-            items,
-            path,
-        ) {
-            Ok(()) => {
-                let context = &self.context;
-                let former = &self.required;
-                let required = &terms.required;
-                let tree = &mut self.tree;
-                match judge_change(
-                    alloc, suite, context, former, required, checker, index, tree, &journal,
-                ) {
-                    Ok(tree_hash) => Ok(self.enter(tree_hash, transcript, terms)),
-                    Err(refusal) => {
-                        index.refuse();
-                        journal.take_back(&mut self.tree);
-                        Err(refusal)
-                    }
-                }
+        let rules = TreeRules {
+            suite: self.suite,
+            context: &self.context,
+            former: &self.required,
+            required: &terms.required,
+        };
+        match stage_commit(alloc, &rules, checker, &mut self.tree, commit) {
+            Ok(tree_hash) => {
+                self.tree.settle();
+                Ok(self.enter(tree_hash, transcript, terms))
             }
             Err(refusal) => {
-                index.refuse();
-                journal.take_back(&mut self.tree);
+                self.tree.take_back();
                 Err(refusal)
             }
         }
     }
 
-    /// Takes a member's commit with these items, whose list keeps its rules: the terms after it are read, and the
-    /// commit is applied.
-    fn take_items<C: SignatureCheck>(
+    /// Processes a resolved commit: reads the extensions after it, and applies it.
+    fn take_resolved<C: SignatureCheck>(
         &mut self,
         alloc: Global,
         checker: &C,
-        index: &mut TreeIndex,
-        auth: &Authenticated,
-        committer: u32,
-        items: &[ListItem],
-        path: &Option<UpdatePath>,
+        commit: &ResolvedCommit<'_>,
     ) -> Result<Taken, Refusal>
-        requires member { IsSome (leaf_at 0 self.old.tree.tree committer) }
+        requires member { IsSome (leaf_at 0 self.old.tree.tree commit.now.committer) }
         requires later { self.old.context.epoch < last_epoch }
-        requires list { list_refusal committer items.now (is_some path.now) ≡ None }
-        requires hashed { IsSome (confirmed_input auth.now) }
-        requires commit { IsTrue (is_commit auth.now.content.content) }
         requires judged { IsJudged (C.meaning checker.now) (group_state self.old) }
-        requires indexed { IsIndexOf self.old.tree.tree index.old }
-        ensures kept { let o = outcome items.now self.old.tree.tree in
-            let required = required_after self.old.required (brought items.now) in
+        ensures kept { let o = outcome commit.now.items.items self.old.tree.tree in
+            let required = required_after self.old.required (brought commit.now.items.items) in
             OnOk result (first_failing (rules_under (C.meaning checker.now)
-            (group_state self.old) committer path.now o required) ≡ None) }
-        ensures next { let o = outcome items.now self.old.tree.tree in
+            (group_state self.old) commit.now.committer commit.now.path.now o required) ≡ None) }
+        ensures next { let o = outcome commit.now.items.items self.old.tree.tree in
             let H = hash_of self.old.context.cipher_suite in
-            let extensions = new_extensions self.old.context.extensions items.now in
+            let extensions = new_extensions self.old.context.extensions commit.now.items.items in
             let s = with_extensions (group_state self.old) extensions in
-            IfOk result (λ taken. option_and_then (after_tree s auth.now)
-            (changed_tree H committer path.now o)
+            IfOk result (λ taken. option_and_then (after_tree s commit.now.auth.now)
+            (changed_tree H commit.now.committer commit.now.path.now o)
             ≡ Some (record { taken = taken; state = group_state self.new })) }
-        ensures refused { let o = outcome items.now self.old.tree.tree in
-            let required = required_after self.old.required (brought items.now) in
+        ensures refused { let o = outcome commit.now.items.items self.old.tree.tree in
+            let required = required_after self.old.required (brought commit.now.items.items) in
             IfErr result (Refuses (first_failing (rules_under (C.meaning checker.now)
-            (group_state self.old) committer path.now o required))) }
+            (group_state self.old) commit.now.committer commit.now.path.now o required))) }
         ensures stays { OnErr result (group_state self.new ≡ group_state self.old) }
-        ensures indexed { IsIndexOf self.new.tree.tree index.new }
     {
-        let terms = terms_after(alloc, self, items)?;
-        self.apply_commit(alloc, checker, index, auth, committer, items, path, terms)
+        let terms = next_extensions_after(alloc, self, commit.items.as_slice())?;
+        self.apply_commit(alloc, checker, commit, terms)
     }
 
-    /// Takes a commit that a member has sent and signed.
-    #[tactic(auto, unfolding(crate::specs::Rules::handshake_refusal, crate::specs::Rules::commit_refusal))]
-    fn take_commit<C: SignatureCheck>(
+    /// Processes a commit that a member has sent and signed, while the group's pending proposals are apart from it.
+    #[tactic(auto, unfolding(crate::specs::MessageRules::handshake_refusal, crate::specs::MessageRules::commit_refusal))]
+    fn take_received<'a, C: SignatureCheck>(
         &mut self,
         alloc: Global,
         checker: &C,
-        index: &mut TreeIndex,
-        auth: &Authenticated,
-        sender: u32,
-        commit: &Commit,
+        auth: &'a Authenticated,
+        received: &ReceivedCommit<'a>,
     ) -> Result<Taken, Refusal>
-        requires member { IsSome (leaf_at 0 self.old.tree.tree sender) }
+        requires member { IsSome (leaf_at 0 self.old.tree.tree received.now.committer) }
         requires hashed { IsSome (confirmed_input auth.now) }
         requires commit { IsTrue (is_commit auth.now.content.content) }
         requires judged { IsJudged (C.meaning checker.now) (group_state self.old) }
-        requires indexed { IsIndexOf self.old.tree.tree index.old }
+        ensures kept { OnOk result (handshake_refusal (C.meaning checker.now)
+            (with_known (group_state self.old) received.now.known.now) self.old.required
+            auth.now received.now.committer (contents.Commit received.now.commit.now) ≡ None) }
+        ensures next { IfOk result (λ taken. after_content
+            (with_known (group_state self.old) received.now.known.now) auth.now received.now.committer
+            (contents.Commit received.now.commit.now) ≡ Some
+            (record { taken = taken; state = group_state self.new })) }
+        ensures refused { IfErr result (Refuses (handshake_refusal (C.meaning checker.now)
+            (with_known (group_state self.old) received.now.known.now) self.old.required
+            auth.now received.now.committer (contents.Commit received.now.commit.now))) }
+        ensures stays { OnErr result (group_state self.new ≡ group_state self.old) }
+    {
+        let items = check_items(alloc, self, checker, received)?;
+        let resolved = ResolvedCommit {
+            auth,
+            committer: received.committer,
+            items,
+            path: &received.commit.path,
+        };
+        let answer = self.take_resolved(alloc, checker, &resolved);
+        drop(resolved);
+        answer
+    }
+
+    /// Processes a commit that a member has sent and signed. Its list borrows from the pending proposals, so these are
+    /// moved out of the group for the time, and back on error.
+    fn take_commit<'a, C: SignatureCheck>(
+        &mut self,
+        alloc: Global,
+        checker: &C,
+        message: &MemberMessage<'a>,
+        commit: &'a Commit,
+    ) -> Result<Taken, Refusal>
+        requires member { IsSome (leaf_at 0 self.old.tree.tree message.now.sender) }
+        requires hashed { IsSome (confirmed_input message.now.auth.now) }
+        requires commit { IsTrue (is_commit message.now.auth.now.content.content) }
+        requires judged { IsJudged (C.meaning checker.now) (group_state self.old) }
         ensures kept { OnOk result (handshake_refusal (C.meaning checker.now)
             (group_state self.old) self.old.required
-            auth.now sender (contents.Commit commit.now) ≡ None) }
-        ensures next { IfOk result (λ taken. after_content (group_state self.old) auth.now sender
+            message.now.auth.now message.now.sender (contents.Commit commit.now) ≡ None) }
+        ensures next { IfOk result (λ taken. after_content (group_state self.old) message.now.auth.now message.now.sender
             (contents.Commit commit.now) ≡ Some
             (record { taken = taken; state = group_state self.new })) }
         ensures refused { IfErr result (Refuses (handshake_refusal (C.meaning checker.now)
             (group_state self.old)
-            self.old.required auth.now sender (contents.Commit commit.now))) }
+            self.old.required message.now.auth.now message.now.sender (contents.Commit commit.now))) }
         ensures stays { OnErr result (group_state self.new ≡ group_state self.old) }
-        ensures indexed { IsIndexOf self.new.tree.tree index.new }
     {
-        let items = check_items(alloc, self, checker, sender, commit)?;
-        let answer = self.take_items(
-            alloc,
-            checker,
-            index,
-            auth,
-            sender,
-            items.as_slice(),
-            &commit.path,
-        );
-        drop(items);
-        answer
+        let known = replace(&mut self.known, PendingProposals::new(alloc));
+        let received = ReceivedCommit {
+            committer: message.sender,
+            commit,
+            known: &known,
+        };
+        match self.take_received(alloc, checker, message.auth, &received) {
+            Ok(taken) => Ok(taken),
+            Err(refusal) => {
+                self.known = known;
+                Err(refusal)
+            }
+        }
     }
 
-    /// Takes a frame: it is accepted where it keeps every rule, and else refused for the first one that it
-    /// fails, or for want of memory. A refused frame changes nothing: of what is made for it, the tree alone is
-    /// changed in place, and then taken back.
+    /// Processes an AuthenticatedContent: accepts it if it satisfies every rule. On error the state is unchanged: only
+    /// the tree is changed in place, and this is undone.
     fn take_frame<C: SignatureCheck>(
         &mut self,
         alloc: Global,
         checker: &C,
-        index: &mut TreeIndex,
         auth: &Authenticated,
     ) -> Result<Taken, Refusal>
         requires hashed { IsSome (confirmed_input auth.now) }
         requires referenced { IsSome (reference_of self.old.context auth.now) }
         requires judged { IsJudged (C.meaning checker.now) (group_state self.old) }
-        requires indexed { IsIndexOf self.old.tree.tree index.old }
         ensures kept { OnOk result (frame_refusal (C.meaning checker.now)
             (group_state self.old) self.old.required
             auth.now ≡ None) }
@@ -252,38 +242,31 @@ impl Group {
             (group_state self.old)
             self.old.required auth.now)) }
         ensures stays { OnErr result (group_state self.new ≡ group_state self.old) }
-        ensures indexed { IsIndexOf self.new.tree.tree index.new }
     {
         let sender = check_frame(alloc, self, checker, auth)?;
+        let message = MemberMessage { auth, sender };
         match &auth.content().content {
             Content::Application(_) => unreachable!(),
-            Content::Proposal(proposal) => {
-                self.take_proposal(alloc, checker, auth, sender, proposal)
-            }
-            Content::Commit(commit) => self.take_commit(
-                alloc, checker, index, auth, sender, commit,
-            ),
+            Content::Proposal(proposal) => self.take_proposal(alloc, checker, &message, proposal),
+            Content::Commit(commit) => self.take_commit(alloc, checker, &message, commit),
         }
     }
 
-    /// Takes a message, where it was read from bytes.
+    /// Processes a message that was decoded.
     pub(crate) fn take<C: SignatureCheck>(
         &mut self,
         alloc: Global,
         checker: &C,
-        index: &mut TreeIndex,
         message: &Message,
     ) -> Result<Taken, Refusal>
-        requires input { IsInput message.now }
+        requires input { HasEncoding message.now }
         requires judged { IsJudged (C.meaning checker.now) (group_state self.old) }
-        requires indexed { IsIndexOf self.old.tree.tree index.old }
-        ensures takes { (bytes : List ℕ) → Spells message.now bytes
+        ensures { (bytes : List ℕ) → EncodesMessage message.now bytes
             → Takes (C.meaning checker.now) (group_state self.old) bytes result
             (group_state self.new) }
-        ensures indexed { IsIndexOf self.new.tree.tree index.new }
     {
         match message {
-            Message::Public(public) => self.take_frame(alloc, checker, index, public.auth()),
+            Message::Public(public) => self.take_frame(alloc, checker, public.auth()),
             _ => Err(Refusal::NotPublic),
         }
     }

@@ -1,8 +1,8 @@
 //! Transcript hashes (RFC 9420, 8.2).
 
 ghost use Rattle.std.specs.Prelude.{◌≡◌, ◌≤◌, Some, IsSome, IfOk, length};
-ghost use Rattle.mls_hash.specs.Hashing.{hash_of};
-ghost use Rattle.mls_msgs.specs.Signed.{confirmed_input};
+ghost use Rattle.mls_hash.specs.SuiteHash.{hash_of};
+ghost use Rattle.mls_msgs.specs.Tbs.{confirmed_input};
 ghost use Rattle.mls_follow.specs.Transcript.{confirmed_hash, interim_hash};
 
 use mls_hash::{Suite, hash};
@@ -11,8 +11,8 @@ use mls_tree::HashValue;
 use mls_wire::{CodecFault, Opaque, Writer};
 use std::alloc::{AllocError, Global};
 
-/// The confirmed transcript hash after a commit, by the interim one before it (RFC 9420, 8.2). `AllocError` comes only
-/// where an allocation was refused.
+/// Returns the confirmed transcript hash after a commit, from the interim one before it (RFC 9420, 8.2). Fails only if
+/// an allocation fails.
 #[tactic(auto, unfolding(crate::specs::Transcript::confirmed_hash))]
 pub fn confirmed_hash(
     alloc: Global,
@@ -30,8 +30,8 @@ pub fn confirmed_hash(
     }
 }
 
-/// The interim transcript hash that follows a confirmed one, by the confirmation tag of the commit (RFC 9420, 8.2).
-/// `AllocError` comes only where an allocation was refused.
+/// Returns the interim transcript hash after a confirmed one, from the confirmation tag of the commit (RFC 9420, 8.2).
+/// Fails only if an allocation fails.
 pub fn interim_hash(
     alloc: Global,
     suite: Suite,

@@ -1,5 +1,5 @@
 use Rattle.std.proofs.Common.{rules}
-use Rattle.mls_tree.specs.KeptTree.{plain}
+use Rattle.mls_tree.specs.PublicTreeModel.{plain}
 use Rattle.mls_follow.proofs.Starting.{unset, unsigned}
 use Rattle.mls_follow.proofs.start.check_signer.Goals as goal
 

@@ -1,6 +1,6 @@
 use Rattle.std.proofs.Common.{rules}
-use Rattle.mls_wire.specs.Sizes.{vector_some}
-use Rattle.mls_hash.specs.Hashing.{hash_of}
+use Rattle.mls_wire.specs.EncodedSizes.{vector_some}
+use Rattle.mls_hash.specs.SuiteHash.{hash_of}
 use Rattle.mls_follow.proofs.Hashing.{interim_from}
 use Rattle.mls_follow.proofs.transcript.interim_hash.Goals as goal
 

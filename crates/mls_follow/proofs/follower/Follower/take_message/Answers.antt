@@ -1,13 +1,12 @@
-use Rattle.mls_follow.specs.GroupSeen.{group_state}
+use Rattle.mls_follow.specs.GroupModel.{group_state}
 use Rattle.mls_follow.proofs.Judged.{taken_judged}
 use Rattle.mls_follow.proofs.follower.Follower.take_message.Goals as goal
 
--- what was taken was judged, and the tree is indexed
+-- what was taken was judged
 pub invariant_of-self : goal.invariant_of-self
 invariant_of-self g c =
     let input = c.requires in
     let old = c.args.self.now in
     record {
-      judged = taken_judged (g.C.SignatureCheck.meaning old.checker) (group_state old.group) input.0 c.take.result (group_state c.take.new.self) (c.take.ensures.takes input.0 input.1) old.judged;
-      indexed = c.take.ensures.indexed;
+      judged = taken_judged (g.C.SignatureCheck.meaning old.checker) (group_state old.group) input.0 c.take.result (group_state c.take.new.self) (c.take.ensures input.0 input.1) old.judged;
     }

@@ -1,0 +1,284 @@
+-- Two meanings that answer the wanted signatures of a message alike, and those of the state's tree, refuse it alike.
+use Rattle.std.proofs.Common.{◌≡◌, ◌∙◌, ℕ, List, [], ◌∷◌, ◌++◌, Bool, true, false, Option, Some, None, IsSome, refl, sym, ap, subst, inl, inr}
+use Rattle.std.specs.Prelude.{◌==◌, ◌&&◌, is_some, nat_lt, if◌then◌else◌, option_map}
+use Rattle.std.specs.List.{list_all}
+use Rattle.std.specs.Str.{bytes_eq}
+use Rattle.std.proofs.lemmas.Option.{none-some}
+use Rattle.mls_nodes.specs.declared.context.GroupContext.{GroupContext}
+use Rattle.mls_nodes.specs.declared.leaf.LeafNode.{LeafNode}
+use Rattle.mls_nodes.specs.declared.required_capabilities.RequiredCapabilities.{RequiredCapabilities}
+use Rattle.mls_tree.specs.Tree.{Tree, leaf_at}
+use Rattle.mls_hash.specs.SuiteHash.{hash_of}
+use Rattle.mls_check.specs.DistinctKeys.{has_distinct_keys}
+use Rattle.mls_check.specs.LeafValidation.{is_leaf_signed}
+use Rattle.mls_check.specs.Signatures.{VerifyFn}
+use Rattle.mls_check.specs.declared.members.MemberFault.{MemberFault}
+use Rattle.mls_msgs.specs.declared.authenticated.AuthenticatedParts.{AuthenticatedParts}
+use Rattle.mls_msgs.specs.declared.commit.Commit.{Commit}
+use Rattle.mls_msgs.specs.declared.commit.UpdatePath.{UpdatePath}
+use Rattle.mls_msgs.specs.declared.framed_content.Content.{Content}
+use Rattle.mls_msgs.specs.declared.framed_content.Content.TheVariants as contents
+use Rattle.mls_msgs.specs.declared.framed_content.Sender.{Sender}
+use Rattle.mls_msgs.specs.declared.framed_content.Sender.TheVariants as senders
+use Rattle.mls_msgs.specs.declared.key_package.KeyPackage.{KeyPackage}
+use Rattle.mls_msgs.specs.declared.message.Message.{Message}
+use Rattle.mls_msgs.specs.declared.message.Message.TheVariants as messages
+use Rattle.mls_msgs.specs.declared.proposal.Proposal.{Proposal}
+use Rattle.mls_msgs.specs.declared.proposal.Proposal.TheVariants as proposals
+use Rattle.mls_msgs.specs.declared.proposal.ProposalOrRef.{ProposalOrRef}
+use Rattle.mls_msgs.specs.declared.proposal.ProposalOrRef.TheVariants as entries
+use Rattle.mls_apply.specs.declared.fault.ApplyFault.TheVariants as faults
+use Rattle.mls_apply.specs.declared.list_item.ListItem.{ListItem}
+use Rattle.mls_apply.specs.ResolvedList.{resolved}
+use Rattle.mls_apply.specs.ListRules.{list_rules, list_refusal}
+use Rattle.mls_apply.specs.AppliedList.{Grown, outcome}
+use Rattle.mls_apply.specs.ContextExtensions as extensions
+use Rattle.mls_apply.specs.ProposalRules.{fits_group, is_valid_add, fits_leaf, is_valid_update, valid_if_add, valid_if_update, valid_if_remove, valid_if_extensions, holds_if_by_value, all_inline}
+use Rattle.mls_apply.specs.RuleLists.{Rule, rule, first_failing, renamed}
+use Rattle.mls_apply.proofs.RuleLists.{first_failing-renamed}
+use Rattle.mls_follow.specs.State.{State, last_epoch}
+use Rattle.mls_follow.specs.MessageRules.{refusal_of, is_new_proposal, is_frame_signed, proposal_message_rules, member_rules, tree_rules, resulting, path_rules_of, outcome_rules, required_after, rules_under, inline_rules, items_rules, commit_rules, content_rules, leaf_rules, sender_rules, frame_rules, message_rules}
+use Rattle.mls_signatures.specs.Agreement.{AgreeOn}
+use Rattle.mls_signatures.specs.SignaturesToVerify.{leaf_signatures, package_signatures, framed_content_signatures, tree_signatures, signatures_at, proposal_signatures, entries_signatures, new_leaves, path_signatures, applied_list_signatures, commit_signatures, content_signatures, member_signatures, sender_signatures, all_message_signatures}
+use Rattle.mls_follow.specs.MessageSignatures.{SignaturesDetermineRefusal}
+use Rattle.mls_follow.specs.declared.refusal.Refusal.{Refusal}
+use Rattle.mls_follow.specs.declared.refusal.Refusal.TheVariants.{WrongGroup, WrongEpoch, BadSignature, KnownProposal, AddInvalid, UpdateInvalid, RemoveInvalid, ContextExtensionsInvalid, LastEpoch, KeyRepeated}
+use Rattle.mls_signatures.specs.declared.signature_to_verify.SignatureToVerify.{SignatureToVerify}
+use Rattle.mls_follow.proofs.Staying.{committer_stays}
+use Rattle.mls_signatures.proofs.Agreement.{front, back, from_deduplicated}
+use Rattle.mls_follow.proofs.SignatureAgreement.{leaf_alike, package_alike, frame_alike, tree_leaf, listed_leaf, fault_alike}
+use Rattle.mls_follow.proofs.CommitLeaves.{IsPathLeaf, brought, listed}
+
+-- ---- rules in a list
+
+-- where the first rules hold, what comes behind decides
+behind_alike : {E : Type 0} (xs ys zs : List (Rule E)) → (first_failing xs ≡ None → first_failing ys ≡ first_failing zs)
+    → first_failing (xs ++ ys) ≡ first_failing (xs ++ zs)
+behind_alike [] ys zs h = h refl
+behind_alike {E} (x ∷ xs) ys zs h = go x.holds (λ later. behind_alike xs ys zs later) h
+  where
+    go : (b : Bool) → ((first_failing xs ≡ None → first_failing ys ≡ first_failing zs) → first_failing (xs ++ ys) ≡ first_failing (xs ++ zs))
+        → (first_failing (rule x.refusal b ∷ xs) ≡ None → first_failing ys ≡ first_failing zs)
+        → first_failing (rule x.refusal b ∷ (xs ++ ys)) ≡ first_failing (rule x.refusal b ∷ (xs ++ zs))
+    go true later h = later h
+    go false later h = refl
+
+no_image : {A B : Type 0} (f : A → B) (o : Option A) → option_map f o ≡ None → o ≡ None
+no_image f None e = refl
+no_image f (Some x) e = absurd (none-some (f x) (sym e))
+
+-- the rules for a list hold under other names
+list_kept : (i : ℕ) (items : List ListItem) (has_path : Bool) → first_failing (renamed refusal_of (list_rules i items has_path)) ≡ None
+    → list_refusal i items has_path ≡ None
+unfolding list_refusal
+list_kept i items has_path e =
+    no_image refusal_of (first_failing (list_rules i items has_path)) (sym (first_failing-renamed refusal_of (list_rules i items has_path)) ∙ e)
+
+-- the rules for the group and the epoch of a frame
+gated : (b c : Bool) (o p : Option Refusal) → ((b && c) ≡ true → o ≡ p)
+    → (if b then (if c then o else Some WrongEpoch) else Some WrongGroup) ≡ (if b then (if c then p else Some WrongEpoch) else Some WrongGroup)
+gated true true o p h = h refl
+gated true false o p h = refl
+gated false c o p h = refl
+
+module _ (G K : VerifyFn) where
+  all_asked : (b : Bool) (qs : List SignatureToVerify) → b ≡ true → AgreeOn G K (if b then qs else []) → AgreeOn G K qs
+  all_asked true qs e h = h
+  all_asked false qs e h = absurd (cc)
+
+  -- ---- proposals
+
+  module _ (context : GroupContext) where
+    add_alike : (k : KeyPackage)
+        → AgreeOn G K (leaf_signatures context.cipher_suite context.group_id 0 k.leaf_node ++ package_signatures context.cipher_suite k)
+        → is_valid_add G context k ≡ is_valid_add K context k
+    unfolding is_valid_add
+    add_alike k h =
+        let leaf = leaf_alike G K context.cipher_suite context.group_id 0 k.leaf_node
+        (front G K (leaf_signatures context.cipher_suite context.group_id 0 k.leaf_node) (package_signatures context.cipher_suite k) h) in
+        let whole = package_alike G K context.cipher_suite k
+        (back G K (leaf_signatures context.cipher_suite context.group_id 0 k.leaf_node) (package_signatures context.cipher_suite k) h) in
+        λ i. fits_group context k && leaf i && whole i
+
+    update_alike : (i : ℕ) (o : Option LeafNode) (x : LeafNode) → AgreeOn G K (leaf_signatures context.cipher_suite context.group_id i x)
+        → is_valid_update G context i o x ≡ is_valid_update K context i o x
+    unfolding is_valid_update
+    update_alike i present x h =
+        ap (λ (b : Bool). fits_leaf present x && b) (leaf_alike G K context.cipher_suite context.group_id i x h)
+
+    adds_alike : (i : ℕ) (p : Proposal) → AgreeOn G K (proposal_signatures context i p) → valid_if_add G context p ≡ valid_if_add K context p
+    adds_alike i (proposals.Add k) h = add_alike k h
+    adds_alike i (proposals.Update x) h = refl
+    adds_alike i (proposals.Remove j) h = refl
+    adds_alike i (proposals.ContextExtensions es) h = refl
+    adds_alike i (proposals.PreSharedKey es) h = refl
+    adds_alike i (proposals.ReInit es) h = refl
+    adds_alike i (proposals.ExternalInit es) h = refl
+
+    updates_alike : (t : Tree) (i : ℕ) (p : Proposal) → AgreeOn G K (proposal_signatures context i p)
+        → valid_if_update G context t i p ≡ valid_if_update K context t i p
+    updates_alike t i (proposals.Add k) h = refl
+    updates_alike t i (proposals.Update x) h = update_alike i (leaf_at 0 t i) x h
+    updates_alike t i (proposals.Remove j) h = refl
+    updates_alike t i (proposals.ContextExtensions es) h = refl
+    updates_alike t i (proposals.PreSharedKey es) h = refl
+    updates_alike t i (proposals.ReInit es) h = refl
+    updates_alike t i (proposals.ExternalInit es) h = refl
+
+    -- a test of the proposals in a commit itself
+    inline_alike : (i : ℕ) (f g : Proposal → Bool) → ((p : Proposal) → AgreeOn G K (proposal_signatures context i p) → f p ≡ g p)
+        → (es : List ProposalOrRef) → AgreeOn G K (entries_signatures context i es) → list_all (holds_if_by_value f) es ≡ list_all (holds_if_by_value g) es
+    inline_alike i f g each [] h = refl
+    inline_alike i f g each (entries.Proposal p ∷ es) h =
+        let here = each p (front G K (proposal_signatures context i p) (entries_signatures context i es) h) in
+        let rest = inline_alike i f g each es (back G K (proposal_signatures context i p) (entries_signatures context i es) h) in
+        λ k. here k && rest k
+    inline_alike i f g each (entries.Reference r ∷ es) h = inline_alike i f g each es h
+
+    all_inline_alike : (i : ℕ) (f g : Proposal → Bool) → ((p : Proposal) → AgreeOn G K (proposal_signatures context i p) → f p ≡ g p)
+        → (es : List ProposalOrRef) → AgreeOn G K (entries_signatures context i es) → all_inline f es ≡ all_inline g es
+    unfolding all_inline
+    all_inline_alike i f g each es h = inline_alike i f g each es h
+
+  -- ---- messages in a state
+
+  module _ (s : State) (required : RequiredCapabilities) (old : AgreeOn G K (tree_signatures s.context.cipher_suite s.context.group_id 0 s.tree)) where
+    offers_alike : (a : AuthenticatedParts) (i : ℕ) (p : Proposal) → AgreeOn G K (proposal_signatures s.context i p)
+        → first_failing (proposal_message_rules G s a i p) ≡ first_failing (proposal_message_rules K s a i p)
+    offers_alike a i p h =
+        let adds = adds_alike s.context i p h in
+        let updates = updates_alike s.context s.tree i p h in
+        λ k. first_failing (rule KnownProposal (is_new_proposal s a) ∷ renamed refusal_of (
+        rule faults.AddInvalid (adds k) ∷ rule faults.UpdateInvalid (updates k) ∷ rule faults.RemoveInvalid (valid_if_remove s.tree p) ∷
+        rule faults.ContextExtensionsInvalid (valid_if_extensions p) ∷ []))
+
+    -- the leaf of a path
+    path_leaf : (i : ℕ) (path : Option UpdatePath) (j : ℕ) (x : LeafNode) → IsPathLeaf j x i path → AgreeOn G K (path_signatures s.context i path)
+        → AgreeOn G K (leaf_signatures s.context.cipher_suite s.context.group_id j x)
+    path_leaf i None j x c h = absurd c
+    path_leaf i (Some path) j x c h =
+        let moved : AgreeOn G K (leaf_signatures s.context.cipher_suite s.context.group_id j path.leaf_node) =
+        subst (λ k. AgreeOn G K (leaf_signatures s.context.cipher_suite s.context.group_id k path.leaf_node)) c.0 h in
+        subst (λ (y : LeafNode). AgreeOn G K (leaf_signatures s.context.cipher_suite s.context.group_id j y)) c.1 moved
+
+    -- the leaves that a commit brings into the tree, and the others
+    module _ (i : ℕ) (path : Option UpdatePath) (items : List ListItem) (g : Grown) (made : outcome items s.tree ≡ Some g) (there : IsSome (leaf_at 0 g.tree i))
+        (h : AgreeOn G K (applied_list_signatures s.context i path items (Some g))) where
+      listed_asked : AgreeOn G K (signatures_at s.context.cipher_suite s.context.group_id g.tree (new_leaves items g))
+      listed_asked = front G K (signatures_at s.context.cipher_suite s.context.group_id g.tree (new_leaves items g)) (path_signatures s.context i path) h
+
+      path_asked : AgreeOn G K (path_signatures s.context i path)
+      path_asked = back G K (signatures_at s.context.cipher_suite s.context.group_id g.tree (new_leaves items g)) (path_signatures s.context i path) h
+
+      leaves_say : (t : Tree) → resulting (hash_of s.context.cipher_suite) g i path ≡ Some t → (j : ℕ) (x : LeafNode) → leaf_at 0 t j ≡ Some x
+          → is_leaf_signed G s.context.cipher_suite s.context.group_id j x ≡ is_leaf_signed K s.context.cipher_suite s.context.group_id j x
+      leaves_say t e j x set =
+          leaf_alike G K s.context.cipher_suite s.context.group_id j x
+          (elim (brought j x (hash_of s.context.cipher_suite) g i path t there e set) [
+            | inl c ↦ path_leaf i path j x c path_asked
+            | inr at ↦ elim (listed j x items s.tree g made at) [
+              | inl c ↦ listed_leaf G K s.context.cipher_suite s.context.group_id g.tree (new_leaves items g) listed_asked j x c at
+              | inr stood ↦ tree_leaf G K s.context.cipher_suite s.context.group_id 0 s.tree old j x stood
+            ]
+          ])
+
+      trees_alike : (o : Option Tree) → resulting (hash_of s.context.cipher_suite) g i path ≡ o
+          → first_failing (tree_rules G s required o) ≡ first_failing (tree_rules K s required o)
+      trees_alike None e = refl
+      trees_alike (Some t) e =
+          ap (λ (f : Option MemberFault). first_failing (rule KeyRepeated (has_distinct_keys t) ∷ member_rules f))
+          (fault_alike G K s.context.cipher_suite s.context.group_id required t (leaves_say t e))
+
+    outcomes_alike : (i : ℕ) (path : Option UpdatePath) (items : List ListItem) (o : Option Grown) → outcome items s.tree ≡ o
+        → list_refusal i items (is_some path) ≡ None → IsSome (leaf_at 0 s.tree i)
+        → AgreeOn G K (applied_list_signatures s.context i path items o)
+        → first_failing (outcome_rules G s required i path o) ≡ first_failing (outcome_rules K s required i path o)
+    outcomes_alike i path items None e kept set h = refl
+    outcomes_alike i path items (Some g) e kept set h =
+        let H = hash_of s.context.cipher_suite in
+        let there = committer_stays i items (is_some path) s.tree g kept e set in
+        behind_alike (path_rules_of H g i path) (tree_rules G s required (resulting H g i path)) (tree_rules K s required (resulting H g i path))
+        (λ _. trees_alike i path items g e there h (resulting H g i path) refl)
+
+  -- the rest of the rules, in a state with what it requires
+  module _ (s : State) (required : RequiredCapabilities) (old : AgreeOn G K (tree_signatures s.context.cipher_suite s.context.group_id 0 s.tree)) where
+    unders_alike : (i : ℕ) (path : Option UpdatePath) (items : List ListItem) (o : Option Grown) → outcome items s.tree ≡ o
+        → list_refusal i items (is_some path) ≡ None → IsSome (leaf_at 0 s.tree i)
+        → AgreeOn G K (applied_list_signatures s.context i path items o) → (after : Option RequiredCapabilities)
+        → first_failing (rules_under G s i path o after) ≡ first_failing (rules_under K s i path o after)
+    unders_alike i path items o e kept set h None = refl
+    unders_alike i path items o e kept set h (Some r) = outcomes_alike s r old i path items o e kept set h
+
+    lists_alike : (i : ℕ) (c : Commit) (o : Option (List ListItem)) → IsSome (leaf_at 0 s.tree i) → AgreeOn G K (commit_signatures s.context s.tree i c o)
+        → first_failing (items_rules G s required i c o) ≡ first_failing (items_rules K s required i c o)
+    lists_alike i c None set h = refl
+    lists_alike i c (Some items) set h =
+        let inline = front G K (entries_signatures s.context i c.proposals) (applied_list_signatures s.context i c.path items (outcome items s.tree)) h in
+        let after = back G K (entries_signatures s.context i c.proposals) (applied_list_signatures s.context i c.path items (outcome items s.tree)) h in
+        let adds = all_inline_alike s.context i (valid_if_add G s.context) (valid_if_add K s.context) (adds_alike s.context i) c.proposals inline in
+        let updates = all_inline_alike s.context i (valid_if_update G s.context s.tree i) (valid_if_update K s.context s.tree i) (updates_alike s.context s.tree i) c.proposals inline in
+        let own : inline_rules G s i c ≡ inline_rules K s i c = λ k.
+        rule AddInvalid (adds k) ∷ rule UpdateInvalid (updates k) ∷ rule RemoveInvalid (all_inline (valid_if_remove s.tree) c.proposals) ∷
+        rule ContextExtensionsInvalid (all_inline valid_if_extensions c.proposals) ∷ [] in
+        let of_list = renamed refusal_of (list_rules i items (is_some c.path)) in
+        let under_G = rules_under G s i c.path (outcome items s.tree) (required_after required (extensions.brought items)) in
+        let under_K = rules_under K s i c.path (outcome items s.tree) (required_after required (extensions.brought items)) in
+        let rest_G = of_list ++ under_G in
+        let rest_K = of_list ++ under_K in
+        ap (λ (rs : List (Rule Refusal)). first_failing (rs ++ rest_G)) own
+        ∙ behind_alike (inline_rules K s i c) rest_G rest_K
+        (λ _. behind_alike of_list under_G under_K
+        (λ e. unders_alike i c.path items (outcome items s.tree) refl (list_kept i items (is_some c.path) e) set after (required_after required (extensions.brought items))))
+
+    commits_alike : (i : ℕ) (c : Commit) → IsSome (leaf_at 0 s.tree i) → AgreeOn G K (commit_signatures s.context s.tree i c (resolved i s.known c.proposals))
+        → first_failing (commit_rules G s required i c) ≡ first_failing (commit_rules K s required i c)
+    commits_alike i c set h =
+        ap (λ (o : Option Refusal). if nat_lt s.context.epoch last_epoch then o else Some LastEpoch)
+        (lists_alike i c (resolved i s.known c.proposals) set h)
+
+    module _ (a : AuthenticatedParts) where
+      signed_alike : (x : LeafNode) (o p : Option Refusal) → AgreeOn G K (framed_content_signatures s.context x a) → o ≡ p
+          → (if is_frame_signed G s.context x a then o else Some BadSignature) ≡ (if is_frame_signed K s.context x a then p else Some BadSignature)
+      signed_alike x o p h e = let frame = frame_alike G K s.context x a h in λ k. if frame k then e k else Some BadSignature
+
+      contents_alike : (i : ℕ) (x : LeafNode) (content : Content) → IsSome (leaf_at 0 s.tree i) → AgreeOn G K (content_signatures s.context s.known s.tree a i x content)
+          → first_failing (content_rules G s required a i x content) ≡ first_failing (content_rules K s required a i x content)
+      contents_alike i x (contents.Application sent) set h = refl
+      contents_alike i x (contents.Proposal p) set h =
+          signed_alike x (first_failing (proposal_message_rules G s a i p)) (first_failing (proposal_message_rules K s a i p))
+          (front G K (framed_content_signatures s.context x a) (proposal_signatures s.context i p) h)
+          (offers_alike s required old a i p (back G K (framed_content_signatures s.context x a) (proposal_signatures s.context i p) h))
+      contents_alike i x (contents.Commit c) set h =
+          let items = commit_signatures s.context s.tree i c (resolved i s.known c.proposals) in
+          signed_alike x (first_failing (commit_rules G s required i c)) (first_failing (commit_rules K s required i c))
+          (front G K (framed_content_signatures s.context x a) items h)
+          (commits_alike i c set (back G K (framed_content_signatures s.context x a) items h))
+
+      leaves_alike : (i : ℕ) (o : Option LeafNode) → leaf_at 0 s.tree i ≡ o → AgreeOn G K (member_signatures s.context s.known s.tree a i o)
+          → first_failing (leaf_rules G s required a i o) ≡ first_failing (leaf_rules K s required a i o)
+      leaves_alike i None e h = refl
+      leaves_alike i (Some x) e h = contents_alike i x a.content.content (ap is_some e) h
+
+      senders_alike : (sender : Sender) → AgreeOn G K (sender_signatures s.context s.known s.tree a sender)
+          → first_failing (sender_rules G s required a sender) ≡ first_failing (sender_rules K s required a sender)
+      senders_alike (senders.Member i) h = leaves_alike i (leaf_at 0 s.tree i) refl h
+      senders_alike (senders.External j) h = refl
+      senders_alike senders.NewMemberProposal h = refl
+      senders_alike senders.NewMemberCommit h = refl
+
+      frames_alike : AgreeOn G K (if bytes_eq a.content.group_id s.context.group_id && a.content.epoch == s.context.epoch then sender_signatures s.context s.known s.tree a a.content.sender else [])
+          → first_failing (frame_rules G s required a) ≡ first_failing (frame_rules K s required a)
+      frames_alike h =
+          gated (bytes_eq a.content.group_id s.context.group_id) (a.content.epoch == s.context.epoch)
+          (first_failing (sender_rules G s required a a.content.sender)) (first_failing (sender_rules K s required a a.content.sender))
+          (λ e. senders_alike a.content.sender
+          (all_asked (bytes_eq a.content.group_id s.context.group_id && a.content.epoch == s.context.epoch) (sender_signatures s.context s.known s.tree a a.content.sender) e h))
+
+    messages_alike : (m : Message) → AgreeOn G K (all_message_signatures s.context s.known s.tree m) → first_failing (message_rules G s required m) ≡ first_failing (message_rules K s required m)
+    messages_alike (messages.Public m) h = frames_alike m.auth h
+    messages_alike (messages.Unread w b) h = refl
+    messages_alike (messages.GroupInfo g) h = refl
+    messages_alike (messages.KeyPackage k) h = refl
+
+pub decide_refusals : SignaturesDetermineRefusal
+decide_refusals G K s required m wanted old = messages_alike G K s required old m (from_deduplicated G K (all_message_signatures s.context s.known s.tree m) wanted)

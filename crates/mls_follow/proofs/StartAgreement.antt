@@ -1,0 +1,111 @@
+-- Two meanings that answer the wanted signatures of a start alike start a follower alike.
+use Rattle.std.proofs.Common.{◌≡◌, ◌∙◌, ℕ, ◌≤◌, ◌++◌, Bool, true, false, List, [], Option, Some, sym, subst, arith}
+use Rattle.std.specs.Prelude.{◌==◌, ◌&&◌, nat_le, if◌then◌else◌}
+use Rattle.std.proofs.lemmas.Bool.Decides.{nat_tests}
+use Rattle.mls_nodes.specs.declared.leaf.LeafNode.{LeafNode}
+use Rattle.mls_nodes.specs.declared.required_capabilities.RequiredCapabilities.{RequiredCapabilities}
+use Rattle.mls_tree.specs.Tree.{leaf_at}
+use Rattle.mls_tree.specs.RatchetTree.{RatchetTree}
+use Rattle.mls_check.specs.GroupTree.{IsSupportedContext, HasMembers, HasValidTree}
+use Rattle.mls_check.specs.LeafValidation.{is_leaf_signed}
+use Rattle.mls_check.specs.Signatures.{VerifyFn}
+use Rattle.mls_msgs.specs.declared.group_info.GroupInfo.{GroupInfo}
+use Rattle.mls_follow.specs.State.{State}
+use Rattle.mls_follow.specs.Start.{UsesTree, HasSigner, is_info_signed, IsStart, IsStartFault}
+use Rattle.mls_signatures.specs.Agreement.{AgreeOn}
+use Rattle.mls_signatures.specs.SignaturesToVerify.{is_supported, info_signatures, tree_signatures, all_start_signatures}
+use Rattle.mls_follow.specs.MessageSignatures.{AgreeOnStart, SignaturesDetermineStart, SignaturesDetermineStartFault}
+use Rattle.mls_follow.specs.declared.start_fault.StartFault.{StartFault}
+use Rattle.mls_follow.specs.declared.start_fault.StartFault.TheVariants as starts
+use Rattle.mls_signatures.specs.declared.signature_to_verify.SignatureToVerify.{SignatureToVerify}
+use Rattle.mls_signatures.proofs.Agreement.{front, back, from_deduplicated}
+use Rattle.mls_follow.proofs.SignatureAgreement.{tree_leaf, leaf_alike, info_alike, members_alike, faults_alike}
+
+numbers_followed : (version suite : ℕ) → version ≡ 1 → 1 ≤ suite → suite ≤ 7 → (version == 1 && nat_le 1 suite && nat_le suite 7) ≡ true
+numbers_followed version suite e low high = grind (arith, nat_tests)
+
+followed : (info : GroupInfo) → IsSupportedContext info.context → is_supported info ≡ true
+followed info h = numbers_followed info.context.version info.context.cipher_suite h.version h.suite.0 h.suite.1
+
+-- where a version and a suite are followed, all is asked
+all_asked : (G K : VerifyFn) (b : Bool) (qs : List SignatureToVerify) → b ≡ true → AgreeOn G K (if b then qs else []) → AgreeOn G K qs
+all_asked G K true qs e h = h
+all_asked G K false qs e h = absurd (cc)
+
+module _ (G K : VerifyFn) (info : GroupInfo) (handed : Option RatchetTree) (agree : AgreeOnStart G K info handed) where
+  module _ (t : RatchetTree) (required : RequiredCapabilities) (valid : HasValidTree info.context (UsesTree handed info.extensions) t required) where
+    asked : AgreeOn G K (info_signatures info (leaf_at 0 t.tree info.signer) ++ tree_signatures info.context.cipher_suite info.context.group_id 0 t.tree)
+    asked =
+        all_asked G K (is_supported info) (info_signatures info (leaf_at 0 t.tree info.signer) ++ tree_signatures info.context.cipher_suite info.context.group_id 0 t.tree)
+        (followed info valid.readable.has_tree.followed)
+        (from_deduplicated G K (all_start_signatures info t.tree) (agree t valid.readable.has_tree.uses))
+
+    leaves_say : (i : ℕ) (x : LeafNode) → leaf_at 0 t.tree i ≡ Some x
+        → is_leaf_signed G info.context.cipher_suite info.context.group_id i x ≡ is_leaf_signed K info.context.cipher_suite info.context.group_id i x
+    leaves_say i x e =
+        leaf_alike G K info.context.cipher_suite info.context.group_id i x
+        (tree_leaf G K info.context.cipher_suite info.context.group_id 0 t.tree
+        (back G K (info_signatures info (leaf_at 0 t.tree info.signer)) (tree_signatures info.context.cipher_suite info.context.group_id 0 t.tree) asked) i x e)
+
+  members_move : (t : RatchetTree) (required : RequiredCapabilities) → HasMembers G info.context (UsesTree handed info.extensions) t required → HasMembers K info.context (UsesTree handed info.extensions) t required
+  members_move t required m = record {
+    valid_tree = m.valid_tree;
+    members = members_alike G K info.context.cipher_suite info.context.group_id required t.tree (leaves_say t required m.valid_tree) m.members;
+  }
+
+  signer_moves : (t : RatchetTree) (signer : LeafNode) → HasSigner G info handed t signer → HasSigner K info handed t signer
+  signer_moves t signer h = record { required = h.required; has_members = members_move t h.required h.has_members; set = h.set }
+
+  -- the group info's signature is judged alike
+  signed_alike : (t : RatchetTree) (signer : LeafNode) → HasSigner G info handed t signer → is_info_signed G info signer ≡ is_info_signed K info signer
+  signed_alike t signer h =
+      info_alike G K info signer
+      (subst (λ (o : Option LeafNode). AgreeOn G K (info_signatures info o)) h.set
+      (front G K (info_signatures info (leaf_at 0 t.tree info.signer)) (tree_signatures info.context.cipher_suite info.context.group_id 0 t.tree)
+      (asked t h.required h.has_members.valid_tree)))
+
+  start_moves : (s : State) → IsStart G info handed s → IsStart K info handed s
+  start_moves s h = record {
+    tree = h.tree;
+    signer = h.signer;
+    has_signer = signer_moves h.tree h.signer h.has_signer;
+    signed = sym (signed_alike h.tree h.signer h.has_signer) ∙ h.signed;
+    interim = h.interim;
+    hashed = h.hashed;
+    state = h.state;
+  }
+
+  fault_moves : (fault : StartFault) → IsStartFault G info handed fault → IsStartFault K info handed fault
+  fault_moves starts.UnsupportedVersion h = h
+  fault_moves starts.UnsupportedSuite h = h
+  fault_moves starts.NoTree h = h
+  fault_moves starts.RequirementsUnreadable h = h
+  fault_moves (starts.Tree fault) h = h
+  fault_moves (starts.Member fault) h = record {
+    tree = h.tree;
+    required = h.required;
+    valid_tree = h.valid_tree;
+    own = h.own;
+    first =
+        faults_alike G K info.context.cipher_suite info.context.group_id h.required h.tree.tree (leaves_say h.tree h.required h.valid_tree)
+        fault h.own h.first;
+  }
+  fault_moves starts.SignerNotMember h = record {
+    tree = h.tree;
+    required = h.required;
+    has_members = members_move h.tree h.required h.has_members;
+    blank = h.blank;
+  }
+  fault_moves starts.InfoSignature h = record {
+    tree = h.tree;
+    signer = h.signer;
+    has_signer = signer_moves h.tree h.signer h.has_signer;
+    unsigned = sym (signed_alike h.tree h.signer h.has_signer) ∙ h.unsigned;
+  }
+  fault_moves starts.OutOfMemory h = h
+
+pub decide_starts : SignaturesDetermineStart
+decide_starts G K info handed s agree h = start_moves G K info handed agree s h
+
+pub decide_faults : SignaturesDetermineStartFault
+decide_faults G K info handed fault agree h = fault_moves G K info handed agree fault h

@@ -1,0 +1,31 @@
+use Rattle.std.proofs.Common.{ap, inl, inr, sym, Option, Some, Err, ◌∙◌}
+use Rattle.std.proofs.lemmas.Result.{err_from_is_err_and}
+use Rattle.mls_hash.specs.SuiteHash.{hash_of}
+use Rattle.mls_apply.specs.AppliedList.{Grown}
+use Rattle.mls_apply.specs.RuleLists.{first_failing}
+use Rattle.mls_follow.specs.CommitTree.{change_rules}
+use Rattle.mls_follow.specs.MessageRules.{refusal_of}
+use Rattle.mls_follow.proofs.Committing.{no_outcome}
+use Rattle.mls_follow.proofs.Staying.{committer_stays}
+use Rattle.mls_follow.proofs.commit_changes.change_tree.Goals as goal
+
+-- the list has no outcome
+pub returns-in_err-added-clause-refused : goal.returns-in_err-added-clause-refused
+returns-in_err-added-clause-refused c =
+    let p = err_from_is_err_and c.from_residual.result c.from_residual.ensures.1 in
+    let commit = c.args.commit.now in
+    let no_such_leaf = rw c.as_slice.ensures.value at c.in_err-added.ensures.no_such_leaf in
+    let too_many_leaves = rw c.as_slice.ensures.value at c.in_err-added.ensures.too_many_leaves in
+    let failed = ap (λ (o : Option Grown). first_failing (change_rules (hash_of c.args.suite) commit.committer commit.path.now o)) in
+    rw (p.1, p.2) (λ not_memory. elim c.in_err-added.ensures.else_memory [
+      | inl n ↦ failed (no_outcome commit.items.items c.args.tree.now.tree (no_such_leaf (ap Err n))) ∙ ap (λ fault. Some (refusal_of fault)) (sym n)
+      | inr (inl n) ↦ failed ((too_many_leaves (ap Err n)).1) ∙ ap (λ fault. Some (refusal_of fault)) (sym n)
+      | inr (inr n) ↦ absurd (not_memory (ap refusal_of n))
+    ])
+
+-- the committer's leaf stays
+pub merge-requires : goal.merge-requires
+merge-requires c =
+    let commit = c.args.commit.now in
+    let applied = rw c.as_slice.ensures.value at c.in_ok-added.ensures.applied in
+    committer_stays commit.committer commit.items.items _ c.args.tree.now.tree _ commit.listed applied c.requires

@@ -1,0 +1,33 @@
+use Rattle.std.proofs.Common.{◌≡◌, ℕ, Some, None, subst}
+use Rattle.std.proofs.lemmas.Result.{err_from_is_err_and}
+use Rattle.mls_hash.specs.SuiteHash.{hash_of}
+use Rattle.mls_apply.specs.AppliedList.{outcome}
+use Rattle.mls_apply.specs.RuleLists.{first_failing}
+use Rattle.mls_follow.specs.CommitTree.{change_rules, changed_tree, in_context}
+use Rattle.mls_follow.proofs.Committing.{change_failed, change_kept}
+use Rattle.mls_follow.proofs.commit_changes.stage_commit.Goals as goal
+
+-- the list has no outcome, or the path fails a rule
+pub returns-in_err-change_tree-clause-refused : goal.returns-in_err-change_tree-clause-refused
+returns-in_err-change_tree-clause-refused g c =
+    let p = err_from_is_err_and c.from_residual.result c.from_residual.ensures.1 in
+    let G = g.C.SignatureCheck.meaning c.args.checker.now in
+    let rules = c.args.rules.now in
+    let commit = c.args.commit.now in
+    let o = outcome commit.items.items c.args.tree.now.tree in
+    let e = c.in_err-change_tree.field-0.0 in
+    rw (p.1, p.2) (λ own.
+    (let fails = subst (λ (suite : ℕ). first_failing (change_rules (hash_of suite) commit.committer commit.path.now o) ≡ Some e) rules.same_suite (c.in_err-change_tree.ensures.refused own) in
+    change_failed G (in_context rules.context.now) rules.required.now commit.committer commit.path.now o e fails))
+
+-- the tree after the list and the path fails a rule
+pub returns-clause-refused : goal.returns-clause-refused
+returns-clause-refused g c =
+    let G = g.C.SignatureCheck.meaning c.args.checker.now in
+    let rules = c.args.rules.now in
+    let commit = c.args.commit.now in
+    let o = outcome commit.items.items c.args.tree.now.tree in
+    let t = c.change_tree.new.tree.tree in
+    let kept = subst (λ (suite : ℕ). first_failing (change_rules (hash_of suite) commit.committer commit.path.now o) ≡ None) rules.same_suite c.in_ok-change_tree.ensures.kept in
+    let made = subst (λ (suite : ℕ). changed_tree (hash_of suite) commit.committer commit.path.now o ≡ Some t) rules.same_suite c.in_ok-change_tree.ensures.tree in
+    rw (change_kept G (in_context rules.context.now) rules.required.now commit.committer commit.path.now o t kept made) c.check_changed_tree.ensures.refused

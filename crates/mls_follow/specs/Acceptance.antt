@@ -1,0 +1,59 @@
+-- Which messages a follower accepts, and the first rule that a refused one fails. `s` is the state, G the verification
+-- function of the checker. Used by contracts.
+use Rattle.std.specs.Prelude.{◌≡◌, ◌≢◌, ◌⊎◌, ℕ, List, Option, Some, None, IsSome}
+use Rattle.mls_nodes.specs.declared.context.GroupContext.{GroupContext}
+use Rattle.mls_nodes.specs.declared.required_capabilities.RequiredCapabilities.{RequiredCapabilities}
+use Rattle.mls_check.specs.Signatures.{VerifyFn}
+use Rattle.mls_msgs.specs.declared.message.Message.{Message}
+use Rattle.mls_msgs.specs.declared.message.Message.TheVariants as messages
+use Rattle.mls_msgs.specs.declared.public_message.PublicParts.{PublicParts}
+use Rattle.mls_apply.specs.RuleLists.{first_failing}
+use Rattle.mls_nodes.specs.Requirements.{Requires}
+use Rattle.mls_follow.specs.State.{State, EncodesMessage, HasEncoding}
+use Rattle.mls_follow.specs.MessageRules.{message_rules, reference_of}
+use Rattle.mls_follow.specs.NextState.{Step, next}
+use Rattle.mls_follow.specs.declared.refusal.Refusal.{Refusal}
+use Rattle.mls_follow.specs.declared.refusal.Refusal.TheVariants.{Malformed, OutOfMemory}
+
+-- `IsAcceptable G s bytes`: the bytes are the encoding of a message that satisfies every rule (RFC 9420, 6, 12.1 to
+-- 12.4).
+pub record IsAcceptable (G : VerifyFn) (s : State) (bytes : List ℕ) : Type 0 where
+  pub message : Message
+  pub spelled : EncodesMessage message bytes
+  pub required : RequiredCapabilities
+  pub requires : Requires s.context required
+  pub kept : first_failing (message_rules G s required message) ≡ None
+
+-- `IsNext s bytes step`: the step is the one after the message of these bytes.
+pub record IsNext (s : State) (bytes : List ℕ) (step : Step) : Type 0 where
+  pub message : Message
+  pub spelled : EncodesMessage message bytes
+  pub after : next s message ≡ Some step
+
+-- `FailsRule G s bytes e`: the bytes are the encoding of a message, and the first rule that it fails is that of this
+-- refusal.
+pub record FailsRule (G : VerifyFn) (s : State) (bytes : List ℕ) (e : Refusal) : Type 0 where
+  pub message : Message
+  pub spelled : EncodesMessage message bytes
+  pub required : RequiredCapabilities
+  pub requires : Requires s.context required
+  pub fails : first_failing (message_rules G s required message) ≡ Some e
+
+-- `EncodesNoMessage bytes`: the bytes are the encoding of no message.
+abbrev pub EncodesNoMessage : List ℕ → Type 0
+EncodesNoMessage bytes = (m : Message) → EncodesMessage m bytes → ⊥
+
+-- `IsFirstRefusal G s bytes e`: the refusal of these bytes is Malformed, as they are the encoding of no message, or
+-- that of the first rule that fails.
+abbrev pub IsFirstRefusal : VerifyFn → State → List ℕ → Refusal → Type 0
+IsFirstRefusal G s bytes e = ((e ≡ Malformed) × EncodesNoMessage bytes) ⊎ FailsRule G s bytes e
+
+-- Each PublicMessage within the limit of an input has a reference (RFC 9420, 5.2).
+abbrev pub ReferencesExist : Type 0
+ReferencesExist =
+    (context : GroupContext) (m : PublicParts) → HasEncoding (messages.Public m)
+    → IsSome (reference_of context m.auth)
+
+-- `Refuses failing e`: a refusal other than OutOfMemory is that of the rule that fails.
+abbrev pub Refuses : Option Refusal → Refusal → Type 0
+Refuses failing e = e ≢ OutOfMemory → failing ≡ Some e

@@ -1,0 +1,29 @@
+-- The invariant of a follower's state (RFC 9420, 7.3 and 12.4.2). Internal: no public contract uses this.
+use Rattle.std.specs.Prelude.{◌≡◌, Bool, true}
+use Rattle.std.specs.Coded.{Coded-set, coded_bool}
+use Rattle.mls_nodes.specs.declared.required_capabilities.RequiredCapabilities.{RequiredCapabilities}
+use Rattle.mls_nodes.specs.Requirements.{Requires}
+use Rattle.mls_check.specs.DistinctKeys.{has_distinct_keys}
+use Rattle.mls_check.specs.LeafValidation.{LeavesAreValid, all_leaves, member_rule}
+use Rattle.mls_check.specs.Signatures.{VerifyFn}
+use Rattle.mls_follow.specs.State.{State}
+
+-- `IsJudged G s`: the state's tree has distinct encryption keys, and its leaf nodes are valid under what the context
+-- requires, by the checker's verification function G.
+pub record IsJudged (G : VerifyFn) (s : State) : Type 0 where
+  pub distinct : has_distinct_keys s.tree ≡ true
+  pub members : (required : RequiredCapabilities) → Requires s.context required
+      → LeavesAreValid G s.context.cipher_suite s.context.group_id required s.tree
+
+bool_set : (x y : Bool) → IsProp (x ≡ y)
+bool_set x y = Coded-set coded_bool x y
+
+-- `IsJudged` has at most one proof.
+pub IsJudged-prop : (G : VerifyFn) (s : State) → IsProp (IsJudged G s)
+IsJudged-prop G s x y = λ i. record {
+  distinct = bool_set (has_distinct_keys s.tree) true x.distinct y.distinct i;
+  members = λ required requires. record {
+    rules = λ k. bool_set (all_leaves (member_rule G s.context.cipher_suite s.context.group_id required s.tree k) 0 s.tree) true
+        ((x.members required requires).rules k) ((y.members required requires).rules k) i;
+  };
+}

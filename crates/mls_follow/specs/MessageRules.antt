@@ -1,0 +1,256 @@
+-- The rules for a message, in their order (RFC 9420, 6.1, 12.1 to 12.4). A list ends after a rule that certainly fails.
+-- `s` is the state, G the verification function of the checker, H the hash function of the cipher suite, `a` the
+-- AuthenticatedContent, `i` the sender, `required` what the group requires. Used by contracts.
+use Rattle.std.specs.Prelude.{ℕ, ◌==◌, nat_lt, is_some, not, List, [], ◌∷◌, ◌++◌, Bool, true, false, Option, Some, None, option_map, option_and_then}
+use Rattle.std.specs.Str.{bytes_eq}
+use Rattle.mls_nodes.specs.declared.context.GroupContext.{GroupContext}
+use Rattle.mls_nodes.specs.declared.extension.Extension.{Extension}
+use Rattle.mls_nodes.specs.declared.leaf.LeafNode.{LeafNode}
+use Rattle.mls_nodes.specs.declared.required_capabilities.RequiredCapabilities.{RequiredCapabilities}
+use Rattle.mls_nodes.specs.Requirements.{required_by}
+use Rattle.mls_tree.specs.Tree.{Tree, leaf_at}
+use Rattle.mls_hash.specs.SuiteHash.{hash_of, ref_hash_input}
+use Rattle.mls_check.specs.DistinctKeys.{has_distinct_keys}
+use Rattle.mls_check.specs.LeafValidation.{member_fault}
+use Rattle.mls_check.specs.Signatures.{VerifyFn, is_signed_text}
+use Rattle.mls_check.specs.declared.members.MemberFault.{MemberFault}
+use Rattle.mls_check.specs.declared.members.MemberFault.TheVariants as members
+use Rattle.mls_msgs.specs.Authenticated.{authenticated_content}
+use Rattle.mls_msgs.specs.Tbs.{content_label, content_tbs, reference_label}
+use Rattle.mls_msgs.specs.declared.authenticated.AuthenticatedParts.{AuthenticatedParts}
+use Rattle.mls_msgs.specs.declared.commit.Commit.{Commit}
+use Rattle.mls_msgs.specs.declared.commit.UpdatePath.{UpdatePath}
+use Rattle.mls_msgs.specs.declared.framed_content.Content.{Content}
+use Rattle.mls_msgs.specs.declared.framed_content.Content.TheVariants as contents
+use Rattle.mls_msgs.specs.declared.framed_content.Sender.{Sender}
+use Rattle.mls_msgs.specs.declared.framed_content.Sender.TheVariants as senders
+use Rattle.mls_msgs.specs.declared.message.Message.{Message}
+use Rattle.mls_msgs.specs.declared.message.Message.TheVariants as messages
+use Rattle.mls_msgs.specs.declared.proposal.Proposal.{Proposal}
+use Rattle.mls_apply.specs.declared.fault.ApplyFault.{ApplyFault}
+use Rattle.mls_apply.specs.declared.fault.ApplyFault.TheVariants as faults
+use Rattle.mls_apply.specs.declared.list_item.ListItem.{ListItem}
+use Rattle.mls_apply.specs.declared.list_item.KnownProposal.{KnownProposal}
+use Rattle.mls_apply.specs.RuleLists.{Rule, rule, first_failing, renamed}
+use Rattle.mls_apply.specs.ResolvedList.{find_known, resolved}
+use Rattle.mls_apply.specs.ContextExtensions.{brought}
+use Rattle.mls_apply.specs.ProposalRules.{proposal_rules, valid_if_add, valid_if_update, valid_if_remove, valid_if_extensions, all_inline}
+use Rattle.mls_apply.specs.ListRules.{list_rules}
+use Rattle.mls_apply.specs.AppliedList.{Grown, outcome}
+use Rattle.mls_apply.specs.MergePath.{merged}
+use Rattle.mls_apply.specs.PathRules.{path_rules, node_keys}
+use Rattle.mls_follow.specs.State.{State, last_epoch}
+use Rattle.mls_follow.specs.declared.refusal.Refusal.{Refusal}
+use Rattle.mls_follow.specs.declared.refusal.Refusal.TheVariants as refusals
+use Rattle.mls_follow.specs.declared.refusal.Refusal.TheVariants.{NotPublic, WrongGroup, WrongEpoch, SenderNotMember, NotHandshake, BadSignature, AddInvalid, UpdateInvalid, RemoveInvalid, LastEpoch, UnknownReference, UpdateByCommitter, RemovesCommitter, SameLeafTwice, PathMissing, TooManyLeaves, PathLength, PathSource, PathKeyUsed, CiphertextCount, PathParentHash, KeyRepeated, Member, TwoContextExtensions, ContextExtensionsInvalid, OutOfMemory}
+
+-- `refuse e` is a rule that fails.
+abbrev pub refuse : Refusal → List (Rule Refusal)
+refuse e = rule e false ∷ []
+
+-- `refusal_of fault` is the same fault of proposals or paths as a refusal. A blank leaf means that the list cannot be
+-- applied.
+abbrev pub refusal_of : ApplyFault → Refusal
+refusal_of faults.AddInvalid = AddInvalid
+refusal_of faults.UpdateInvalid = UpdateInvalid
+refusal_of faults.RemoveInvalid = RemoveInvalid
+refusal_of faults.UnknownReference = UnknownReference
+refusal_of faults.UpdateByCommitter = UpdateByCommitter
+refusal_of faults.RemovesCommitter = RemovesCommitter
+refusal_of faults.SameLeafTwice = SameLeafTwice
+refusal_of faults.PathMissing = PathMissing
+refusal_of faults.TooManyLeaves = TooManyLeaves
+refusal_of faults.PathLength = PathLength
+refusal_of faults.PathSource = PathSource
+refusal_of faults.PathKeyUsed = PathKeyUsed
+refusal_of faults.CiphertextCount = CiphertextCount
+refusal_of faults.PathParentHash = PathParentHash
+refusal_of faults.TwoContextExtensions = TwoContextExtensions
+refusal_of faults.ContextExtensionsInvalid = ContextExtensionsInvalid
+refusal_of faults.NoSuchLeaf = TooManyLeaves
+refusal_of faults.OutOfMemory = OutOfMemory
+
+-- `reference_of context a` is the ProposalRef of a proposal (RFC 9420, 5.2).
+abbrev pub reference_of : GroupContext → AuthenticatedParts → Option (List ℕ)
+reference_of context a =
+    option_and_then
+    (λ value. option_map (hash_of context.cipher_suite) (ref_hash_input reference_label value))
+    (authenticated_content a)
+
+-- `is_known_reference known reference`: some pending proposal has the reference, if there is one.
+abbrev pub is_known_reference : List KnownProposal → Option (List ℕ) → Bool
+is_known_reference known None = false
+is_known_reference known (Some reference) = is_some (find_known known reference)
+
+-- `is_new_proposal s a`: no pending proposal has the ProposalRef of this one (RFC 9420, 5.2; own rule).
+unfoldable pub is_new_proposal : State → AuthenticatedParts → Bool
+is_new_proposal s a = not (is_known_reference s.known (reference_of s.context a))
+
+-- `is_frame_signed G context x a`: the signature of the FramedContent is good, under the key of the sender's leaf `x`
+-- and over the current GroupContext (RFC 9420, 6.1).
+unfoldable pub is_frame_signed : VerifyFn → GroupContext → LeafNode → AuthenticatedParts → Bool
+is_frame_signed G context x a =
+    is_signed_text G context.cipher_suite x.signature_key content_label
+    (content_tbs a (Some context)) a.signature
+
+-- `proposal_message_rules G s a i p` is the rules for a proposal of member i (RFC 9420, 12.1).
+abbrev pub proposal_message_rules : VerifyFn → State → AuthenticatedParts → ℕ → Proposal → List (Rule Refusal)
+proposal_message_rules G s a i p =
+    rule refusals.KnownProposal (is_new_proposal s a) ∷
+    renamed refusal_of (proposal_rules G s.context s.tree i p)
+
+-- `member_refusal fault` is the same fault of a leaf node as a refusal.
+abbrev pub member_refusal : MemberFault → Refusal
+member_refusal (members.ExtensionUnlisted index) = Member (members.ExtensionUnlisted index)
+member_refusal (members.RequirementUnmet index) = Member (members.RequirementUnmet index)
+member_refusal (members.CredentialUnsupported index) = Member (members.CredentialUnsupported index)
+member_refusal (members.SignatureKeyRepeated index) = Member (members.SignatureKeyRepeated index)
+member_refusal (members.LeafSignature index) = Member (members.LeafSignature index)
+member_refusal members.OutOfMemory = OutOfMemory
+
+-- `member_rules fault` is the rules for the leaf nodes of the tree after a commit (RFC 9420, 7.3).
+abbrev pub member_rules : Option MemberFault → List (Rule Refusal)
+member_rules None = []
+member_rules (Some f) = refuse (Member f)
+
+-- `tree_rules G s required t` is the rules for the tree after a commit: distinct encryption keys and valid leaf nodes
+-- (RFC 9420, 7.3 and 12.4.2). There is a tree whenever the path has the expected parent hash.
+abbrev pub tree_rules : VerifyFn → State → RequiredCapabilities → Option Tree → List (Rule Refusal)
+tree_rules G s required None = []
+tree_rules G s required (Some t) =
+    rule KeyRepeated (has_distinct_keys t) ∷
+    member_rules (member_fault G s.context.cipher_suite s.context.group_id required t)
+
+-- `resulting H g i path` is the tree after a commit of member i, from the tree after its proposals (RFC 9420, 7.5 and
+-- 12.4.2).
+abbrev pub resulting : (List ℕ → List ℕ) → Grown → ℕ → Option UpdatePath → Option Tree
+resulting H g i None = Some g.tree
+resulting H g i (Some path) = merged H g.tree i path.leaf_node (node_keys path)
+
+-- `path_rules_of H g i path` is the rules for a path, if there is one (RFC 9420, 7.6, 7.9.2 and 12.4.2).
+abbrev pub path_rules_of : (List ℕ → List ℕ) → Grown → ℕ → Option UpdatePath → List (Rule Refusal)
+path_rules_of H g i None = []
+path_rules_of H g i (Some path) = renamed refusal_of (path_rules H g i path)
+
+-- `outcome_rules G s required i path g` is the rules after those for the proposal list: the tree after it, the path,
+-- the tree after both (RFC 9420, 12.4.2).
+abbrev pub outcome_rules : VerifyFn → State → RequiredCapabilities → ℕ → Option UpdatePath
+    → Option Grown → List (Rule Refusal)
+outcome_rules G s required i path None = refuse TooManyLeaves
+outcome_rules G s required i path (Some g) =
+    path_rules_of (hash_of s.context.cipher_suite) g i path ++
+    tree_rules G s required (resulting (hash_of s.context.cipher_suite) g i path)
+
+-- `required_after required extensions` is what is required after a commit: by the extensions that its list proposes,
+-- else what is required before it (RFC 9420, 11.1 and 12.1.7). `None` if it cannot be read.
+abbrev pub required_after : RequiredCapabilities → Option (List Extension) → Option RequiredCapabilities
+required_after required None = Some required
+required_after required (Some extensions) = required_by extensions
+
+-- `rules_under G s i path g required` is the rules after those for the proposal list, under what is then required. That
+-- this can be read was checked for each proposal. The rule here matters only in states that no follower comes to.
+abbrev pub rules_under : VerifyFn → State → ℕ → Option UpdatePath → Option Grown
+    → Option RequiredCapabilities → List (Rule Refusal)
+rules_under G s i path o None = refuse ContextExtensionsInvalid
+rules_under G s i path o (Some required) = outcome_rules G s required i path o
+
+-- `inline_rules G s i c` is the rules for the proposals that a commit includes by value (RFC 9420, 12.1 and 12.4).
+abbrev pub inline_rules : VerifyFn → State → ℕ → Commit → List (Rule Refusal)
+inline_rules G s i c =
+    rule AddInvalid (all_inline (valid_if_add G s.context) c.proposals) ∷
+    rule UpdateInvalid (all_inline (valid_if_update G s.context s.tree i) c.proposals) ∷
+    rule RemoveInvalid (all_inline (valid_if_remove s.tree) c.proposals) ∷
+    rule ContextExtensionsInvalid (all_inline valid_if_extensions c.proposals) ∷ []
+
+-- `items_rules G s required i c items` is the rules for the proposal list of a commit: those for each proposal by
+-- value, then those for the whole list (RFC 9420, 12.2 and 12.4).
+abbrev pub items_rules : VerifyFn → State → RequiredCapabilities → ℕ → Commit
+    → Option (List ListItem) → List (Rule Refusal)
+items_rules G s required i c None = refuse UnknownReference
+items_rules G s required i c (Some items) =
+    inline_rules G s i c ++
+    (renamed refusal_of (list_rules i items (is_some c.path)) ++
+    rules_under G s i c.path (outcome items s.tree) (required_after required (brought items)))
+
+-- `commit_rules G s required i c` is the rules for a commit of member i (RFC 9420, 12.4.2).
+abbrev pub commit_rules : VerifyFn → State → RequiredCapabilities → ℕ → Commit → List (Rule Refusal)
+commit_rules G s required i c =
+    rule LastEpoch (nat_lt s.context.epoch last_epoch) ∷
+    items_rules G s required i c (resolved i s.known c.proposals)
+
+-- `is_handshake c`: the content is a proposal or a commit (RFC 9420, 6).
+abbrev pub is_handshake : Content → Bool
+is_handshake (contents.Application _) = false
+is_handshake (contents.Proposal _) = true
+is_handshake (contents.Commit _) = true
+
+-- `handshake_rules G s required a i c` is the rules for the content of a signed message of member i, if it is a
+-- proposal or a commit.
+abbrev pub handshake_rules : VerifyFn → State → RequiredCapabilities → AuthenticatedParts → ℕ
+    → Content → Option (List (Rule Refusal))
+handshake_rules G s required a i (contents.Application _) = None
+handshake_rules G s required a i (contents.Proposal p) = Some (proposal_message_rules G s a i p)
+handshake_rules G s required a i (contents.Commit c) = Some (commit_rules G s required i c)
+
+-- `signed_rules G context x a rules` is `rules` after the rules that the content is a proposal or a commit, and that it
+-- is signed under the key of the leaf `x` (RFC 9420, 6.1).
+abbrev pub signed_rules : VerifyFn → GroupContext → LeafNode → AuthenticatedParts
+    → Option (List (Rule Refusal)) → List (Rule Refusal)
+signed_rules G context x a None = refuse NotHandshake
+signed_rules G context x a (Some rules) =
+    rule BadSignature (is_frame_signed G context x a) ∷ rules
+
+-- `content_rules G s required a i x c` is the rules for the content of a message of member i, whose leaf is `x`
+-- (RFC 9420, 6.1 and 6.2).
+abbrev pub content_rules : VerifyFn → State → RequiredCapabilities → AuthenticatedParts → ℕ
+    → LeafNode → Content → List (Rule Refusal)
+content_rules G s required a i x content =
+    signed_rules G s.context x a (handshake_rules G s required a i content)
+
+-- `leaf_rules G s required a i x` is the rules for a message of leaf i, which must be non-blank.
+abbrev pub leaf_rules : VerifyFn → State → RequiredCapabilities → AuthenticatedParts → ℕ
+    → Option LeafNode → List (Rule Refusal)
+leaf_rules G s required a i None = refuse SenderNotMember
+leaf_rules G s required a i (Some x) = content_rules G s required a i x a.content.content
+
+-- `sender_rules G s required a sender` is the rules for a message of a sender, who must be a member (RFC 9420, 6.1).
+abbrev pub sender_rules : VerifyFn → State → RequiredCapabilities → AuthenticatedParts → Sender
+    → List (Rule Refusal)
+sender_rules G s required a (senders.Member i) = leaf_rules G s required a i (leaf_at 0 s.tree i)
+sender_rules G s required a (senders.External _) = refuse SenderNotMember
+sender_rules G s required a senders.NewMemberProposal = refuse SenderNotMember
+sender_rules G s required a senders.NewMemberCommit = refuse SenderNotMember
+
+-- `frame_rules G s required a` is the rules for an AuthenticatedContent: the group, the epoch, the sender (RFC 9420,
+-- 6.1).
+abbrev pub frame_rules : VerifyFn → State → RequiredCapabilities → AuthenticatedParts
+    → List (Rule Refusal)
+frame_rules G s required a =
+    rule WrongGroup (bytes_eq a.content.group_id s.context.group_id) ∷
+    rule WrongEpoch (a.content.epoch == s.context.epoch) ∷
+    sender_rules G s required a a.content.sender
+
+-- `message_rules G s required m` is the rules for a message (RFC 9420, 6), which must be a PublicMessage.
+abbrev pub message_rules : VerifyFn → State → RequiredCapabilities → Message → List (Rule Refusal)
+message_rules G s required (messages.Public m) = frame_rules G s required m.auth
+message_rules G s required (messages.Unread _ _) = refuse NotPublic
+message_rules G s required (messages.GroupInfo _) = refuse NotPublic
+message_rules G s required (messages.KeyPackage _) = refuse NotPublic
+
+-- The first rule that fails, for an AuthenticatedContent, for the content of a member, and for a commit. Proofs about
+-- callers need not unfold these.
+
+-- `frame_refusal G s required a` is the refusal of the first rule for an AuthenticatedContent that fails.
+unfoldable pub frame_refusal : VerifyFn → State → RequiredCapabilities → AuthenticatedParts
+    → Option Refusal
+frame_refusal G s required a = first_failing (frame_rules G s required a)
+
+-- `handshake_refusal G s required a i c` is the refusal of the first rule for the content of member i that fails.
+unfoldable pub handshake_refusal : VerifyFn → State → RequiredCapabilities → AuthenticatedParts → ℕ
+    → Content → Option Refusal
+handshake_refusal G s required a i content =
+    option_and_then first_failing (handshake_rules G s required a i content)
+
+-- `commit_refusal G s required i c` is the refusal of the first rule for a commit of member i that fails.
+unfoldable pub commit_refusal : VerifyFn → State → RequiredCapabilities → ℕ → Commit → Option Refusal
+commit_refusal G s required i c = first_failing (commit_rules G s required i c)

@@ -1,0 +1,67 @@
+-- Which signatures have to be verified of a message in a state, and what the signatures of a start and of a message
+-- determine (RFC 9420, 5.1.2, 6.1, 12.4.3.1).
+-- Used by contracts. `G` and `K`: what a checker answers (`VerifyFn`).
+use Rattle.std.specs.Prelude.{◌≡◌, ℕ, List, Option}
+use Rattle.mls_nodes.specs.declared.required_capabilities.RequiredCapabilities.{RequiredCapabilities}
+use Rattle.mls_tree.specs.Tree.{Tree}
+use Rattle.mls_tree.specs.RatchetTree.{RatchetTree}
+use Rattle.mls_check.specs.LeafValidation.{LeavesAreValid}
+use Rattle.mls_check.specs.Signatures.{VerifyFn, Extends}
+use Rattle.mls_msgs.specs.declared.group_info.GroupInfo.{GroupInfo}
+use Rattle.mls_msgs.specs.declared.message.Message.{Message}
+use Rattle.mls_apply.specs.RuleLists.{first_failing}
+use Rattle.mls_signatures.specs.Agreement.{AgreeOn}
+use Rattle.mls_signatures.specs.SignaturesToVerify as lists
+use Rattle.mls_signatures.specs.declared.signature_to_verify.SignatureToVerify.{SignatureToVerify}
+use Rattle.mls_follow.specs.State.{State, EncodesMessage}
+use Rattle.mls_follow.specs.MessageRules.{message_rules}
+use Rattle.mls_follow.specs.Start.{UsesTree, IsStart, IsStartFault}
+use Rattle.mls_follow.specs.declared.start_fault.StartFault.{StartFault}
+
+-- the signatures of a message in a state, without duplicates
+abbrev pub message_signatures : State → Message → List SignatureToVerify
+message_signatures s m = lists.message_signatures s.context s.known s.tree m
+
+-- the signatures of all leaves of a state's tree, from left to right
+abbrev pub state_signatures : State → List SignatureToVerify
+state_signatures s = lists.tree_signatures s.context.cipher_suite s.context.group_id 0 s.tree
+
+-- `AreSignaturesOf s bytes wanted`: `bytes` encode a message, and `wanted` are its signatures in the state `s`
+pub record AreSignaturesOf (s : State) (bytes : List ℕ) (wanted : List SignatureToVerify) : Type 0 where
+  pub message : Message
+  pub spelled : EncodesMessage message bytes
+  pub same : wanted ≡ message_signatures s message
+
+-- both verify the signatures of a start with the same result, by each tree that the start may use
+abbrev pub AgreeOnStart : VerifyFn → VerifyFn → GroupInfo → Option RatchetTree → Type 0
+AgreeOnStart G K info handed =
+    (t : RatchetTree) → UsesTree handed info.extensions t → AgreeOn G K (lists.start_signatures info t.tree)
+
+-- ---- theorems
+
+-- the signatures of a message, and those of the leaves of the state's tree, determine which rule the message fails first
+abbrev pub SignaturesDetermineRefusal : Type 0
+SignaturesDetermineRefusal =
+    (G K : VerifyFn) (s : State) (required : RequiredCapabilities) (m : Message)
+    → AgreeOn G K (message_signatures s m)
+    → AgreeOn G K (state_signatures s)
+    → first_failing (message_rules G s required m) ≡ first_failing (message_rules K s required m)
+
+-- the signatures of a start determine whether a follower starts, and in which state
+abbrev pub SignaturesDetermineStart : Type 0
+SignaturesDetermineStart =
+    (G K : VerifyFn) (info : GroupInfo) (handed : Option RatchetTree) (s : State)
+    → AgreeOnStart G K info handed → IsStart G info handed s → IsStart K info handed s
+
+-- the signatures of a start determine why no follower starts
+abbrev pub SignaturesDetermineStartFault : Type 0
+SignaturesDetermineStartFault =
+    (G K : VerifyFn) (info : GroupInfo) (handed : Option RatchetTree) (fault : StartFault)
+    → AgreeOnStart G K info handed → IsStartFault G info handed fault
+    → IsStartFault K info handed fault
+
+-- leaf nodes that are valid remain valid if more signatures are good
+abbrev pub MembersStay : Type 0
+MembersStay =
+    (G K : VerifyFn) (suite : ℕ) (group_id : List ℕ) (required : RequiredCapabilities) (t : Tree)
+    → Extends G K → LeavesAreValid G suite group_id required t → LeavesAreValid K suite group_id required t

@@ -1,0 +1,113 @@
+-- What an accepted message changes (RFC 9420, 8.1, 8.2, 12.4 and 12.4.2). `s` is the state before it. Used by
+-- contracts.
+use Rattle.std.specs.Prelude.{ℕ, ◌+◌, List, [], ◌∷◌, ◌++◌, Option, Some, None, option_map, option_and_then}
+use Rattle.mls_nodes.specs.declared.extension.Extension.{Extension}
+use Rattle.mls_tree.specs.Tree.{Tree}
+use Rattle.mls_tree.specs.TreeHash.{tree_hash}
+use Rattle.mls_hash.specs.SuiteHash.{hash_of}
+use Rattle.mls_msgs.specs.declared.authenticated.AuthenticatedParts.{AuthenticatedParts}
+use Rattle.mls_msgs.specs.declared.commit.Commit.{Commit}
+use Rattle.mls_msgs.specs.declared.framed_content.Content.{Content}
+use Rattle.mls_msgs.specs.declared.framed_content.Content.TheVariants as contents
+use Rattle.mls_msgs.specs.declared.framed_content.Sender.{Sender}
+use Rattle.mls_msgs.specs.declared.framed_content.Sender.TheVariants as senders
+use Rattle.mls_msgs.specs.declared.message.Message.{Message}
+use Rattle.mls_msgs.specs.declared.message.Message.TheVariants as messages
+use Rattle.mls_msgs.specs.declared.proposal.Proposal.{Proposal}
+use Rattle.mls_apply.specs.declared.list_item.ListItem.{ListItem}
+use Rattle.mls_apply.specs.ContextExtensions.{new_extensions}
+use Rattle.mls_apply.specs.ResolvedList.{resolved}
+use Rattle.mls_apply.specs.AppliedList.{outcome}
+use Rattle.mls_follow.specs.State.{State}
+use Rattle.mls_follow.specs.MessageRules.{reference_of, resulting}
+use Rattle.mls_follow.specs.Transcript.{confirmed_hash, interim_hash}
+use Rattle.mls_follow.specs.declared.taken.Taken.{Taken}
+use Rattle.mls_follow.specs.declared.taken.Taken.TheVariants as takens
+
+-- The result of an accepted message, and the state after it.
+pub record Step : Type 0 where
+  pub taken : Taken
+  pub state : State
+
+-- `after_proposal s i p reference` is the step after a proposal of member i: it is pending under its reference
+-- (RFC 9420, 12.4).
+abbrev pub after_proposal : State → ℕ → Proposal → List ℕ → Step
+after_proposal s i p reference = record {
+  taken = takens.Proposal reference;
+  state = record s {
+    known = s.known ++ record { reference = reference; sender = i; proposal = p } ∷ [];
+  };
+}
+
+-- `committed s t hash confirmed interim` is the step after a commit: the context of the next epoch (RFC 9420, 8.1), the
+-- tree, the interim transcript hash (8.2), and no pending proposals (12.4).
+abbrev pub committed : State → Tree → List ℕ → List ℕ → List ℕ → Step
+committed s t hash confirmed interim = record {
+  taken = takens.Commit (s.context.epoch + 1);
+  state = record {
+    context = record s.context {
+      epoch = s.context.epoch + 1;
+      tree_hash = hash;
+      confirmed = confirmed;
+    };
+    tree = t;
+    interim = interim;
+    known = [];
+  };
+}
+
+-- `after_tree s a t` is the step after a commit that leads to the tree `t`, with its tree hash (RFC 9420, 7.8) and the
+-- transcript hashes (8.2).
+abbrev pub after_tree : State → AuthenticatedParts → Tree → Option Step
+after_tree s a t =
+    option_and_then (λ hash.
+    option_and_then (λ confirmed.
+    option_map (committed s t hash confirmed)
+    (interim_hash (hash_of s.context.cipher_suite) confirmed a.confirmation_tag))
+    (confirmed_hash (hash_of s.context.cipher_suite) s.interim a))
+    (tree_hash (hash_of s.context.cipher_suite) 0 t)
+
+-- `commit_tree s i c` is the tree after a commit of member i (RFC 9420, 12.4.2).
+abbrev pub commit_tree : State → ℕ → Commit → Option Tree
+commit_tree s i c =
+    option_and_then (λ items.
+    option_and_then (λ g. resulting (hash_of s.context.cipher_suite) g i c.path)
+    (outcome items s.tree))
+    (resolved i s.known c.proposals)
+
+-- `extensions_after present items` is the extensions of the next GroupContext, by the commit's list (RFC 9420, 12.1.7).
+abbrev pub extensions_after : List Extension → Option (List ListItem) → List Extension
+extensions_after present None = present
+extensions_after present (Some items) = new_extensions present items
+
+-- `with_extensions s extensions` is the state with these extensions in its context.
+abbrev pub with_extensions : State → List Extension → State
+with_extensions s extensions = record s { context = record s.context { extensions = extensions } }
+
+-- `after_commit s a i c` is the step after a commit of member i (RFC 9420, 12.4.2).
+abbrev pub after_commit : State → AuthenticatedParts → ℕ → Commit → Option Step
+after_commit s a i c =
+    option_and_then
+    (after_tree (with_extensions s (extensions_after s.context.extensions (resolved i s.known c.proposals))) a)
+    (commit_tree s i c)
+
+-- `after_content s a i c` is the step after the content of a message of member i.
+abbrev pub after_content : State → AuthenticatedParts → ℕ → Content → Option Step
+after_content s a i (contents.Application _) = None
+after_content s a i (contents.Proposal p) =
+    option_map (after_proposal s i p) (reference_of s.context a)
+after_content s a i (contents.Commit c) = after_commit s a i c
+
+-- `after_sender s a sender` is the step after a message of a sender, who is a member (RFC 9420, 6.1).
+abbrev pub after_sender : State → AuthenticatedParts → Sender → Option Step
+after_sender s a (senders.Member i) = after_content s a i a.content.content
+after_sender s a (senders.External _) = None
+after_sender s a senders.NewMemberProposal = None
+after_sender s a senders.NewMemberCommit = None
+
+-- `next s m` is the step after a message that satisfies the rules, which is a PublicMessage (RFC 9420, 6.2).
+abbrev pub next : State → Message → Option Step
+next s (messages.Public m) = after_sender s m.auth m.auth.content.sender
+next s (messages.Unread _ _) = None
+next s (messages.GroupInfo _) = None
+next s (messages.KeyPackage _) = None

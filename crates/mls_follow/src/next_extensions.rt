@@ -1,0 +1,54 @@
+//! The extensions of the next GroupContext, and what they require of members (RFC 9420, 11.1 and 12.1.7).
+
+ghost use Rattle.std.specs.Prelude.{◌≡◌, ◌≢◌, Some, None, IfOk, IfErr};
+ghost use Rattle.mls_nodes.specs.Requirements.{RequiresBy};
+ghost use Rattle.mls_apply.specs.ContextExtensions.{brought, new_extensions};
+ghost use Rattle.mls_follow.specs.MessageRules.{required_after};
+
+use crate::group::Group;
+use crate::refusal::Refusal;
+use mls_apply::{ListItem, new_extensions};
+use mls_nodes::{Extensions, RequiredCapabilities, requirements_of};
+use mls_wire::CodecFault;
+use std::alloc::Global;
+
+/// The extensions of a GroupContext, and what they require of members.
+#[derive(Drop)]
+pub(crate) struct NextExtensions {
+    pub(crate) extensions: Extensions,
+    pub(crate) required: RequiredCapabilities,
+}
+
+/// Returns the extensions after a commit with this proposal list, and what they require. `ContextExtensionsInvalid` if
+/// that cannot be read.
+#[tactic(auto, using(crate::proofs::Requiring::required_after_read, crate::proofs::Requiring::required_after_unread))]
+pub(crate) fn next_extensions_after(
+    alloc: Global,
+    group: &Group,
+    items: &[ListItem<'_>],
+) -> Result<NextExtensions, Refusal>
+    ensures extensions { IfOk result (λ terms.
+        terms.extensions ≡ new_extensions group.now.context.extensions items.now) }
+    ensures told { IfOk result (λ terms. RequiresBy terms.extensions terms.required) }
+    ensures required { IfOk result (λ terms.
+        required_after group.now.required (brought items.now) ≡ Some terms.required) }
+    ensures refused { IfErr result (λ e. e ≢ Refusal.OutOfMemory
+        → (e ≡ Refusal.ContextExtensionsInvalid)
+        × (required_after group.now.required (brought items.now) ≡ None)) }
+{
+    let extensions = new_extensions(alloc, &group.context, items)?;
+    match requirements_of(alloc, &extensions) {
+        Ok(required) => Ok(NextExtensions {
+            extensions,
+            required,
+        }),
+        Err(CodecFault::Wire(_)) => {
+            drop(extensions);
+            Err(Refusal::ContextExtensionsInvalid)
+        }
+        Err(CodecFault::OutOfMemory) => {
+            drop(extensions);
+            Err(Refusal::OutOfMemory)
+        }
+    }
+}

@@ -1,0 +1,37 @@
+//! A member's message, and a commit before and after its proposal list is resolved (RFC 9420, 12.4).
+
+ghost use Rattle.std.specs.Prelude.{IsSome, IsTrue};
+ghost use Rattle.mls_msgs.specs.Layout.{is_commit};
+ghost use Rattle.mls_msgs.specs.Tbs.{confirmed_input};
+ghost use Rattle.mls_follow.specs.CommitTree.{IsListed, IsListed-prop};
+
+use mls_apply::{ListItem, PendingProposals};
+use mls_msgs::{Authenticated, Commit, UpdatePath};
+
+/// A message that a member has sent and signed: its AuthenticatedContent, and the member.
+#[derive(Clone, Copy)]
+pub(crate) struct MemberMessage<'a> {
+    pub(crate) auth: &'a Authenticated,
+    pub(crate) sender: u32,
+}
+
+/// A member's commit that was decoded: the member, the commit, and the pending proposals that its list may name.
+#[derive(Clone, Copy)]
+pub(crate) struct ReceivedCommit<'a> {
+    pub(crate) committer: u32,
+    pub(crate) commit: &'a Commit,
+    pub(crate) known: &'a PendingProposals,
+}
+
+/// A member's commit whose proposal list is resolved and satisfies its rules: its AuthenticatedContent, the member, the
+/// list, and its path.
+#[derive(Drop)]
+pub(crate) struct ResolvedCommit<'a> {
+    pub(crate) auth: &'a Authenticated,
+    pub(crate) committer: u32,
+    pub(crate) items: Vec<ListItem<'a>>,
+    pub(crate) path: &'a Option<UpdatePath>,
+    ghost commit: { IsTrue (is_commit auth.now.content.content) },
+    ghost hashed: { IsSome (confirmed_input auth.now) },
+    ghost listed: { IsListed committer items.items path.now } by { IsListed-prop committer items.items path.now },
+}

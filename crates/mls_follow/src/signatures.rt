@@ -1,0 +1,77 @@
+//! Which signatures of a message a follower would verify (RFC 9420, 5.1.2).
+
+ghost use Rattle.std.specs.Prelude.{◌≡◌, ◌≢◌, IfOk, IfErr};
+ghost use Rattle.mls_follow.specs.Acceptance.{EncodesNoMessage};
+ghost use Rattle.mls_follow.specs.GroupModel.{group_state};
+ghost use Rattle.mls_follow.specs.FollowerModel.{state_of, checker_of};
+ghost use Rattle.mls_follow.specs.MessageSignatures.{AreSignaturesOf, message_signatures};
+
+use crate::follower::Follower;
+use crate::framed_content_rules::read_message;
+use crate::group::Group;
+use crate::refusal::Refusal;
+use mls_check::{OutOfMemory, SignatureCheck};
+use mls_msgs::Message;
+use mls_signatures::{SignatureToVerify, message_signatures};
+use std::alloc::Global;
+use thiserror::Error;
+
+/// Why the signatures of a message are not returned.
+#[derive(Clone, Copy, Debug, PartialEq, Eq, Error)]
+pub enum SignatureListFault {
+    /// The bytes encode no message (RFC 9420, 6).
+    #[error("the bytes spell no message")]
+    Malformed,
+    /// An allocation failed. It says nothing of the message.
+    #[error("out of memory")]
+    OutOfMemory,
+}
+
+impl Group {
+    /// Returns the signatures of a message, without duplicates. The group is unchanged, whatever is returned.
+    fn signatures(
+        &mut self,
+        alloc: Global,
+        message: &Message,
+    ) -> Result<Vec<SignatureToVerify>, OutOfMemory>
+        ensures signatures { IfOk result (λ v.
+            v.items ≡ message_signatures (group_state self.old) message.now) }
+        ensures state { group_state self.new ≡ group_state self.old }
+    {
+        let known = &self.known;
+        message_signatures(alloc, &self.context, known, &mut self.tree, message)
+    }
+}
+
+impl<C: SignatureCheck> Follower<C> {
+    /// Returns the signatures of one message (RFC 9420, 6), without duplicates: the message's own, if it is a PublicMessage of
+    /// the group and its epoch and from a member; then of an Add the leaf's and the KeyPackage's, and of an Update the leaf's;
+    /// of a commit those of its proposals by value, and of the leaves that it adds or replaces. Some may be returned that no
+    /// rule checks, as if another rule refuses the message before.
+    ///
+    /// The list of a commit is applied to the tree in place and taken back: the group and the checker are unchanged, whatever
+    /// is returned.
+    ///
+    /// # Errors
+    ///
+    /// [`SignatureListFault::Malformed`] if the bytes encode no message; [`SignatureListFault::OutOfMemory`].
+    pub fn wanted(&mut self, bytes: &[u8]) -> Result<Vec<SignatureToVerify>, SignatureListFault>
+        ensures wanted { IfOk result (λ v. AreSignaturesOf (state_of self.old) bytes.now v.items) }
+        ensures malformed { IfErr result (λ e. e ≢ SignatureListFault.OutOfMemory
+            → (e ≡ SignatureListFault.Malformed) × EncodesNoMessage bytes.now) }
+        ensures state { state_of self.new ≡ state_of self.old }
+        ensures checker { checker_of self.new ≡ checker_of self.old }
+    {
+        let message = match read_message(self.alloc, bytes) {
+            Ok(message) => message,
+            Err(Refusal::OutOfMemory) => return Err(SignatureListFault::OutOfMemory),
+            Err(_) => return Err(SignatureListFault::Malformed),
+        };
+        let list = self.group.signatures(self.alloc, &message);
+        drop(message);
+        match list {
+            Ok(list) => Ok(list),
+            Err(OutOfMemory) => Err(SignatureListFault::OutOfMemory),
+        }
+    }
+}

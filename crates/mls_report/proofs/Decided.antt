@@ -5,8 +5,8 @@ use Rattle.std.specs.Prelude.{◌⊎◌, ◌==◌, nat_le}
 use Rattle.std.proofs.lemmas.Bool.{false≢true}
 use Rattle.std.proofs.lemmas.Bool.Decides.{nat_tests}
 use Rattle.std.proofs.lemmas.Option.{none-some}
-use Rattle.mls_wire.specs.Answers.{DecodesAll-exact}
-use Rattle.mls_wire.specs.Exact.{IsExact}
+use Rattle.mls_wire.specs.ExactReads.{DecodesAll-exact}
+use Rattle.mls_wire.specs.ExactParsers.{IsExact}
 use Rattle.mls_wire.specs.Input.{Input}
 use Rattle.mls_wire.specs.Limits.{input_limit}
 use Rattle.mls_wire.specs.Parsing.{whole_at}
@@ -14,12 +14,12 @@ use Rattle.mls_wire.specs.declared.fault.CodecFault.TheVariants.{Wire}
 use Rattle.mls_wire.specs.declared.fault.WireFault.{WireFault}
 use Rattle.mls_wire.specs.declared.fault.WireFaultKind.TheVariants.{TooLong}
 use Rattle.mls_nodes.proofs.Entries.{tree_takes, tree_again}
-use Rattle.mls_nodes.specs.Exact.{required_capabilities_exact}
+use Rattle.mls_nodes.specs.NodesExact.{required_capabilities_exact}
 use Rattle.mls_nodes.specs.Layout.{required_capabilities}
 use Rattle.mls_nodes.specs.Parsing.{required_capabilities_at, tree_at}
-use Rattle.mls_nodes.specs.RatchetTree.{filled}
+use Rattle.mls_nodes.specs.RatchetTreeEncoding.{filled}
 use Rattle.mls_nodes.specs.Requirements.{FindsRequirements, Requires, HasNoRequirements, extension_of}
-use Rattle.mls_nodes.specs.Value.{NodeValue, leaf_node, parent_node, entry_value}
+use Rattle.mls_nodes.specs.NodeModel.{NodeValue, leaf_node, parent_node, entry_value}
 use Rattle.mls_nodes.specs.declared.context.GroupContext.{GroupContext}
 use Rattle.mls_nodes.specs.declared.leaf.LeafNode.{LeafNode}
 use Rattle.mls_nodes.specs.declared.node.Node.{Node}
@@ -27,11 +27,11 @@ use Rattle.mls_nodes.specs.declared.node.Node.TheVariants.{Leaf, Parent}
 use Rattle.mls_nodes.specs.declared.required_capabilities.RequiredCapabilities.{RequiredCapabilities}
 use Rattle.mls_tree.proofs.Filled.{filled_listing}
 use Rattle.mls_tree.specs.RatchetTree.{RatchetTree}
-use Rattle.mls_tree.specs.Reading.{IsTreeOf, IsNoTree}
+use Rattle.mls_tree.specs.TreeDecoding.{IsTreeOf, IsNoTree}
 use Rattle.mls_tree.specs.Tree.{Tree}
-use Rattle.mls_check.proofs.Judged.{Members-judged}
-use Rattle.mls_check.specs.Members.{Members, FailsMember, IsMemberFault, member_rule}
-use Rattle.mls_check.specs.Signatures.{Meaning}
+use Rattle.mls_check.proofs.Judged.{LeavesAreValid-judged}
+use Rattle.mls_check.specs.LeafValidation.{LeavesAreValid, FailsLeafRule, IsMemberFault, member_rule}
+use Rattle.mls_check.specs.Signatures.{VerifyFn}
 use Rattle.mls_check.specs.declared.members.MemberFault.{MemberFault}
 use Rattle.mls_check.specs.declared.members.MemberFault.TheVariants.{ExtensionUnlisted, RequirementUnmet, CredentialUnsupported, SignatureKeyRepeated, LeafSignature, OutOfMemory}
 
@@ -99,7 +99,7 @@ tree_or_not bytes = go (tree_at bytes) refl (fits_or_not bytes)
 
 -- ---- members
 
-module _ (G : Meaning) (suite : ℕ) (group_id : List ℕ) (required : RequiredCapabilities) (t : Tree) where
+module _ (G : VerifyFn) (suite : ℕ) (group_id : List ℕ) (required : RequiredCapabilities) (t : Tree) where
   abbrev pub SomeFault : Type 0
   SomeFault = (fault : MemberFault) × (fault ≢ OutOfMemory) × IsMemberFault G suite group_id required t fault
 
@@ -109,11 +109,11 @@ module _ (G : Meaning) (suite : ℕ) (group_id : List ℕ) (required : RequiredC
   unfolding member_rule
   no_other k i x a b c d e = rw (a, b, c, d, e) refl
 
-  rule_is : (k n i : ℕ) → (k == n) ≡ true → FailsMember G suite group_id required t k i → FailsMember G suite group_id required t n i
-  rule_is k n i e f = let same : k ≡ n = grind (arith, nat_tests) in subst (λ (m : ℕ). FailsMember G suite group_id required t m i) same f
+  rule_is : (k n i : ℕ) → (k == n) ≡ true → FailsLeafRule G suite group_id required t k i → FailsLeafRule G suite group_id required t n i
+  rule_is k n i e f = let same : k ≡ n = grind (arith, nat_tests) in subst (λ (m : ℕ). FailsLeafRule G suite group_id required t m i) same f
 
   -- each of them has its fault
-  fault_of : (k i : ℕ) → FailsMember G suite group_id required t k i → SomeFault
+  fault_of : (k i : ℕ) → FailsLeafRule G suite group_id required t k i → SomeFault
   fault_of k i f = go (k == 1) (k == 2) (k == 3) (k == 4) (k == 5) refl refl refl refl refl
     where
       go : (a b c d e : Bool) → (k == 1) ≡ a → (k == 2) ≡ b → (k == 3) ≡ c → (k == 4) ≡ d → (k == 5) ≡ e → SomeFault
@@ -124,9 +124,9 @@ module _ (G : Meaning) (suite : ℕ) (group_id : List ℕ) (required : RequiredC
       go false false false false true p q r s u = (LeafSignature i, λ h. cc, rule_is k 5 i u f)
       go false false false false false p q r s u = absurd (false≢true (sym f.first.fails ∙ no_other k i f.first.node p q r s u))
 
-  pub members_or_fault : Members G suite group_id required t ⊎ SomeFault
+  pub members_or_fault : LeavesAreValid G suite group_id required t ⊎ SomeFault
   members_or_fault =
-      elim (Members-judged G suite group_id required t) [
+      elim (LeavesAreValid-judged G suite group_id required t) [
         | inl m ↦ inl m
         | inr f ↦ inr (fault_of f.0 f.1 f.2)
       ]

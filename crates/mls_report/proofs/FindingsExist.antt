@@ -1,22 +1,22 @@
 -- Something is found of any bytes.
-use Rattle.std.proofs.Common.{◌≡◌, ◌∙◌, ℕ, List, length, Option, Some, None, refl, sym, inl, inr}
+use Rattle.std.proofs.Common.{◌≡◌, ℕ, List, length, Option, Some, None, refl, inl, inr}
 use Rattle.std.specs.Prelude.{◌⊎◌, ◌≤◌}
-use Rattle.std.proofs.lemmas.Option.{none-some}
 use Rattle.mls_wire.specs.Limits.{input_limit}
-use Rattle.mls_nodes.specs.Exact.{group_context_exact}
+use Rattle.mls_nodes.specs.NodesExact.{group_context_exact}
 use Rattle.mls_nodes.specs.Layout.{group_context}
 use Rattle.mls_nodes.specs.Parsing.{group_context_at}
 use Rattle.mls_nodes.specs.declared.context.GroupContext.{GroupContext}
 use Rattle.mls_nodes.specs.declared.fault.NodeFault.TheVariants.{EmptyTree}
 use Rattle.mls_nodes.specs.declared.required_capabilities.RequiredCapabilities.{RequiredCapabilities}
 use Rattle.mls_tree.specs.RatchetTree.{RatchetTree}
-use Rattle.mls_tree.specs.Reading.{IsTreeOf}
-use Rattle.mls_hash.specs.Hashing.{hash_of}
+use Rattle.mls_tree.specs.TreeDecoding.{IsTreeOf}
+use Rattle.mls_hash.specs.SuiteHash.{hash_of}
 use Rattle.mls_check.proofs.Faulted.{valid_or_fault}
-use Rattle.mls_check.specs.GroupTree.{IsFollowed, HasTree, IsReadable, HasValidTree}
-use Rattle.mls_check.specs.Signatures.{Meaning}
-use Rattle.mls_msgs.specs.MessageExact.{message_takes, message_again}
-use Rattle.mls_msgs.specs.MessageParsing.{message_at}
+use Rattle.mls_check.specs.GroupTree.{IsSupportedContext, HasTree, IsReadable, HasValidTree}
+use Rattle.mls_check.specs.Signatures.{VerifyFn}
+use Rattle.mls_msgs.specs.Profile.{message_in}
+use Rattle.mls_msgs.specs.declared.profile.Profile.TheVariants.{Members}
+use Rattle.mls_msgs.proofs.Profiles.{encoded_in, message_or_none}
 use Rattle.mls_msgs.specs.declared.group_info.GroupInfo.{GroupInfo}
 use Rattle.mls_msgs.specs.declared.message.Message.{Message}
 use Rattle.mls_msgs.specs.declared.message.Message.TheVariants as messages
@@ -25,8 +25,8 @@ use Rattle.mls_report.proofs.Decided.{some_fault, read_or_not, fits_or_not, requ
 use Rattle.mls_report.proofs.StartsExist.{interim_of, starts_or_not, supported_or_not, same_or_not}
 use Rattle.mls_report.specs.Finding.{finding_verdict}
 use Rattle.mls_report.specs.Show.{IsMessage}
-use Rattle.mls_report.specs.SomeReport.{SomeTreeFinding, SomeStartFinding}
-use Rattle.mls_report.specs.Starting.{IsInfo, IsNoMessage, IsHanded, IsHandedUnread, IsReadAs, IsStarted, IsStartFinding, started_of}
+use Rattle.mls_report.specs.ReportsExist.{TreeFindingExists, StartFindingExists}
+use Rattle.mls_report.specs.StartInputs.{IsInfo, IsNoMessage, IsHanded, IsHandedUnread, IsReadAs, IsStarted, IsStartFinding, started_of}
 use Rattle.mls_report.specs.ValidateTree.{IsContext, IsNoContext, IsTreeFinding}
 use Rattle.mls_report.specs.declared.finding.Finding.{Finding}
 use Rattle.mls_report.specs.declared.finding.Finding.TheVariants.{ContextUnreadable, InfoUnreadable, NotGroupInfo, TreeUnreadable, UnsupportedVersion, UnsupportedSuite, RequirementsUnreadable, TreeRefused, MembersRefused, StartRefused, TreeValid, Starts}
@@ -44,7 +44,7 @@ context_or_not bytes = go (read_or_not group_context group_context_at group_cont
     go (inl c) (inr over) = inr (λ d h. over h.bounded)
     go (inl c) (inl le) = inl (c.0, record { spelled = c.1; bounded = le })
 
-module _ (G : Meaning) (context_bytes tree_bytes : List ℕ) where
+module _ (G : VerifyFn) (context_bytes tree_bytes : List ℕ) where
   abbrev Found : Type 0
   Found = (finding : Finding) × IsTreeFinding G context_bytes tree_bytes finding
 
@@ -69,7 +69,7 @@ module _ (G : Meaning) (context_bytes tree_bytes : List ℕ) where
         | inr none ↦ (RequirementsUnreadable, (c, context, record { tree = t; has_tree = h; none = none }))
       ]
 
-  by_use : (c : GroupContext) → IsContext context_bytes c → IsFollowed c → Found
+  by_use : (c : GroupContext) → IsContext context_bytes c → IsSupportedContext c → Found
   by_use c context h =
       elim (tree_or_not tree_bytes) [
         | inl t ↦ by_requirements c t.0 context (record { followed = h; uses = t.1 })
@@ -86,7 +86,7 @@ module _ (G : Meaning) (context_bytes tree_bytes : List ℕ) where
   by_context : (c : GroupContext) → IsContext context_bytes c → Found
   by_context c h = elim (same_or_not c.version 1) [ inl version ↦ by_suite c h version | inr other ↦ (UnsupportedVersion, (c, h, other)) ]
 
-pub some_tree_finding : SomeTreeFinding
+pub some_tree_finding : TreeFindingExists
 some_tree_finding G context_bytes tree_bytes =
     elim (context_or_not context_bytes) [
       | inl c ↦ by_context G context_bytes tree_bytes c.0 c.1
@@ -97,19 +97,20 @@ some_tree_finding G context_bytes tree_bytes =
 
 -- the bytes spell a message, or none
 message_or_not : (bytes : List ℕ) → ((m : Message) × IsMessage bytes m) ⊎ IsNoMessage bytes
-message_or_not bytes = go (message_at bytes) refl (fits_or_not bytes)
+message_or_not bytes = go (message_or_none Members bytes) (fits_or_not bytes)
   where
-    go : (o : Option Message) → message_at bytes ≡ o → (length bytes ≤ input_limit) ⊎ (length bytes ≤ input_limit → ⊥) → ((m : Message) × IsMessage bytes m) ⊎ IsNoMessage bytes
-    go None e fits = inr (λ m h. none-some m (sym e ∙ message_again m bytes h.spelled))
-    go (Some m) e (inr over) = inr (λ n h. over h.bounded)
-    go (Some m) e (inl le) = inl (m, record { spelled = message_takes bytes m e; bounded = le })
+    go : ((m : Message) × (message_in Members m ≡ Some bytes)) ⊎ ((m : Message) → message_in Members m ≡ Some bytes → ⊥) → (length bytes ≤ input_limit) ⊎ (length bytes ≤ input_limit → ⊥)
+        → ((m : Message) × IsMessage bytes m) ⊎ IsNoMessage bytes
+    go (inr none) fits = inr (λ m h. none m h.spelled)
+    go (inl m) (inr over) = inr (λ n h. over h.bounded)
+    go (inl m) (inl le) = inl (m.0, record { spelled = m.1; bounded = le })
 
 -- the tree that is handed in can be read, or not
 handed_or_not : (bytes : Option (List ℕ)) → ((t : Option RatchetTree) × IsHanded bytes t) ⊎ IsHandedUnread bytes
 handed_or_not None = inl (None, tt)
 handed_or_not (Some bytes) = elim (tree_or_not bytes) [ inl t ↦ inl (Some t.0, t.1) | inr none ↦ inr none ]
 
-module _ (G : Meaning) (info_bytes : List ℕ) (tree_bytes : Option (List ℕ)) where
+module _ (G : VerifyFn) (info_bytes : List ℕ) (tree_bytes : Option (List ℕ)) where
   -- a follower starts, or something is found for which none does
   abbrev pub Begun : Type 0
   Begun = ((s : State) × IsStarted G info_bytes tree_bytes s)
@@ -117,7 +118,7 @@ module _ (G : Meaning) (info_bytes : List ℕ) (tree_bytes : Option (List ℕ)) 
 
   by_inputs : (info : GroupInfo) (handed : Option RatchetTree) → IsReadAs info_bytes tree_bytes info handed → Begun
   by_inputs info handed h =
-      let interim = interim_of info info_bytes h.is_info.spelled in
+      let interim = interim_of info info_bytes (encoded_in Members (messages.GroupInfo info) info_bytes h.is_info.spelled).1 in
       elim (starts_or_not G info handed interim.0 interim.1) [
         | inl s ↦ inl (s.0, record { info = info; handed = handed; is_read = h; start = s.1 })
         | inr f ↦ inr (StartRefused f.0, (info, handed, h, f.1, f.2), refl)
@@ -139,7 +140,7 @@ module _ (G : Meaning) (info_bytes : List ℕ) (tree_bytes : Option (List ℕ)) 
   pub begun : Begun
   begun = elim (message_or_not info_bytes) [ inl m ↦ by_message m.0 m.1 | inr none ↦ inr (InfoUnreadable some_fault, none, refl) ]
 
-pub some_start_finding : SomeStartFinding
+pub some_start_finding : StartFindingExists
 some_start_finding G info_bytes tree_bytes =
     elim (begun G info_bytes tree_bytes) [
       | inl s ↦ (Starts (started_of s.0), (s.0, s.1, refl))

@@ -1,25 +1,25 @@
 -- What is found of the inputs of a report is determined: of the conditions each is met by what comes to a later one, and by nothing
 -- for which it fails.
 use Rattle.std.proofs.Common.{◌≡◌, ◌≢◌, ◌∙◌, ℕ, List, Option, Some, None, refl, sym, ap, subst, below_none, below_more}
-use Rattle.std.proofs.lemmas.Option.{same_Some}
-use Rattle.mls_wire.specs.Laws.{one_value}
+use Rattle.mls_wire.specs.ExactTheorems.{one_value}
 use Rattle.mls_nodes.proofs.RequiredOnce.{Requires-one}
 use Rattle.mls_nodes.specs.Requirements.{Requires}
 use Rattle.mls_nodes.specs.Layout.{group_context}
 use Rattle.mls_nodes.specs.Parsing.{group_context_at}
-use Rattle.mls_nodes.specs.Exact.{group_context_exact}
+use Rattle.mls_nodes.specs.NodesExact.{group_context_exact}
 use Rattle.mls_nodes.specs.declared.context.GroupContext.{GroupContext}
 use Rattle.mls_nodes.specs.declared.required_capabilities.RequiredCapabilities.{RequiredCapabilities}
-use Rattle.mls_tree.specs.Reading.{IsTreeOf}
+use Rattle.mls_tree.specs.TreeDecoding.{IsTreeOf}
 use Rattle.mls_tree.specs.RatchetTree.{RatchetTree}
-use Rattle.mls_hash.specs.Hashing.{hash_of}
+use Rattle.mls_hash.specs.SuiteHash.{hash_of}
 use Rattle.mls_hash.specs.Suites.{IsSupported}
 use Rattle.mls_check.proofs.Faulted.{fault-not_valid, fault-unique}
-use Rattle.mls_check.specs.GroupTree.{IsFollowed, HasTree, IsReadable, HasValidTree}
-use Rattle.mls_check.specs.Members.{Members}
-use Rattle.mls_check.specs.Signatures.{Meaning}
-use Rattle.mls_check.specs.Valid.{Valid, IsFirstTreeFault}
-use Rattle.mls_msgs.specs.MessageExact.{message_again}
+use Rattle.mls_check.specs.GroupTree.{IsSupportedContext, HasTree, IsReadable, HasValidTree}
+use Rattle.mls_check.specs.LeafValidation.{LeavesAreValid}
+use Rattle.mls_check.specs.Signatures.{VerifyFn}
+use Rattle.mls_check.specs.ValidTree.{Valid, IsFirstTreeFault}
+use Rattle.mls_msgs.specs.declared.profile.Profile.TheVariants.{Members}
+use Rattle.mls_msgs.proofs.Profiles.{messages_once}
 use Rattle.mls_msgs.specs.declared.group_info.GroupInfo.{GroupInfo}
 use Rattle.mls_msgs.specs.declared.message.Message.{Message}
 use Rattle.mls_msgs.specs.declared.message.Message.TheVariants as messages
@@ -27,9 +27,9 @@ use Rattle.mls_follow.specs.Start.{IsStart, IsStartFault}
 use Rattle.mls_follow.specs.State.{State}
 use Rattle.mls_report.proofs.InOrder.{first_then, no_more, MetBefore, one_place, other_place}
 use Rattle.mls_report.proofs.StartsOnce.{one_tree_of, one_members_fault, no_members_fault, one_start, no_fault_of_start, one_start_fault}
-use Rattle.mls_report.specs.OneReport.{AreAlike, OneTreeFinding, OneStartFinding, OneStart}
+use Rattle.mls_report.specs.UniqueReports.{AreAlike, TreeFindingIsUnique, StartFindingIsUnique, StartIsUnique}
 use Rattle.mls_report.specs.Show.{IsMessage}
-use Rattle.mls_report.specs.Starting.{IsInfo, IsHanded, IsHandedUnread, IsReadAs, IsStarted, IsStartFinding, started_of}
+use Rattle.mls_report.specs.StartInputs.{IsInfo, IsHanded, IsHandedUnread, IsReadAs, IsStarted, IsStartFinding, started_of}
 use Rattle.mls_report.specs.ValidateTree.{IsContext, IsTreeFinding}
 use Rattle.mls_report.specs.declared.finding.Finding.{Finding}
 use Rattle.mls_report.specs.declared.finding.Finding.TheVariants.{ContextUnreadable, InfoUnreadable, NotGroupInfo, TreeUnreadable, UnsupportedVersion, UnsupportedSuite, RequirementsUnreadable, TreeRefused, MembersRefused, StartRefused, TreeValid, Starts}
@@ -40,7 +40,7 @@ one_context : (bytes : List ℕ) (c d : GroupContext) → IsContext bytes c → 
 one_context bytes c d a b = one_value group_context group_context_at group_context_exact c d bytes a.spelled b.spelled
 
 one_message : (bytes : List ℕ) (m n : Message) → IsMessage bytes m → IsMessage bytes n → m ≡ n
-one_message bytes m n a b = same_Some m n (sym (message_again m bytes a.spelled) ∙ message_again n bytes b.spelled)
+one_message bytes m n a b = messages_once Members m n bytes a.spelled b.spelled
 
 info_in : (x y : GroupInfo) → messages.GroupInfo x ≡ messages.GroupInfo y → x ≡ y
 info_in x y e = cc
@@ -74,7 +74,7 @@ tree_place (MembersRefused x) = 6
 tree_place (TreeValid x) = 7
 tree_place _ = 8
 
-module _ (G : Meaning) (context_bytes tree_bytes : List ℕ) where
+module _ (G : VerifyFn) (context_bytes tree_bytes : List ℕ) where
   abbrev Found : Finding → Type 0
   Found finding = IsTreeFinding G context_bytes tree_bytes finding
 
@@ -88,7 +88,7 @@ module _ (G : Meaning) (context_bytes tree_bytes : List ℕ) where
   IsValid c t = Valid (hash_of c.cipher_suite) c.tree_hash t.tree
 
   abbrev AreMembers : GroupContext → RequiredCapabilities → RatchetTree → Type 0
-  AreMembers c r t = Members G c.cipher_suite c.group_id r t.tree
+  AreMembers c r t = LeavesAreValid G c.cipher_suite c.group_id r t.tree
 
   same_context : (c d : GroupContext) → IsGiven c → IsGiven d → c ≡ d
   same_context c d a b = one_context context_bytes c d a b
@@ -139,7 +139,7 @@ module _ (G : Meaning) (context_bytes tree_bytes : List ℕ) where
   met_suite : (c : GroupContext) → IsGiven c → c.version ≡ 1 → MetBefore Met 2
   met_suite c h one = below_more Met 1 (met_version c h) (c, h, one)
 
-  met_followed : (c : GroupContext) → IsGiven c → IsFollowed c → MetBefore Met 3
+  met_followed : (c : GroupContext) → IsGiven c → IsSupportedContext c → MetBefore Met 3
   met_followed c h followed = below_more Met 2 (met_suite c h followed.version) (c, h, followed.suite)
 
   met_tree : (c : GroupContext) (t : RatchetTree) → IsGiven c → HasTree c (IsTreeOf tree_bytes) t → MetBefore Met 4
@@ -193,7 +193,7 @@ module _ (G : Meaning) (context_bytes tree_bytes : List ℕ) where
   alike (Starts x) g e a b = absurd a
   alike f g e a b = absurd (other_place (tree_place f) (tree_place g) refl e)
 
-pub one_tree_finding : OneTreeFinding
+pub one_tree_finding : TreeFindingIsUnique
 one_tree_finding G context_bytes tree_bytes f g a b =
     alike G context_bytes tree_bytes f g
     (one_place tree_place (Met G context_bytes tree_bytes) (Found G context_bytes tree_bytes)
@@ -209,7 +209,7 @@ start_place (StartRefused x) = 3
 start_place (Starts x) = 4
 start_place _ = 5
 
-module _ (G : Meaning) (info_bytes : List ℕ) (tree_bytes : Option (List ℕ)) where
+module _ (G : VerifyFn) (info_bytes : List ℕ) (tree_bytes : Option (List ℕ)) where
   abbrev Begins : Finding → Type 0
   Begins finding = IsStartFinding G info_bytes tree_bytes finding
 
@@ -282,11 +282,11 @@ module _ (G : Meaning) (info_bytes : List ℕ) (tree_bytes : Option (List ℕ)) 
   alike_start (Starts x) g e a b = absurd (other_place 4 (start_place g) refl e)
   alike_start _ g e a b = absurd a
 
-pub one_start_finding : OneStartFinding
+pub one_start_finding : StartFindingIsUnique
 one_start_finding G info_bytes tree_bytes f g a b =
     alike_start G info_bytes tree_bytes f g
     (one_place start_place (Ready G info_bytes tree_bytes) (Begins G info_bytes tree_bytes)
     (ready_before G info_bytes tree_bytes) (not_ready G info_bytes tree_bytes) f g a b) a b
 
-pub one_started : OneStart
+pub one_started : StartIsUnique
 one_started G info_bytes tree_bytes = same_start G info_bytes tree_bytes

@@ -17,3 +17,4 @@ pub mod FindingsExist
 pub mod LogsExist
 pub mod ReplaysExist
 mod ValidEpochs
+mod CoveredReports

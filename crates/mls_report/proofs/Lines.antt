@@ -9,7 +9,7 @@ use Rattle.mls_wire.specs.declared.fault.WireFaultKind.{WireFaultKind}
 use Rattle.mls_wire.specs.declared.fault.WireFaultKind.TheVariants as kind
 use Rattle.mls_nodes.specs.declared.fault.NodeFault.{NodeFault}
 use Rattle.mls_nodes.specs.declared.fault.NodeFault.TheVariants as fault
-use Rattle.mls_report.specs.Texts.{IsOneLine}
+use Rattle.mls_report.specs.ValueTexts.{IsOneLine}
 use Rattle.mls_report.specs.FaultText.{wire_kind_text, wire_fault_text, node_fault_text}
 
 is_other : (c : ℕ) → not (c == 10) ≡ true → c ≢ 10

@@ -5,14 +5,14 @@ use Rattle.std.proofs.lemmas.Bool.Decides.{nat_tests}
 use Rattle.mls_wire.proofs.Logs.{length_cut, body_cut, body_bytes, size_found, size_refused, size_over}
 use Rattle.mls_wire.specs.Input.{Input, at}
 use Rattle.mls_wire.specs.Limits.{input_limit}
-use Rattle.mls_wire.specs.Logs.{length_size, IsRecord, IsBadLength, IsCut, IsBreak}
+use Rattle.mls_wire.specs.Logs.{length_size, IsRecord, IsBadLength, IsTruncatedRecord, IsBrokenAt}
 use Rattle.mls_wire.specs.Parsing.{length_at}
-use Rattle.mls_wire.specs.Spelling.{length_form}
-use Rattle.mls_check.specs.Signatures.{Meaning}
+use Rattle.mls_wire.specs.Encoding.{length_form}
+use Rattle.mls_check.specs.Signatures.{VerifyFn}
 use Rattle.mls_follow.specs.Runs.{Call, IsRun, IsAnswered}
 use Rattle.mls_follow.specs.State.{State}
-use Rattle.mls_report.proofs.TurnsOnce.{Told}
-use Rattle.mls_report.specs.Replay.{Turn, IsLogEnd}
+use Rattle.mls_report.proofs.TurnsOnce.{MessageLines}
+use Rattle.mls_report.specs.Replay.{ProcessedMessage, IsLogEnd}
 
 -- ---- what comes next in a log
 
@@ -28,7 +28,7 @@ record Begins (log : List ℕ) : Type 0 where
 record Breaks (most : ℕ) (log : List ℕ) : Type 0 where
   rest : List ℕ
   left : List ℕ
-  is_break : IsBreak most rest (Some left)
+  is_break : IsBrokenAt most rest (Some left)
   log_is : log ≡ rest ++ left
 
 size_some : (first : ℕ) → 1 ≤ length_size first
@@ -49,7 +49,7 @@ module _ (most first : ℕ) (bytes : List ℕ) where
   some_more : 0 < suc most
   some_more = omega arith
 
-  cut_there : (rest : List ℕ) → first ∷ bytes ≡ rest → IsCut rest → Comes
+  cut_there : (rest : List ℕ) → first ∷ bytes ≡ rest → IsTruncatedRecord rest → Comes
   cut_there rest e cut = inr (record { rest = rest; left = []; is_break = inr (some_more, inr (cut, refl)); log_is = e ∙ sym (append-nil rest) })
 
   -- there is the whole length
@@ -105,15 +105,15 @@ module _ (most first : ℕ) (bytes : List ℕ) where
 
 -- ---- all that is told
 
-module _ (G : Meaning) where
+module _ (G : VerifyFn) where
   -- whatever messages come, there is an answer to the next
   abbrev pub IsAnswering : State → Type 0
   IsAnswering s = (calls : List Call) (last : State) (bytes : List ℕ) → IsRun G s calls last → IsAnswered G last bytes
 
   pub record IsTold (most : ℕ) (s : State) (log : List ℕ) : Type 0 where
-    pub turns : List Turn
+    pub turns : List ProcessedMessage
     pub broken : Bool
-    pub told : Told G most s log turns broken
+    pub told : MessageLines G most s log turns broken
 
   none_told : (most : ℕ) (s : State) → IsTold most s []
   none_told most s = record {
@@ -141,7 +141,7 @@ module _ (G : Meaning) where
   -- one message, and what is told behind it
   one_more : (most : ℕ) (s : State) (log : List ℕ) (n : Begins log) (answer : IsAnswered G s n.body) → IsTold most answer.1 n.after → IsTold (suc most) s log
   one_more most s log n answer rest =
-      let turn : Turn = record { bytes = n.body; answer = answer.0; state = answer.1 } in
+      let turn : ProcessedMessage = record { bytes = n.body; answer = answer.0; state = answer.1 } in
       let behind = rest.told in
       let fewer = behind.bounded in
       record {

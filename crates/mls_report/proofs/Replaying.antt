@@ -4,8 +4,8 @@ use Rattle.std.specs.Prelude.{Option, Some, None, IfErr, OnErr}
 use Rattle.std.specs.Io.KnownBytes.{Appends, Consumes, IsAtEnd}
 use Rattle.mls_wire.specs.Devices.{AppendsPrefix}
 use Rattle.mls_wire.proofs.KnownBytes.{Appends-trans, Consumes-trans}
-use Rattle.mls_wire.specs.Logs.{IsRecord, IsBreak, IsUndecided}
-use Rattle.mls_check.specs.Signatures.{Meaning}
+use Rattle.mls_wire.specs.Logs.{IsRecord, IsBrokenAt, IsIncomplete}
+use Rattle.mls_check.specs.Signatures.{VerifyFn}
 use Rattle.mls_follow.specs.Runs.{IsAnswer}
 use Rattle.mls_follow.specs.Start.{IsStart, IsStartFault}
 use Rattle.mls_follow.specs.State.{State}
@@ -14,10 +14,10 @@ use Rattle.mls_follow.specs.declared.start_fault.StartFault.TheVariants as start
 use Rattle.mls_report.specs.declared.verdict.RunFault.{RunFault}
 use Rattle.mls_report.specs.declared.verdict.RunFault.TheVariants.{Read, Write, Memory}
 use Rattle.mls_report.specs.declared.verdict.Verdict.{Verdict}
-use Rattle.mls_report.specs.Replay.{Turn, AreTurns, state_after, turn_line, turn_lines, one_if, accepted_count, refused_count, message_limit, still_to_come, AreRecords, Follows, TellsLog, TellsPart, IsVerdict, last_lines, ending, Replays, ReplaysPart, StopsBefore}
+use Rattle.mls_report.specs.Replay.{ProcessedMessage, AreProcessed, state_after, processed_line, processed_lines, one_if, accepted_count, refused_count, message_limit, still_to_come, AreRecords, Follows, TellsLog, TellsPart, IsVerdict, last_lines, ending, Replays, ReplaysPart, StopsBefore}
 use Rattle.mls_report.specs.ReplaySteps.{ReadsUndecided, TellsTurn, StopsAt, FollowsLog, ReplaysStart, ReplaysStartPart, RefusesBefore}
-use Rattle.mls_report.specs.Starting.{ReadsBoth, IsReadAs, IsStarted, ReadsAndStarts, ReadsAndDeclines}
-use Rattle.mls_report.specs.StartingSteps.{IsUnread, RefusesStartPart}
+use Rattle.mls_report.specs.StartInputs.{ReadsBoth, IsReadAs, IsStarted, ReadsAndStarts, ReadsAndDeclines}
+use Rattle.mls_report.specs.StartSteps.{IsUnread, RefusesStartPart}
 use Rattle.mls_report.specs.declared.finding.Finding.{Finding}
 use Rattle.mls_report.specs.declared.finding.Finding.TheVariants.{StartRefused}
 use Rattle.mls_msgs.specs.declared.group_info.GroupInfo.{GroupInfo}
@@ -25,40 +25,40 @@ use Rattle.mls_tree.specs.RatchetTree.{RatchetTree}
 
 -- ---- one turn more
 
-AreTurns-snoc : (G : Meaning) (s : State) (ts : List Turn) (t : Turn) → AreTurns G s ts → IsAnswer G (state_after s ts) t.bytes t.answer t.state → AreTurns G s (ts ++ t ∷ [])
-AreTurns-snoc G s [] t a b = (b, tt)
-AreTurns-snoc G s (x ∷ ts) t a b = (a.0, AreTurns-snoc G x.state ts t a.1 b)
+AreProcessed-snoc : (G : VerifyFn) (s : State) (ts : List ProcessedMessage) (t : ProcessedMessage) → AreProcessed G s ts → IsAnswer G (state_after s ts) t.bytes t.answer t.state → AreProcessed G s (ts ++ t ∷ [])
+AreProcessed-snoc G s [] t a b = (b, tt)
+AreProcessed-snoc G s (x ∷ ts) t a b = (a.0, AreProcessed-snoc G x.state ts t a.1 b)
 
-pub state_after-snoc : (s : State) (ts : List Turn) (t : Turn) → state_after s (ts ++ t ∷ []) ≡ t.state
+pub state_after-snoc : (s : State) (ts : List ProcessedMessage) (t : ProcessedMessage) → state_after s (ts ++ t ∷ []) ≡ t.state
 state_after-snoc s [] t = refl
 state_after-snoc s (x ∷ ts) t = state_after-snoc x.state ts t
 
-lines-snoc : (n : ℕ) (ts : List Turn) (t : Turn) (k : ℕ) → k ≡ n + length ts → turn_lines n (ts ++ t ∷ []) ≡ turn_lines n ts ++ turn_line k t
+lines-snoc : (n : ℕ) (ts : List ProcessedMessage) (t : ProcessedMessage) (k : ℕ) → k ≡ n + length ts → processed_lines n (ts ++ t ∷ []) ≡ processed_lines n ts ++ processed_line k t
 lines-snoc n [] t k e =
     let same : n ≡ k = omega arith in
-    append-nil (turn_line n t) ∙ ap (λ i. turn_line i t) same
+    append-nil (processed_line n t) ∙ ap (λ i. processed_line i t) same
 lines-snoc n (x ∷ ts) t k e =
-    ap (λ l. turn_line n x ++ l) (lines-snoc (n + 1) ts t k (omega arith))
-    ∙ sym (append_assoc (turn_line n x) (turn_lines (n + 1) ts) (turn_line k t))
+    ap (λ l. processed_line n x ++ l) (lines-snoc (n + 1) ts t k (omega arith))
+    ∙ sym (append_assoc (processed_line n x) (processed_lines (n + 1) ts) (processed_line k t))
 
-accepted-snoc : (ts : List Turn) (t : Turn) → accepted_count (ts ++ t ∷ []) ≡ accepted_count ts + one_if (is_ok t.answer)
+accepted-snoc : (ts : List ProcessedMessage) (t : ProcessedMessage) → accepted_count (ts ++ t ∷ []) ≡ accepted_count ts + one_if (is_ok t.answer)
 accepted-snoc [] t = omega arith
 accepted-snoc (x ∷ ts) t = omega (arith, accepted-snoc ts t)
 
-records-snoc : (ts : List Turn) (t : Turn) (records read : List ℕ) → AreRecords (map (λ turn. turn.bytes) ts) records → IsRecord read t.bytes
+records-snoc : (ts : List ProcessedMessage) (t : ProcessedMessage) (records read : List ℕ) → AreRecords (map (λ turn. turn.bytes) ts) records → IsRecord read t.bytes
     → AreRecords (map (λ turn. turn.bytes) (ts ++ t ∷ [])) (records ++ read)
 records-snoc [] t records read none r = (read, [], r, refl, ap (λ l. l ++ read) none ∙ sym (append-nil read))
 records-snoc (x ∷ ts) t records read p r =
     (p.0, p.1 ++ read, p.2, records-snoc ts t p.1 read p.3 r, ap (λ l. l ++ read) p.4 ∙ append_assoc p.0 p.1 read)
 
 -- the messages so far were taken and told, and nothing was read behind them
-pub record SoFar (G : Meaning) (s : State) (log0 log1 written0 written1 : Option (List ℕ)) (ts : List Turn) (now : State) : Type 0 where
+pub record SoFar (G : VerifyFn) (s : State) (log0 log1 written0 written1 : Option (List ℕ)) (ts : List ProcessedMessage) (now : State) : Type 0 where
   pub follows : Follows G s log0 log1 ts []
-  pub wrote : Appends written0 written1 (turn_lines 1 ts)
+  pub wrote : Appends written0 written1 (processed_lines 1 ts)
   pub state : now ≡ state_after s ts
 
 -- bytes were read behind the messages so far
-pub follows-read : (G : Meaning) (s : State) (l0 l1 l2 : Option (List ℕ)) (ts : List Turn) (rest : List ℕ)
+pub follows-read : (G : VerifyFn) (s : State) (l0 l1 l2 : Option (List ℕ)) (ts : List ProcessedMessage) (rest : List ℕ)
     → Follows G s l0 l1 ts [] → Consumes l1 l2 rest → Follows G s l0 l2 ts rest
 follows-read G s l0 l1 l2 ts rest f read = record {
   taken = f.taken;
@@ -69,11 +69,11 @@ follows-read G s l0 l1 l2 ts rest f read = record {
 }
 
 -- a record was read behind them, and its message taken
-pub follows-snoc : (G : Meaning) (s : State) (l0 l1 l2 : Option (List ℕ)) (ts : List Turn) (t : Turn) (read : List ℕ)
+pub follows-snoc : (G : VerifyFn) (s : State) (l0 l1 l2 : Option (List ℕ)) (ts : List ProcessedMessage) (t : ProcessedMessage) (read : List ℕ)
     → Follows G s l0 l1 ts [] → length ts < message_limit → IsRecord read t.bytes → Consumes l1 l2 read
     → IsAnswer G (state_after s ts) t.bytes t.answer t.state → Follows G s l0 l2 (ts ++ t ∷ []) []
 follows-snoc G s l0 l1 l2 ts t read f below r taken is_answer = record {
-  taken = AreTurns-snoc G s ts t f.taken is_answer;
+  taken = AreProcessed-snoc G s ts t f.taken is_answer;
   bounded = omega (arith, length-append ts (t ∷ []));
   records = f.records ++ read;
   are_records = records-snoc ts t f.records read f.are_records r;
@@ -88,7 +88,7 @@ pub Appends-nil : (a : Option (List ℕ)) → Appends a a []
 Appends-nil None = tt
 Appends-nil (Some x) = sym (append-nil x)
 
-pub so_far-none : (G : Meaning) (s : State) (l w : Option (List ℕ)) → SoFar G s l l w w [] s
+pub so_far-none : (G : VerifyFn) (s : State) (l w : Option (List ℕ)) → SoFar G s l l w w [] s
 so_far-none G s l w = record {
   follows = record { taken = tt; bounded = omega arith; records = []; are_records = refl; log_read = Consumes-nil l };
   wrote = Appends-nil w;
@@ -96,34 +96,34 @@ so_far-none G s l w = record {
 }
 
 pub so_far-snoc :
-    (G : Meaning) (s : State) (l0 l1 l2 w0 w1 w2 : Option (List ℕ)) (ts : List Turn) (now : State) (n : ℕ) (body : List ℕ) (read : List ℕ) (new : State) (b : Bool)
+    (G : VerifyFn) (s : State) (l0 l1 l2 w0 w1 w2 : Option (List ℕ)) (ts : List ProcessedMessage) (now : State) (n : ℕ) (body : List ℕ) (read : List ℕ) (new : State) (b : Bool)
     → SoFar G s l0 l1 w0 w1 ts now → n ≡ 1 + length ts → length ts < message_limit → IsRecord read body → Consumes l1 l2 read
     → (told : TellsTurn G now n body new w1 w2 b)
     → SoFar G s l0 l2 w0 w2 (ts ++ record { bytes = body; answer = told.answer; state = new } ∷ []) new
 so_far-snoc G s l0 l1 l2 w0 w1 w2 ts now n body read new b f count below r taken told =
-    let t : Turn = record { bytes = body; answer = told.answer; state = new } in
+    let t : ProcessedMessage = record { bytes = body; answer = told.answer; state = new } in
     record {
       follows = follows-snoc G s l0 l1 l2 ts t read f.follows below r taken (subst (λ (st : State). IsAnswer G st body told.answer new) f.state told.is_answer);
       wrote = subst (Appends w0 w2) (sym (lines-snoc 1 ts t n count)) (Appends-trans w0 w1 w2 _ _ f.wrote told.wrote);
       state = sym (state_after-snoc s ts t);
     }
 
-pub accepted-more : (ts : List Turn) (t : Turn) (old new : ℕ) (b : Bool) → old ≡ accepted_count ts → b ≡ is_ok t.answer → new ≡ old + one_if b → new ≡ accepted_count (ts ++ t ∷ [])
+pub accepted-more : (ts : List ProcessedMessage) (t : ProcessedMessage) (old new : ℕ) (b : Bool) → old ≡ accepted_count ts → b ≡ is_ok t.answer → new ≡ old + one_if b → new ≡ accepted_count (ts ++ t ∷ [])
 accepted-more ts t old new b p q e = e ∙ ap (λ k. k + one_if b) p ∙ ap (λ c. accepted_count ts + one_if c) q ∙ sym (accepted-snoc ts t)
 
 -- ---- where it stops
 
 -- so many may still come
-pub still : (ts : List Turn) (most : ℕ) → most + length ts ≡ message_limit → most ≡ still_to_come ts
+pub still : (ts : List ProcessedMessage) (most : ℕ) → most + length ts ≡ message_limit → most ≡ still_to_come ts
 still ts most e = omega arith
 
-pub part-read : (G : Meaning) (s : State) (l0 l1 l2 w0 w1 : Option (List ℕ)) (ts : List Turn) (now : State) (most : ℕ) (e : RunFault)
+pub part-read : (G : VerifyFn) (s : State) (l0 l1 l2 w0 w1 : Option (List ℕ)) (ts : List ProcessedMessage) (now : State) (most : ℕ) (e : RunFault)
     → SoFar G s l0 l1 w0 w1 ts now → most + length ts ≡ message_limit → ReadsUndecided l1 l2 most → e ≢ Write → TellsPart G s l0 l2 w0 w1 e
 part-read G s l0 l1 l2 w0 w1 ts now most Read f count u other = record {
   turns = ts;
   rest = u.rest;
   follows = follows-read G s l0 l1 l2 ts u.rest f.follows u.read;
-  undecided = subst (λ k. IsUndecided k u.rest) (still ts most count) u.undecided;
+  undecided = subst (λ k. IsIncomplete k u.rest) (still ts most count) u.undecided;
   wrote = f.wrote;
 }
 part-read G s l0 l1 l2 w0 w1 ts now most Write f count u other = absurd (other refl)
@@ -131,16 +131,16 @@ part-read G s l0 l1 l2 w0 w1 ts now most Memory f count u other = record {
   turns = ts;
   rest = u.rest;
   follows = follows-read G s l0 l1 l2 ts u.rest f.follows u.read;
-  left_over = inl (subst (λ k. IsUndecided k u.rest) (still ts most count) u.undecided);
+  left_over = inl (subst (λ k. IsIncomplete k u.rest) (still ts most count) u.undecided);
   wrote = f.wrote;
 }
 
-pub part-turn : (G : Meaning) (s : State) (l0 l1 l2 w0 w1 w2 : Option (List ℕ)) (ts : List Turn) (now : State) (n : ℕ) (body read : List ℕ) (e : RunFault)
+pub part-turn : (G : VerifyFn) (s : State) (l0 l1 l2 w0 w1 w2 : Option (List ℕ)) (ts : List ProcessedMessage) (now : State) (n : ℕ) (body read : List ℕ) (e : RunFault)
     → SoFar G s l0 l1 w0 w1 ts now → n ≡ 1 + length ts → length ts < message_limit → IsRecord read body → Consumes l1 l2 read
     → StopsAt G now n body w1 w2 e → TellsPart G s l0 l2 w0 w2 e
 part-turn G s l0 l1 l2 w0 w1 w2 ts now n body read Read f count below r taken stops = absurd stops
 part-turn G s l0 l1 l2 w0 w1 w2 ts now n body read Write f count below r taken stops =
-    let t : Turn = record { bytes = body; answer = stops.answer; state = stops.new } in
+    let t : ProcessedMessage = record { bytes = body; answer = stops.answer; state = stops.new } in
     let same : n ≡ length ts + 1 = omega arith in
     inl (record {
       turns = ts;
@@ -148,7 +148,7 @@ part-turn G s l0 l1 l2 w0 w1 w2 ts now n body read Write f count below r taken s
       follows = follows-snoc G s l0 l1 l2 ts t read f.follows below r taken (subst (λ (st : State). IsAnswer G st body stops.answer stops.new) f.state stops.is_answer);
       part = stops.wrote.0;
       more = stops.wrote.1;
-      line_is = ap (λ k. turn_line k t) (sym same) ∙ stops.wrote.2;
+      line_is = ap (λ k. processed_line k t) (sym same) ∙ stops.wrote.2;
       wrote = Appends-trans w0 w1 w2 _ _ f.wrote stops.wrote.3;
     })
 part-turn G s l0 l1 l2 w0 w1 w2 ts now n body read Memory f count below r taken stops = record {
@@ -156,10 +156,10 @@ part-turn G s l0 l1 l2 w0 w1 w2 ts now n body read Memory f count below r taken 
   rest = read;
   follows = follows-read G s l0 l1 l2 ts read f.follows taken;
   left_over = inr (inl (body, r));
-  wrote = subst (Appends w0 w2) (append-nil (turn_lines 1 ts)) (Appends-trans w0 w1 w2 _ _ f.wrote stops);
+  wrote = subst (Appends w0 w2) (append-nil (processed_lines 1 ts)) (Appends-trans w0 w1 w2 _ _ f.wrote stops);
 }
 
-pub followed-end : (G : Meaning) (s : State) (l0 l1 l2 w0 w1 : Option (List ℕ)) (ts : List Turn) (now : State) (a r : ℕ)
+pub followed-end : (G : VerifyFn) (s : State) (l0 l1 l2 w0 w1 : Option (List ℕ)) (ts : List ProcessedMessage) (now : State) (a r : ℕ)
     → SoFar G s l0 l1 w0 w1 ts now → a ≡ accepted_count ts → a + r ≡ length ts → Consumes l1 l2 [] → IsAtEnd l2
     → FollowsLog G s l0 l2 w0 w1 now a r false
 followed-end G s l0 l1 l2 w0 w1 ts now a r f taken counted read end = record {
@@ -173,14 +173,14 @@ followed-end G s l0 l1 l2 w0 w1 ts now a r f taken counted read end = record {
   counted = counted;
 }
 
-pub followed-broken : (G : Meaning) (s : State) (l0 l1 l2 w0 w1 : Option (List ℕ)) (ts : List Turn) (now : State) (a r most : ℕ) (read : List ℕ)
+pub followed-broken : (G : VerifyFn) (s : State) (l0 l1 l2 w0 w1 : Option (List ℕ)) (ts : List ProcessedMessage) (now : State) (a r most : ℕ) (read : List ℕ)
     → SoFar G s l0 l1 w0 w1 ts now → a ≡ accepted_count ts → a + r ≡ length ts → most + length ts ≡ message_limit → Consumes l1 l2 read
-    → IsBreak most read l2 → FollowsLog G s l0 l2 w0 w1 now a r true
+    → IsBrokenAt most read l2 → FollowsLog G s l0 l2 w0 w1 now a r true
 followed-broken G s l0 l1 l2 w0 w1 ts now a r most read f taken counted count consumed broken = record {
   turns = ts;
   rest = read;
   follows = follows-read G s l0 l1 l2 ts read f.follows consumed;
-  log_end = subst (λ k. IsBreak k read l2) (still ts most count) broken;
+  log_end = subst (λ k. IsBrokenAt k read l2) (still ts most count) broken;
   wrote = f.wrote;
   state = f.state;
   taken = taken;
@@ -189,7 +189,7 @@ followed-broken G s l0 l1 l2 w0 w1 ts now a r most read f taken counted count co
 
 -- ---- the last lines
 
-ending-is : (s now : State) (ts : List Turn) (a r : ℕ) (broken : Bool) → now ≡ state_after s ts → a ≡ accepted_count ts → a + r ≡ length ts
+ending-is : (s now : State) (ts : List ProcessedMessage) (a r : ℕ) (broken : Bool) → now ≡ state_after s ts → a ≡ accepted_count ts → a + r ≡ length ts
     → last_lines broken a r now.context.epoch ≡ ending broken s ts
 ending-is s now ts a r broken state taken counted =
     let refused : r ≡ refused_count ts = omega arith in
@@ -197,14 +197,14 @@ ending-is s now ts a r broken state taken counted =
     ∙ ap (λ k. last_lines broken (accepted_count ts) k now.context.epoch) refused
     ∙ ap (λ (st : State). last_lines broken (accepted_count ts) (refused_count ts) st.context.epoch) state
 
-pub counts-bounded : (G : Meaning) (s : State) (l0 l1 w0 w1 : Option (List ℕ)) (now : State) (a r : ℕ) (broken : Bool)
+pub counts-bounded : (G : VerifyFn) (s : State) (l0 l1 w0 w1 : Option (List ℕ)) (now : State) (a r : ℕ) (broken : Bool)
     → FollowsLog G s l0 l1 w0 w1 now a r broken → a + r ≤ message_limit
 counts-bounded G s l0 l1 w0 w1 now a r broken f =
     let bound = f.follows.bounded in
     let all = f.counted in
     omega arith
 
-pub told-log : (G : Meaning) (s : State) (l0 l1 w0 w1 w2 : Option (List ℕ)) (now : State) (a r : ℕ) (broken : Bool) (verdict : Verdict)
+pub told-log : (G : VerifyFn) (s : State) (l0 l1 w0 w1 w2 : Option (List ℕ)) (now : State) (a r : ℕ) (broken : Bool) (verdict : Verdict)
     → FollowsLog G s l0 l1 w0 w1 now a r broken → Appends w1 w2 (last_lines broken a r now.context.epoch) → IsVerdict broken r verdict
     → TellsLog G s l0 l1 w0 w2 verdict
 told-log G s l0 l1 w0 w1 w2 now a r broken verdict f wrote v =
@@ -217,11 +217,11 @@ told-log G s l0 l1 w0 w1 w2 now a r broken verdict f wrote v =
       broken = broken;
       follows = f.follows;
       log_end = f.log_end;
-      wrote = subst (λ text. Appends w0 w2 (turn_lines 1 f.turns ++ text)) (ending-is s now f.turns a r broken f.state f.taken f.counted) (Appends-trans w0 w1 w2 _ _ f.wrote wrote);
+      wrote = subst (λ text. Appends w0 w2 (processed_lines 1 f.turns ++ text)) (ending-is s now f.turns a r broken f.state f.taken f.counted) (Appends-trans w0 w1 w2 _ _ f.wrote wrote);
       verdict_is = subst (λ k. IsVerdict broken k verdict) refused v;
     }
 
-pub part-ending : (G : Meaning) (s : State) (l0 l1 w0 w1 w2 : Option (List ℕ)) (now : State) (a r : ℕ) (broken : Bool)
+pub part-ending : (G : VerifyFn) (s : State) (l0 l1 w0 w1 w2 : Option (List ℕ)) (now : State) (a r : ℕ) (broken : Bool)
     → FollowsLog G s l0 l1 w0 w1 now a r broken → AppendsPrefix w1 w2 (last_lines broken a r now.context.epoch) → TellsPart G s l0 l1 w0 w2 Write
 part-ending G s l0 l1 w0 w1 w2 now a r broken f p = inr (record {
   turns = f.turns;
@@ -235,7 +235,7 @@ part-ending G s l0 l1 w0 w1 w2 now a r broken f p = inr (record {
   wrote = Appends-trans w0 w1 w2 _ _ f.wrote p.3;
 })
 
-pub part-followed : (G : Meaning) (s : State) (l0 l1 w0 w1 : Option (List ℕ)) (now : State) (a r : ℕ) (broken : Bool)
+pub part-followed : (G : VerifyFn) (s : State) (l0 l1 w0 w1 : Option (List ℕ)) (now : State) (a r : ℕ) (broken : Bool)
     → FollowsLog G s l0 l1 w0 w1 now a r broken → TellsPart G s l0 l1 w0 w1 Memory
 part-followed G s l0 l1 w0 w1 now a r broken f = record {
   turns = f.turns;
@@ -248,7 +248,7 @@ part-followed G s l0 l1 w0 w1 now a r broken f = record {
 -- ---- a start that is refused
 
 -- nothing of the log was read, and what was written of the line is told by the fault
-pub refused-before : (G : Meaning) (info : GroupInfo) (handed : Option RatchetTree) (fault : StartFault) (l w0 w1 : Option (List ℕ)) (e : RunFault)
+pub refused-before : (G : VerifyFn) (info : GroupInfo) (handed : Option RatchetTree) (fault : StartFault) (l w0 w1 : Option (List ℕ)) (e : RunFault)
     → IsStartFault G info handed fault → RefusesStartPart fault w0 w1 e → RefusesBefore G info handed l l w0 w1 e
 refused-before G info handed fault l w0 w1 Read fails part = absurd part
 refused-before G info handed fault l w0 w1 Write fails part =
@@ -267,7 +267,7 @@ line-part (Err Write) P part of_part memory of_memory own = of_part part
 line-part (Err Memory) P part of_part memory of_memory own = of_memory (memory refl)
 
 pub declines-unread :
-    (G : Meaning) (i0 i1 : Option (List ℕ)) (t0 t1 : Option (Option (List ℕ))) (info_bytes : List ℕ) (tree_bytes : Option (List ℕ)) (finding : Finding)
+    (G : VerifyFn) (i0 i1 : Option (List ℕ)) (t0 t1 : Option (Option (List ℕ))) (info_bytes : List ℕ) (tree_bytes : Option (List ℕ)) (finding : Finding)
     → ReadsBoth i0 i1 t0 t1 info_bytes tree_bytes → IsUnread info_bytes tree_bytes finding → ReadsAndDeclines G i0 i1 t0 t1 finding
 declines-unread G i0 i1 t0 t1 info_bytes tree_bytes finding both unread = record {
   info_bytes = info_bytes;
@@ -277,7 +277,7 @@ declines-unread G i0 i1 t0 t1 info_bytes tree_bytes finding both unread = record
   verdict = unread.verdict;
 }
 
-module _ (G : Meaning) (info_bytes : List ℕ) (tree_bytes : Option (List ℕ)) (info : GroupInfo) (handed : Option RatchetTree)
+module _ (G : VerifyFn) (info_bytes : List ℕ) (tree_bytes : Option (List ℕ)) (info : GroupInfo) (handed : Option RatchetTree)
     (is_read : IsReadAs info_bytes tree_bytes info handed) where
   started : (s : State) → IsStart G info handed s → IsStarted G info_bytes tree_bytes s
   started s start = record { info = info; handed = handed; is_read = is_read; start = start }

@@ -8,9 +8,9 @@ use Rattle.mls_report.proofs.FindingsExist.{begun}
 use Rattle.mls_report.proofs.LogsExist.{IsTold, log_told}
 use Rattle.mls_report.specs.Finding.{finding_line}
 use Rattle.mls_report.specs.ReadAll.{ReadsAll}
-use Rattle.mls_report.specs.Replay.{message_limit, IsVerdict, turn_lines, ending, refused_count}
-use Rattle.mls_report.specs.SomeReport.{SomeReplay}
-use Rattle.mls_report.specs.Starting.{ReadsHanded, ReadsBoth, IsStarted}
+use Rattle.mls_report.specs.Replay.{message_limit, IsVerdict, processed_lines, ending, refused_count}
+use Rattle.mls_report.specs.ReportsExist.{ReplayExists}
+use Rattle.mls_report.specs.StartInputs.{ReadsHanded, ReadsBoth, IsStarted}
 use Rattle.mls_report.specs.declared.verdict.Verdict.{Verdict}
 use Rattle.mls_report.specs.declared.verdict.Verdict.TheVariants.{Yes, No}
 
@@ -44,9 +44,9 @@ record IsHandedRead (all : Option (List ℕ)) : Type 0 where
   left : Option (Option (List ℕ))
   reads : ReadsHanded (option_map Some all) left bytes
 
-read_handed : (all : Option (List ℕ)) → IsHandedRead all
-read_handed None = record { bytes = None; left = None; reads = tt }
-read_handed (Some all) = let r = read_input all in record { bytes = Some r.bytes; left = Some (Some r.left); reads = r.reads }
+read_optional_tree : (all : Option (List ℕ)) → IsHandedRead all
+read_optional_tree None = record { bytes = None; left = None; reads = tt }
+read_optional_tree (Some all) = let r = read_input all in record { bytes = Some r.bytes; left = Some (Some r.left); reads = r.reads }
 
 -- ---- the verdict
 
@@ -57,10 +57,10 @@ verdict_there false (suc n) = (No, inr (λ e. omega (arith, e)))
 
 -- ---- the report
 
-pub some_replay : SomeReplay
+pub some_replay : ReplayExists
 some_replay G info_bytes tree_bytes log_bytes =
     let info = read_input info_bytes in
-    let tree = read_handed tree_bytes in
+    let tree = read_optional_tree tree_bytes in
     let both : ReadsBoth (Some info_bytes) (Some info.left) (option_map Some tree_bytes) tree.left info.bytes tree.bytes = record { info = info.reads; tree = tree.reads } in
     elim (begun G info.bytes tree.bytes) [
       | inl s ↦
@@ -68,7 +68,7 @@ some_replay G info_bytes tree_bytes log_bytes =
           let log : IsTold G message_limit s.0 log_bytes =
           log_told G message_limit s.0 log_bytes (λ calls last bytes run. run_answered G started.info started.handed s.0 last calls bytes started.start run) in
           let verdict = verdict_there log.broken (refused_count log.turns) in (
-            turn_lines 1 log.turns ++ ending log.broken s.0 log.turns,
+            processed_lines 1 log.turns ++ ending log.broken s.0 log.turns,
             verdict.0,
             record {
               info_left = Some info.left;

@@ -6,15 +6,15 @@ use Rattle.std.proofs.lemmas.Bool.Decides.{nat_tests}
 use Rattle.std.proofs.lemmas.List.{append_cancel_left}
 use Rattle.std.specs.Io.KnownBytes.{Appends}
 use Rattle.mls_wire.specs.Limits.{input_limit}
-use Rattle.mls_check.specs.Signatures.{Meaning}
+use Rattle.mls_check.specs.Signatures.{VerifyFn}
 use Rattle.mls_follow.specs.State.{State}
 use Rattle.mls_report.proofs.FindingsOnce.{one_start_finding, one_started}
 use Rattle.mls_report.proofs.TurnsOnce.{one_log}
 use Rattle.mls_report.specs.Finding.{finding_line, finding_verdict}
-use Rattle.mls_report.specs.OneReport.{AreAlike, AreAlikeTexts, EndsLog, OneReplay}
+use Rattle.mls_report.specs.UniqueReports.{AreAlike, AreAlikeTexts, EndsLog, ReplayIsUnique}
 use Rattle.mls_report.specs.ReadAll.{ReadsAll}
-use Rattle.mls_report.specs.Replay.{Turn, IsVerdict, Replays, TellsDecline, TellsReplay, turn_lines, ending, refused_count}
-use Rattle.mls_report.specs.Starting.{ReadsHanded, IsStarted, IsStartFinding, started_of}
+use Rattle.mls_report.specs.Replay.{ProcessedMessage, IsVerdict, Replays, TellsDecline, TellsReplay, processed_lines, ending, refused_count}
+use Rattle.mls_report.specs.StartInputs.{ReadsHanded, IsStarted, IsStartFinding, started_of}
 use Rattle.mls_report.specs.declared.finding.Finding.{Finding}
 use Rattle.mls_report.specs.declared.finding.Finding.TheVariants.{ContextUnreadable, InfoUnreadable, NotGroupInfo, TreeUnreadable, UnsupportedVersion, UnsupportedSuite, RequirementsUnreadable, TreeRefused, MembersRefused, StartRefused, TreeValid, Starts}
 use Rattle.mls_report.specs.declared.finding.Started.{Started}
@@ -79,7 +79,7 @@ yes_no e = absurd cc
 
 -- ---- the report
 
-module _ (G : Meaning) (info_bytes : List ℕ) (tree_bytes : Option (List ℕ)) (log_bytes : List ℕ) where
+module _ (G : VerifyFn) (info_bytes : List ℕ) (tree_bytes : Option (List ℕ)) (log_bytes : List ℕ) where
   abbrev Tree : Option (Option (List ℕ))
   Tree = option_map Some tree_bytes
 
@@ -134,11 +134,11 @@ module _ (G : Meaning) (info_bytes : List ℕ) (tree_bytes : Option (List ℕ)) 
       let other_ends : EndsLog G b.state (Some log_bytes) m b.tells.turns b.tells.broken = record { rest = b.tells.rest; follows = b.tells.follows; log_end = b.tells.log_end } in
       let moved = subst (λ (s : State). EndsLog G s (Some log_bytes) l a.tells.turns a.tells.broken) es ends in
       let log = one_log G b.state log_bytes l m a.tells.turns b.tells.turns a.tells.broken b.tells.broken moved other_ends in
-      let same : turn_lines 1 a.tells.turns ++ ending a.tells.broken a.state a.tells.turns ≡ turn_lines 1 b.tells.turns ++ ending b.tells.broken b.state b.tells.turns =
-      λ i. turn_lines 1 (log.0 i) ++ ending (log.1 i) (es i) (log.0 i) in (
+      let same : processed_lines 1 a.tells.turns ++ ending a.tells.broken a.state a.tells.turns ≡ processed_lines 1 b.tells.turns ++ ending b.tells.broken b.state b.tells.turns =
+      λ i. processed_lines 1 (log.0 i) ++ ending (log.1 i) (es i) (log.0 i) in (
         inl (written_is before text _ a.tells.wrote ∙ same ∙ sym (written_is after other _ b.tells.wrote)),
         yes_or_no b.tells.broken (refused_count b.tells.turns) v o
-            (subst (λ (z : List Turn). IsVerdict b.tells.broken (refused_count z) v) log.0
+            (subst (λ (z : List ProcessedMessage). IsVerdict b.tells.broken (refused_count z) v) log.0
             (subst (λ (z : Bool). IsVerdict z (refused_count a.tells.turns) v) log.1 a.tells.verdict_is)) b.tells.verdict_is,
       )
 
@@ -152,6 +152,6 @@ module _ (G : Meaning) (info_bytes : List ℕ) (tree_bytes : Option (List ℕ)) 
       absurd (not_both j i u t m l (Some after) (Some (after ++ other)) (Some before) (Some (before ++ text)) o v b a)
   either i j t u l m before after text other v o (inr a) (inr b) = both_replay i j t u l m before after text other v o a b
 
-pub one_replay : OneReplay
+pub one_replay : ReplayIsUnique
 one_replay G info_bytes tree_bytes log_bytes text other verdict more a b =
     either G info_bytes tree_bytes log_bytes a.info_left b.info_left a.tree_left b.tree_left a.log_left b.log_left a.before b.before text other verdict more a.replays b.replays

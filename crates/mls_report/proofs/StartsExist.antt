@@ -3,8 +3,8 @@ use Rattle.std.proofs.Common.{◌≡◌, ◌≢◌, ◌∙◌, ℕ, List, Bool, 
 use Rattle.std.specs.Prelude.{◌⊎◌, ◌==◌, nat_le, option_map}
 use Rattle.std.proofs.lemmas.Bool.{false≢true}
 use Rattle.std.proofs.lemmas.Bool.Decides.{nat_tests}
-use Rattle.mls_wire.specs.Joined.{joined}
-use Rattle.mls_wire.specs.Spelling.{◌⊕◌, number, vector, list}
+use Rattle.mls_wire.specs.EncodingConcat.{joined}
+use Rattle.mls_wire.specs.Encoding.{◌⊕◌, number, vector, list}
 use Rattle.std.specs.Int.{w32}
 use Rattle.mls_nodes.specs.Extension.{extension}
 use Rattle.mls_nodes.specs.Layout.{group_context}
@@ -13,16 +13,16 @@ use Rattle.mls_nodes.specs.declared.leaf.LeafNode.{LeafNode}
 use Rattle.mls_nodes.specs.declared.required_capabilities.RequiredCapabilities.{RequiredCapabilities}
 use Rattle.mls_tree.specs.RatchetTree.{RatchetTree}
 use Rattle.mls_tree.specs.Tree.{leaf_at}
-use Rattle.mls_hash.specs.Hashing.{hash_of}
+use Rattle.mls_hash.specs.SuiteHash.{hash_of}
 use Rattle.mls_hash.specs.Suites.{IsSupported}
 use Rattle.mls_check.proofs.Faulted.{valid_or_fault}
-use Rattle.mls_check.specs.GroupTree.{IsFollowed, HasTree, IsReadable, HasValidTree, HasMembers}
-use Rattle.mls_check.specs.Signatures.{Meaning}
+use Rattle.mls_check.specs.GroupTree.{IsSupportedContext, HasTree, IsReadable, HasValidTree, HasMembers}
+use Rattle.mls_check.specs.Signatures.{VerifyFn}
 use Rattle.mls_msgs.specs.Layout.{group_info}
 use Rattle.mls_msgs.specs.Message.{message, header}
 use Rattle.mls_msgs.specs.declared.group_info.GroupInfo.{GroupInfo}
 use Rattle.mls_msgs.specs.declared.message.Message.TheVariants as messages
-use Rattle.mls_follow.specs.Start.{UsesTree, UsesNoTree, IsTreeIn, HasSigner, IsStart, IsStartFault, is_info_signed, info_interim, first_state}
+use Rattle.mls_follow.specs.Start.{UsesTree, UsesNoTree, IsTreeIn, HasSigner, IsStart, IsStartFault, is_info_signed, info_interim, initial_state}
 use Rattle.mls_follow.specs.State.{State}
 use Rattle.mls_follow.specs.Transcript.{interim_hash}
 use Rattle.mls_follow.specs.declared.start_fault.StartFault.{StartFault}
@@ -57,7 +57,7 @@ in_extension (Some body) = elim (tree_or_not body) [ inl t ↦ inl t | inr none 
 
 -- ---- a start
 
-module _ (G : Meaning) (info : GroupInfo) (handed : Option RatchetTree) (interim : List ℕ) (hashed : info_interim info ≡ Some interim) where
+module _ (G : VerifyFn) (info : GroupInfo) (handed : Option RatchetTree) (interim : List ℕ) (hashed : info_interim info ≡ Some interim) where
   abbrev pub StartsOrNot : Type 0
   StartsOrNot = ((s : State) × IsStart G info handed s) ⊎ ((fault : StartFault) × (fault ≢ OutOfMemory) × IsStartFault G info handed fault)
 
@@ -67,7 +67,7 @@ module _ (G : Meaning) (info : GroupInfo) (handed : Option RatchetTree) (interim
 
   by_signature : (t : RatchetTree) (signer : LeafNode) → HasSigner G info handed t signer → (b : Bool) → is_info_signed G info signer ≡ b → StartsOrNot
   by_signature t signer h true e =
-      inl (first_state info t interim, record { tree = t; signer = signer; has_signer = h; signed = e; interim = interim; hashed = hashed; state = refl })
+      inl (initial_state info t interim, record { tree = t; signer = signer; has_signer = h; signed = e; interim = interim; hashed = hashed; state = refl })
   by_signature t signer h false e = inr (InfoSignature, λ own. cc, record { tree = t; signer = signer; has_signer = h; unsigned = e })
 
   by_signer : (t : RatchetTree) (required : RequiredCapabilities) → HasMembers G info.context (UsesTree handed info.extensions) t required → (o : Option LeafNode) → leaf_at 0 t.tree info.signer ≡ o → StartsOrNot
@@ -96,7 +96,7 @@ module _ (G : Meaning) (info : GroupInfo) (handed : Option RatchetTree) (interim
         | inr none ↦ inr (RequirementsUnreadable, λ own. cc, record { tree = t; has_tree = h; none = none })
       ]
 
-  by_use : IsFollowed info.context → StartsOrNot
+  by_use : IsSupportedContext info.context → StartsOrNot
   by_use followed =
       elim (uses_or_not handed) [
         | inl u ↦ by_requirements u.0 (record { followed = followed; uses = u.1 })
@@ -125,7 +125,7 @@ same_or_not a b = go (a == b) refl
     go false e = inr (λ same. let t : (a == b) ≡ true = grind (arith, nat_tests) in false≢true (sym e ∙ t))
 
 -- a follower starts, or there is a fault
-pub starts_or_not : (G : Meaning) (info : GroupInfo) (handed : Option RatchetTree) (interim : List ℕ) → info_interim info ≡ Some interim
+pub starts_or_not : (G : VerifyFn) (info : GroupInfo) (handed : Option RatchetTree) (interim : List ℕ) → info_interim info ≡ Some interim
     → ((s : State) × IsStart G info handed s) ⊎ ((fault : StartFault) × (fault ≢ OutOfMemory) × IsStartFault G info handed fault)
 starts_or_not G info handed interim hashed =
     elim (same_or_not info.context.version 1) [

@@ -6,28 +6,28 @@ use Rattle.std.proofs.lemmas.Option.{none-some, same_Some}
 use Rattle.mls_nodes.proofs.RequiredOnce.{Requires-one}
 use Rattle.mls_nodes.proofs.Trimming.{ratchet_tree_unambiguous}
 use Rattle.mls_nodes.specs.Requirements.{Requires, extension_of}
-use Rattle.mls_nodes.specs.RatchetTree.{filled}
+use Rattle.mls_nodes.specs.RatchetTreeEncoding.{filled}
 use Rattle.mls_nodes.specs.declared.context.GroupContext.{GroupContext}
 use Rattle.mls_nodes.specs.declared.extension.Extension.{Extension}
 use Rattle.mls_nodes.specs.declared.leaf.LeafNode.{LeafNode}
 use Rattle.mls_nodes.specs.declared.required_capabilities.RequiredCapabilities.{RequiredCapabilities}
 use Rattle.mls_tree.proofs.SameListings.{RatchetTree-listing}
-use Rattle.mls_tree.specs.Reading.{IsTreeOf}
+use Rattle.mls_tree.specs.TreeDecoding.{IsTreeOf}
 use Rattle.mls_tree.specs.RatchetTree.{RatchetTree}
 use Rattle.mls_tree.specs.Tree.{leaf_at}
-use Rattle.mls_hash.specs.Hashing.{hash_of}
+use Rattle.mls_hash.specs.SuiteHash.{hash_of}
 use Rattle.mls_hash.specs.Suites.{IsSupported}
 use Rattle.mls_check.proofs.Faulted.{fault-not_valid, fault-unique}
 use Rattle.mls_check.proofs.FirstFault.{fault-first, members-faultless}
-use Rattle.mls_check.specs.GroupTree.{IsFollowed, HasTree, IsReadable, HasValidTree, HasMembers}
-use Rattle.mls_check.specs.Members.{Members, IsMemberFault, member_fault}
-use Rattle.mls_check.specs.Signatures.{Meaning}
-use Rattle.mls_check.specs.Valid.{Valid, IsFirstTreeFault}
+use Rattle.mls_check.specs.GroupTree.{IsSupportedContext, HasTree, IsReadable, HasValidTree, HasMembers}
+use Rattle.mls_check.specs.LeafValidation.{LeavesAreValid, IsMemberFault, member_fault}
+use Rattle.mls_check.specs.Signatures.{VerifyFn}
+use Rattle.mls_check.specs.ValidTree.{Valid, IsFirstTreeFault}
 use Rattle.mls_check.specs.declared.members.MemberFault.{MemberFault}
 use Rattle.mls_check.specs.declared.members.MemberFault.TheVariants as members
 use Rattle.mls_msgs.specs.declared.group_info.GroupInfo.{GroupInfo}
 use Rattle.mls_follow.specs.State.{State}
-use Rattle.mls_follow.specs.Start.{UsesTree, IsTreeIn, HasSigner, is_info_signed, first_state, IsStart, IsStartFault}
+use Rattle.mls_follow.specs.Start.{UsesTree, IsTreeIn, HasSigner, is_info_signed, initial_state, IsStart, IsStartFault}
 use Rattle.mls_follow.specs.declared.start_fault.StartFault.{StartFault}
 use Rattle.mls_follow.specs.declared.start_fault.StartFault.TheVariants.{UnsupportedVersion, UnsupportedSuite, NoTree, RequirementsUnreadable, Tree, Member, SignerNotMember, InfoSignature, OutOfMemory}
 use Rattle.mls_report.proofs.InOrder.{first_then, no_more, MetBefore, one_place, other_place}
@@ -49,7 +49,7 @@ one_tree None extensions t u a b = one_tree_in (extension_of 2 extensions) t u a
 
 -- ---- the rule of members that fails first is one
 
-pub one_members_fault : (G : Meaning) (c d : GroupContext) (r s : RequiredCapabilities) (t u : RatchetTree) (f g : MemberFault) → c ≡ d → r ≡ s → t ≡ u
+pub one_members_fault : (G : VerifyFn) (c d : GroupContext) (r s : RequiredCapabilities) (t u : RatchetTree) (f g : MemberFault) → c ≡ d → r ≡ s → t ≡ u
     → f ≢ members.OutOfMemory → g ≢ members.OutOfMemory → IsMemberFault G c.cipher_suite c.group_id r t.tree f → IsMemberFault G d.cipher_suite d.group_id s u.tree g → f ≡ g
 one_members_fault G c d r s t u f g ec er et of og a b =
     same_Some f g (sym ((fault-first G c.cipher_suite c.group_id r t.tree f of).0 a)
@@ -57,8 +57,8 @@ one_members_fault G c d r s t u f g ec er et of og a b =
     ∙ (fault-first G d.cipher_suite d.group_id s u.tree g og).0 b)
 
 -- and where the leaves are members, none fails
-pub no_members_fault : (G : Meaning) (c d : GroupContext) (r s : RequiredCapabilities) (t u : RatchetTree) (f : MemberFault) → c ≡ d → r ≡ s → t ≡ u
-    → f ≢ members.OutOfMemory → IsMemberFault G c.cipher_suite c.group_id r t.tree f → Members G d.cipher_suite d.group_id s u.tree → ⊥
+pub no_members_fault : (G : VerifyFn) (c d : GroupContext) (r s : RequiredCapabilities) (t u : RatchetTree) (f : MemberFault) → c ≡ d → r ≡ s → t ≡ u
+    → f ≢ members.OutOfMemory → IsMemberFault G c.cipher_suite c.group_id r t.tree f → LeavesAreValid G d.cipher_suite d.group_id s u.tree → ⊥
 no_members_fault G c d r s t u f ec er et of a m =
     none-some f (sym ((members-faultless G d.cipher_suite d.group_id s u.tree).0 m)
     ∙ (λ i. member_fault G (sym ec i).cipher_suite (sym ec i).group_id (sym er i) (sym et i).tree)
@@ -77,7 +77,7 @@ place SignerNotMember = 6
 place InfoSignature = 7
 place OutOfMemory = 8
 
-module _ (G : Meaning) (info : GroupInfo) (handed : Option RatchetTree) where
+module _ (G : VerifyFn) (info : GroupInfo) (handed : Option RatchetTree) where
   abbrev H : List ℕ → List ℕ
   H = hash_of info.context.cipher_suite
 
@@ -105,7 +105,7 @@ module _ (G : Meaning) (info : GroupInfo) (handed : Option RatchetTree) where
       (first_then ((t : RatchetTree) × Uses t)
       (first_then ((r : RequiredCapabilities) × Requires info.context r)
       (first_then ((t : RatchetTree) × Uses t × Valid H info.context.tree_hash t.tree)
-      (first_then ((t : RatchetTree) × (r : RequiredCapabilities) × Uses t × Requires info.context r × Members G info.context.cipher_suite info.context.group_id r t.tree)
+      (first_then ((t : RatchetTree) × (r : RequiredCapabilities) × Uses t × Requires info.context r × LeavesAreValid G info.context.cipher_suite info.context.group_id r t.tree)
       (first_then ((t : RatchetTree) × (x : LeafNode) × Uses t × HasLeaf t x)
       (first_then ((t : RatchetTree) × (x : LeafNode) × Uses t × HasLeaf t x × (is_info_signed G info x ≡ true))
       no_more)))))))
@@ -135,7 +135,7 @@ module _ (G : Meaning) (info : GroupInfo) (handed : Option RatchetTree) where
   met_version : info.context.version ≡ 1 → MetBefore Met 1
   met_version h = below_more Met 0 (below_none Met) h
 
-  met_followed : IsFollowed info.context → MetBefore Met 2
+  met_followed : IsSupportedContext info.context → MetBefore Met 2
   met_followed h = below_more Met 1 (met_version h.version) h.suite
 
   met_tree : (t : RatchetTree) → HasTree info.context (UsesTree handed info.extensions) t → MetBefore Met 3
@@ -204,15 +204,15 @@ module _ (G : Meaning) (info : GroupInfo) (handed : Option RatchetTree) where
   one_state s u a b =
       let et = same_tree a.tree b.tree a.has_signer.has_members.valid_tree.readable.has_tree.uses b.has_signer.has_members.valid_tree.readable.has_tree.uses in
       let ei = same_Some a.interim b.interim (sym a.hashed ∙ b.hashed) in
-      a.state ∙ (λ i. first_state info (et i) (ei i)) ∙ sym b.state
+      a.state ∙ (λ i. initial_state info (et i) (ei i)) ∙ sym b.state
 
-pub one_start : (G : Meaning) (info : GroupInfo) (handed : Option RatchetTree) (s u : State) → IsStart G info handed s → IsStart G info handed u → s ≡ u
+pub one_start : (G : VerifyFn) (info : GroupInfo) (handed : Option RatchetTree) (s u : State) → IsStart G info handed s → IsStart G info handed u → s ≡ u
 one_start G info handed = one_state G info handed
 
-pub no_fault_of_start : (G : Meaning) (info : GroupInfo) (handed : Option RatchetTree) (s : State) (fault : StartFault) → fault ≢ OutOfMemory → IsStart G info handed s
+pub no_fault_of_start : (G : VerifyFn) (info : GroupInfo) (handed : Option RatchetTree) (s : State) (fault : StartFault) → fault ≢ OutOfMemory → IsStart G info handed s
     → IsStartFault G info handed fault → ⊥
 no_fault_of_start G info handed s f own start fails = no_fault G info handed s f (own, fails) start
 
-pub one_start_fault : (G : Meaning) (info : GroupInfo) (handed : Option RatchetTree) (fault other : StartFault) → fault ≢ OutOfMemory → other ≢ OutOfMemory
+pub one_start_fault : (G : VerifyFn) (info : GroupInfo) (handed : Option RatchetTree) (fault other : StartFault) → fault ≢ OutOfMemory → other ≢ OutOfMemory
     → IsStartFault G info handed fault → IsStartFault G info handed other → fault ≡ other
 one_start_fault G info handed f g own other a b = one_fault G info handed f g (own, a) (other, b)

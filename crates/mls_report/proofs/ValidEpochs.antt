@@ -2,23 +2,23 @@
 use Rattle.std.proofs.Common.{List, [], ◌∷◌, refl}
 use Rattle.std.specs.Prelude.{All}
 use Rattle.std.proofs.lemmas.List.Elements.{All-nil, All-cons}
-use Rattle.mls_check.specs.Signatures.{Meaning}
+use Rattle.mls_check.specs.Signatures.{VerifyFn}
 use Rattle.mls_follow.proofs.Validity.{start_valid, run_valid}
 use Rattle.mls_follow.specs.State.{State}
 use Rattle.mls_follow.specs.Validity.{IsValidState}
-use Rattle.mls_report.specs.Replay.{Turn, AreTurns}
-use Rattle.mls_report.specs.ValidEpochs.{StartedEpochsAreValid, ToldEpochsAreValid}
+use Rattle.mls_report.specs.Replay.{ProcessedMessage, AreProcessed}
+use Rattle.mls_report.specs.ValidEpochs.{StartedEpochsAreValid, ReportedEpochsAreValid}
 
 pub started_valid : StartedEpochsAreValid
 started_valid G info_bytes tree_bytes s started = start_valid G started.info started.handed s started.start
 
-turns_valid : (G : Meaning) (s : State) (turns : List Turn) → IsValidState G s → AreTurns G s turns → All (λ (t : Turn). IsValidState G t.state) turns
-turns_valid G s [] valid taken = All-nil (λ (t : Turn). IsValidState G t.state)
+turns_valid : (G : VerifyFn) (s : State) (turns : List ProcessedMessage) → IsValidState G s → AreProcessed G s turns → All (λ (t : ProcessedMessage). IsValidState G t.state) turns
+turns_valid G s [] valid taken = All-nil (λ (t : ProcessedMessage). IsValidState G t.state)
 turns_valid G s (turn ∷ turns) valid taken =
     let here =
     run_valid G s ((record { bytes = turn.bytes; answer = turn.answer }) ∷ []) turn.state valid (turn.state, taken.0.takes, refl) in
-    All-cons (λ (t : Turn). IsValidState G t.state) turn turns here (turns_valid G turn.state turns here taken.1)
+    All-cons (λ (t : ProcessedMessage). IsValidState G t.state) turn turns here (turns_valid G turn.state turns here taken.1)
 
-pub told_valid : ToldEpochsAreValid
+pub told_valid : ReportedEpochsAreValid
 told_valid G info_bytes tree_bytes s log0 log1 turns rest started follows =
     turns_valid G s turns (started_valid G info_bytes tree_bytes s started) follows.taken

@@ -1,4 +1,4 @@
--- How a fault is told in a report. Numbers in parentheses are sections of RFC 9420.
+-- The texts of faults in reports (docs/FORMATS.md). Used by contracts.
 use Rattle.std.specs.Prelude.{ℕ, List, ◌++◌, codes}
 use Rattle.std.specs.Fmt.{decimal}
 use Rattle.mls_wire.specs.declared.fault.WireFault.{WireFault}
@@ -8,12 +8,12 @@ use Rattle.mls_nodes.specs.declared.fault.NodeFault.{NodeFault}
 use Rattle.mls_nodes.specs.declared.fault.NodeFault.TheVariants as fault
 use Rattle.mls_check.specs.declared.members.MemberFault.{MemberFault}
 use Rattle.mls_check.specs.declared.members.MemberFault.TheVariants as members
-use Rattle.mls_check.specs.declared.valid.TreeFault.{TreeFault}
-use Rattle.mls_check.specs.declared.valid.TreeFault.TheVariants as trees
+use Rattle.mls_check.specs.declared.tree_validation.TreeFault.{TreeFault}
+use Rattle.mls_check.specs.declared.tree_validation.TreeFault.TheVariants as trees
 use Rattle.mls_follow.specs.declared.start_fault.StartFault.{StartFault}
 use Rattle.mls_follow.specs.declared.start_fault.StartFault.TheVariants as starts
 
--- what is wrong with bytes that can't be read; a tag that stands for nothing is told by its value
+-- `wire_kind_text kind` is the text of what is wrong with bytes that cannot be read. A bad tag has its value.
 abbrev pub wire_kind_text : WireFaultKind → List ℕ
 wire_kind_text kind.Truncated = codes "Truncated"
 wire_kind_text kind.NotShortest = codes "NotShortest"
@@ -24,11 +24,11 @@ wire_kind_text kind.OddLength = codes "OddLength"
 wire_kind_text kind.Trailing = codes "Trailing"
 wire_kind_text kind.TooLong = codes "TooLong"
 
--- what is wrong, and the offset at which the item begins
+-- `wire_fault_text f` is this text, and the offset at which the item begins.
 abbrev pub wire_fault_text : WireFault → List ℕ
 wire_fault_text f = wire_kind_text f.kind ++ (codes " " ++ decimal f.at)
 
--- why a ratchet tree can't be read
+-- `node_fault_text f` is why a ratchet_tree cannot be read.
 abbrev pub node_fault_text : NodeFault → List ℕ
 node_fault_text (fault.Wire f) = wire_fault_text f
 node_fault_text (fault.WrongNodeKind place) = codes "WrongNodeKind " ++ decimal place
@@ -37,7 +37,8 @@ node_fault_text fault.EmptyTree = codes "EmptyTree"
 node_fault_text fault.TooManyLeaves = codes "TooManyLeaves"
 node_fault_text fault.OutOfMemory = codes "OutOfMemory"
 
--- why a tree is not valid, by number and name, with the place (7.8, 7.9.2 and 12.4.3.1)
+-- `tree_fault_text f` is why a tree is not valid, by number and name, with the node index (RFC 9420, 7.8, 7.9.2 and
+-- 12.4.3.1).
 abbrev pub tree_fault_text : TreeFault → List ℕ
 tree_fault_text trees.HashDiffers = codes "1 HashDiffers"
 tree_fault_text (trees.UnmergedUnsorted place) = codes "2 UnmergedUnsorted " ++ decimal place
@@ -46,7 +47,7 @@ tree_fault_text (trees.KeyRepeated place) = codes "4 KeyRepeated " ++ decimal pl
 tree_fault_text (trees.ParentHashInvalid place) = codes "5 ParentHashInvalid " ++ decimal place
 tree_fault_text trees.OutOfMemory = codes "OutOfMemory"
 
--- why the leaves are no members, by number and name, with the leaf (7.3)
+-- `member_fault_text f` is why a leaf node is not valid, by number and name, with the leaf index (RFC 9420, 7.3).
 abbrev pub member_fault_text : MemberFault → List ℕ
 member_fault_text (members.ExtensionUnlisted leaf) = codes "1 ExtensionUnlisted " ++ decimal leaf
 member_fault_text (members.RequirementUnmet leaf) = codes "2 RequirementUnmet " ++ decimal leaf
@@ -57,7 +58,7 @@ member_fault_text (members.SignatureKeyRepeated leaf) =
 member_fault_text (members.LeafSignature leaf) = codes "5 LeafSignature " ++ decimal leaf
 member_fault_text members.OutOfMemory = codes "OutOfMemory"
 
--- the number of a fault of members; 0 for want of memory
+-- `member_number f` is the number of a fault of a leaf node; 0 for OutOfMemory.
 abbrev pub member_number : MemberFault → ℕ
 member_number (members.ExtensionUnlisted leaf) = 1
 member_number (members.RequirementUnmet leaf) = 2
@@ -66,7 +67,8 @@ member_number (members.SignatureKeyRepeated leaf) = 4
 member_number (members.LeafSignature leaf) = 5
 member_number members.OutOfMemory = 0
 
--- why no follower starts, by number and name, with the fault of the tree or of the members (12.4.3.1)
+-- `start_fault_text f` is why no follower starts, by number and name, with the fault of the tree or of a leaf node
+-- (RFC 9420, 12.4.3.1).
 abbrev pub start_fault_text : StartFault → List ℕ
 start_fault_text starts.UnsupportedVersion = codes "1 UnsupportedVersion"
 start_fault_text starts.UnsupportedSuite = codes "2 UnsupportedSuite"

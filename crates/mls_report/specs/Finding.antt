@@ -1,24 +1,26 @@
--- How a finding is worded, and what it says. Numbers in parentheses are sections of RFC 9420.
+-- The line and the verdict of a finding: of what is found of a group's inputs. `written0` and `written1` are what the
+-- output holds before and after. Used by contracts.
 use Rattle.std.specs.Prelude.{ℕ, List, [], ◌++◌, codes, Option, ◌≡◌, ◌⊎◌}
 use Rattle.std.specs.Fmt.{decimal}
 use Rattle.std.specs.Io.KnownBytes.{Appends}
 use Rattle.mls_wire.specs.Devices.{AppendsPrefix}
 use Rattle.mls_report.specs.FaultText.{wire_fault_text, node_fault_text, tree_fault_text, member_fault_text, start_fault_text}
-use Rattle.mls_report.specs.Texts.{hex_text}
+use Rattle.mls_report.specs.ValueTexts.{hex_text}
 use Rattle.mls_report.specs.declared.finding.Finding.{Finding}
 use Rattle.mls_report.specs.declared.finding.Finding.TheVariants.{ContextUnreadable, InfoUnreadable, NotGroupInfo, TreeUnreadable, UnsupportedVersion, UnsupportedSuite, RequirementsUnreadable, TreeRefused, MembersRefused, StartRefused, TreeValid, Starts}
 use Rattle.mls_report.specs.declared.finding.Started.{Started}
 use Rattle.mls_report.specs.declared.verdict.Verdict.{Verdict}
 use Rattle.mls_report.specs.declared.verdict.Verdict.TheVariants.{Yes, No}
 
--- what is told of a follower that starts: its epoch, its members, and its tree's hash (8.1)
+-- `started_text s` is the text of a follower that starts: its epoch, its number of members, and its tree hash
+-- (RFC 9420, 8.1).
 abbrev pub started_text : Started → List ℕ
 started_text s =
     codes "valid epoch " ++ (decimal s.epoch
     ++ (codes " members " ++ (decimal s.members
     ++ (codes " tree " ++ hex_text s.tree_hash))))
 
--- the words of a finding
+-- `finding_text finding` is the text of a finding.
 abbrev pub finding_text : Finding → List ℕ
 finding_text (ContextUnreadable fault) = codes "context unreadable " ++ wire_fault_text fault
 finding_text (InfoUnreadable fault) = codes "info unreadable " ++ wire_fault_text fault
@@ -33,11 +35,11 @@ finding_text (StartRefused fault) = codes "start refused " ++ start_fault_text f
 finding_text (TreeValid tree_hash) = codes "valid " ++ hex_text tree_hash
 finding_text (Starts started) = started_text started
 
--- its line
+-- `finding_line finding` is the line of a finding.
 abbrev pub finding_line : Finding → List ℕ
 finding_line finding = finding_text finding ++ codes "\n"
 
--- Yes for a valid tree, and for a follower that starts
+-- `finding_verdict finding` is Yes for a valid tree and for a follower that starts, else No.
 abbrev pub finding_verdict : Finding → Verdict
 finding_verdict (TreeValid _) = Yes
 finding_verdict (Starts _) = Yes
@@ -45,7 +47,7 @@ finding_verdict _ = No
 
 -- ---- the report of a finding
 
--- this is found, and its line was written whole
+-- `TellsFinding IsFound written0 written1 verdict`: this is found, its line was written whole, and the verdict is its.
 pub record TellsFinding (IsFound : Finding → Type 0) (written0 written1 : Option (List ℕ))
     (verdict : Verdict) : Type 0 where
   pub finding : Finding
@@ -53,14 +55,14 @@ pub record TellsFinding (IsFound : Finding → Type 0) (written0 written1 : Opti
   pub wrote : Appends written0 written1 (finding_line finding)
   pub verdict_is : verdict ≡ finding_verdict finding
 
--- this is found, and a prefix of its line was written
+-- `TellsFindingPrefix IsFound written0 written1`: this is found, and a prefix of its line was written.
 pub record TellsFindingPrefix (IsFound : Finding → Type 0)
     (written0 written1 : Option (List ℕ)) : Type 0 where
   pub finding : Finding
   pub found : IsFound finding
   pub wrote : AppendsPrefix written0 written1 (finding_line finding)
 
--- nothing was written, or a prefix of the line of what is found
+-- `TellsFindingPart IsFound written0 written1`: nothing was written, or a prefix of the line of what is found.
 abbrev pub TellsFindingPart : (Finding → Type 0) → Option (List ℕ) → Option (List ℕ) → Type 0
 TellsFindingPart IsFound written0 written1 =
     Appends written0 written1 [] ⊎ TellsFindingPrefix IsFound written0 written1

@@ -1,12 +1,13 @@
--- The report `replay`: a line for each message of a log, and a last one. Numbers in parentheses are
--- sections of RFC 9420.
+-- The report `replay`: a line for each message of a log, and a last one. `log0` and `log1` are what the log has left
+-- before and after, `written0` and `written1` what the output holds. G is the verification function of the checker,
+-- `turns` are processed messages. Used by contracts.
 use Rattle.std.specs.Prelude.{List, [], ◌∷◌, ℕ, ◌+◌, ◌-◌, ◌≤◌, ◌++◌, codes, length, map, Bool, true, false, Option, Result, Ok, Err, is_ok, ◌≡◌, ◌≢◌, ◌⊎◌}
 use Rattle.std.specs.Fmt.{decimal}
 use Rattle.std.specs.Io.KnownBytes.{Appends, Consumes, IsAtEnd}
 use Rattle.mls_wire.specs.Devices.{AppendsPrefix}
-use Rattle.mls_wire.specs.Logs.{IsRecord, IsBreak, IsUndecided}
-use Rattle.mls_check.specs.Signatures.{Meaning}
-use Rattle.mls_follow.specs.Numbers.{number_of}
+use Rattle.mls_wire.specs.Logs.{IsRecord, IsBrokenAt, IsIncomplete}
+use Rattle.mls_check.specs.Signatures.{VerifyFn}
+use Rattle.mls_follow.specs.RefusalNumbers.{number_of}
 use Rattle.mls_follow.specs.Runs.{IsAnswer}
 use Rattle.mls_follow.specs.State.{State}
 use Rattle.mls_follow.specs.declared.refusal.Refusal.{Refusal}
@@ -15,44 +16,45 @@ use Rattle.mls_follow.specs.declared.taken.Taken.{Taken}
 use Rattle.mls_follow.specs.declared.taken.Taken.TheVariants.{Proposal, Commit}
 use Rattle.mls_report.specs.FaultText.{member_number}
 use Rattle.mls_report.specs.Finding.{finding_line}
-use Rattle.mls_report.specs.Starting.{ReadsAndStarts, ReadsAndDeclines}
-use Rattle.mls_report.specs.Texts.{hex_text}
+use Rattle.mls_report.specs.StartInputs.{ReadsAndStarts, ReadsAndDeclines}
+use Rattle.mls_report.specs.ValueTexts.{hex_text}
 use Rattle.mls_report.specs.declared.finding.Finding.{Finding}
 use Rattle.mls_report.specs.declared.verdict.RunFault.{RunFault}
 use Rattle.mls_report.specs.declared.verdict.RunFault.TheVariants.{Read, Write, Memory}
 use Rattle.mls_report.specs.declared.verdict.Verdict.{Verdict}
 use Rattle.mls_report.specs.declared.verdict.Verdict.TheVariants.{Yes, No}
 
--- the most messages that a log has
+-- The most messages of a log: a limit of this library.
 abbrev pub message_limit : ℕ
 message_limit = 1000000
 
 -- ---- the messages, and their lines
 
--- a message of a log, the answer to it, and the state after it
-pub record Turn : Type 0 where
+-- A message of a log, its result, and the state after it.
+pub record ProcessedMessage : Type 0 where
   pub bytes : List ℕ
   pub answer : Result Taken Refusal
   pub state : State
 
--- the messages are taken one after the other, from a state on, and none is answered by want of memory
-abbrev pub AreTurns : Meaning → State → List Turn → Type 0
-AreTurns G s [] = Unit {0}
-AreTurns G s (turn ∷ turns) =
-    IsAnswer G s turn.bytes turn.answer turn.state × AreTurns G turn.state turns
+-- `AreProcessed G s turns`: the messages are processed one after the other, from the state `s` on, and none runs out of
+-- memory.
+abbrev pub AreProcessed : VerifyFn → State → List ProcessedMessage → Type 0
+AreProcessed G s [] = Unit {0}
+AreProcessed G s (turn ∷ turns) =
+    IsAnswer G s turn.bytes turn.answer turn.state × AreProcessed G turn.state turns
 
--- the state after the messages
-abbrev pub state_after : State → List Turn → State
+-- `state_after s turns` is the state after the messages.
+abbrev pub state_after : State → List ProcessedMessage → State
 state_after s [] = s
 state_after s (turn ∷ turns) = state_after turn.state turns
 
--- what is told of a refusal: its number, and for members that of their fault
+-- `refusal_text e` is the number of a refusal, and for 25 that of the fault of the leaf node.
 abbrev pub refusal_text : Refusal → List ℕ
 refusal_text (Member fault) = codes "25 " ++ decimal (member_number fault)
 refusal_text e = decimal (number_of e)
 
--- what is told of an answer: the reference of a proposal (5.2); of a commit the epoch that it began, and
--- that epoch's tree hash and confirmed transcript hash (8.1)
+-- `answer_text answer s` is the text of a result: the reference of a proposal (RFC 9420, 5.2); of a commit the epoch
+-- that it begins, and the tree hash and the confirmed transcript hash of that epoch (8.1).
 abbrev pub answer_text : Result Taken Refusal → State → List ℕ
 answer_text (Ok (Proposal reference)) s = codes " accepted proposal " ++ hex_text reference
 answer_text (Ok (Commit epoch)) s =
@@ -60,28 +62,30 @@ answer_text (Ok (Commit epoch)) s =
     ++ (codes " " ++ (hex_text s.context.tree_hash ++ (codes " " ++ hex_text s.context.confirmed))))
 answer_text (Err e) s = codes " refused " ++ refusal_text e
 
--- the line of message n
-abbrev pub turn_line : ℕ → Turn → List ℕ
-turn_line n turn = decimal n ++ (answer_text turn.answer turn.state ++ codes "\n")
+-- `processed_line n turn` is the line of message n.
+abbrev pub processed_line : ℕ → ProcessedMessage → List ℕ
+processed_line n turn = decimal n ++ (answer_text turn.answer turn.state ++ codes "\n")
 
--- the lines of messages, the first of which has number n
-abbrev pub turn_lines : ℕ → List Turn → List ℕ
-turn_lines n [] = []
-turn_lines n (turn ∷ turns) = turn_line n turn ++ turn_lines (n + 1) turns
+-- `processed_lines n turns` is the lines of messages, the first of which has number n.
+abbrev pub processed_lines : ℕ → List ProcessedMessage → List ℕ
+processed_lines n [] = []
+processed_lines n (turn ∷ turns) = processed_line n turn ++ processed_lines (n + 1) turns
 
--- how many were accepted, and how many refused
+-- `one_if b` is 1 if `b` is true, else 0.
 abbrev pub one_if : Bool → ℕ
 one_if false = 0
 one_if true = 1
 
-abbrev pub accepted_count : List Turn → ℕ
+-- `accepted_count turns` is how many messages were accepted.
+abbrev pub accepted_count : List ProcessedMessage → ℕ
 accepted_count [] = 0
 accepted_count (turn ∷ turns) = one_if (is_ok turn.answer) + accepted_count turns
 
-abbrev pub refused_count : List Turn → ℕ
+-- `refused_count turns` is how many messages were refused.
+abbrev pub refused_count : List ProcessedMessage → ℕ
 refused_count turns = length turns - accepted_count turns
 
--- the line of the counts, with the epoch at the end
+-- `counts_line accepted refused broken epoch` is the last line: the counts, and the epoch at the end.
 abbrev pub counts_line : ℕ → ℕ → ℕ → ℕ → List ℕ
 counts_line accepted refused broken epoch =
     codes "accepted " ++ (decimal accepted
@@ -89,45 +93,47 @@ counts_line accepted refused broken epoch =
     ++ (codes " broken " ++ (decimal broken
     ++ (codes " epoch " ++ (decimal epoch ++ codes "\n")))))))
 
--- the last lines, behind so many accepted and refused messages: that the next one is broken, if it is, and
--- the counts
+-- `last_lines broken accepted refused epoch` is the last lines after these numbers of messages: that the next one is
+-- broken, if it is, and the counts.
 abbrev pub last_lines : Bool → ℕ → ℕ → ℕ → List ℕ
 last_lines false accepted refused epoch = counts_line accepted refused 0 epoch
 last_lines true accepted refused epoch =
     decimal (accepted + refused + 1) ++ (codes " broken\n" ++ counts_line accepted refused 1 epoch)
 
-abbrev pub ending : Bool → State → List Turn → List ℕ
+-- `ending broken s turns` is the last lines after these messages.
+abbrev pub ending : Bool → State → List ProcessedMessage → List ℕ
 ending broken s turns =
     last_lines broken (accepted_count turns) (refused_count turns) (state_after s turns).context.epoch
 
--- Yes where nothing was refused or broken
+-- `IsVerdict broken refused verdict`: the verdict is Yes if nothing was refused or broken, else No.
 abbrev pub IsVerdict : Bool → ℕ → Verdict → Type 0
 IsVerdict broken refused Yes = (broken ≡ false) × (refused ≡ 0)
 IsVerdict broken refused No = (broken ≡ true) ⊎ (refused ≢ 0)
 
 -- ---- the log
 
--- bytes are the records of these bodies, one after the other
+-- `AreRecords bodies bytes`: the bytes are the records of these bodies, one after the other.
 abbrev pub AreRecords : List (List ℕ) → List ℕ → Type 0
 AreRecords [] bytes = bytes ≡ []
 AreRecords (body ∷ bodies) bytes =
     (front : List ℕ) × (rest : List ℕ) × IsRecord front body × AreRecords bodies rest
     × (bytes ≡ front ++ rest)
 
--- how many messages may still come
-abbrev pub still_to_come : List Turn → ℕ
+-- `still_to_come turns` is how many messages may still come.
+abbrev pub still_to_come : List ProcessedMessage → ℕ
 still_to_come turns = message_limit - length turns
 
--- whether a log of which so many messages may still come is broken, which these bytes show, or has ended
+-- `IsLogEnd most rest left broken`: a log of which `most` messages may still come is broken, as the bytes `rest` show,
+-- or has ended.
 abbrev pub IsLogEnd : ℕ → List ℕ → Option (List ℕ) → Bool → Type 0
-IsLogEnd most rest left true = IsBreak most rest left
+IsLogEnd most rest left true = IsBrokenAt most rest left
 IsLogEnd most rest left false = (rest ≡ []) × IsAtEnd left
 
--- the messages of the records that were read of a log are taken, from a state on, and behind these records
--- these bytes were read
-pub record Follows (G : Meaning) (s : State) (log0 log1 : Option (List ℕ)) (turns : List Turn)
+-- `Follows G s log0 log1 turns rest`: the messages of the records that were read of the log are processed, from the
+-- state `s` on. After these records the bytes `rest` were read.
+pub record Follows (G : VerifyFn) (s : State) (log0 log1 : Option (List ℕ)) (turns : List ProcessedMessage)
     (rest : List ℕ) : Type 0 where
-  pub taken : AreTurns G s turns
+  pub taken : AreProcessed G s turns
   pub bounded : length turns ≤ message_limit
   pub records : List ℕ
   pub are_records : AreRecords (map (λ turn. turn.bytes) turns) records
@@ -135,41 +141,44 @@ pub record Follows (G : Meaning) (s : State) (log0 log1 : Option (List ℕ)) (tu
 
 -- ---- the report of a follower that has started
 
--- each message was told, the log has ended or is broken, and the counts were told
-pub record TellsLog (G : Meaning) (s : State) (log0 log1 written0 written1 : Option (List ℕ))
+-- `TellsLog G s log0 log1 written0 written1 verdict`: the line of each message was written, the log has ended or is
+-- broken, and the last lines were written.
+pub record TellsLog (G : VerifyFn) (s : State) (log0 log1 written0 written1 : Option (List ℕ))
     (verdict : Verdict) : Type 0 where
-  pub turns : List Turn
+  pub turns : List ProcessedMessage
   pub rest : List ℕ
   pub broken : Bool
   pub follows : Follows G s log0 log1 turns rest
   pub log_end : IsLogEnd (still_to_come turns) rest log1 broken
-  pub wrote : Appends written0 written1 (turn_lines 1 turns ++ ending broken s turns)
+  pub wrote : Appends written0 written1 (processed_lines 1 turns ++ ending broken s turns)
   pub verdict_is : IsVerdict broken (refused_count turns) verdict
 
--- the log failed: each whole message that was read is told, and no more can be told of the bytes read
-pub record StopsReading (G : Meaning) (s : State) (log0 log1 written0 written1 : Option (List ℕ)) :
+-- `StopsReading G s log0 log1 written0 written1`: the log failed. The line of each whole message that was read was
+-- written, and the bytes after these determine nothing more.
+pub record StopsReading (G : VerifyFn) (s : State) (log0 log1 written0 written1 : Option (List ℕ)) :
     Type 0 where
-  pub turns : List Turn
+  pub turns : List ProcessedMessage
   pub rest : List ℕ
   pub follows : Follows G s log0 log1 turns rest
-  pub undecided : IsUndecided (still_to_come turns) rest
-  pub wrote : Appends written0 written1 (turn_lines 1 turns)
+  pub undecided : IsIncomplete (still_to_come turns) rest
+  pub wrote : Appends written0 written1 (processed_lines 1 turns)
 
--- the output failed in the line of the last message that was read: nothing was read behind that message
-pub record StopsInLine (G : Meaning) (s : State) (log0 log1 written0 written1 : Option (List ℕ)) :
+-- `StopsInLine G s log0 log1 written0 written1`: the output failed in the line of the last message that was read.
+-- Nothing was read after that message.
+pub record StopsInLine (G : VerifyFn) (s : State) (log0 log1 written0 written1 : Option (List ℕ)) :
     Type 0 where
-  pub turns : List Turn
-  pub last : Turn
+  pub turns : List ProcessedMessage
+  pub last : ProcessedMessage
   pub follows : Follows G s log0 log1 (turns ++ last ∷ []) []
   pub part : List ℕ
   pub more : List ℕ
-  pub line_is : turn_line (length turns + 1) last ≡ part ++ more
-  pub wrote : Appends written0 written1 (turn_lines 1 turns ++ part)
+  pub line_is : processed_line (length turns + 1) last ≡ part ++ more
+  pub wrote : Appends written0 written1 (processed_lines 1 turns ++ part)
 
--- the output failed in the last lines
-pub record StopsInEnding (G : Meaning) (s : State) (log0 log1 written0 written1 : Option (List ℕ)) :
+-- `StopsInEnding G s log0 log1 written0 written1`: the output failed in the last lines.
+pub record StopsInEnding (G : VerifyFn) (s : State) (log0 log1 written0 written1 : Option (List ℕ)) :
     Type 0 where
-  pub turns : List Turn
+  pub turns : List ProcessedMessage
   pub rest : List ℕ
   pub broken : Bool
   pub follows : Follows G s log0 log1 turns rest
@@ -177,26 +186,28 @@ pub record StopsInEnding (G : Meaning) (s : State) (log0 log1 written0 written1 
   pub part : List ℕ
   pub more : List ℕ
   pub ending_is : ending broken s turns ≡ part ++ more
-  pub wrote : Appends written0 written1 (turn_lines 1 turns ++ part)
+  pub wrote : Appends written0 written1 (processed_lines 1 turns ++ part)
 
--- What was read behind the messages that were told, where memory ran out: bytes that don't tell yet what comes next,
--- the record of one more message, or what shows that the log has ended or is broken.
+-- `IsLeftOver most rest left`: what was read after the printed messages when memory ran out. It is incomplete, one more
+-- record, or what shows that the log has ended or is broken.
 abbrev pub IsLeftOver : ℕ → List ℕ → Option (List ℕ) → Type 0
 IsLeftOver most rest left =
-    IsUndecided most rest ⊎ (((body : List ℕ) × IsRecord rest body)
+    IsIncomplete most rest ⊎ (((body : List ℕ) × IsRecord rest body)
     ⊎ ((broken : Bool) × IsLogEnd most rest left broken))
 
--- memory ran out: each message that was read is told, but the one at which it ran out
-pub record StopsWithoutMemory (G : Meaning) (s : State) (log0 log1 written0 written1 : Option (List ℕ)) :
+-- `StopsWithoutMemory G s log0 log1 written0 written1`: memory ran out. The line of each message that was read was
+-- written, except the one at which it ran out.
+pub record StopsWithoutMemory (G : VerifyFn) (s : State) (log0 log1 written0 written1 : Option (List ℕ)) :
     Type 0 where
-  pub turns : List Turn
+  pub turns : List ProcessedMessage
   pub rest : List ℕ
   pub follows : Follows G s log0 log1 turns rest
   pub left_over : IsLeftOver (still_to_come turns) rest log1
-  pub wrote : Appends written0 written1 (turn_lines 1 turns)
+  pub wrote : Appends written0 written1 (processed_lines 1 turns)
 
--- what was told where the report of the log was not written whole, by the fault that is answered
-abbrev pub TellsPart : Meaning → State → Option (List ℕ) → Option (List ℕ) → Option (List ℕ)
+-- `TellsPart G s log0 log1 written0 written1 fault`: what was written if the report of the log was not written whole,
+-- by the fault that is returned.
+abbrev pub TellsPart : VerifyFn → State → Option (List ℕ) → Option (List ℕ) → Option (List ℕ)
     → Option (List ℕ) → RunFault → Type 0
 TellsPart G s log0 log1 written0 written1 Read = StopsReading G s log0 log1 written0 written1
 TellsPart G s log0 log1 written0 written1 Write =
@@ -205,8 +216,9 @@ TellsPart G s log0 log1 written0 written1 Memory = StopsWithoutMemory G s log0 l
 
 -- ---- the whole report
 
--- no follower starts, the log was not read, and one line says why
-pub record TellsDecline (G : Meaning) (info0 info1 : Option (List ℕ))
+-- `TellsDecline G info0 info1 tree0 tree1 log0 log1 written0 written1 verdict`: no follower starts, the log was not
+-- read, and one line says why.
+pub record TellsDecline (G : VerifyFn) (info0 info1 : Option (List ℕ))
     (tree0 tree1 : Option (Option (List ℕ))) (log0 log1 written0 written1 : Option (List ℕ))
     (verdict : Verdict) : Type 0 where
   pub finding : Finding
@@ -215,30 +227,33 @@ pub record TellsDecline (G : Meaning) (info0 info1 : Option (List ℕ))
   pub wrote : Appends written0 written1 (finding_line finding)
   pub verdict_is : verdict ≡ No
 
--- a follower starts, and the log is told
-pub record TellsReplay (G : Meaning) (info0 info1 : Option (List ℕ))
+-- `TellsReplay G info0 info1 tree0 tree1 log0 log1 written0 written1 verdict`: a follower starts, and the report of the
+-- log was written.
+pub record TellsReplay (G : VerifyFn) (info0 info1 : Option (List ℕ))
     (tree0 tree1 : Option (Option (List ℕ))) (log0 log1 written0 written1 : Option (List ℕ))
     (verdict : Verdict) : Type 0 where
   pub state : State
   pub starts : ReadsAndStarts G info0 info1 tree0 tree1 state
   pub tells : TellsLog G state log0 log1 written0 written1 verdict
 
-abbrev pub Replays : Meaning → Option (List ℕ) → Option (List ℕ) → Option (Option (List ℕ))
+-- `Replays G info0 info1 tree0 tree1 log0 log1 written0 written1 verdict`: the report was written whole.
+abbrev pub Replays : VerifyFn → Option (List ℕ) → Option (List ℕ) → Option (Option (List ℕ))
     → Option (Option (List ℕ)) → Option (List ℕ) → Option (List ℕ) → Option (List ℕ)
     → Option (List ℕ) → Verdict → Type 0
 Replays G info0 info1 tree0 tree1 log0 log1 written0 written1 verdict =
     TellsDecline G info0 info1 tree0 tree1 log0 log1 written0 written1 verdict
     ⊎ TellsReplay G info0 info1 tree0 tree1 log0 log1 written0 written1 verdict
 
--- ---- a part of it
+-- ---- a part of the report
 
--- nothing was written, and the log was not read
+-- `TellsNothing log0 log1 written0 written1`: nothing was written, and the log was not read.
 pub record TellsNothing (log0 log1 written0 written1 : Option (List ℕ)) : Type 0 where
   pub unread : log1 ≡ log0
   pub wrote : Appends written0 written1 []
 
--- the output failed in the line of a refused start
-pub record StopsInDecline (G : Meaning) (info0 info1 : Option (List ℕ))
+-- `StopsInDecline G info0 info1 tree0 tree1 log0 log1 written0 written1`: the output failed in the line of a refused
+-- start.
+pub record StopsInDecline (G : VerifyFn) (info0 info1 : Option (List ℕ))
     (tree0 tree1 : Option (Option (List ℕ))) (log0 log1 written0 written1 : Option (List ℕ))
     : Type 0 where
   pub finding : Finding
@@ -246,8 +261,8 @@ pub record StopsInDecline (G : Meaning) (info0 info1 : Option (List ℕ))
   pub unread : log1 ≡ log0
   pub wrote : AppendsPrefix written0 written1 (finding_line finding)
 
--- no follower has started, by the fault that is answered
-abbrev pub StopsBefore : Meaning → Option (List ℕ) → Option (List ℕ) → Option (Option (List ℕ))
+-- `StopsBefore .. fault`: no follower has started, by the fault that is returned.
+abbrev pub StopsBefore : VerifyFn → Option (List ℕ) → Option (List ℕ) → Option (Option (List ℕ))
     → Option (Option (List ℕ)) → Option (List ℕ) → Option (List ℕ) → Option (List ℕ)
     → Option (List ℕ) → RunFault → Type 0
 StopsBefore G info0 info1 tree0 tree1 log0 log1 written0 written1 Read =
@@ -257,17 +272,17 @@ StopsBefore G info0 info1 tree0 tree1 log0 log1 written0 written1 Write =
 StopsBefore G info0 info1 tree0 tree1 log0 log1 written0 written1 Memory =
     TellsNothing log0 log1 written0 written1
 
--- a follower has started
-pub record StopsAfter (G : Meaning) (info0 info1 : Option (List ℕ))
+-- `StopsAfter .. fault`: a follower has started, and the report of the log was not written whole.
+pub record StopsAfter (G : VerifyFn) (info0 info1 : Option (List ℕ))
     (tree0 tree1 : Option (Option (List ℕ))) (log0 log1 written0 written1 : Option (List ℕ))
     (fault : RunFault) : Type 0 where
   pub state : State
   pub starts : ReadsAndStarts G info0 info1 tree0 tree1 state
   pub tells : TellsPart G state log0 log1 written0 written1 fault
 
--- what was written where the report was not written whole, by the fault that is answered: always a prefix
--- of what the bytes that were read decide
-abbrev pub ReplaysPart : Meaning → Option (List ℕ) → Option (List ℕ) → Option (Option (List ℕ))
+-- `ReplaysPart .. fault`: what was written if the report was not written whole, by the fault that is returned. It is a
+-- prefix of what the bytes that were read determine.
+abbrev pub ReplaysPart : VerifyFn → Option (List ℕ) → Option (List ℕ) → Option (Option (List ℕ))
     → Option (Option (List ℕ)) → Option (List ℕ) → Option (List ℕ) → Option (List ℕ)
     → Option (List ℕ) → RunFault → Type 0
 ReplaysPart G info0 info1 tree0 tree1 log0 log1 written0 written1 fault =

@@ -1,4 +1,4 @@
--- The report of a file of receipts that can't be read: one line.
+-- The report of a receipts file that cannot be read: one line. Used by contracts.
 use Rattle.std.specs.Prelude.{ℕ, List, [], ◌++◌, codes, Option, ◌≡◌, ◌≢◌}
 use Rattle.std.specs.Fmt.{decimal}
 use Rattle.std.specs.Io.KnownBytes.{Appends}
@@ -7,14 +7,14 @@ use Rattle.mls_check.specs.declared.receipts.ReceiptsFault.TheVariants as faults
 use Rattle.mls_report.specs.declared.verdict.Verdict.{Verdict}
 use Rattle.mls_report.specs.declared.verdict.Verdict.TheVariants.{No}
 
--- the line names the first line that holds no digest, by its number, or says that the file is too long;
--- want of memory has no line
+-- `receipts_line fault` is this line. It has the number of the first line without a digest, or says that the file is
+-- too long. OutOfMemory has no line.
 abbrev pub receipts_line : ReceiptsFault → List ℕ
 receipts_line (faults.BadLine line) = codes "receipts unreadable " ++ (decimal line ++ codes "\n")
 receipts_line faults.TooLong = codes "receipts unreadable TooLong\n"
 receipts_line faults.OutOfMemory = []
 
--- the line of the fault was written whole, which says No; want of memory has none
+-- `TellsReceipts fault written0 written1 verdict`: the line of the fault was written whole, and the verdict is No.
 pub record TellsReceipts (fault : ReceiptsFault) (written0 written1 : Option (List ℕ))
     (verdict : Verdict) : Type 0 where
   pub own : fault ≢ faults.OutOfMemory

@@ -1,26 +1,28 @@
--- The report `validate`: one line, the first that applies. Numbers in parentheses are sections of
--- RFC 9420.
+-- The report `validate`: one line, the first that applies. Used by contracts.
 use Rattle.std.specs.Prelude.{List, ℕ, Option}
-use Rattle.mls_check.specs.Signatures.{Meaning}
+use Rattle.mls_check.specs.Signatures.{VerifyFn}
 use Rattle.mls_report.specs.Finding.{TellsFinding, TellsFindingPart}
-use Rattle.mls_report.specs.Starting.{IsStartFinding, ReadsBoth}
+use Rattle.mls_report.specs.StartInputs.{IsStartFinding, ReadsBoth}
 use Rattle.mls_report.specs.declared.finding.Finding.{Finding}
 use Rattle.mls_report.specs.declared.verdict.Verdict.{Verdict}
 
--- the inputs were read to their ends, and this is found of their bytes
-pub record IsFoundOfStart (G : Meaning) (info0 info1 : Option (List ℕ))
+-- `IsFoundOfStart G info0 info1 tree0 tree1 finding`: the inputs were read to their ends, and this is found of their
+-- bytes.
+pub record IsFoundOfStart (G : VerifyFn) (info0 info1 : Option (List ℕ))
     (tree0 tree1 : Option (Option (List ℕ))) (finding : Finding) : Type 0 where
   pub info_bytes : List ℕ
   pub tree_bytes : Option (List ℕ)
   pub read : ReadsBoth info0 info1 tree0 tree1 info_bytes tree_bytes
   pub found : IsStartFinding G info_bytes tree_bytes finding
 
--- the inputs were read to their ends, and the line of what is found was written whole
-abbrev pub Validates : Meaning → Option (List ℕ) → Option (List ℕ) → Option (Option (List ℕ))
+-- `Validates G info0 info1 tree0 tree1 written0 written1 verdict`: the inputs were read to their ends, and the line of
+-- what is found was written whole.
+abbrev pub Validates : VerifyFn → Option (List ℕ) → Option (List ℕ) → Option (Option (List ℕ))
     → Option (Option (List ℕ)) → Option (List ℕ) → Option (List ℕ) → Verdict → Type 0
 Validates G info0 info1 tree0 tree1 = TellsFinding (IsFoundOfStart G info0 info1 tree0 tree1)
 
--- nothing was written, or a prefix of the report of inputs that had ended
-abbrev pub ValidatesPart : Meaning → Option (List ℕ) → Option (List ℕ) → Option (Option (List ℕ))
+-- `ValidatesPart G info0 info1 tree0 tree1 written0 written1`: nothing was written, or a prefix of the report of inputs
+-- that had ended.
+abbrev pub ValidatesPart : VerifyFn → Option (List ℕ) → Option (List ℕ) → Option (Option (List ℕ))
     → Option (Option (List ℕ)) → Option (List ℕ) → Option (List ℕ) → Type 0
 ValidatesPart G info0 info1 tree0 tree1 = TellsFindingPart (IsFoundOfStart G info0 info1 tree0 tree1)

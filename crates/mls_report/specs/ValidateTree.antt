@@ -1,5 +1,5 @@
--- The report `validate-tree`: one line, the first that applies. Numbers in parentheses are sections of
--- RFC 9420.
+-- The report `validate-tree`: one line, the first that applies. G is the verification function of the checker. Used by
+-- contracts.
 use Rattle.std.specs.Prelude.{ℕ, ◌≤◌, List, length, Option, Some, ◌≡◌, ◌≢◌}
 use Rattle.mls_wire.specs.Limits.{input_limit}
 use Rattle.mls_nodes.specs.Layout.{group_context}
@@ -7,36 +7,36 @@ use Rattle.mls_nodes.specs.declared.context.GroupContext.{GroupContext}
 use Rattle.mls_nodes.specs.declared.fault.NodeFault.TheVariants as nodes
 use Rattle.mls_nodes.specs.declared.required_capabilities.RequiredCapabilities.{RequiredCapabilities}
 use Rattle.mls_tree.specs.RatchetTree.{RatchetTree}
-use Rattle.mls_tree.specs.Reading.{IsTreeOf, IsNoTree}
-use Rattle.mls_check.specs.GroupTree.{IsFollowed, HasMembers, FailsSuite, FailsRequirements, FailsValid, FailsMembers}
-use Rattle.mls_check.specs.Signatures.{Meaning}
+use Rattle.mls_tree.specs.TreeDecoding.{IsTreeOf, IsNoTree}
+use Rattle.mls_check.specs.GroupTree.{IsSupportedContext, HasMembers, FailsSuite, FailsRequirements, FailsValid, FailsMembers}
+use Rattle.mls_check.specs.Signatures.{VerifyFn}
 use Rattle.mls_report.specs.Finding.{TellsFinding, TellsFindingPart}
 use Rattle.mls_report.specs.ReadAll.{ReadsAll}
 use Rattle.mls_report.specs.declared.finding.Finding.{Finding}
 use Rattle.mls_report.specs.declared.finding.Finding.TheVariants.{ContextUnreadable, TreeUnreadable, UnsupportedVersion, UnsupportedSuite, RequirementsUnreadable, TreeRefused, MembersRefused, TreeValid}
 use Rattle.mls_report.specs.declared.verdict.Verdict.{Verdict}
 
--- the group context is the one that the bytes of an input spell (8.1)
+-- `IsContext bytes c`: the bytes are the encoding of the GroupContext, within the limit of an input (RFC 9420, 8.1).
 pub record IsContext (bytes : List ℕ) (c : GroupContext) : Type 0 where
   pub spelled : group_context c ≡ Some bytes
   pub bounded : length bytes ≤ input_limit
 
--- the bytes of an input spell no group context
+-- `IsNoContext bytes`: the bytes are no GroupContext.
 abbrev pub IsNoContext : List ℕ → Type 0
 IsNoContext bytes = (c : GroupContext) → IsContext bytes c → ⊥
 
 -- ---- what is found of a context and a tree
 
--- by what a checker of signatures means: the first that applies, or that all is well, with the tree's hash,
--- which is the context's
-abbrev pub IsTreeFinding : Meaning → List ℕ → List ℕ → Finding → Type 0
+-- `IsTreeFinding G context_bytes tree_bytes finding`: the first finding that applies, or that the tree is valid for the
+-- context and its leaf nodes are valid, with the tree hash, which is that of the context (RFC 9420, 12.4.3.1).
+abbrev pub IsTreeFinding : VerifyFn → List ℕ → List ℕ → Finding → Type 0
 IsTreeFinding G context_bytes tree_bytes (ContextUnreadable fault) = IsNoContext context_bytes
 IsTreeFinding G context_bytes tree_bytes UnsupportedVersion =
     (c : GroupContext) × IsContext context_bytes c × (c.version ≢ 1)
 IsTreeFinding G context_bytes tree_bytes UnsupportedSuite =
     (c : GroupContext) × IsContext context_bytes c × FailsSuite c
 IsTreeFinding G context_bytes tree_bytes (TreeUnreadable fault) =
-    (c : GroupContext) × IsContext context_bytes c × IsFollowed c
+    (c : GroupContext) × IsContext context_bytes c × IsSupportedContext c
     × IsNoTree tree_bytes × (fault ≢ nodes.OutOfMemory)
 IsTreeFinding G context_bytes tree_bytes RequirementsUnreadable =
     (c : GroupContext) × IsContext context_bytes c × FailsRequirements c (IsTreeOf tree_bytes)
@@ -52,8 +52,9 @@ IsTreeFinding G context_bytes tree_bytes _ = ⊥
 
 -- ---- the report
 
--- both inputs were read to their ends, and this is found of their bytes
-pub record IsFoundOfTree (G : Meaning) (context0 context1 tree0 tree1 : Option (List ℕ))
+-- `IsFoundOfTree G context0 context1 tree0 tree1 finding`: both inputs were read to their ends, and this is found of
+-- their bytes.
+pub record IsFoundOfTree (G : VerifyFn) (context0 context1 tree0 tree1 : Option (List ℕ))
     (finding : Finding) : Type 0 where
   pub context_bytes : List ℕ
   pub tree_bytes : List ℕ
@@ -61,14 +62,16 @@ pub record IsFoundOfTree (G : Meaning) (context0 context1 tree0 tree1 : Option (
   pub tree_read : ReadsAll tree0 tree1 tree_bytes
   pub found : IsTreeFinding G context_bytes tree_bytes finding
 
--- both inputs were read to their ends, and the line of what is found was written whole
-abbrev pub ValidatesTree : Meaning → Option (List ℕ) → Option (List ℕ) → Option (List ℕ)
+-- `ValidatesTree G context0 context1 tree0 tree1 written0 written1 verdict`: both inputs were read to their ends, and
+-- the line of what is found was written whole.
+abbrev pub ValidatesTree : VerifyFn → Option (List ℕ) → Option (List ℕ) → Option (List ℕ)
     → Option (List ℕ) → Option (List ℕ) → Option (List ℕ) → Verdict → Type 0
 ValidatesTree G context0 context1 tree0 tree1 =
     TellsFinding (IsFoundOfTree G context0 context1 tree0 tree1)
 
--- nothing was written, or a prefix of the report of inputs that had ended
-abbrev pub ValidatesTreePart : Meaning → Option (List ℕ) → Option (List ℕ) → Option (List ℕ)
+-- `ValidatesTreePart G context0 context1 tree0 tree1 written0 written1`: nothing was written, or a prefix of the report
+-- of inputs that had ended.
+abbrev pub ValidatesTreePart : VerifyFn → Option (List ℕ) → Option (List ℕ) → Option (List ℕ)
     → Option (List ℕ) → Option (List ℕ) → Option (List ℕ) → Type 0
 ValidatesTreePart G context0 context1 tree0 tree1 =
     TellsFindingPart (IsFoundOfTree G context0 context1 tree0 tree1)

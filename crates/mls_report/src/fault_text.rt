@@ -1,4 +1,4 @@
-//! How a fault is told in a report.
+//! Faults as text in a report.
 
 ghost use Rattle.std.specs.Prelude.{◌≡◌, ◌++◌, codes, IfOk, string_bytes};
 ghost use Rattle.mls_report.specs.FaultText as texts;
@@ -9,7 +9,7 @@ use mls_nodes::NodeFault;
 use mls_wire::{WireFault, WireFaultKind};
 use std::alloc::{AllocError, Global};
 
-/// What is wrong with bytes that can't be read.
+/// Returns why bytes are not decodable.
 fn wire_kind_text(alloc: Global, kind: WireFaultKind) -> Result<String, AllocError>
     ensures { IfOk result (λ text. string_bytes text ≡ texts.wire_kind_text kind) }
 {
@@ -26,7 +26,7 @@ fn wire_kind_text(alloc: Global, kind: WireFaultKind) -> Result<String, AllocErr
     String::from_str(alloc, name)
 }
 
-/// What is wrong with bytes that can't be read, and where.
+/// Returns why bytes are not decodable, and the offset.
 pub(crate) fn wire_fault_text(alloc: Global, fault: WireFault) -> Result<String, AllocError>
     ensures { IfOk result (λ text. string_bytes text ≡ texts.wire_fault_text fault) }
 {
@@ -35,7 +35,7 @@ pub(crate) fn wire_fault_text(alloc: Global, fault: WireFault) -> Result<String,
     format!(in alloc; "{kind} {at}")
 }
 
-/// Why a ratchet tree can't be read.
+/// Returns why a ratchet tree is not decodable.
 pub(crate) fn node_fault_text(alloc: Global, fault: NodeFault) -> Result<String, AllocError>
     ensures { IfOk result (λ text. string_bytes text ≡ texts.node_fault_text fault) }
 {
@@ -49,7 +49,7 @@ pub(crate) fn node_fault_text(alloc: Global, fault: NodeFault) -> Result<String,
     }
 }
 
-/// What fails first of a tree, by number, name and place.
+/// Returns the first fault of a tree: number, name, and node index.
 pub(crate) fn tree_fault_text(alloc: Global, fault: TreeFault) -> Result<String, AllocError>
     ensures { IfOk result (λ text. string_bytes text ≡ texts.tree_fault_text fault) }
 {
@@ -63,7 +63,7 @@ pub(crate) fn tree_fault_text(alloc: Global, fault: TreeFault) -> Result<String,
     }
 }
 
-/// What fails first of the members, by number, name and leaf.
+/// Returns the first fault of the members: number, name, and leaf index.
 pub(crate) fn member_fault_text(alloc: Global, fault: MemberFault) -> Result<String, AllocError>
     ensures { IfOk result (λ text. string_bytes text ≡ texts.member_fault_text fault) }
 {
@@ -81,7 +81,7 @@ pub(crate) fn member_fault_text(alloc: Global, fault: MemberFault) -> Result<Str
     }
 }
 
-/// The number of a fault of members; 0 for want of memory.
+/// Returns the number of a fault of the members; 0 for `OutOfMemory`.
 pub(crate) fn member_number(fault: MemberFault) -> u8
     ensures { result ≡ texts.member_number fault }
 {
@@ -95,7 +95,7 @@ pub(crate) fn member_number(fault: MemberFault) -> u8
     }
 }
 
-/// Why no follower starts because of its tree.
+/// Returns why no follower can start, if the tree is the cause.
 fn start_tree_text(alloc: Global, fault: TreeFault) -> Result<String, AllocError>
     ensures { IfOk result
         (λ text. string_bytes text ≡ codes "5 Tree " ++ texts.tree_fault_text fault) }
@@ -104,7 +104,7 @@ fn start_tree_text(alloc: Global, fault: TreeFault) -> Result<String, AllocError
     format!(in alloc; "5 Tree {fault}")
 }
 
-/// Why no follower starts because of its members.
+/// Returns why no follower can start, if the members are the cause.
 fn start_member_text(alloc: Global, fault: MemberFault) -> Result<String, AllocError>
     ensures { IfOk result
         (λ text. string_bytes text ≡ codes "6 Member " ++ texts.member_fault_text fault) }
@@ -113,7 +113,7 @@ fn start_member_text(alloc: Global, fault: MemberFault) -> Result<String, AllocE
     format!(in alloc; "6 Member {fault}")
 }
 
-/// Why no follower starts, by number and name.
+/// Returns why no follower can start: number and name.
 pub(crate) fn start_fault_text(alloc: Global, fault: StartFault) -> Result<String, AllocError>
     ensures { IfOk result (λ text. string_bytes text ≡ texts.start_fault_text fault) }
 {

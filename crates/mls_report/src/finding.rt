@@ -1,4 +1,4 @@
-//! What a report says of a group's inputs, judged before it is put into words.
+//! What a report says of a group's inputs, before it is text.
 
 ghost use Rattle.std.specs.Prelude.{◌≡◌, ◌≢◌, ◌≤◌, ◌↔◌, ◌++◌, [], codes, false, true, Err, length, IfOk, IfErr, OnErr, string_bytes};
 ghost use Rattle.std.specs.Io.KnownBytes.{Appends};
@@ -8,7 +8,7 @@ ghost use Rattle.mls_report.specs.Finding as findings;
 use crate::fault_text::{
     member_fault_text, node_fault_text, start_fault_text, tree_fault_text, wire_fault_text,
 };
-use crate::text::hex_of;
+use crate::value_text::hex_of;
 use crate::verdict::{RunFault, Verdict};
 use crate::write::write_text;
 use mls_check::{MemberFault, TreeFault};
@@ -18,47 +18,47 @@ use mls_tree::HashValue;
 use mls_wire::{Sink, WireFault};
 use std::alloc::{AllocError, Global};
 
-/// What is told of a follower that starts.
+/// What is reported of a follower that can start.
 #[derive(Clone, Copy)]
 pub(crate) struct Started {
     /// The group's epoch.
     pub(crate) epoch: u64,
-    /// How many members it has.
+    /// The number of members.
     pub(crate) members: u32,
-    /// The hash of its tree.
+    /// The tree hash.
     pub(crate) tree_hash: HashValue,
 }
 
-/// What is found of a group's inputs: the first that applies.
+/// The finding about a group's inputs: the first that applies.
 #[derive(Clone, Copy)]
 pub(crate) enum Finding {
-    /// The group context can't be read.
+    /// The GroupContext is not decodable.
     ContextUnreadable(WireFault),
-    /// The group info can't be read.
+    /// The GroupInfo is not decodable.
     InfoUnreadable(WireFault),
-    /// Another message stands where a group info is wanted.
+    /// The message is not a GroupInfo.
     NotGroupInfo,
-    /// The tree can't be read.
+    /// The tree is not decodable.
     TreeUnreadable(NodeFault),
-    /// The context is of another version than 1.
+    /// The GroupContext's version is not `mls10`.
     UnsupportedVersion,
-    /// The context is of a cipher suite that isn't followed.
+    /// The GroupContext's cipher suite is not supported.
     UnsupportedSuite,
-    /// What the group requires of its members can't be read.
+    /// The `required_capabilities` extension is not decodable.
     RequirementsUnreadable,
-    /// The tree isn't valid.
+    /// The tree is not valid.
     TreeRefused(TreeFault),
-    /// The tree is valid, and its leaves aren't members.
+    /// The tree is valid, but not the members.
     MembersRefused(MemberFault),
-    /// No follower starts.
+    /// No follower can start.
     StartRefused(StartFault),
-    /// The tree is valid, has this hash, and its leaves are members.
+    /// The tree, which has this hash, and the members are valid.
     TreeValid(HashValue),
-    /// A follower starts.
+    /// A follower can start.
     Starts(Started),
 }
 
-/// The tree hash of a context, which is that of some tree.
+/// Returns the tree hash of a GroupContext that belongs to a valid tree.
 pub(crate) fn tree_hash_of(context: &GroupContext) -> HashValue
     requires { length context.now.tree_hash ≤ 64 }
     ensures { result ≡ context.now.tree_hash }
@@ -66,8 +66,8 @@ pub(crate) fn tree_hash_of(context: &GroupContext) -> HashValue
     HashValue::new(context.tree_hash.as_slice()).unwrap()
 }
 
-/// What is found, and more of it.
-fn worded(alloc: Global, head: &str, more: String) -> Result<String, AllocError>
+/// Returns the words of a finding with its detail.
+fn with_detail(alloc: Global, head: &str, more: String) -> Result<String, AllocError>
     ensures { IfOk result
         (λ text. string_bytes text ≡ head.now ++ (codes " " ++ string_bytes more)) }
 {
@@ -75,7 +75,7 @@ fn worded(alloc: Global, head: &str, more: String) -> Result<String, AllocError>
     format!(in alloc; "{head} {more}")
 }
 
-/// What is told of a follower that starts, in words.
+/// Returns the words for a follower that can start.
 fn started_text(alloc: Global, started: &Started) -> Result<String, AllocError>
     ensures { IfOk result (λ text. string_bytes text ≡ findings.started_text started.now) }
 {
@@ -85,7 +85,7 @@ fn started_text(alloc: Global, started: &Started) -> Result<String, AllocError>
 }
 
 impl Finding {
-    /// What the report says with it: `Yes` for a valid tree, and for a follower that starts.
+    /// Returns the verdict: `Yes` for a valid tree and for a follower that can start.
     pub(crate) fn verdict(&self) -> Verdict
         ensures { result ≡ findings.finding_verdict self.now }
     {
@@ -95,20 +95,20 @@ impl Finding {
         }
     }
 
-    /// Its words.
+    /// Returns the words of the finding.
     fn text(&self, alloc: Global) -> Result<String, AllocError>
         ensures { IfOk result (λ text. string_bytes text ≡ findings.finding_text self.now) }
     {
         match self {
             Finding::ContextUnreadable(fault) => {
-                worded(alloc, "context unreadable", wire_fault_text(alloc, *fault)?)
+                with_detail(alloc, "context unreadable", wire_fault_text(alloc, *fault)?)
             }
             Finding::InfoUnreadable(fault) => {
-                worded(alloc, "info unreadable", wire_fault_text(alloc, *fault)?)
+                with_detail(alloc, "info unreadable", wire_fault_text(alloc, *fault)?)
             }
             Finding::NotGroupInfo => String::from_str(alloc, "info unreadable NotGroupInfo"),
             Finding::TreeUnreadable(fault) => {
-                worded(alloc, "tree unreadable", node_fault_text(alloc, *fault)?)
+                with_detail(alloc, "tree unreadable", node_fault_text(alloc, *fault)?)
             }
             Finding::UnsupportedVersion => {
                 String::from_str(alloc, "context refused UnsupportedVersion")
@@ -120,20 +120,24 @@ impl Finding {
                 String::from_str(alloc, "context refused RequirementsUnreadable")
             }
             Finding::TreeRefused(fault) => {
-                worded(alloc, "tree refused", tree_fault_text(alloc, *fault)?)
+                with_detail(alloc, "tree refused", tree_fault_text(alloc, *fault)?)
             }
             Finding::MembersRefused(fault) => {
-                worded(alloc, "members refused", member_fault_text(alloc, *fault)?)
+                with_detail(alloc, "members refused", member_fault_text(alloc, *fault)?)
             }
             Finding::StartRefused(fault) => {
-                worded(alloc, "start refused", start_fault_text(alloc, *fault)?)
+                with_detail(alloc, "start refused", start_fault_text(alloc, *fault)?)
             }
-            Finding::TreeValid(hash) => worded(alloc, "valid", hex_of(alloc, hash.as_slice())?),
+            Finding::TreeValid(hash) => with_detail(
+                alloc,
+                "valid",
+                hex_of(alloc, hash.as_slice())?,
+            ),
             Finding::Starts(started) => started_text(alloc, started),
         }
     }
 
-    /// Its line.
+    /// Returns the line of the finding.
     fn line(&self, alloc: Global) -> Result<String, AllocError>
         ensures { IfOk result (λ text. string_bytes text ≡ findings.finding_line self.now) }
     {
@@ -142,8 +146,7 @@ impl Finding {
     }
 }
 
-/// Writes the line of a finding, and answers what it says. Want of memory comes before anything is
-/// written.
+/// Writes the line of the finding and returns its verdict. `Memory` comes before anything is written.
 pub(crate) fn tell<K: Sink>(
     alloc: Global,
     finding: &Finding,

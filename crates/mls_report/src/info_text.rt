@@ -3,12 +3,12 @@
 ghost use Rattle.std.specs.Prelude.{◌≡◌, IfOk, map, string_bytes};
 ghost use Rattle.mls_report.specs.InfoText as lines;
 
-use crate::text::{hex_of, numbers_of};
+use crate::value_text::{hex_of, numbers_of};
 use mls_msgs::GroupInfo;
 use mls_nodes::{Extension, GroupContext};
 use std::alloc::{AllocError, Global};
 
-/// The types of extensions.
+/// Returns the types of extensions.
 fn types_of(alloc: Global, extensions: &[Extension]) -> Result<Vec<u32>, AllocError>
     ensures { IfOk result (λ types. types.items ≡ map (λ e. e.kind) extensions.now) }
 {
@@ -19,7 +19,7 @@ fn types_of(alloc: Global, extensions: &[Extension]) -> Result<Vec<u32>, AllocEr
     Ok(types)
 }
 
-/// The types of extensions, as they stand in a line.
+/// Returns the types of extensions as text.
 pub(crate) fn types_text(alloc: Global, extensions: &[Extension]) -> Result<String, AllocError>
     ensures { IfOk result (λ text. string_bytes text ≡ lines.types_text extensions.now) }
 {
@@ -27,7 +27,7 @@ pub(crate) fn types_text(alloc: Global, extensions: &[Extension]) -> Result<Stri
     numbers_of(alloc, types.as_slice())
 }
 
-/// The cipher suite, the group's id and the epoch.
+/// Returns the lines of the cipher suite, the group ID and the epoch.
 fn group_lines(alloc: Global, context: &GroupContext) -> Result<String, AllocError>
     ensures { IfOk result (λ text. string_bytes text ≡ lines.group_lines context.now) }
 {
@@ -37,7 +37,7 @@ fn group_lines(alloc: Global, context: &GroupContext) -> Result<String, AllocErr
     format!(in alloc; "suite {suite}\ngroup {group_id}\nepoch {epoch}\n")
 }
 
-/// The hashes of the tree and of the confirmed transcript.
+/// Returns the lines of the tree hash and the confirmed transcript hash.
 fn hash_lines(alloc: Global, context: &GroupContext) -> Result<String, AllocError>
     ensures { IfOk result (λ text. string_bytes text ≡ lines.hash_lines context.now) }
 {
@@ -46,7 +46,7 @@ fn hash_lines(alloc: Global, context: &GroupContext) -> Result<String, AllocErro
     format!(in alloc; "tree {tree_hash}\nconfirmed {confirmed}\n")
 }
 
-/// The types of the extensions of the group, and of the group info.
+/// Returns the lines of the extension types of the GroupContext and of the GroupInfo.
 fn extension_lines(alloc: Global, info: &GroupInfo) -> Result<String, AllocError>
     ensures { IfOk result (λ text. string_bytes text ≡ lines.extension_lines info.now) }
 {
@@ -55,7 +55,7 @@ fn extension_lines(alloc: Global, info: &GroupInfo) -> Result<String, AllocError
     format!(in alloc; "extensions {group}\ninfo-extensions {own}\n")
 }
 
-/// The confirmation tag and the signer.
+/// Returns the lines of the confirmation tag and the signer.
 fn signer_lines(alloc: Global, info: &GroupInfo) -> Result<String, AllocError>
     ensures { IfOk result (λ text. string_bytes text ≡ lines.signer_lines info.now) }
 {
@@ -64,7 +64,7 @@ fn signer_lines(alloc: Global, info: &GroupInfo) -> Result<String, AllocError>
     format!(in alloc; "confirmation {confirmation_tag}\nsigner {signer}\n")
 }
 
-/// The report of a group info.
+/// Returns the report of a GroupInfo.
 pub(crate) fn info_text(alloc: Global, info: &GroupInfo) -> Result<String, AllocError>
     ensures { IfOk result (λ text. string_bytes text ≡ lines.info_text info.now) }
 {

@@ -1,38 +1,44 @@
-//! Laws about the definitions of the reports, which no call of a caller's needs to run.
+//! Properties of the reports' definitions. No caller needs to run these functions.
 
-ghost use Rattle.mls_report.specs.OneReport.{OneTreeFinding, OneStartFinding, OneStart, OneLog, OneReplay};
-ghost use Rattle.mls_report.specs.SomeReport.{SomeTreeFinding, SomeStartFinding, SomeReplay};
-ghost use Rattle.mls_report.specs.ValidEpochs.{StartedEpochsAreValid, ToldEpochsAreValid};
+ghost use Rattle.mls_report.specs.CoveredReports.{CoveredReportsReplay};
+ghost use Rattle.mls_report.specs.UniqueReports.{TreeFindingIsUnique, StartFindingIsUnique, StartIsUnique, LogIsUnique, ReplayIsUnique};
+ghost use Rattle.mls_report.specs.ReportsExist.{TreeFindingExists, StartFindingExists, ReplayExists};
+ghost use Rattle.mls_report.specs.ValidEpochs.{StartedEpochsAreValid, ReportedEpochsAreValid};
 
-/// What is found of a context and a tree, and of a group info and a tree, is one function of their bytes and of what the
-/// checker of signatures means, but for which fault is named of an input that can't be read; and so is the state in which
-/// a follower starts.
+/// Findings are determined by the bytes of the inputs and the meaning of the signature check, except for which fault is
+/// named of an undecodable input. So is the state in which a follower starts.
 pub fn findings_are_determined()
-    ensures tree { OneTreeFinding }
-    ensures start { OneStartFinding }
-    ensures state { OneStart }
+    ensures tree { TreeFindingIsUnique }
+    ensures start { StartFindingIsUnique }
+    ensures state { StartIsUnique }
 {}
 
-/// The report of a replay is one function of the bytes of its inputs and of what the checker of signatures means, in
-/// whatever pieces they come: which messages a log has, what is answered to each, and whether it is broken; and with them
-/// all that is written, and the verdict.
+/// A replay is determined by the bytes of its inputs and the meaning of the signature check, however the bytes are
+/// divided among reads: the messages of the log, the answer to each, whether the log is broken, the text, and the
+/// verdict.
 pub fn replays_are_determined()
-    ensures log { OneLog }
-    ensures report { OneReplay }
+    ensures log { LogIsUnique }
+    ensures report { ReplayIsUnique }
 {}
 
-/// Something is found of the bytes of any context and tree, and of any group info and tree, and a replay of any bytes has
-/// a report, whatever the checker of signatures means. So what the reports' contracts leave to want of memory and to
-/// devices that fail is never all that there is to tell.
+/// For any bytes and any meaning of the signature check there is a finding, and a replay has a report. So contracts
+/// that allow `Memory`, `Read` and `Write` never allow only these.
 pub fn reports_exist()
-    ensures tree { SomeTreeFinding }
-    ensures start { SomeStartFinding }
-    ensures replay { SomeReplay }
+    ensures tree { TreeFindingExists }
+    ensures start { StartFindingExists }
+    ensures replay { ReplayExists }
 {}
 
-/// Each epoch that `validate` or `replay` tells is one whose tree is valid by the group context's tree hash, and whose
-/// leaves are members by what the context requires, though the tree is validated only where a follower starts.
-pub fn told_epochs_are_valid()
+/// Each epoch that `validate` or `replay` reports has a tree that is valid by the GroupContext's tree hash, and valid
+/// members by its required capabilities, though the tree is validated only at the start.
+pub fn reported_epochs_are_valid()
     ensures started { StartedEpochsAreValid }
-    ensures told { ToldEpochsAreValid }
+    ensures told { ReportedEpochsAreValid }
+{}
+
+/// Suppose a check accepts every signature that `signatures` lists of the start and of the messages of a log. Then a
+/// follower with this check starts in the same state as one that accepts every signature, and `replay` gives the same
+/// answers and states.
+pub fn covered_reports_replay()
+    ensures { CoveredReportsReplay }
 {}

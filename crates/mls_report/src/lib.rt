@@ -1,37 +1,37 @@
-//! The reports of the program `mlscheck`: what a file shows, whether a tree and a group are in order, how a group is
-//! followed through a log, and which signatures this asks about. Each is written to a sink, and ends with a verdict or
-//! with the fault that broke it off.
+//! The reports of the program `mlscheck`: the content of a file, whether a tree and a group are valid, what a follower
+//! answers to a log, and which signatures are checked. Each report is written to a sink. It ends with a verdict, or
+//! with the fault that ended it early.
 #![tactic(auto)]
 
-mod asking;
 mod fault_text;
 mod finding;
 mod info_text;
 pub mod laws;
 mod message_text;
-mod opening;
-mod pieces;
-mod read;
-mod receipts;
+mod read_inputs;
+mod read_to_end;
 mod replay;
 mod replay_text;
 mod report;
+mod report_buffer;
 mod show;
+mod signature_log;
 mod signature_text;
 mod signatures;
-mod text;
 mod tree_text;
+mod unreadable_receipts;
 mod validate;
 mod validate_tree;
+mod value_text;
 mod verdict;
 mod write;
 
-pub use read::read_all;
-pub use receipts::run_unreadable_receipts;
+pub use read_to_end::read_all;
 pub use replay::run_replay;
 pub use report::Report;
-pub use show::{ShowKind, run_show};
+pub use show::{ShowKind, run_show, run_show_in};
 pub use signatures::run_signatures;
+pub use unreadable_receipts::run_unreadable_receipts;
 pub use validate::run_validate;
 pub use validate_tree::run_validate_tree;
 pub use verdict::{RunFault, Verdict, status_of};

@@ -4,11 +4,14 @@ ghost use Rattle.std.specs.Prelude.{◌≡◌, IfOk, length, string_bytes};
 ghost use Rattle.mls_report.specs.MessageText as lines;
 
 use crate::info_text::types_text;
-use crate::text::hex_of;
-use mls_msgs::{Commit, Content, FramedContent, GroupInfo, KeyPackage, Message, Proposal, Sender};
+use crate::value_text::hex_of;
+use mls_msgs::{
+    Commit, Content, FramedContent, GroupInfo, KeyPackage, Message, Proposal, PskKind, PskUsage,
+    ReInit, Sender,
+};
 use std::alloc::{AllocError, Global};
 
-/// Who sent a message.
+/// Returns the sender of a message.
 fn sender_text(alloc: Global, sender: Sender) -> Result<String, AllocError>
     ensures { IfOk result (λ text. string_bytes text ≡ lines.sender_text sender) }
 {
@@ -20,7 +23,48 @@ fn sender_text(alloc: Global, sender: Sender) -> Result<String, AllocError>
     }
 }
 
-/// What is proposed.
+/// Returns the word for a use of a resumption PSK.
+fn usage_text(alloc: Global, usage: PskUsage) -> Result<String, AllocError>
+    ensures { IfOk result (λ text. string_bytes text ≡ lines.usage_text usage) }
+{
+    match usage {
+        PskUsage::Application => String::from_str(alloc, "application"),
+        PskUsage::ReInit => String::from_str(alloc, "reinit"),
+        PskUsage::Branch => String::from_str(alloc, "branch"),
+    }
+}
+
+/// Returns the origin of a pre-shared key.
+fn psk_text(alloc: Global, kind: &PskKind) -> Result<String, AllocError>
+    ensures { IfOk result (λ text. string_bytes text ≡ lines.psk_text kind.now) }
+{
+    match kind {
+        PskKind::External(id) => {
+            let id = hex_of(alloc, id.as_slice())?;
+            format!(in alloc; "external {id}")
+        }
+        PskKind::Resumption {
+            usage,
+            group_id,
+            epoch,
+        } => {
+            let usage = usage_text(alloc, *usage)?;
+            let group_id = hex_of(alloc, group_id.as_slice())?;
+            format!(in alloc; "resumption {usage} {group_id} {epoch}")
+        }
+    }
+}
+
+/// Returns what a ReInit proposal asks for.
+fn reinit_text(alloc: Global, reinit: &ReInit) -> Result<String, AllocError>
+    ensures { IfOk result (λ text. string_bytes text ≡ lines.proposal_text (Proposal.ReInit reinit.now)) }
+{
+    let group_id = hex_of(alloc, reinit.group_id.as_slice())?;
+    let cipher_suite = reinit.cipher_suite;
+    format!(in alloc; "proposal reinit {group_id} {cipher_suite}")
+}
+
+/// Returns what is proposed.
 fn proposal_text(alloc: Global, proposal: &Proposal) -> Result<String, AllocError>
     ensures { IfOk result (λ text. string_bytes text ≡ lines.proposal_text proposal.now) }
 {
@@ -28,6 +72,15 @@ fn proposal_text(alloc: Global, proposal: &Proposal) -> Result<String, AllocErro
         Proposal::Add(_) => String::from_str(alloc, "proposal add"),
         Proposal::Update(_) => String::from_str(alloc, "proposal update"),
         Proposal::Remove(removed) => format!(in alloc; "proposal remove {removed}"),
+        Proposal::PreSharedKey(id) => {
+            let kind = psk_text(alloc, &id.kind)?;
+            format!(in alloc; "proposal psk {kind}")
+        }
+        Proposal::ReInit(reinit) => reinit_text(alloc, reinit),
+        Proposal::ExternalInit(kem_output) => {
+            let length = kem_output.as_slice().len();
+            format!(in alloc; "proposal external_init {length}")
+        }
         Proposal::ContextExtensions(extensions) => {
             let types = types_text(alloc, extensions.as_slice())?;
             format!(in alloc; "proposal extensions {types}")
@@ -35,7 +88,7 @@ fn proposal_text(alloc: Global, proposal: &Proposal) -> Result<String, AllocErro
     }
 }
 
-/// A commit: the length of its list, and whether it has a path.
+/// Returns the number of proposals of a commit, and whether it has a path.
 fn commit_text(alloc: Global, commit: &Commit) -> Result<String, AllocError>
     ensures { IfOk result (λ text. string_bytes text ≡ lines.commit_text commit.now) }
 {
@@ -46,7 +99,7 @@ fn commit_text(alloc: Global, commit: &Commit) -> Result<String, AllocError>
     }
 }
 
-/// What a message carries.
+/// Returns the content of a message.
 fn content_text(alloc: Global, content: &Content) -> Result<String, AllocError>
     ensures { IfOk result (λ text. string_bytes text ≡ lines.content_text content.now) }
 {
@@ -60,7 +113,7 @@ fn content_text(alloc: Global, content: &Content) -> Result<String, AllocError>
     }
 }
 
-/// The line of a framed content.
+/// Returns the line of a FramedContent.
 fn framed_line(alloc: Global, framed: &FramedContent) -> Result<String, AllocError>
     ensures { IfOk result (λ text. string_bytes text ≡ lines.framed_line framed.now) }
 {
@@ -70,7 +123,7 @@ fn framed_line(alloc: Global, framed: &FramedContent) -> Result<String, AllocErr
     format!(in alloc; "public {sender} epoch {epoch} {content}\n")
 }
 
-/// The line of a message that is not read, by the length of its body.
+/// Returns the line of a message that is not decoded: the length of its body.
 fn unread_line(alloc: Global, wire_format: u16, body: &[u8]) -> Result<String, AllocError>
     ensures { IfOk result
         (λ text. string_bytes text ≡ lines.unread_line wire_format (length body.now)) }
@@ -83,7 +136,7 @@ fn unread_line(alloc: Global, wire_format: u16, body: &[u8]) -> Result<String, A
     }
 }
 
-/// The line of a group info.
+/// Returns the line of a GroupInfo.
 fn info_line(alloc: Global, info: &GroupInfo) -> Result<String, AllocError>
     ensures { IfOk result (λ text. string_bytes text ≡ lines.info_line info.now) }
 {
@@ -91,7 +144,7 @@ fn info_line(alloc: Global, info: &GroupInfo) -> Result<String, AllocError>
     format!(in alloc; "group_info epoch {epoch}\n")
 }
 
-/// The line of a key package.
+/// Returns the line of a KeyPackage.
 fn package_line(alloc: Global, key_package: &KeyPackage) -> Result<String, AllocError>
     ensures { IfOk result (λ text. string_bytes text ≡ lines.package_line key_package.now) }
 {
@@ -99,7 +152,7 @@ fn package_line(alloc: Global, key_package: &KeyPackage) -> Result<String, Alloc
     format!(in alloc; "key_package {encryption_key}\n")
 }
 
-/// The report of a message.
+/// Returns the report of a message.
 pub(crate) fn message_line(alloc: Global, message: &Message) -> Result<String, AllocError>
     ensures { IfOk result (λ text. string_bytes text ≡ lines.message_line message.now) }
 {

@@ -1,16 +1,16 @@
 //! The report `replay`: what a follower answers to each message of a log.
 
 ghost use Rattle.std.specs.Prelude.{◌≡◌, ◌≢◌, ◌↔◌, ◌⊎◌, ◌+◌, ◌≤◌, false, true, Ok, Err, IfOk, IfErr, OnErr, option_map};
-ghost use Rattle.mls_tree.specs.KeptTree.{plain};
-ghost use Rattle.mls_wire.specs.Logs.{Meets, GoesOn};
-ghost use Rattle.mls_follow.specs.Seen.{checker_of, state_of};
-ghost use Rattle.mls_report.specs.Starting.{has_failed};
+ghost use Rattle.mls_tree.specs.PublicTreeModel.{plain};
+ghost use Rattle.mls_wire.specs.Logs.{ReadsRecord, ReaderAfter};
+ghost use Rattle.mls_follow.specs.FollowerModel.{checker_of, state_of};
+ghost use Rattle.mls_report.specs.StartInputs.{has_failed};
 ghost use Rattle.mls_report.specs.Replay.{message_limit, one_if, IsVerdict, TellsLog, TellsPart, Replays, ReplaysPart};
 ghost use Rattle.mls_report.specs.ReplaySteps.{ReadsUndecided, TellsTurn, StopsAt, FollowsLog, ReplaysStart, ReplaysStartPart};
 
 use crate::finding::tell;
-use crate::opening::{NoStart, read_both, read_inputs, tell_refused};
-use crate::replay_text::{last_lines, turn_line};
+use crate::read_inputs::{StartFailure, read_inputs, read_inputs_to_end, tell_refused};
+use crate::replay_text::{last_lines, processed_line};
 use crate::verdict::{RunFault, Verdict};
 use crate::write::write_text;
 use mls_check::SignatureCheck;
@@ -20,10 +20,10 @@ use mls_tree::PublicTree;
 use mls_wire::{LogStep, RecordFault, Records, Sink, Source};
 use std::alloc::Global;
 
-/// The most messages that a log has.
+/// The most messages that a log may have.
 pub(crate) const MESSAGE_LIMIT: u32 = 1_000_000;
 
-/// How many messages were accepted, and how many refused.
+/// The numbers of accepted and of refused messages.
 #[derive(Clone, Copy)]
 struct Tally {
     accepted: u32,
@@ -51,8 +51,8 @@ pub(crate) fn next_record<L: Source>(reader: &mut Records, log: &mut L) -> Resul
     requires going { reader.old.is_over ≡ false }
     requires log { L.is_failed log.old ≡ false }
     ensures meets { IfOk result (λ step.
-        Meets (L.left log.old) (L.left log.new) reader.old.most reader.new.body (Ok step)) }
-    ensures goes_on { IfOk result (λ step. GoesOn reader.old reader.new (Ok step)) }
+        ReadsRecord (L.left log.old) (L.left log.new) reader.old.most reader.new.body (Ok step)) }
+    ensures goes_on { IfOk result (λ step. ReaderAfter reader.old reader.new (Ok step)) }
     ensures undecided { OnErr result
         (ReadsUndecided (L.left log.old) (L.left log.new) reader.old.most) }
     ensures fault { IfErr result (λ e. e ≢ RunFault.Write) }
@@ -65,9 +65,9 @@ pub(crate) fn next_record<L: Source>(reader: &mut Records, log: &mut L) -> Resul
     }
 }
 
-/// Takes message n, and writes its line. It answers whether the message was accepted.
+/// Processes message n and writes its line. Returns whether the message was accepted.
 #[tactic(auto, using(crate::proofs::Answered::answered))]
-fn tell_turn<K: Sink, C: SignatureCheck>(
+fn write_message_line<K: Sink, C: SignatureCheck>(
     alloc: Global,
     n: u32,
     body: &[u8],
@@ -89,13 +89,13 @@ fn tell_turn<K: Sink, C: SignatureCheck>(
     if let Err(Refusal::OutOfMemory) = answer {
         return Err(RunFault::Memory);
     }
-    let line = turn_line(alloc, n, &answer, follower)?;
+    let line = processed_line(alloc, n, &answer, follower)?;
     write_text(out, line.as_str())?;
     Ok(answer.is_ok())
 }
 
-/// Takes the messages of a log one by one, and writes the line of each before it reads on. It answers
-/// whether the log is broken.
+/// Processes the messages of a log, and writes the line of each before the next is read. Returns whether the log is
+/// broken.
 fn follow_log<L: Source, K: Sink, C: SignatureCheck>(
     alloc: Global,
     follower: &mut Follower<C>,
@@ -120,7 +120,7 @@ fn follow_log<L: Source, K: Sink, C: SignatureCheck>(
     'messages: for n in 1..MESSAGE_LIMIT + 2 {
         match next_record(&mut reader, log)? {
             LogStep::Record => {
-                let is_accepted = tell_turn(alloc, n, reader.body(), follower, out)?;
+                let is_accepted = write_message_line(alloc, n, reader.body(), follower, out)?;
                 tally.count(is_accepted);
             }
             LogStep::End => return Ok(false),
@@ -131,7 +131,7 @@ fn follow_log<L: Source, K: Sink, C: SignatureCheck>(
     unreachable!()
 }
 
-/// What a replay says.
+/// Returns the verdict of a replay.
 fn verdict_of(is_broken: bool, refused: u32) -> Verdict
     ensures { IsVerdict is_broken refused result }
 {
@@ -145,8 +145,8 @@ fn verdict_of(is_broken: bool, refused: u32) -> Verdict
     }
 }
 
-/// Writes the report of a log, of which nothing was read.
-fn tell_log<L: Source, K: Sink, C: SignatureCheck>(
+/// Writes the report of a log, from its first record on.
+fn write_log_report<L: Source, K: Sink, C: SignatureCheck>(
     alloc: Global,
     follower: &mut Follower<C>,
     log: &mut L,
@@ -175,7 +175,7 @@ fn tell_log<L: Source, K: Sink, C: SignatureCheck>(
     Ok(verdict_of(is_broken, refused))
 }
 
-/// Starts a follower, and writes the report of a log.
+/// Starts a follower and writes the report of a log.
 fn replay_from<L: Source, K: Sink, C: SignatureCheck>(
     alloc: Global,
     info: GroupInfo,
@@ -198,7 +198,7 @@ fn replay_from<L: Source, K: Sink, C: SignatureCheck>(
     match Follower::start(alloc, info, tree, checker) {
         Ok(started) => {
             let mut follower = started;
-            let verdict = tell_log(alloc, &mut follower, log, out);
+            let verdict = write_log_report(alloc, &mut follower, log, out);
             drop(follower);
             verdict
         }
@@ -210,20 +210,25 @@ fn replay_from<L: Source, K: Sink, C: SignatureCheck>(
     }
 }
 
-/// Reads the group info to its end, then the tree, where one is handed in, and starts a follower from
-/// them. Where none starts it writes the line that [`run_validate`](crate::run_validate) would write,
-/// `No`, and doesn't read the log.
+/// Reads the GroupInfo to its end, then the tree if there is a file of it, and starts a follower. If none starts, it
+/// writes the line of [`run_validate`](crate::run_validate); the verdict is `No` and the log is not read.
 ///
-/// Else it reads the log, of at most 1,000,000 records, each the vector of one message (RFC 9420, 2.1.2):
-/// it reads a record, takes the message, writes its line, and only then reads on. Message n was accepted,
-/// as a proposal, whose reference is told, or as a commit, with the new epoch, its tree hash and its
-/// confirmed transcript hash; or it was refused, for the rule of this number; or what comes there is no
-/// record, and the log is broken. At the end it writes how many were accepted, refused and broken, and
-/// the epoch. It is `Yes` where none was refused or broken.
+/// Otherwise it reads the log: at most 1,000,000 records, each a message as a variable-length vector (RFC 9420, 2.1.2).
+/// It reads a record, processes the message, writes its line, and only then reads on. Message n is one of:
 ///
-/// `Read` comes where an input fails: then just the messages are told that were read whole. `Write` comes
-/// where the output does: then nothing was read behind the message in whose line it failed. `Memory` comes
-/// where there is not enough: then each message is told that was read, but the one at which it ran out.
+/// - accepted as a proposal: the line has its reference;
+/// - accepted as a commit: the line has the new epoch, tree hash and confirmed transcript hash;
+/// - refused: the line has the number of the refusal;
+/// - no complete record: the log is broken.
+///
+/// The last lines are the numbers of accepted, refused and broken messages, and the epoch. The verdict is `Yes` if no
+/// message was refused or broken.
+///
+/// # Errors
+///
+/// - `Read` if an input fails: exactly the messages that were read whole have their lines.
+/// - `Write` if the output fails: nothing was read after the message in whose line it failed.
+/// - `Memory`: each message that was read has its line, except the one at which memory ran out.
 pub fn run_replay<I: Source, T: Source, L: Source, K: Sink, C: SignatureCheck>(
     alloc: Global,
     info: &mut I,
@@ -250,10 +255,10 @@ pub fn run_replay<I: Source, T: Source, L: Source, K: Sink, C: SignatureCheck>(
         ⊎ (L.is_failed log.new ≡ true))) }
     ensures write { (result ≡ Err RunFault.Write) ↔ (K.is_failed out.new ≡ true) }
 {
-    let bytes = read_both(alloc, info, tree)?;
+    let bytes = read_inputs_to_end(alloc, info, tree)?;
     match read_inputs(alloc, bytes.info, bytes.tree) {
         Ok(inputs) => replay_from(alloc, inputs.info, inputs.tree, log, checker, out),
-        Err(NoStart::Found(finding)) => tell(alloc, &finding, out),
-        Err(NoStart::Fault(fault)) => Err(fault),
+        Err(StartFailure::Found(finding)) => tell(alloc, &finding, out),
+        Err(StartFailure::Fault(fault)) => Err(fault),
     }
 }

@@ -2,19 +2,19 @@
 
 ghost use Rattle.std.specs.Prelude.{◌≡◌, ◌++◌, ◌+◌, ◌≤◌, codes, IfOk, string_bytes};
 ghost use Rattle.std.specs.Fmt.{decimal};
-ghost use Rattle.mls_follow.specs.Seen.{state_of};
+ghost use Rattle.mls_follow.specs.FollowerModel.{state_of};
 ghost use Rattle.mls_report.specs.Replay as lines;
-ghost use Rattle.mls_report.specs.Texts.{hex_text};
+ghost use Rattle.mls_report.specs.ValueTexts.{hex_text};
 
 use crate::fault_text::member_number;
-use crate::text::hex_of;
+use crate::value_text::hex_of;
 use mls_check::SignatureCheck;
 use mls_follow::{Follower, Refusal, Taken};
 use mls_nodes::GroupContext;
 use mls_tree::HashValue;
 use std::alloc::{AllocError, Global};
 
-/// What is told of a refusal.
+/// Returns a refusal as text.
 fn refusal_text(alloc: Global, refusal: &Refusal) -> Result<String, AllocError>
     ensures { IfOk result (λ text. string_bytes text ≡ lines.refusal_text refusal.now) }
 {
@@ -30,7 +30,7 @@ fn refusal_text(alloc: Global, refusal: &Refusal) -> Result<String, AllocError>
     }
 }
 
-/// What is told of a refused message.
+/// Returns the words for a refused message.
 fn refused_text(alloc: Global, refusal: &Refusal) -> Result<String, AllocError>
     ensures { IfOk result
         (λ text. string_bytes text ≡ codes " refused " ++ lines.refusal_text refusal.now) }
@@ -39,7 +39,7 @@ fn refused_text(alloc: Global, refusal: &Refusal) -> Result<String, AllocError>
     format!(in alloc; " refused {refusal}")
 }
 
-/// What is told of a proposal.
+/// Returns the words for an accepted proposal.
 fn proposal_text(alloc: Global, reference: &HashValue) -> Result<String, AllocError>
     ensures { IfOk result
         (λ text. string_bytes text ≡ codes " accepted proposal " ++ hex_text reference.now) }
@@ -48,7 +48,7 @@ fn proposal_text(alloc: Global, reference: &HashValue) -> Result<String, AllocEr
     format!(in alloc; " accepted proposal {reference}")
 }
 
-/// What is told of a commit that began an epoch.
+/// Returns the words for a commit that began an epoch.
 fn commit_text(alloc: Global, epoch: u64, context: &GroupContext) -> Result<String, AllocError>
     ensures { IfOk result
         (λ text. string_bytes text ≡ codes " accepted commit " ++ (decimal epoch
@@ -60,7 +60,7 @@ fn commit_text(alloc: Global, epoch: u64, context: &GroupContext) -> Result<Stri
     format!(in alloc; " accepted commit {epoch} {tree_hash} {confirmed}")
 }
 
-/// What is told of an answer.
+/// Returns the words for an answer.
 fn answer_text<C: SignatureCheck>(
     alloc: Global,
     answer: &Result<Taken, Refusal>,
@@ -76,8 +76,8 @@ fn answer_text<C: SignatureCheck>(
     }
 }
 
-/// The line of message n.
-pub(crate) fn turn_line<C: SignatureCheck>(
+/// Returns the line of message n.
+pub(crate) fn processed_line<C: SignatureCheck>(
     alloc: Global,
     n: u32,
     answer: &Result<Taken, Refusal>,
@@ -91,7 +91,7 @@ pub(crate) fn turn_line<C: SignatureCheck>(
     format!(in alloc; "{n}{answer}\n")
 }
 
-/// The line of the counts.
+/// Returns the line of the counts.
 fn counts_line(
     alloc: Global,
     accepted: u32,
@@ -105,14 +105,14 @@ fn counts_line(
     format!(in alloc; "accepted {accepted} refused {refused} broken {broken} epoch {epoch}\n")
 }
 
-/// The line of message n, which is broken.
+/// Returns the line of message n, which is broken.
 pub(crate) fn broken_line(alloc: Global, n: u32) -> Result<String, AllocError>
     ensures { IfOk result (λ text. string_bytes text ≡ decimal n ++ codes " broken\n") }
 {
     format!(in alloc; "{n} broken\n")
 }
 
-/// The last lines, behind so many accepted and refused messages.
+/// Returns the last lines, after the given numbers of accepted and refused messages.
 pub(crate) fn last_lines(
     alloc: Global,
     is_broken: bool,

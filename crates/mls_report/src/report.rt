@@ -2,22 +2,22 @@
 
 ghost use Rattle.std.specs.Prelude.{◌≡◌, ◌++◌, codes, IfOk, string_bytes};
 ghost use Rattle.mls_report.specs.Show.{IsUnreadable};
-ghost use Rattle.mls_report.specs.Texts.{IsOneLine};
+ghost use Rattle.mls_report.specs.ValueTexts.{IsOneLine};
 
 use crate::verdict::Verdict;
 use std::alloc::{AllocError, Global};
 
-/// A report that is made, and not written yet.
+/// A report that is not written yet.
 #[derive(Drop)]
 pub struct Report {
     /// The bytes of its lines.
     pub bytes: Vec<u8>,
-    /// What it says of its inputs.
+    /// The verdict.
     pub verdict: Verdict,
 }
 
 impl Report {
-    /// The report that is this text.
+    /// Creates a report of a text.
     pub fn of_text(text: String, verdict: Verdict) -> Report
         ensures bytes { result.bytes.items ≡ string_bytes text }
         ensures verdict { result.verdict ≡ verdict }
@@ -29,7 +29,7 @@ impl Report {
     }
 }
 
-/// The line of an input that can't be read.
+/// Returns the line of an input that is not decodable.
 fn unreadable_line(alloc: Global, fault: &str) -> Result<String, AllocError>
     ensures { IfOk result
         (λ text. string_bytes text ≡ codes "unreadable " ++ (fault.now ++ codes "\n")) }
@@ -37,7 +37,7 @@ fn unreadable_line(alloc: Global, fault: &str) -> Result<String, AllocError>
     format!(in alloc; "unreadable {fault}\n")
 }
 
-/// The report of an input that can't be read.
+/// Returns the report of an input that is not decodable.
 pub(crate) fn unreadable_report(alloc: Global, fault: &str) -> Result<Report, AllocError>
     requires { IsOneLine fault.now }
     ensures { IfOk result (λ r. IsUnreadable r.bytes.items r.verdict) }

@@ -1,35 +1,36 @@
-//! The report `show`: what an input holds, in lines of text.
+//! The report `show`: the content of an input as text.
 
 ghost use Rattle.std.specs.Prelude.{◌≡◌, ◌≢◌, ◌↔◌, false, true, [], Err, IfOk, OnErr, IfErr};
 ghost use Rattle.std.specs.Io.KnownBytes.{Appends};
+ghost use Rattle.mls_msgs.specs.declared.profile.Profile.TheVariants.{Members};
 ghost use Rattle.mls_report.specs.Show.{InfoReport, IsShowReport, IsUnreadable, Shows, ShowsPart};
 
 use crate::fault_text::{node_fault_text, wire_fault_text};
 use crate::info_text::info_text;
 use crate::message_text::message_line;
-use crate::read::read_all;
+use crate::read_to_end::read_all;
 use crate::report::{Report, unreadable_report};
 use crate::tree_text::tree_text;
 use crate::verdict::{RunFault, Verdict};
 use crate::write::write_bytes;
-use mls_msgs::{Message, decode_message};
+use mls_msgs::{Message, Profile, decode_message, decode_message_in};
 use mls_nodes::NodeFault;
 use mls_tree::PublicTree;
 use mls_wire::{CodecFault, Sink, Source};
 use std::alloc::{AllocError, Global};
 
-/// What an input is to be shown as.
+/// What an input is shown as.
 #[derive(Clone, Copy, Debug, PartialEq, Eq)]
 pub enum ShowKind {
     /// A ratchet tree (RFC 9420, 12.4.3.3).
     Tree,
-    /// A group info (RFC 9420, 12.4.3), as a message.
+    /// A GroupInfo (RFC 9420, 12.4.3) as an MLSMessage.
     Info,
-    /// A message (RFC 9420, 6).
+    /// An MLSMessage (RFC 9420, 6).
     Message,
 }
 
-/// The report of bytes that spell no tree.
+/// Returns the report of bytes that do not decode as a tree.
 #[tactic(auto, using(crate::proofs::Lines::node_fault_is_one_line))]
 fn no_tree_report(alloc: Global, fault: NodeFault) -> Result<Report, RunFault>
     ensures report { IfOk result
@@ -45,10 +46,10 @@ fn no_tree_report(alloc: Global, fault: NodeFault) -> Result<Report, RunFault>
     }
 }
 
-/// The report of the bytes of a tree, which are dropped once it is read.
+/// Returns the report of a tree's bytes, which are dropped after decoding.
 fn tree_report(alloc: Global, bytes: Vec<u8>) -> Result<Report, RunFault>
     ensures report { IfOk result
-        (λ r. IsShowReport ShowKind.Tree bytes.items r.bytes.items r.verdict) }
+        (λ r. IsShowReport Members ShowKind.Tree bytes.items r.bytes.items r.verdict) }
     ensures memory { IfErr result (λ e. e ≡ RunFault.Memory) }
 {
     let tree = PublicTree::decode(alloc, bytes.as_slice());
@@ -62,7 +63,7 @@ fn tree_report(alloc: Global, bytes: Vec<u8>) -> Result<Report, RunFault>
     }
 }
 
-/// The report of bytes that spell no message.
+/// Returns the report of bytes that do not decode as a message.
 #[tactic(auto, using(crate::proofs::Lines::wire_fault_is_one_line))]
 fn no_message_report(alloc: Global, fault: CodecFault) -> Result<Report, RunFault>
     ensures report { IfOk result
@@ -78,7 +79,7 @@ fn no_message_report(alloc: Global, fault: CodecFault) -> Result<Report, RunFaul
     }
 }
 
-/// The report of a message that is to be a group info.
+/// Returns the report of a message that should be a GroupInfo.
 fn read_info_report(alloc: Global, message: &Message) -> Result<Report, AllocError>
     ensures { IfOk result (λ r. InfoReport message.now r.bytes.items r.verdict) }
 {
@@ -91,10 +92,10 @@ fn read_info_report(alloc: Global, message: &Message) -> Result<Report, AllocErr
     }
 }
 
-/// The report of the bytes of a group info.
+/// Returns the report of a GroupInfo's bytes.
 fn info_report(alloc: Global, bytes: &[u8]) -> Result<Report, RunFault>
     ensures report { IfOk result
-        (λ r. IsShowReport ShowKind.Info bytes.now r.bytes.items r.verdict) }
+        (λ r. IsShowReport Members ShowKind.Info bytes.now r.bytes.items r.verdict) }
     ensures memory { IfErr result (λ e. e ≡ RunFault.Memory) }
 {
     match decode_message(alloc, bytes) {
@@ -107,13 +108,13 @@ fn info_report(alloc: Global, bytes: &[u8]) -> Result<Report, RunFault>
     }
 }
 
-/// The report of the bytes of a message.
-fn message_report(alloc: Global, bytes: &[u8]) -> Result<Report, RunFault>
+/// Returns the report of a message's bytes, which are decoded in `profile`.
+fn message_report(alloc: Global, profile: Profile, bytes: &[u8]) -> Result<Report, RunFault>
     ensures report { IfOk result
-        (λ r. IsShowReport ShowKind.Message bytes.now r.bytes.items r.verdict) }
+        (λ r. IsShowReport profile ShowKind.Message bytes.now r.bytes.items r.verdict) }
     ensures memory { IfErr result (λ e. e ≡ RunFault.Memory) }
 {
-    match decode_message(alloc, bytes) {
+    match decode_message_in(alloc, profile, bytes) {
         Ok(message) => {
             let line = message_line(alloc, &message);
             drop(message);
@@ -123,26 +124,62 @@ fn message_report(alloc: Global, bytes: &[u8]) -> Result<Report, RunFault>
     }
 }
 
-/// The report of an input's bytes.
-fn show_report(alloc: Global, kind: ShowKind, bytes: Vec<u8>) -> Result<Report, RunFault>
+/// Returns the report of an input's bytes. A message is decoded in `profile`.
+fn show_report(
+    alloc: Global,
+    profile: Profile,
+    kind: ShowKind,
+    bytes: Vec<u8>,
+) -> Result<Report, RunFault>
     ensures report { IfOk result
-        (λ r. IsShowReport kind bytes.items r.bytes.items r.verdict) }
+        (λ r. IsShowReport profile kind bytes.items r.bytes.items r.verdict) }
     ensures memory { IfErr result (λ e. e ≡ RunFault.Memory) }
 {
     match kind {
         ShowKind::Tree => tree_report(alloc, bytes),
         ShowKind::Info => info_report(alloc, bytes.as_slice()),
-        ShowKind::Message => message_report(alloc, bytes.as_slice()),
+        ShowKind::Message => message_report(alloc, profile, bytes.as_slice()),
     }
 }
 
-/// Reads the input to its end, and then writes what it holds, `Yes`: for a tree a line for each node of
-/// the full tree and one with the counts of leaves and members; for a group info nine lines; for a
-/// message one. For an input that is none of its kind, or longer than [`mls_wire::MAX_INPUT`], it writes
-/// one line that begins with `unreadable`, `No`.
+/// Reads the input to its end and writes its content. The verdict is `Yes`.
 ///
-/// `Read` comes where the input fails, and `Write` where the output does; then a prefix of the report
-/// may be written already. Want of memory comes before anything is written.
+/// A tree has a line for each node of the full tree, and one with the numbers of leaves and members. A GroupInfo has
+/// nine lines, a message one. If the input is not decodable as this kind, or longer than [`mls_wire::MAX_INPUT`], the
+/// report is one line that begins with `unreadable`, and the verdict is `No`.
+///
+/// A message is decoded in `profile`, a GroupInfo in the members' profile.
+///
+/// # Errors
+///
+/// `Read` if the input fails. `Write` if the output fails; a prefix of the report may be written. `Memory` comes before
+/// anything is written.
+pub fn run_show_in<S: Source, K: Sink>(
+    alloc: Global,
+    profile: Profile,
+    kind: ShowKind,
+    input: &mut S,
+    out: &mut K,
+) -> Result<Verdict, RunFault>
+    requires input { S.is_failed input.old ≡ false }
+    requires out { K.is_failed out.old ≡ false }
+    ensures shown { IfOk result
+        (Shows profile kind (S.left input.old) (S.left input.new) (K.written out.old) (K.written out.new)) }
+    ensures part { OnErr result
+        (ShowsPart profile kind (S.left input.old) (S.left input.new) (K.written out.old)
+        (K.written out.new)) }
+    ensures memory { result ≡ Err RunFault.Memory
+        → Appends (K.written out.old) (K.written out.new) [] }
+    ensures read { (result ≡ Err RunFault.Read) ↔ (S.is_failed input.new ≡ true) }
+    ensures write { (result ≡ Err RunFault.Write) ↔ (K.is_failed out.new ≡ true) }
+{
+    let bytes = read_all(alloc, input)?;
+    let report = show_report(alloc, profile, kind, bytes)?;
+    write_bytes(out, report.bytes.as_slice())?;
+    Ok(report.verdict)
+}
+
+/// Writes the report of [`run_show_in`] for the members' profile.
 pub fn run_show<S: Source, K: Sink>(
     alloc: Global,
     kind: ShowKind,
@@ -152,17 +189,14 @@ pub fn run_show<S: Source, K: Sink>(
     requires input { S.is_failed input.old ≡ false }
     requires out { K.is_failed out.old ≡ false }
     ensures shown { IfOk result
-        (Shows kind (S.left input.old) (S.left input.new) (K.written out.old) (K.written out.new)) }
+        (Shows Members kind (S.left input.old) (S.left input.new) (K.written out.old) (K.written out.new)) }
     ensures part { OnErr result
-        (ShowsPart kind (S.left input.old) (S.left input.new) (K.written out.old)
+        (ShowsPart Members kind (S.left input.old) (S.left input.new) (K.written out.old)
         (K.written out.new)) }
     ensures memory { result ≡ Err RunFault.Memory
         → Appends (K.written out.old) (K.written out.new) [] }
     ensures read { (result ≡ Err RunFault.Read) ↔ (S.is_failed input.new ≡ true) }
     ensures write { (result ≡ Err RunFault.Write) ↔ (K.is_failed out.new ≡ true) }
 {
-    let bytes = read_all(alloc, input)?;
-    let report = show_report(alloc, kind, bytes)?;
-    write_bytes(out, report.bytes.as_slice())?;
-    Ok(report.verdict)
+    run_show_in(alloc, Profile::Members, kind, input, out)
 }

@@ -3,15 +3,15 @@
 ghost use Rattle.std.specs.Prelude.{◌≡◌, ◌++◌, IfOk, OnOk, option_map, string_bytes};
 ghost use Rattle.sha2.specs.Sha256.{sha256};
 ghost use Rattle.mls_check.specs.Receipts.{receipt_input};
-ghost use Rattle.mls_report.specs.Signatures as lines;
+ghost use Rattle.mls_report.specs.SignaturesReport as lines;
 
-use crate::text::hex_of;
+use crate::value_text::hex_of;
 use mls_check::{SignatureCheck, receipt};
-use mls_follow::WantedSignature;
+use mls_signatures::SignatureToVerify;
 use std::alloc::{AllocError, Global};
 
-/// The receipt of a wanted signature, or `-` where it has none.
-fn receipt_text(alloc: Global, wanted: &WantedSignature) -> Result<String, AllocError>
+/// Returns the receipt of a needed signature, or `-` if it can have none.
+fn receipt_text(alloc: Global, wanted: &SignatureToVerify) -> Result<String, AllocError>
     ensures { let input = receipt_input wanted.now.suite wanted.now.key wanted.now.content
         wanted.now.signature in
         IfOk result (λ text. string_bytes text ≡ lines.receipt_text (option_map sha256 input)) }
@@ -28,8 +28,8 @@ fn receipt_text(alloc: Global, wanted: &WantedSignature) -> Result<String, Alloc
     }
 }
 
-/// The line of a wanted signature.
-fn wanted_line(alloc: Global, wanted: &WantedSignature) -> Result<String, AllocError>
+/// Returns the line of a needed signature.
+fn wanted_line(alloc: Global, wanted: &SignatureToVerify) -> Result<String, AllocError>
     ensures { IfOk result (λ text. string_bytes text ≡ lines.wanted_line wanted.now) }
 {
     let suite = wanted.suite;
@@ -40,11 +40,11 @@ fn wanted_line(alloc: Global, wanted: &WantedSignature) -> Result<String, AllocE
     format!(in alloc; "{receipt} {suite} {key} {content} {signature}\n")
 }
 
-/// Adds the line of a wanted signature, where it isn't covered by the receipts.
+/// Appends the line of a needed signature, unless `receipts` cover it.
 fn put_line<R: SignatureCheck>(
     alloc: Global,
     text: &mut String,
-    wanted: &WantedSignature,
+    wanted: &SignatureToVerify,
     receipts: &R,
 ) -> Result<(), AllocError>
     ensures { OnOk result (string_bytes text.new ≡ string_bytes text.old
@@ -59,10 +59,10 @@ fn put_line<R: SignatureCheck>(
     text.push_str(line.as_str())
 }
 
-/// The lines of wanted signatures that aren't covered by the receipts.
+/// Returns the lines of needed signatures that `receipts` don't cover.
 pub(crate) fn wanted_text<R: SignatureCheck>(
     alloc: Global,
-    wanted: &[WantedSignature],
+    wanted: &[SignatureToVerify],
     receipts: &R,
 ) -> Result<String, AllocError>
     ensures { IfOk result

@@ -1,28 +1,29 @@
-//! The report `signatures`: which signatures the rules may ask about, for whoever checks them.
+//! The report `signatures`: the signatures that the rules may ask about, for whoever checks them.
 
 ghost use Rattle.std.specs.Prelude.{◌≡◌, ◌↔◌, ◌⊎◌, false, true, None, Err, string_bytes, IfOk, IfErr, option_map};
-ghost use Rattle.mls_tree.specs.KeptTree.{plain};
-ghost use Rattle.mls_follow.specs.Seen.{state_of};
-ghost use Rattle.mls_follow.specs.Wanted as wanted;
-ghost use Rattle.mls_report.specs.Starting.{has_failed};
-ghost use Rattle.mls_report.specs.Signatures as specs;
-ghost use Rattle.mls_report.specs.Signatures.{Signatures, SignaturesPart};
-ghost use Rattle.mls_report.specs.SignatureSteps.{AreStartLines, TellsBehind, BehindPart, SignaturesStart, SignaturesStartPart};
+ghost use Rattle.mls_tree.specs.PublicTreeModel.{plain};
+ghost use Rattle.mls_follow.specs.FollowerModel.{state_of};
+ghost use Rattle.mls_signatures.specs.SignaturesToVerify as wanted;
+ghost use Rattle.mls_report.specs.StartInputs.{has_failed};
+ghost use Rattle.mls_report.specs.SignaturesReport as specs;
+ghost use Rattle.mls_report.specs.SignaturesReport.{Signatures, SignaturesPart};
+ghost use Rattle.mls_report.specs.SignaturesSteps.{AreStartLines, TellsBehind, BehindPart, SignaturesStart, SignaturesStartPart};
 
-use crate::asking::ask_log;
 use crate::finding::tell;
-use crate::opening::{NoStart, read_both, read_inputs, tell_refused};
+use crate::read_inputs::{StartFailure, read_inputs, read_inputs_to_end, tell_refused};
+use crate::signature_log::ask_log;
 use crate::signature_text::wanted_text;
 use crate::verdict::{RunFault, Verdict};
 use crate::write::write_text;
 use mls_check::{SignatureCheck, Trusting};
-use mls_follow::{Follower, StartFault, tree_in, wanted_by_start};
+use mls_follow::{Follower, StartFault, tree_in};
 use mls_msgs::GroupInfo;
+use mls_signatures::start_signatures;
 use mls_tree::PublicTree;
 use mls_wire::{Sink, Source};
 use std::alloc::Global;
 
-/// The lines of what a start from this tree wants.
+/// Returns the lines of a start from this tree.
 fn lines_by<R: SignatureCheck>(
     alloc: Global,
     info: &GroupInfo,
@@ -30,10 +31,10 @@ fn lines_by<R: SignatureCheck>(
     receipts: &R,
 ) -> Result<String, RunFault>
     ensures lines { IfOk result (λ text. string_bytes text ≡ specs.wanted_lines
-        (R.meaning receipts.now) (wanted.wanted_by_start info.now tree.now.tree)) }
+        (R.meaning receipts.now) (wanted.start_signatures info.now tree.now.tree)) }
     ensures memory { IfErr result (λ e. e ≡ RunFault.Memory) }
 {
-    let Ok(wanted) = wanted_by_start(alloc, info, tree) else {
+    let Ok(wanted) = start_signatures(alloc, info, tree) else {
         return Err(RunFault::Memory);
     };
     let text = wanted_text(alloc, wanted.as_slice(), receipts);
@@ -41,7 +42,7 @@ fn lines_by<R: SignatureCheck>(
     Ok(text?)
 }
 
-/// The lines of what a start wants by the tree in the info; none where there is no tree.
+/// Returns the lines of a start from the tree in the GroupInfo. Empty if it has none.
 fn own_lines<R: SignatureCheck>(
     alloc: Global,
     info: &GroupInfo,
@@ -62,7 +63,7 @@ fn own_lines<R: SignatureCheck>(
     }
 }
 
-/// The lines of what a start wants, by the tree handed in or else by the one in the info.
+/// Returns the lines of a start from the given tree, or else from the one in the GroupInfo.
 fn start_lines<R: SignatureCheck>(
     alloc: Global,
     info: &GroupInfo,
@@ -80,7 +81,7 @@ fn start_lines<R: SignatureCheck>(
     }
 }
 
-/// Writes the lines of what a start wants, and then those of the log, where there is one.
+/// Writes the lines of the start, and then those of the log, if there is one.
 fn tell_started<L: Source, R: SignatureCheck, K: Sink>(
     alloc: Global,
     follower: &mut Follower<Trusting>,
@@ -110,7 +111,7 @@ fn tell_started<L: Source, R: SignatureCheck, K: Sink>(
     }
 }
 
-/// Starts a follower, each signature being good, and writes the report; `lines` are those of what the start wants.
+/// Starts a follower that accepts every signature, and writes the report. `lines` are those of the start.
 fn tell_start<L: Source, R: SignatureCheck, K: Sink>(
     alloc: Global,
     info: GroupInfo,
@@ -150,7 +151,7 @@ fn tell_start<L: Source, R: SignatureCheck, K: Sink>(
     }
 }
 
-/// The same, of a group info and a tree that can be read.
+/// As `tell_start`, from a decoded GroupInfo and tree.
 fn signatures_from<L: Source, R: SignatureCheck, K: Sink>(
     alloc: Global,
     info: GroupInfo,
@@ -179,23 +180,25 @@ fn signatures_from<L: Source, R: SignatureCheck, K: Sink>(
     }
 }
 
-/// Reads the group info to its end, then the tree, where one is handed in, and starts a follower from them that takes
-/// each signature as good. Where none starts it writes the line that [`run_validate`](crate::run_validate) would write,
-/// `No`, and doesn't read the log.
+/// Reads the GroupInfo to its end, then the tree if there is a file of it, and starts a follower that accepts every
+/// signature. If none starts, it writes the line of [`run_validate`](crate::run_validate); the verdict is `No` and the
+/// log is not read.
 ///
-/// Else it writes a line for each signature that the start wants ([`mls_follow::wanted_by_start`]) and that `receipts`
+/// Else it writes a line for each signature that the start wants ([`mls_signatures::start_signatures`]) and that `receipts`
 /// don't cover: its receipt, which is its line in a file of receipts if it is good, the suite, the key, the
 /// SignContent (RFC 9420, 5.1.2) and the signature.
 ///
-/// Then it reads the log, where there is one, of at most 1,000,000 records, each the vector of one message (2.1.2): it
-/// reads a record, takes the message, each signature being good, writes the same lines of the signatures that the message
-/// wants ([`Follower::wanted`]), in one piece, and only then reads on. A message that can't be read wants nothing, and is
-/// told by the line that [`run_replay`](crate::run_replay) would write, as a broken log is at its end. It is `Yes` where
-/// each message can be read and the log isn't broken.
+/// Then it reads the log, if there is one: at most 1,000,000 records, each a message as a variable-length vector
+/// (2.1.2). It reads a record, processes the message accepting every signature, writes the lines of the signatures that
+/// the message needed ([`Follower::wanted`]) in one piece, and only then reads on. A message that is not decodable
+/// needs no signature; it has the line of [`run_replay`](crate::run_replay), and so has a broken log. The verdict is
+/// `Yes` if each message is decodable and the log is not broken.
 ///
-/// `Read` comes where an input fails: then just the messages are told that were read whole. `Write` comes where the
-/// output does: then nothing was read behind the message in whose lines it failed. `Memory` comes where there is not
-/// enough: the messages before are told.
+/// # Errors
+///
+/// - `Read` if an input fails: exactly the messages that were read whole have their lines.
+/// - `Write` if the output fails: nothing was read after the message in whose lines it failed.
+/// - `Memory`: the messages before have their lines.
 pub fn run_signatures<I: Source, T: Source, L: Source, R: SignatureCheck, K: Sink>(
     alloc: Global,
     info: &mut I,
@@ -224,10 +227,10 @@ pub fn run_signatures<I: Source, T: Source, L: Source, R: SignatureCheck, K: Sin
         ⊎ (has_failed (option_map L.is_failed log.new) ≡ true))) }
     ensures write { (result ≡ Err RunFault.Write) ↔ (K.is_failed out.new ≡ true) }
 {
-    let bytes = read_both(alloc, info, tree)?;
+    let bytes = read_inputs_to_end(alloc, info, tree)?;
     match read_inputs(alloc, bytes.info, bytes.tree) {
         Ok(inputs) => signatures_from(alloc, inputs.info, inputs.tree, log, receipts, out),
-        Err(NoStart::Found(finding)) => tell(alloc, &finding, out),
-        Err(NoStart::Fault(fault)) => Err(fault),
+        Err(StartFailure::Found(finding)) => tell(alloc, &finding, out),
+        Err(StartFailure::Fault(fault)) => Err(fault),
     }
 }

@@ -2,18 +2,18 @@
 
 ghost use Rattle.std.specs.Prelude.{◌≡◌, ◌++◌, ◌+◌, ◌/◌, length, IfOk, OnOk, map, codes};
 ghost use Rattle.std.specs.Fmt.{decimal};
-ghost use Rattle.mls_nodes.specs.Value.{entry_value};
+ghost use Rattle.mls_nodes.specs.NodeModel.{entry_value};
 ghost use Rattle.mls_tree.specs.Tree.{leaves_among, listing};
-ghost use Rattle.mls_report.specs.Texts.{hex_text};
+ghost use Rattle.mls_report.specs.ValueTexts.{hex_text};
 ghost use Rattle.mls_report.specs.TreeText as lines;
 
-use crate::pieces::{put_hex, put_number, put_numbers, put_text, put_u64};
+use crate::report_buffer::{put_hex, put_number, put_numbers, put_text, put_u64};
 use mls_nodes::{LeafNode, LeafSource, Node, ParentNode};
 use mls_tree::PublicTree;
 use mls_wire::Opaque;
 use std::alloc::{AllocError, Global};
 
-/// Adds where a leaf comes from.
+/// Appends the source of a leaf.
 fn put_source(out: &mut Vec<u8>, source: &LeafSource) -> Result<(), AllocError>
     ensures { OnOk result (out.new.items ≡ out.old.items ++ lines.source_text source.now) }
 {
@@ -32,7 +32,7 @@ fn put_source(out: &mut Vec<u8>, source: &LeafSource) -> Result<(), AllocError>
     }
 }
 
-/// Adds the place and the index with which the line of a leaf begins.
+/// Appends the node index and the leaf index, with which the line of a leaf begins.
 fn put_leaf_place(out: &mut Vec<u8>, place: usize) -> Result<(), AllocError>
     ensures { OnOk result (out.new.items ≡ out.old.items
         ++ (decimal place ++ (codes " leaf " ++ (decimal (place / 2) ++ codes " ")))) }
@@ -43,7 +43,7 @@ fn put_leaf_place(out: &mut Vec<u8>, place: usize) -> Result<(), AllocError>
     put_text(out, " ")
 }
 
-/// Adds two fields in hexadecimal, each with a space behind it.
+/// Appends two fields in hexadecimal, each followed by a space.
 fn put_fields(out: &mut Vec<u8>, first: &Opaque, second: &Opaque) -> Result<(), AllocError>
     ensures { OnOk result (out.new.items ≡ out.old.items
         ++ (hex_text first.now ++ (codes " " ++ (hex_text second.now ++ codes " ")))) }
@@ -54,7 +54,7 @@ fn put_fields(out: &mut Vec<u8>, first: &Opaque, second: &Opaque) -> Result<(), 
     put_text(out, " ")
 }
 
-/// Adds the line of a leaf.
+/// Appends the line of a leaf.
 fn put_leaf(out: &mut Vec<u8>, place: usize, leaf: &LeafNode) -> Result<(), AllocError>
     ensures { OnOk result (out.new.items ≡ out.old.items ++ lines.leaf_line place leaf.now) }
 {
@@ -64,7 +64,7 @@ fn put_leaf(out: &mut Vec<u8>, place: usize, leaf: &LeafNode) -> Result<(), Allo
     put_text(out, "\n")
 }
 
-/// Adds the line of a parent.
+/// Appends the line of a parent.
 fn put_parent(out: &mut Vec<u8>, place: usize, parent: &ParentNode) -> Result<(), AllocError>
     ensures { OnOk result (out.new.items ≡ out.old.items ++ lines.parent_line place parent.now) }
 {
@@ -75,7 +75,7 @@ fn put_parent(out: &mut Vec<u8>, place: usize, parent: &ParentNode) -> Result<()
     put_text(out, "\n")
 }
 
-/// Adds the line of the node at a place.
+/// Appends the line of the node at node index `place`.
 fn put_node(out: &mut Vec<u8>, place: usize, node: &Option<Node>) -> Result<(), AllocError>
     ensures { OnOk result (out.new.items
         ≡ out.old.items ++ lines.node_line place (entry_value node.now)) }
@@ -90,7 +90,7 @@ fn put_node(out: &mut Vec<u8>, place: usize, node: &Option<Node>) -> Result<(), 
     }
 }
 
-/// Adds the lines of all nodes.
+/// Appends the lines of all nodes.
 fn put_nodes(out: &mut Vec<u8>, nodes: &[Option<Node>]) -> Result<(), AllocError>
     ensures { OnOk result (out.new.items ≡ out.old.items
         ++ lines.node_lines 0 (map entry_value nodes.now)) }
@@ -101,7 +101,7 @@ fn put_nodes(out: &mut Vec<u8>, nodes: &[Option<Node>]) -> Result<(), AllocError
     Ok(())
 }
 
-/// How many leaves are set.
+/// Returns the number of non-blank leaves.
 #[tactic(auto, using(crate::proofs::Listings::members_listed))]
 fn member_count(tree: &PublicTree) -> u32
     ensures { result ≡ leaves_among (listing tree.now.tree) }
@@ -109,7 +109,7 @@ fn member_count(tree: &PublicTree) -> u32
     tree.member_count()
 }
 
-/// How many leaves there are, blank ones among them.
+/// Returns the number of leaves, blank ones included.
 #[tactic(auto, using(crate::proofs::Listings::half_listing))]
 fn leaf_count(tree: &PublicTree) -> u32
     ensures { result ≡ (length (listing tree.now.tree) + 1) / 2 }
@@ -117,7 +117,7 @@ fn leaf_count(tree: &PublicTree) -> u32
     tree.leaf_count()
 }
 
-/// Adds the line of the counts.
+/// Appends the line of the counts.
 fn put_counts(out: &mut Vec<u8>, leaves: u32, members: u32) -> Result<(), AllocError>
     ensures { OnOk result (out.new.items ≡ out.old.items ++ lines.count_line leaves members) }
 {
@@ -128,7 +128,7 @@ fn put_counts(out: &mut Vec<u8>, leaves: u32, members: u32) -> Result<(), AllocE
     put_text(out, "\n")
 }
 
-/// The report of a tree.
+/// Returns the report of a tree.
 pub(crate) fn tree_text(alloc: Global, tree: &PublicTree) -> Result<Vec<u8>, AllocError>
     ensures { IfOk result (λ text. text.items ≡ lines.tree_text (listing tree.now.tree)) }
 {

@@ -1,21 +1,21 @@
-//! The report `validate`: whether a follower starts from a group info, and in which state.
+//! The report `validate`: whether a follower can start from a GroupInfo, and its state.
 
 ghost use Rattle.std.specs.Prelude.{◌≡◌, ◌≤◌, ◌↔◌, ◌⊎◌, List, ℕ, Option, false, true, [], length, Err, IfOk, IfErr, OnErr, option_map};
 ghost use Rattle.std.specs.Io.KnownBytes.{Appends};
-ghost use Rattle.mls_tree.specs.KeptTree.{plain};
-ghost use Rattle.mls_follow.specs.Seen.{state_of};
-ghost use Rattle.mls_report.specs.Starting.{IsReadAs, IsStartFinding, has_failed, started_of};
+ghost use Rattle.mls_tree.specs.PublicTreeModel.{plain};
+ghost use Rattle.mls_follow.specs.FollowerModel.{state_of};
+ghost use Rattle.mls_report.specs.StartInputs.{IsReadAs, IsStartFinding, has_failed, started_of};
 ghost use Rattle.mls_report.specs.Validate.{Validates, ValidatesPart};
 
 use crate::finding::{Finding, Started, tell, tree_hash_of};
-use crate::opening::{Inputs, NoStart, read_both, read_inputs, refused_start};
+use crate::read_inputs::{Inputs, StartFailure, read_inputs, read_inputs_to_end, refused_start};
 use crate::verdict::{RunFault, Verdict};
 use mls_check::SignatureCheck;
 use mls_follow::Follower;
 use mls_wire::{Sink, Source};
 use std::alloc::Global;
 
-/// What is told of a follower that has just started.
+/// Returns what is reported of a follower that has just started.
 fn started<C: SignatureCheck>(follower: &Follower<C>) -> Started
     requires { length (state_of follower.now).context.tree_hash ≤ 64 }
     ensures { result ≡ started_of (state_of follower.now) }
@@ -27,9 +27,9 @@ fn started<C: SignatureCheck>(follower: &Follower<C>) -> Started
     }
 }
 
-/// What is found of a group info and a tree that can be read.
+/// Returns the finding for a decoded GroupInfo and tree.
 #[tactic(auto, using(crate::proofs::Hashes::length_started))]
-fn judge_inputs<C: SignatureCheck>(
+fn check_inputs<C: SignatureCheck>(
     alloc: Global,
     inputs: Inputs,
     checker: C,
@@ -53,8 +53,8 @@ fn judge_inputs<C: SignatureCheck>(
     }
 }
 
-/// What is found of the bytes of a group info, and of a tree where one is handed in.
-fn judge_bytes<C: SignatureCheck>(
+/// Returns the finding for the bytes of a GroupInfo, and of a tree if there is a file of it.
+fn check_bytes<C: SignatureCheck>(
     alloc: Global,
     info_bytes: Vec<u8>,
     tree_bytes: Option<Vec<u8>>,
@@ -66,19 +66,20 @@ fn judge_bytes<C: SignatureCheck>(
     ensures memory { IfErr result (λ e. e ≡ RunFault.Memory) }
 {
     match read_inputs(alloc, info_bytes, tree_bytes) {
-        Ok(inputs) => judge_inputs(alloc, inputs, checker),
-        Err(NoStart::Found(finding)) => Ok(finding),
-        Err(NoStart::Fault(fault)) => Err(fault),
+        Ok(inputs) => check_inputs(alloc, inputs, checker),
+        Err(StartFailure::Found(finding)) => Ok(finding),
+        Err(StartFailure::Fault(fault)) => Err(fault),
     }
 }
 
-/// Reads the group info to its end, then the tree, where one is handed in, and then writes one line: the
-/// epoch, the members and the tree's hash of the follower that starts from them, `Yes`; or the first cause
-/// for which none does, `No`: the group info can't be read, or the tree; or which condition of a start
-/// fails first.
+/// Reads the GroupInfo to its end, then the tree if there is a file of it, and writes one line. If a follower can
+/// start: the epoch, the number of members and the tree hash, with the verdict `Yes`. Otherwise the first cause, with
+/// the verdict `No`: the GroupInfo or the tree is not decodable, or the first condition of a start that fails.
 ///
-/// `Read` comes where an input fails, and `Write` where the output does; then a prefix of the report may
-/// be written already. Want of memory comes before anything is written.
+/// # Errors
+///
+/// `Read` if an input fails. `Write` if the output fails; a prefix of the line may be written. `Memory` comes before
+/// anything is written.
 pub fn run_validate<I: Source, T: Source, K: Sink, C: SignatureCheck>(
     alloc: Global,
     info: &mut I,
@@ -103,7 +104,7 @@ pub fn run_validate<I: Source, T: Source, K: Sink, C: SignatureCheck>(
         ↔ ((I.is_failed info.new ≡ true) ⊎ (has_failed (option_map T.is_failed tree.new) ≡ true)) }
     ensures write { (result ≡ Err RunFault.Write) ↔ (K.is_failed out.new ≡ true) }
 {
-    let bytes = read_both(alloc, info, tree)?;
-    let finding = judge_bytes(alloc, bytes.info, bytes.tree, checker)?;
+    let bytes = read_inputs_to_end(alloc, info, tree)?;
+    let finding = check_bytes(alloc, bytes.info, bytes.tree, checker)?;
     tell(alloc, &finding, out)
 }

@@ -1,14 +1,14 @@
-//! The report `validate-tree`: whether a ratchet tree is that of a group context, and its leaves are members.
+//! The report `validate-tree`: whether a ratchet tree belongs to a GroupContext and is valid, and its members are.
 
 ghost use Rattle.std.specs.Prelude.{◌≡◌, ◌↔◌, ◌⊎◌, List, ℕ, false, true, [], Err, IfOk, OnErr, IfErr};
 ghost use Rattle.std.specs.Io.KnownBytes.{Appends};
-ghost use Rattle.mls_tree.specs.KeptTree.{plain};
-ghost use Rattle.mls_tree.specs.Reading.{IsTreeOf};
-ghost use Rattle.mls_check.specs.GroupTree.{IsFollowed};
+ghost use Rattle.mls_tree.specs.PublicTreeModel.{plain};
+ghost use Rattle.mls_tree.specs.TreeDecoding.{IsTreeOf};
+ghost use Rattle.mls_check.specs.GroupTree.{IsSupportedContext};
 ghost use Rattle.mls_report.specs.ValidateTree.{IsContext, IsTreeFinding, ValidatesTree, ValidatesTreePart};
 
 use crate::finding::{Finding, tell, tree_hash_of};
-use crate::read::read_all;
+use crate::read_to_end::read_all;
 use crate::verdict::{RunFault, Verdict};
 use mls_check::{GroupTreeFault, SignatureCheck, validate_group_tree};
 use mls_hash::Suite;
@@ -17,7 +17,7 @@ use mls_tree::PublicTree;
 use mls_wire::{CodecFault, Sink, Source};
 use std::alloc::Global;
 
-/// What is found of a context that is followed, where the tree can be read.
+/// Returns the finding for a supported GroupContext and a decoded tree.
 fn judge_tree<C: SignatureCheck>(
     alloc: Global,
     suite: Suite,
@@ -25,7 +25,7 @@ fn judge_tree<C: SignatureCheck>(
     tree: &PublicTree,
     checker: &C,
 ) -> Result<Finding, RunFault>
-    requires followed { IsFollowed context.now }
+    requires followed { IsSupportedContext context.now }
     requires suite_of_context { suite ≡ context.now.cipher_suite }
     ensures found { (context_bytes tree_bytes : List ℕ) → IsContext context_bytes context.now
         → IsTreeOf tree_bytes (plain tree.now)
@@ -44,15 +44,15 @@ fn judge_tree<C: SignatureCheck>(
     }
 }
 
-/// What is found of the bytes of a tree, for a context that is followed. They are dropped once the tree is read.
-fn judge_tree_bytes<C: SignatureCheck>(
+/// Returns the finding for a supported GroupContext and the bytes of a tree, which are dropped after decoding.
+fn check_tree_bytes<C: SignatureCheck>(
     alloc: Global,
     suite: Suite,
     context: &GroupContext,
     tree_bytes: Vec<u8>,
     checker: &C,
 ) -> Result<Finding, RunFault>
-    requires followed { IsFollowed context.now }
+    requires followed { IsSupportedContext context.now }
     requires suite_of_context { suite ≡ context.now.cipher_suite }
     ensures found { (context_bytes : List ℕ) → IsContext context_bytes context.now
         → IfOk result (IsTreeFinding (C.meaning checker.now) context_bytes tree_bytes.items) }
@@ -67,8 +67,8 @@ fn judge_tree_bytes<C: SignatureCheck>(
     }
 }
 
-/// What is found of a context, and of the bytes of a tree.
-fn judge_context<C: SignatureCheck>(
+/// Returns the finding for a GroupContext and the bytes of a tree.
+fn check_context<C: SignatureCheck>(
     alloc: Global,
     context: &GroupContext,
     tree_bytes: Vec<u8>,
@@ -82,13 +82,13 @@ fn judge_context<C: SignatureCheck>(
         return Ok(Finding::UnsupportedVersion);
     }
     match Suite::from_u16(context.cipher_suite) {
-        Ok(suite) => judge_tree_bytes(alloc, suite, context, tree_bytes, checker),
+        Ok(suite) => check_tree_bytes(alloc, suite, context, tree_bytes, checker),
         Err(_) => Ok(Finding::UnsupportedSuite),
     }
 }
 
-/// What is found of the bytes of a context and of a tree.
-fn judge_bytes<C: SignatureCheck>(
+/// Returns the finding for the bytes of a GroupContext and of a tree.
+fn check_bytes<C: SignatureCheck>(
     alloc: Global,
     context_bytes: &[u8],
     tree_bytes: Vec<u8>,
@@ -99,20 +99,25 @@ fn judge_bytes<C: SignatureCheck>(
     ensures memory { IfErr result (λ e. e ≡ RunFault.Memory) }
 {
     match decode_context(alloc, context_bytes) {
-        Ok(context) => judge_context(alloc, &context, tree_bytes, checker),
+        Ok(context) => check_context(alloc, &context, tree_bytes, checker),
         Err(CodecFault::OutOfMemory) => Err(RunFault::Memory),
         Err(CodecFault::Wire(fault)) => Ok(Finding::ContextUnreadable(fault)),
     }
 }
 
-/// Reads the context and then the tree to their ends, and then writes one line, the first that applies:
-/// that the context can't be read, is of another version than 1 or of a cipher suite that isn't
-/// followed; that the tree can't be read; that the group's requirements can't be; which check of the
-/// tree fails first, and at which place; which rule of members does, and at which leaf; or that both are
-/// in order, with the tree's hash, which alone is `Yes`.
+/// Reads the GroupContext and then the tree to their ends, and writes one line, for the first that applies:
 ///
-/// `Read` comes where an input fails, and `Write` where the output does; then a prefix of the report may
-/// be written already. Want of memory comes before anything is written.
+/// 1. The GroupContext is not decodable, its version is not `mls10`, or its cipher suite is not supported.
+/// 2. The tree is not decodable.
+/// 3. The `required_capabilities` extension is not decodable.
+/// 4. The tree is not valid: the first check that fails, and its node index.
+/// 5. The members are not valid: the first rule that fails, and its leaf index.
+/// 6. All is valid: the tree hash. Only here the verdict is `Yes`.
+///
+/// # Errors
+///
+/// `Read` if an input fails. `Write` if the output fails; a prefix of the line may be written. `Memory` comes before
+/// anything is written.
 pub fn run_validate_tree<I: Source, T: Source, K: Sink, C: SignatureCheck>(
     alloc: Global,
     context: &mut I,
@@ -137,6 +142,6 @@ pub fn run_validate_tree<I: Source, T: Source, K: Sink, C: SignatureCheck>(
 {
     let context_bytes = read_all(alloc, context)?;
     let tree_bytes = read_all(alloc, tree)?;
-    let finding = judge_bytes(alloc, context_bytes.as_slice(), tree_bytes, checker)?;
+    let finding = check_bytes(alloc, context_bytes.as_slice(), tree_bytes, checker)?;
     tell(alloc, &finding, out)
 }

@@ -1,4 +1,4 @@
-//! How a report ends, and the exit status that tells it.
+//! How a report ends, and the exit status.
 
 ghost use Rattle.std.specs.Prelude.{◌≡◌};
 ghost use Rattle.mls_report.specs.Status.{status};
@@ -6,12 +6,12 @@ ghost use Rattle.mls_report.specs.Status.{status};
 use std::alloc::AllocError;
 use thiserror::Error;
 
-/// What a report says of its inputs, once it is written whole.
+/// The verdict of a report that is written whole.
 #[derive(Clone, Copy, Debug, PartialEq, Eq)]
 pub enum Verdict {
-    /// All is well: each input could be read, and none was refused.
+    /// Each input is readable, and none was refused.
     Yes,
-    /// An input could not be read, or was refused.
+    /// An input is not readable, or was refused.
     No,
 }
 
@@ -24,7 +24,7 @@ pub enum RunFault {
     /// The sink failed.
     #[error("write")]
     Write,
-    /// There was not enough memory.
+    /// An allocation failed.
     #[error("memory")]
     Memory,
 }
@@ -39,7 +39,7 @@ impl From<AllocError> for RunFault {
     }
 }
 
-/// The exit status of a report: 0 for yes, 1 for no, 3 for a fault.
+/// Returns the exit status: 0 for `Yes`, 1 for `No`, 3 for a fault.
 pub fn status_of(outcome: &Result<Verdict, RunFault>) -> u8
     ensures { result ≡ status outcome.now }
 {

@@ -7,7 +7,7 @@ ghost use Rattle.mls_wire.specs.Devices.{AppendsPrefix};
 use crate::verdict::RunFault;
 use mls_wire::{DeviceFault, Sink, write_all};
 
-/// Writes bytes, in as few pieces as the sink takes. Where the sink fails, a prefix was written.
+/// Writes bytes, in as few pieces as the sink takes. If the sink fails, a prefix may be written.
 pub fn write_bytes<K: Sink>(out: &mut K, bytes: &[u8]) -> Result<(), RunFault>
     requires { K.is_failed out.old ≡ false }
     ensures all { OnOk result (Appends (K.written out.old) (K.written out.new) bytes.now) }
@@ -21,7 +21,7 @@ pub fn write_bytes<K: Sink>(out: &mut K, bytes: &[u8]) -> Result<(), RunFault>
     }
 }
 
-/// Writes a text in the same way.
+/// Writes a text, as `write_bytes`.
 pub fn write_text<K: Sink>(out: &mut K, text: &str) -> Result<(), RunFault>
     requires { K.is_failed out.old ≡ false }
     ensures all { OnOk result (Appends (K.written out.old) (K.written out.new) text.now) }

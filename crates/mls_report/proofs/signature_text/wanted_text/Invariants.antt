@@ -1,5 +1,5 @@
 use Rattle.std.proofs.Common.{◌≡◌, ◌++◌, drop, string_bytes}
-use Rattle.mls_report.specs.Signatures.{wanted_lines}
+use Rattle.mls_report.specs.SignaturesReport.{wanted_lines}
 use Rattle.mls_report.proofs.signature_text.wanted_text.Given as goal
 
 -- the lines so far, and those still to come

@@ -1,7 +1,7 @@
 use Rattle.std.proofs.Common.{◌∙◌, inl, refl, rules}
 use Rattle.std.specs.Prelude.{option_map}
 use Rattle.std.proofs.lemmas.Result.{IfOk-weaker, IfErr-weaker}
-use Rattle.mls_tree.specs.KeptTree.{plain}
+use Rattle.mls_tree.specs.PublicTreeModel.{plain}
 use Rattle.mls_report.proofs.AskedStarts.{told-start, part-start, part-unread, part-memory}
 use Rattle.mls_report.proofs.Outcomes.{IfErr-is}
 use Rattle.mls_report.proofs.Replaying.{declines-unread, line-part}

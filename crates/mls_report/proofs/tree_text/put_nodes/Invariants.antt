@@ -1,5 +1,5 @@
 use Rattle.std.proofs.Common.{◌≡◌, ◌++◌, drop, map}
-use Rattle.mls_nodes.specs.Value.{entry_value}
+use Rattle.mls_nodes.specs.NodeModel.{entry_value}
 use Rattle.mls_report.specs.TreeText as lines
 use Rattle.mls_report.proofs.tree_text.put_nodes.Given as goal
 

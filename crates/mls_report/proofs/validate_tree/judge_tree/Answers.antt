@@ -1,7 +1,7 @@
 use Rattle.std.proofs.Common.{◌≡◌, ℕ, List, sym, subst}
-use Rattle.mls_tree.specs.KeptTree.{plain}
+use Rattle.mls_tree.specs.PublicTreeModel.{plain}
 use Rattle.mls_tree.specs.RatchetTree.{RatchetTree}
-use Rattle.mls_tree.specs.Reading.{IsTreeOf}
+use Rattle.mls_tree.specs.TreeDecoding.{IsTreeOf}
 use Rattle.mls_check.proofs.GroupTrees.{members_too, requirements_too, invalid_too, strangers_too}
 use Rattle.mls_report.proofs.Hashes.{length_valid}
 use Rattle.mls_report.proofs.validate_tree.judge_tree.Goals as goal

@@ -1,5 +1,0 @@
-use Rattle.mls_report.proofs.ValidEpochs.{started_valid, told_valid}
-use Rattle.mls_report.proofs.laws.told_epochs_are_valid.Goals as goal
-
-pub returns : goal.returns
-returns c = record { started = started_valid; told = told_valid }

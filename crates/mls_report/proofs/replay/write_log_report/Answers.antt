@@ -1,0 +1,16 @@
+use Rattle.std.proofs.Common.{rules, ◌∙◌, ap, subst}
+use Rattle.mls_wire.specs.Devices.{AppendsPrefix}
+use Rattle.mls_nodes.specs.declared.context.GroupContext.{GroupContext}
+use Rattle.mls_report.specs.Replay.{last_lines}
+use Rattle.mls_report.specs.declared.verdict.RunFault.TheVariants.{Write}
+use Rattle.mls_report.proofs.Outcomes.{IfErr-is}
+use Rattle.mls_report.proofs.Replaying.{part-ending}
+use Rattle.mls_report.proofs.replay.write_log_report.Goals as goal
+
+pub returns-in_err-write_text-clause-part : goal.returns-in_err-write_text-clause-part
+returns-in_err-write_text-clause-part g c =
+    let tally = c.follow_log.new.tally in
+    let epoch = ap (λ (x : GroupContext). x.epoch) c.context.ensures in
+    let text = c.as_str.ensures.value ∙ c.in_ok-text.ensures ∙ ap (λ k. last_lines c.in_ok-is_broken.is_broken tally.accepted tally.refused k) epoch in
+    IfErr-is c.from_residual-in_err-write_text.result _ Write (search rules)
+    (part-ending _ _ _ _ _ _ _ _ _ _ _ c.in_ok-is_broken.ensures.followed (subst (AppendsPrefix _ _) text c.in_err-write_text.ensures.part))

@@ -1,0 +1,15 @@
+use Rattle.std.proofs.Common.{rules, arith}
+use Rattle.mls_follow.specs.FollowerModel.{state_of}
+use Rattle.mls_report.specs.declared.verdict.RunFault.TheVariants.{Write}
+use Rattle.mls_report.proofs.Answered.{answered}
+use Rattle.mls_report.proofs.Outcomes.{IfErr-is}
+use Rattle.mls_report.proofs.replay.write_message_line.Goals as goal
+
+pub returns-in_err-write_text-clause-part : goal.returns-in_err-write_text-clause-part
+returns-in_err-write_text-clause-part g c =
+    IfErr-is c.from_residual-in_err-write_text.result _ Write (search rules) (record {
+      answer = c.take-answer.result;
+      new = state_of c.take-answer.new.self;
+      is_answer = first_of (search (rules, answered), grind (arith, answered));
+      wrote = search rules;
+    })

@@ -1,0 +1,37 @@
+use Rattle.std.proofs.Common.{rules, arith, ◌∙◌, subst}
+use Rattle.std.specs.Io.KnownBytes.{Appends}
+use Rattle.mls_wire.specs.Devices.{AppendsPrefix}
+use Rattle.mls_follow.specs.CoveredLogs.{all_good}
+use Rattle.mls_follow.specs.FollowerModel.{state_of}
+use Rattle.mls_follow.specs.Runs.{IsAnswer}
+use Rattle.mls_follow.specs.State.{State}
+use Rattle.mls_report.specs.declared.verdict.RunFault.TheVariants.{Write}
+use Rattle.mls_report.proofs.Answered.{answered}
+use Rattle.mls_report.proofs.Outcomes.{IfErr-is}
+use Rattle.mls_report.proofs.signature_log.ask_turn.Goals as goal
+
+pub returns-clause-told : goal.returns-clause-told
+returns-clause-told g c =
+    let told = c.in_ok-told.ensures.told in
+    record {
+      wanted = told.wanted;
+      wants = told.wants;
+      answer = c.take-answer.result;
+      is_answer = subst (λ (s : State). IsAnswer all_good s c.args.body.now c.take-answer.result (state_of c.take-answer.new.self))
+          c.in_ok-told.ensures.state (first_of (search (rules, answered), grind (arith, answered)));
+      wrote = subst (Appends _ _) (c.as_str.ensures.value ∙ told.text_is) c.in_ok-write_text.ensures.all;
+      read = told.read;
+    }
+
+pub returns-in_err-write_text-clause-part : goal.returns-in_err-write_text-clause-part
+returns-in_err-write_text-clause-part g c =
+    let told = c.in_ok-told.ensures.told in
+    IfErr-is c.from_residual-in_err-write_text.result _ Write (search rules) (record {
+      wanted = told.wanted;
+      wants = told.wants;
+      answer = c.take-answer.result;
+      new = state_of c.take-answer.new.self;
+      is_answer = subst (λ (s : State). IsAnswer all_good s c.args.body.now c.take-answer.result (state_of c.take-answer.new.self))
+          c.in_ok-told.ensures.state (first_of (search (rules, answered), grind (arith, answered)));
+      wrote = subst (AppendsPrefix _ _) (c.as_str.ensures.value ∙ told.text_is) c.in_err-write_text.ensures.part;
+    })

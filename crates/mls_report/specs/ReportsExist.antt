@@ -1,0 +1,27 @@
+-- Something is found of any bytes, and a replay has a report, for any checker. Used by contracts.
+use Rattle.std.specs.Prelude.{List, ℕ, Option}
+use Rattle.mls_check.specs.Signatures.{VerifyFn}
+use Rattle.mls_report.specs.UniqueReports.{IsReplayReport}
+use Rattle.mls_report.specs.StartInputs.{IsStartFinding}
+use Rattle.mls_report.specs.ValidateTree.{IsTreeFinding}
+use Rattle.mls_report.specs.declared.finding.Finding.{Finding}
+use Rattle.mls_report.specs.declared.verdict.Verdict.{Verdict}
+
+-- Something is found of the bytes of a context and of a tree.
+abbrev pub TreeFindingExists : Type 0
+TreeFindingExists =
+    (G : VerifyFn) (context_bytes tree_bytes : List ℕ)
+    → (finding : Finding) × IsTreeFinding G context_bytes tree_bytes finding
+
+-- Something is found of the bytes of a GroupInfo, and of a tree if one is passed.
+abbrev pub StartFindingExists : Type 0
+StartFindingExists =
+    (G : VerifyFn) (info_bytes : List ℕ) (tree_bytes : Option (List ℕ))
+    → (finding : Finding) × IsStartFinding G info_bytes tree_bytes finding
+
+-- The bytes of the inputs of a replay have a report.
+abbrev pub ReplayExists : Type 0
+ReplayExists =
+    (G : VerifyFn) (info_bytes : List ℕ) (tree_bytes : Option (List ℕ)) (log_bytes : List ℕ)
+    → (text : List ℕ) × (verdict : Verdict)
+    × IsReplayReport G info_bytes tree_bytes log_bytes text verdict

@@ -1,0 +1,308 @@
+-- The report `signatures`: a line for each signature to verify that has no receipt. `R` is the verification function of
+-- the receipts, `asked` are messages with their signatures; `log0`, `log1`, `written0`, `written1` as in `Replay`. Used
+-- by contracts.
+use Rattle.std.specs.Prelude.{List, [], ◌∷◌, ℕ, ◌+◌, ◌++◌, ◌&&◌, codes, length, map, Bool, true, false, if◌then◌else◌, is_some, Option, Some, None, option_map, ◌≡◌, ◌⊎◌}
+use Rattle.std.specs.Fmt.{decimal}
+use Rattle.std.specs.Io.KnownBytes.{Appends}
+use Rattle.sha2.specs.Sha256.{sha256}
+use Rattle.mls_wire.specs.Devices.{AppendsPrefix}
+use Rattle.mls_wire.specs.Logs.{IsIncomplete}
+use Rattle.mls_tree.specs.RatchetTree.{RatchetTree}
+use Rattle.mls_check.specs.Receipts.{receipt_input}
+use Rattle.mls_check.specs.Signatures.{VerifyFn}
+use Rattle.mls_msgs.specs.declared.group_info.GroupInfo.{GroupInfo}
+use Rattle.mls_follow.specs.Acceptance.{EncodesNoMessage}
+use Rattle.mls_follow.specs.CoveredLogs.{all_good}
+use Rattle.mls_follow.specs.Start.{IsStart}
+use Rattle.mls_follow.specs.State.{State}
+use Rattle.mls_signatures.specs.SignaturesToVerify.{start_signatures}
+use Rattle.mls_follow.specs.MessageSignatures.{AreSignaturesOf}
+use Rattle.mls_signatures.specs.declared.signature_to_verify.SignatureToVerify.{SignatureToVerify}
+use Rattle.mls_report.specs.Finding.{finding_line}
+use Rattle.mls_report.specs.Replay.{ProcessedMessage, Follows, IsLogEnd, IsLeftOver, still_to_come}
+use Rattle.mls_report.specs.StartInputs.{IsReadAs, ReadsBoth, ReadsAndDeclines}
+use Rattle.mls_report.specs.ValueTexts.{hex_text}
+use Rattle.mls_report.specs.declared.finding.Finding.{Finding}
+use Rattle.mls_report.specs.declared.verdict.RunFault.{RunFault}
+use Rattle.mls_report.specs.declared.verdict.RunFault.TheVariants.{Read, Write, Memory}
+use Rattle.mls_report.specs.declared.verdict.Verdict.{Verdict}
+use Rattle.mls_report.specs.declared.verdict.Verdict.TheVariants.{Yes, No}
+
+-- ---- lines
+
+-- `receipt_text receipt` is the receipt of a signature, or a dash if it has none, because a part is over the limit of a
+-- vector.
+abbrev pub receipt_text : Option (List ℕ) → List ℕ
+receipt_text None = codes "-"
+receipt_text (Some digest) = hex_text digest
+
+-- `wanted_line w` is the line of a signature: its receipt, the suite, the key, the SignContent (RFC 9420, 5.1.2) and
+-- the signature.
+abbrev pub wanted_line : SignatureToVerify → List ℕ
+wanted_line w =
+    receipt_text (option_map sha256 (receipt_input w.suite w.key w.content w.signature))
+    ++ (codes " " ++ (decimal w.suite
+    ++ (codes " " ++ (hex_text w.key
+    ++ (codes " " ++ (hex_text w.content
+    ++ (codes " " ++ (hex_text w.signature ++ codes "\n"))))))))
+
+-- `line_unless R w` is this line, unless the signature has a receipt.
+abbrev pub line_unless : VerifyFn → SignatureToVerify → List ℕ
+line_unless R w = if R w.suite w.key w.content w.signature then [] else wanted_line w
+
+-- `wanted_lines R ws` is the lines of the signatures of a list without a receipt.
+abbrev pub wanted_lines : VerifyFn → List SignatureToVerify → List ℕ
+wanted_lines R [] = []
+wanted_lines R (w ∷ ws) = line_unless R w ++ wanted_lines R ws
+
+-- ---- the messages of a log
+
+-- `HasSignatures s bytes wanted`: `wanted` is the signatures of a message in a state, or `None` if the bytes are no
+-- message.
+abbrev pub HasSignatures : State → List ℕ → Option (List SignatureToVerify) → Type 0
+HasSignatures s bytes None = EncodesNoMessage bytes
+HasSignatures s bytes (Some wanted) = AreSignaturesOf s bytes wanted
+
+-- A message of a log, and its signatures in the state before it.
+pub record LoggedMessage : Type 0 where
+  pub turn : ProcessedMessage
+  pub wanted : Option (List SignatureToVerify)
+
+-- `turns_of asked` is the messages as they are processed.
+abbrev pub turns_of : List LoggedMessage → List ProcessedMessage
+turns_of asked = map (λ a. a.turn) asked
+
+-- `HaveSignatures s asked`: the messages have these signatures, from the state `s` on.
+abbrev pub HaveSignatures : State → List LoggedMessage → Type 0
+HaveSignatures s [] = Unit {0}
+HaveSignatures s (a ∷ asked) = HasSignatures s a.turn.bytes a.wanted × HaveSignatures a.turn.state asked
+
+-- `signature_lines R n wanted` is the lines of message n: of its signatures, or, if it cannot be read, the line of
+-- `replay`.
+abbrev pub signature_lines : VerifyFn → ℕ → Option (List SignatureToVerify) → List ℕ
+signature_lines R n None = decimal n ++ codes " refused 1\n"
+signature_lines R n (Some wanted) = wanted_lines R wanted
+
+-- `log_lines R n asked` is the lines of messages, the first of which has number n.
+abbrev pub log_lines : VerifyFn → ℕ → List LoggedMessage → List ℕ
+log_lines R n [] = []
+log_lines R n (a ∷ asked) = signature_lines R n a.wanted ++ log_lines R (n + 1) asked
+
+-- `all_read asked`: each message could be read.
+abbrev pub all_read : List LoggedMessage → Bool
+all_read [] = true
+all_read (a ∷ asked) = is_some a.wanted && all_read asked
+
+-- `break_line broken count` is the line of a broken log after this number of messages, as in `replay`.
+abbrev pub break_line : Bool → ℕ → List ℕ
+break_line false count = []
+break_line true count = decimal (count + 1) ++ codes " broken\n"
+
+-- `log_verdict broken readable` is Yes if the log is not broken and each message could be read, else No.
+abbrev pub log_verdict : Bool → Bool → Verdict
+log_verdict true readable = No
+log_verdict false true = Yes
+log_verdict false false = No
+
+-- `ProcessesLog s log0 log1 asked rest`: the messages of the records that were read of a log are processed as by
+-- `replay`, each signature being good, and have these signatures. After these records the bytes `rest` were read.
+pub record ProcessesLog (s : State) (log0 log1 : Option (List ℕ)) (asked : List LoggedMessage) (rest : List ℕ)
+    : Type 0 where
+  pub follows : Follows all_good s log0 log1 (turns_of asked) rest
+  pub wants : HaveSignatures s asked
+
+-- ---- the report of a log
+
+-- `TellsAsked R s log0 log1 written0 written1 verdict`: the lines of each message were written, and the log has ended
+-- or is broken.
+pub record TellsAsked (R : VerifyFn) (s : State) (log0 log1 written0 written1 : Option (List ℕ))
+    (verdict : Verdict) : Type 0 where
+  pub asked : List LoggedMessage
+  pub rest : List ℕ
+  pub broken : Bool
+  pub asks : ProcessesLog s log0 log1 asked rest
+  pub log_end : IsLogEnd (still_to_come (turns_of asked)) rest log1 broken
+  pub wrote : Appends written0 written1 (log_lines R 1 asked ++ break_line broken (length asked))
+  pub verdict_is : verdict ≡ log_verdict broken (all_read asked)
+
+-- `AskedReading R s log0 log1 written0 written1`: the log failed. The lines of each whole message that was read were
+-- written, and the bytes after these determine nothing more.
+pub record AskedReading (R : VerifyFn) (s : State) (log0 log1 written0 written1 : Option (List ℕ)) :
+    Type 0 where
+  pub asked : List LoggedMessage
+  pub rest : List ℕ
+  pub asks : ProcessesLog s log0 log1 asked rest
+  pub undecided : IsIncomplete (still_to_come (turns_of asked)) rest
+  pub wrote : Appends written0 written1 (log_lines R 1 asked)
+
+-- `AskedInLines R s log0 log1 written0 written1`: the output failed in the lines of the last message that was read.
+-- Nothing was read after that message.
+pub record AskedInLines (R : VerifyFn) (s : State) (log0 log1 written0 written1 : Option (List ℕ)) :
+    Type 0 where
+  pub asked : List LoggedMessage
+  pub last : LoggedMessage
+  pub asks : ProcessesLog s log0 log1 (asked ++ last ∷ []) []
+  pub part : List ℕ
+  pub more : List ℕ
+  pub lines_are : signature_lines R (length asked + 1) last.wanted ≡ part ++ more
+  pub wrote : Appends written0 written1 (log_lines R 1 asked ++ part)
+
+-- `AskedInBreak R s log0 log1 written0 written1`: the output failed in the line of a broken log.
+pub record AskedInBreak (R : VerifyFn) (s : State) (log0 log1 written0 written1 : Option (List ℕ)) :
+    Type 0 where
+  pub asked : List LoggedMessage
+  pub rest : List ℕ
+  pub asks : ProcessesLog s log0 log1 asked rest
+  pub log_end : IsLogEnd (still_to_come (turns_of asked)) rest log1 true
+  pub part : List ℕ
+  pub more : List ℕ
+  pub line_is : break_line true (length asked) ≡ part ++ more
+  pub wrote : Appends written0 written1 (log_lines R 1 asked ++ part)
+
+-- `AskedWithoutMemory R s log0 log1 written0 written1`: memory ran out. The lines of each message that was read were
+-- written, except the one at which it ran out.
+pub record AskedWithoutMemory (R : VerifyFn) (s : State) (log0 log1 written0 written1 : Option (List ℕ)) :
+    Type 0 where
+  pub asked : List LoggedMessage
+  pub rest : List ℕ
+  pub asks : ProcessesLog s log0 log1 asked rest
+  pub left_over : IsLeftOver (still_to_come (turns_of asked)) rest log1
+  pub wrote : Appends written0 written1 (log_lines R 1 asked)
+
+-- `AskedPart R s log0 log1 written0 written1 fault`: what was written if the report of the log was not written whole,
+-- by the fault that is returned.
+abbrev pub AskedPart : VerifyFn → State → Option (List ℕ) → Option (List ℕ) → Option (List ℕ)
+    → Option (List ℕ) → RunFault → Type 0
+AskedPart R s log0 log1 written0 written1 Read = AskedReading R s log0 log1 written0 written1
+AskedPart R s log0 log1 written0 written1 Write =
+    AskedInLines R s log0 log1 written0 written1 ⊎ AskedInBreak R s log0 log1 written0 written1
+AskedPart R s log0 log1 written0 written1 Memory =
+    AskedWithoutMemory R s log0 log1 written0 written1
+
+-- `TellsLogIf R s log0 log1 written0 written1 verdict`: the report of the log was written, or there is no log, and the
+-- verdict is Yes.
+abbrev pub TellsLogIf : VerifyFn → State → Option (Option (List ℕ)) → Option (Option (List ℕ))
+    → Option (List ℕ) → Option (List ℕ) → Verdict → Type 0
+TellsLogIf R s None None written0 written1 verdict =
+    Appends written0 written1 [] × (verdict ≡ Yes)
+TellsLogIf R s (Some log0) (Some log1) written0 written1 verdict =
+    TellsAsked R s log0 log1 written0 written1 verdict
+TellsLogIf R s _ _ written0 written1 verdict = ⊥
+
+-- `LogPartIf R s log0 log1 ..`: a part of the lines of the log was written, before this fault. Without a log there is
+-- no such part.
+abbrev pub LogPartIf : VerifyFn → State → Option (Option (List ℕ)) → Option (Option (List ℕ))
+    → Option (List ℕ) → Option (List ℕ) → RunFault → Type 0
+LogPartIf R s (Some log0) (Some log1) written0 written1 fault =
+    AskedPart R s log0 log1 written0 written1 fault
+LogPartIf R s _ _ written0 written1 fault = ⊥
+
+-- ---- the whole report
+
+-- `StartHasSignatures info handed s wanted`: a follower starts from a GroupInfo and a tree in this state, each
+-- signature being good, and the start has these signatures.
+pub record StartHasSignatures (info : GroupInfo) (handed : Option RatchetTree) (s : State)
+    (wanted : List SignatureToVerify) : Type 0 where
+  pub start : IsStart all_good info handed s
+  pub wanted_is : wanted ≡ start_signatures info s.tree
+
+-- `ReadsStartSignatures info0 info1 tree0 tree1 s wanted`: both were read, and so a follower starts from them.
+pub record ReadsStartSignatures (info0 info1 : Option (List ℕ)) (tree0 tree1 : Option (Option (List ℕ)))
+    (s : State) (wanted : List SignatureToVerify) : Type 0 where
+  pub info_bytes : List ℕ
+  pub tree_bytes : Option (List ℕ)
+  pub both_read : ReadsBoth info0 info1 tree0 tree1 info_bytes tree_bytes
+  pub info : GroupInfo
+  pub handed : Option RatchetTree
+  pub is_read : IsReadAs info_bytes tree_bytes info handed
+  pub starts : StartHasSignatures info handed s wanted
+
+-- `DeclinesSignatures ..`: no follower starts although each signature is good. The log was not read, and one line says
+-- why.
+pub record DeclinesSignatures (info0 info1 : Option (List ℕ)) (tree0 tree1 : Option (Option (List ℕ)))
+    (log0 log1 : Option (Option (List ℕ))) (written0 written1 : Option (List ℕ))
+    (verdict : Verdict) : Type 0 where
+  pub finding : Finding
+  pub declines : ReadsAndDeclines all_good info0 info1 tree0 tree1 finding
+  pub unread : log1 ≡ log0
+  pub wrote : Appends written0 written1 (finding_line finding)
+  pub verdict_is : verdict ≡ No
+
+-- `TellsSignatures ..`: a follower starts. The lines of the start were written, and then those of the log, if there is
+-- one.
+pub record TellsSignatures (R : VerifyFn) (info0 info1 : Option (List ℕ))
+    (tree0 tree1 log0 log1 : Option (Option (List ℕ))) (written0 written1 : Option (List ℕ))
+    (verdict : Verdict) : Type 0 where
+  pub state : State
+  pub wanted : List SignatureToVerify
+  pub opens : ReadsStartSignatures info0 info1 tree0 tree1 state wanted
+  pub between : Option (List ℕ)
+  pub wrote : Appends written0 between (wanted_lines R wanted)
+  pub tells : TellsLogIf R state log0 log1 between written1 verdict
+
+-- `Signatures R ..`: the whole report `signatures`, for a start that fails or succeeds.
+abbrev pub Signatures : VerifyFn → Option (List ℕ) → Option (List ℕ) → Option (Option (List ℕ))
+    → Option (Option (List ℕ)) → Option (Option (List ℕ)) → Option (Option (List ℕ))
+    → Option (List ℕ) → Option (List ℕ) → Verdict → Type 0
+Signatures R info0 info1 tree0 tree1 log0 log1 written0 written1 verdict =
+    DeclinesSignatures info0 info1 tree0 tree1 log0 log1 written0 written1 verdict
+    ⊎ TellsSignatures R info0 info1 tree0 tree1 log0 log1 written0 written1 verdict
+
+-- ---- a part of the report
+
+-- `WritesNothing log0 log1 written0 written1`: nothing was written, and the log was not read.
+pub record WritesNothing (log0 log1 : Option (Option (List ℕ))) (written0 written1 : Option (List ℕ)) :
+    Type 0 where
+  pub unread : log1 ≡ log0
+  pub wrote : Appends written0 written1 []
+
+-- `SignaturesInDecline ..`: the output failed in the line of a refused start.
+pub record SignaturesInDecline (info0 info1 : Option (List ℕ))
+    (tree0 tree1 log0 log1 : Option (Option (List ℕ))) (written0 written1 : Option (List ℕ))
+    : Type 0 where
+  pub finding : Finding
+  pub declines : ReadsAndDeclines all_good info0 info1 tree0 tree1 finding
+  pub unread : log1 ≡ log0
+  pub wrote : AppendsPrefix written0 written1 (finding_line finding)
+
+-- `SignaturesInStart ..`: the output failed in the lines of the start.
+pub record SignaturesInStart (R : VerifyFn) (info0 info1 : Option (List ℕ))
+    (tree0 tree1 log0 log1 : Option (Option (List ℕ))) (written0 written1 : Option (List ℕ))
+    : Type 0 where
+  pub state : State
+  pub wanted : List SignatureToVerify
+  pub opens : ReadsStartSignatures info0 info1 tree0 tree1 state wanted
+  pub unread : log1 ≡ log0
+  pub wrote : AppendsPrefix written0 written1 (wanted_lines R wanted)
+
+-- `SignaturesBefore .. fault`: nothing of the log was read, by the fault that is returned.
+abbrev pub SignaturesBefore : VerifyFn → Option (List ℕ) → Option (List ℕ) → Option (Option (List ℕ))
+    → Option (Option (List ℕ)) → Option (Option (List ℕ)) → Option (Option (List ℕ))
+    → Option (List ℕ) → Option (List ℕ) → RunFault → Type 0
+SignaturesBefore R info0 info1 tree0 tree1 log0 log1 written0 written1 Read =
+    WritesNothing log0 log1 written0 written1
+SignaturesBefore R info0 info1 tree0 tree1 log0 log1 written0 written1 Write =
+    SignaturesInDecline info0 info1 tree0 tree1 log0 log1 written0 written1
+    ⊎ SignaturesInStart R info0 info1 tree0 tree1 log0 log1 written0 written1
+SignaturesBefore R info0 info1 tree0 tree1 log0 log1 written0 written1 Memory =
+    WritesNothing log0 log1 written0 written1
+
+-- `SignaturesAfter .. fault`: the lines of the start were written whole, and those of the log were not.
+pub record SignaturesAfter (R : VerifyFn) (info0 info1 : Option (List ℕ))
+    (tree0 tree1 log0 log1 : Option (Option (List ℕ))) (written0 written1 : Option (List ℕ))
+    (fault : RunFault) : Type 0 where
+  pub state : State
+  pub wanted : List SignatureToVerify
+  pub opens : ReadsStartSignatures info0 info1 tree0 tree1 state wanted
+  pub between : Option (List ℕ)
+  pub wrote : Appends written0 between (wanted_lines R wanted)
+  pub tells : LogPartIf R state log0 log1 between written1 fault
+
+-- `SignaturesPart .. fault`: what was written if the report was not written whole, by the fault that is returned. It is
+-- a prefix of what the bytes that were read determine.
+abbrev pub SignaturesPart : VerifyFn → Option (List ℕ) → Option (List ℕ) → Option (Option (List ℕ))
+    → Option (Option (List ℕ)) → Option (Option (List ℕ)) → Option (Option (List ℕ))
+    → Option (List ℕ) → Option (List ℕ) → RunFault → Type 0
+SignaturesPart R info0 info1 tree0 tree1 log0 log1 written0 written1 fault =
+    SignaturesBefore R info0 info1 tree0 tree1 log0 log1 written0 written1 fault
+    ⊎ SignaturesAfter R info0 info1 tree0 tree1 log0 log1 written0 written1 fault

@@ -1,0 +1,46 @@
+-- The contracts of the steps of a start. Internal: no public contract uses this.
+use Rattle.std.specs.Prelude.{List, [], ℕ, Option, ◌≡◌, ◌≢◌}
+use Rattle.std.specs.Io.KnownBytes.{Appends}
+use Rattle.mls_wire.specs.Devices.{AppendsPrefix}
+use Rattle.mls_check.specs.Signatures.{VerifyFn}
+use Rattle.mls_follow.specs.declared.start_fault.StartFault.{StartFault}
+use Rattle.mls_follow.specs.declared.start_fault.StartFault.TheVariants as starts
+use Rattle.mls_report.specs.Finding.{finding_line, finding_verdict}
+use Rattle.mls_report.specs.StartInputs.{IsStartFinding}
+use Rattle.mls_report.specs.declared.finding.Finding.{Finding}
+use Rattle.mls_report.specs.declared.finding.Finding.TheVariants.{StartRefused}
+use Rattle.mls_report.specs.declared.read_inputs.StartFailure.{StartFailure}
+use Rattle.mls_report.specs.declared.read_inputs.StartFailure.TheVariants.{Found, Fault}
+use Rattle.mls_report.specs.declared.verdict.RunFault.{RunFault}
+use Rattle.mls_report.specs.declared.verdict.RunFault.TheVariants.{Read, Write, Memory}
+use Rattle.mls_report.specs.declared.verdict.Verdict.{Verdict}
+use Rattle.mls_report.specs.declared.verdict.Verdict.TheVariants.{No}
+
+-- Why no follower has started: a finding with this property, unless memory ran out.
+abbrev pub Says : (Finding → Type 0) → StartFailure → Type 0
+Says P (Found finding) = P finding
+Says P (Fault e) = e ≡ Memory
+
+-- An input is not decodable: this is the finding, whatever the signature check means.
+pub record IsUnread (info_bytes : List ℕ) (tree_bytes : Option (List ℕ)) (finding : Finding)
+    : Type 0 where
+  pub found : (G : VerifyFn) → IsStartFinding G info_bytes tree_bytes finding
+  pub verdict : finding_verdict finding ≡ No
+
+-- The line of a start that failed with this fault was written.
+pub record RefusesStart (fault : StartFault) (written0 written1 : Option (List ℕ)) (verdict : Verdict)
+    : Type 0 where
+  pub own : fault ≢ starts.OutOfMemory
+  pub wrote : Appends written0 written1 (finding_line (StartRefused fault))
+  pub verdict_is : verdict ≡ No
+
+-- A prefix of it was written.
+pub record RefusesInLine (fault : StartFault) (written0 written1 : Option (List ℕ)) : Type 0 where
+  pub own : fault ≢ starts.OutOfMemory
+  pub wrote : AppendsPrefix written0 written1 (finding_line (StartRefused fault))
+
+-- What was written of it, with this fault.
+abbrev pub RefusesStartPart : StartFault → Option (List ℕ) → Option (List ℕ) → RunFault → Type 0
+RefusesStartPart fault written0 written1 Read = ⊥
+RefusesStartPart fault written0 written1 Write = RefusesInLine fault written0 written1
+RefusesStartPart fault written0 written1 Memory = Appends written0 written1 []

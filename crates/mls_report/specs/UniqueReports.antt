@@ -1,0 +1,82 @@
+-- A report is a function of the bytes of its inputs and of the checker's verification function G. Used by contracts.
+use Rattle.std.specs.Prelude.{List, ℕ, ◌++◌, Bool, Option, Some, option_map, ◌≡◌, ◌⊎◌}
+use Rattle.mls_check.specs.Signatures.{VerifyFn}
+use Rattle.mls_follow.specs.State.{State}
+use Rattle.mls_report.specs.Finding.{finding_line}
+use Rattle.mls_report.specs.Replay.{ProcessedMessage, Follows, IsLogEnd, Replays, still_to_come}
+use Rattle.mls_report.specs.StartInputs.{IsStarted, IsStartFinding}
+use Rattle.mls_report.specs.ValidateTree.{IsTreeFinding}
+use Rattle.mls_report.specs.declared.finding.Finding.{Finding}
+use Rattle.mls_report.specs.declared.finding.Finding.TheVariants.{ContextUnreadable, InfoUnreadable, TreeUnreadable}
+use Rattle.mls_report.specs.declared.verdict.Verdict.{Verdict}
+
+-- ---- what is found
+
+-- `AreAlike finding other`: the findings are equal, except for which fault is named of an input that cannot be read.
+abbrev pub AreAlike : Finding → Finding → Type 0
+AreAlike (ContextUnreadable fault) (ContextUnreadable other) = Unit {0}
+AreAlike (InfoUnreadable fault) (InfoUnreadable other) = Unit {0}
+AreAlike (TreeUnreadable fault) (TreeUnreadable other) = Unit {0}
+AreAlike finding other = finding ≡ other
+
+-- Of the bytes of a context and of a tree one thing is found.
+abbrev pub TreeFindingIsUnique : Type 0
+TreeFindingIsUnique =
+    (G : VerifyFn) (context_bytes tree_bytes : List ℕ) (finding other : Finding)
+    → IsTreeFinding G context_bytes tree_bytes finding
+    → IsTreeFinding G context_bytes tree_bytes other → AreAlike finding other
+
+-- Of the bytes of a GroupInfo, and of a tree if one is passed, one thing is found.
+abbrev pub StartFindingIsUnique : Type 0
+StartFindingIsUnique =
+    (G : VerifyFn) (info_bytes : List ℕ) (tree_bytes : Option (List ℕ)) (finding other : Finding)
+    → IsStartFinding G info_bytes tree_bytes finding
+    → IsStartFinding G info_bytes tree_bytes other → AreAlike finding other
+
+-- From the bytes of a GroupInfo, and of a tree if one is passed, a follower starts in one state.
+abbrev pub StartIsUnique : Type 0
+StartIsUnique =
+    (G : VerifyFn) (info_bytes : List ℕ) (tree_bytes : Option (List ℕ)) (s other : State)
+    → IsStarted G info_bytes tree_bytes s → IsStarted G info_bytes tree_bytes other → s ≡ other
+
+-- ---- a replay
+
+-- `EndsLog G s log left turns broken`: the messages of a log are processed from the state `s` on, and the log has ended
+-- or is broken.
+pub record EndsLog (G : VerifyFn) (s : State) (log left : Option (List ℕ)) (turns : List ProcessedMessage)
+    (broken : Bool) : Type 0 where
+  pub rest : List ℕ
+  pub follows : Follows G s log left turns rest
+  pub log_end : IsLogEnd (still_to_come turns) rest left broken
+
+-- The bytes of a log determine which messages are processed, the result of each, and whether the log is broken.
+abbrev pub LogIsUnique : Type 0
+LogIsUnique =
+    (G : VerifyFn) (s : State) (log : List ℕ) (left behind : Option (List ℕ)) (turns others : List ProcessedMessage)
+    (broken end : Bool) → EndsLog G s (Some log) left turns broken
+    → EndsLog G s (Some log) behind others end → (turns ≡ others) × (broken ≡ end)
+
+-- `AreAlikeTexts text other`: the texts are equal, except for which fault is named of an input that cannot be read.
+abbrev pub AreAlikeTexts : List ℕ → List ℕ → Type 0
+AreAlikeTexts text other =
+    (text ≡ other) ⊎ ((finding : Finding) × (more : Finding) × AreAlike finding more
+    × (text ≡ finding_line finding) × (other ≡ finding_line more))
+
+-- `IsReplayReport G info_bytes tree_bytes log_bytes text verdict`: a replay over these bytes has written this text, and
+-- has this verdict.
+pub record IsReplayReport (G : VerifyFn) (info_bytes : List ℕ) (tree_bytes : Option (List ℕ))
+    (log_bytes text : List ℕ) (verdict : Verdict) : Type 0 where
+  pub info_left : Option (List ℕ)
+  pub tree_left : Option (Option (List ℕ))
+  pub log_left : Option (List ℕ)
+  pub before : List ℕ
+  pub replays : Replays G (Some info_bytes) info_left (option_map Some tree_bytes) tree_left
+      (Some log_bytes) log_left (Some before) (Some (before ++ text)) verdict
+
+-- The bytes of its inputs determine what a replay writes, and its verdict.
+abbrev pub ReplayIsUnique : Type 0
+ReplayIsUnique =
+    (G : VerifyFn) (info_bytes : List ℕ) (tree_bytes : Option (List ℕ)) (log_bytes text other : List ℕ)
+    (verdict more : Verdict) → IsReplayReport G info_bytes tree_bytes log_bytes text verdict
+    → IsReplayReport G info_bytes tree_bytes log_bytes other more
+    → AreAlikeTexts text other × (verdict ≡ more)

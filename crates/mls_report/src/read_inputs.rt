@@ -1,0 +1,174 @@
+//! How the reports of a group begin: the GroupInfo and the tree are read, and a follower starts from them.
+
+ghost use Rattle.std.specs.Prelude.{◌≡◌, ◌≢◌, ◌↔◌, ◌⊎◌, List, ℕ, Option, false, true, Err, IfOk, IfErr, option_map};
+ghost use Rattle.mls_tree.specs.PublicTreeModel.{plain};
+ghost use Rattle.mls_report.specs.StartInputs.{IsInfo, IsHanded, IsHandedUnread, IsReadAs, ReadsBoth, ReadsHanded, has_failed};
+ghost use Rattle.mls_report.specs.StartSteps.{Says, IsUnread, RefusesStart, RefusesStartPart};
+
+use crate::finding::{Finding, tell};
+use crate::read_to_end::read_all;
+use crate::verdict::{RunFault, Verdict};
+use mls_follow::StartFault;
+use mls_msgs::{GroupInfo, Message, decode_message};
+use mls_nodes::NodeFault;
+use mls_tree::PublicTree;
+use mls_wire::{CodecFault, Sink, Source};
+use std::alloc::Global;
+
+/// Why no follower has started.
+#[derive(Clone, Copy)]
+pub(crate) enum StartFailure {
+    /// The inputs are not good.
+    Found(Finding),
+    /// A fault ended the report.
+    Fault(RunFault),
+}
+
+/// Reads the source of the tree to its end, if there is one.
+pub(crate) fn read_optional_tree<T: Source>(
+    alloc: Global,
+    source: &mut Option<T>,
+) -> Result<Option<Vec<u8>>, RunFault>
+    requires { has_failed (option_map T.is_failed source.old) ≡ false }
+    ensures all { IfOk result
+        (λ bytes. ReadsHanded (option_map T.left source.old) (option_map T.left source.new)
+        (option_map (λ v. v.items) bytes)) }
+    ensures read { (result ≡ Err RunFault.Read)
+        ↔ (has_failed (option_map T.is_failed source.new) ≡ true) }
+    ensures fault { IfErr result (λ e. e ≢ RunFault.Write) }
+{
+    match source {
+        Some(source) => Ok(Some(read_all(alloc, source)?)),
+        None => Ok(None),
+    }
+}
+
+/// The bytes of the inputs.
+#[derive(Drop)]
+pub(crate) struct InputBytes {
+    /// Those of the GroupInfo.
+    pub(crate) info: Vec<u8>,
+    /// Those of the tree, if there is a file of it.
+    pub(crate) tree: Option<Vec<u8>>,
+}
+
+/// Reads the GroupInfo to its end, and then the tree, if there is a file of it.
+pub(crate) fn read_inputs_to_end<I: Source, T: Source>(
+    alloc: Global,
+    info: &mut I,
+    tree: &mut Option<T>,
+) -> Result<InputBytes, RunFault>
+    requires info { I.is_failed info.old ≡ false }
+    requires tree { has_failed (option_map T.is_failed tree.old) ≡ false }
+    ensures both { IfOk result
+        (λ bytes. ReadsBoth (I.left info.old) (I.left info.new)
+        (option_map T.left tree.old) (option_map T.left tree.new)
+        bytes.info.items (option_map (λ v. v.items) bytes.tree)) }
+    ensures read { (result ≡ Err RunFault.Read)
+        ↔ ((I.is_failed info.new ≡ true) ⊎ (has_failed (option_map T.is_failed tree.new) ≡ true)) }
+    ensures fault { IfErr result (λ e. e ≢ RunFault.Write) }
+{
+    let info = read_all(alloc, info)?;
+    match read_optional_tree(alloc, tree) {
+        Ok(tree) => Ok(InputBytes { info, tree }),
+        Err(fault) => {
+            drop(info);
+            Err(fault)
+        }
+    }
+}
+
+/// Decodes the GroupInfo.
+fn read_info(alloc: Global, bytes: &[u8]) -> Result<GroupInfo, StartFailure>
+    ensures info { IfOk result (IsInfo bytes.now) }
+    ensures unread { (tree_bytes : Option (List ℕ))
+        → IfErr result (Says (IsUnread bytes.now tree_bytes)) }
+{
+    match decode_message(alloc, bytes) {
+        Ok(Message::GroupInfo(info)) => Ok(info),
+        Ok(other) => {
+            drop(other);
+            Err(StartFailure::Found(Finding::NotGroupInfo))
+        }
+        Err(CodecFault::OutOfMemory) => Err(StartFailure::Fault(RunFault::Memory)),
+        Err(CodecFault::Wire(fault)) => Err(StartFailure::Found(Finding::InfoUnreadable(fault))),
+    }
+}
+
+/// Decodes the tree, if there is a file of it.
+fn read_tree(alloc: Global, bytes: &Option<Vec<u8>>) -> Result<Option<PublicTree>, NodeFault>
+    ensures tree { IfOk result (λ t.
+        IsHanded (option_map (λ v. v.items) bytes.now) (option_map plain t)) }
+    ensures unread { IfErr result (λ fault. fault ≢ NodeFault.OutOfMemory
+        → IsHandedUnread (option_map (λ v. v.items) bytes.now)) }
+{
+    match bytes {
+        Some(bytes) => Ok(Some(PublicTree::decode(alloc, bytes.as_slice())?)),
+        None => Ok(None),
+    }
+}
+
+/// The decoded inputs.
+#[derive(Drop)]
+pub(crate) struct Inputs {
+    /// The GroupInfo.
+    pub(crate) info: GroupInfo,
+    /// The tree, if there is a file of it.
+    pub(crate) tree: Option<PublicTree>,
+}
+
+/// Decodes the GroupInfo, and the tree if there is a file of it. Drops the bytes.
+pub(crate) fn read_inputs(
+    alloc: Global,
+    info_bytes: Vec<u8>,
+    tree_bytes: Option<Vec<u8>>,
+) -> Result<Inputs, StartFailure>
+    ensures read { IfOk result
+        (λ inputs. IsReadAs info_bytes.items (option_map (λ v. v.items) tree_bytes)
+        inputs.info (option_map plain inputs.tree)) }
+    ensures unread { IfErr result
+        (Says (IsUnread info_bytes.items (option_map (λ v. v.items) tree_bytes))) }
+{
+    let info = read_info(alloc, info_bytes.as_slice())?;
+    match read_tree(alloc, &tree_bytes) {
+        Ok(tree) => Ok(Inputs { info, tree }),
+        Err(fault) => {
+            drop(info);
+            match fault {
+                NodeFault::OutOfMemory => Err(StartFailure::Fault(RunFault::Memory)),
+                _ => Err(StartFailure::Found(Finding::TreeUnreadable(fault))),
+            }
+        }
+    }
+}
+
+/// Returns the finding for a start that failed.
+pub(crate) fn refused_start(fault: StartFault) -> Result<Finding, RunFault>
+    ensures found { IfOk result
+        (λ finding. (fault ≢ StartFault.OutOfMemory) × (finding ≡ Finding.StartRefused fault)) }
+    ensures memory { IfErr result (λ e. e ≡ RunFault.Memory) }
+{
+    match fault {
+        StartFault::OutOfMemory => Err(RunFault::Memory),
+        _ => Ok(Finding::StartRefused(fault)),
+    }
+}
+
+/// Writes the line of a start that failed.
+pub(crate) fn tell_refused<K: Sink>(
+    alloc: Global,
+    fault: StartFault,
+    out: &mut K,
+) -> Result<Verdict, RunFault>
+    requires { K.is_failed out.old ≡ false }
+    ensures told { IfOk result (RefusesStart fault (K.written out.old) (K.written out.new)) }
+    ensures part { IfErr result
+        (RefusesStartPart fault (K.written out.old) (K.written out.new)) }
+    ensures write { (result ≡ Err RunFault.Write) ↔ (K.is_failed out.new ≡ true) }
+    ensures fault { IfErr result (λ e. e ≢ RunFault.Read) }
+{
+    match refused_start(fault) {
+        Ok(finding) => tell(alloc, &finding, out),
+        Err(fault) => Err(fault),
+    }
+}

@@ -7,12 +7,12 @@ use Rattle.serde_json.specs.Data.{Num, unsigned, negative, float, Data, null, bo
 use Rattle.serde_json.specs.Find.{as_null, as_number, as_u64}
 use Rattle.mls_tree.specs.RatchetTree.{RatchetTree}
 use Rattle.mls_tree.specs.Tree.{Tree, leaf, branch, height, leaf_count, leaves_at, IsPerfect, Subtree, subtree_at, root_place}
-use Rattle.mls_tree.specs.Places.{left_at, right_at, left_place, right_place, IsParentOf, AreSiblings}
+use Rattle.mls_tree.specs.NodeIndices.{left_at, right_at, left_place, right_place, IsParentOf, AreSiblings}
 use Rattle.mls_tree.proofs.Coordinates.{Coordinates, coordinates, coordinates-unique, root_place-perfect, some_tree, leaf_count-low, left_at-half, right_at-half}
 use Rattle.mls_tree.proofs.Numbers.{leaves_at-low}
 use Rattle.mls_tree.proofs.Trees.{leaf_count-perfect, leaf_count-positive, subtree_at-perfect}
 use Rattle.mls_vectors.specs.TreeMath.{IsEntry, entry_place}
-use Rattle.mls_vectors.specs.CheckSeen.{relation}
+use Rattle.mls_vectors.specs.CheckModel.{relation}
 use Rattle.mls_vectors.specs.declared.tree_math.Column.{Column}
 use Rattle.mls_vectors.specs.declared.tree_math.Column.TheVariants as columns
 

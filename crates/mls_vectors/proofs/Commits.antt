@@ -3,19 +3,25 @@ use Rattle.std.proofs.Common.{◌≡◌, ◌++◌, ℕ, List, true, false, Optio
 use Rattle.std.specs.Prelude.{if◌then◌else◌}
 use Rattle.std.specs.Int.{w16}
 use Rattle.std.proofs.lemmas.Option.{none-some}
-use Rattle.mls_wire.specs.Joined.{joined, join}
-use Rattle.mls_wire.specs.Laws.{unambiguous}
-use Rattle.mls_wire.specs.Spelling.{◌⊕◌, number, vector}
+use Rattle.mls_wire.specs.EncodingConcat.{joined, join}
+use Rattle.mls_wire.specs.Encoding.{◌⊕◌, number, vector}
+use Rattle.mls_wire.specs.OptionBind.{allowed}
 use Rattle.mls_msgs.specs.Authenticated.{authenticated_content, is_frame_format, frame_format, tag_if, signed_frame, frame_auth}
-use Rattle.mls_msgs.specs.AuthenticatedExact.{authenticated_content_exact}
-use Rattle.mls_msgs.specs.FrameParsing.{authenticated_content_at}
 use Rattle.mls_msgs.specs.Layout.{framed_content, is_commit}
-use Rattle.mls_msgs.specs.Signed.{confirmed_input}
+use Rattle.mls_msgs.specs.Profile.{is_members_authenticated, authenticated_in}
+use Rattle.mls_msgs.specs.Tbs.{confirmed_input}
+use Rattle.mls_msgs.specs.declared.profile.Profile.TheVariants.{Members}
 use Rattle.mls_msgs.specs.declared.authenticated.AuthenticatedParts.{AuthenticatedParts}
+use Rattle.mls_msgs.proofs.Profiles.{authenticated_once}
 
--- bytes spell one authenticated content
-pub authenticated_one : (x y : AuthenticatedParts) (bytes : List ℕ) → authenticated_content x ≡ Some bytes → authenticated_content y ≡ Some bytes → x ≡ y
-authenticated_one x y bytes p q = (unambiguous authenticated_content authenticated_content_at authenticated_content_exact).once x y bytes p q
+-- what is encoded in the members' profile is encoded
+encoded : (a : AuthenticatedParts) (bytes : List ℕ) → authenticated_in Members a ≡ Some bytes → authenticated_content a ≡ Some bytes
+unfolding authenticated_in
+encoded a bytes e = (allowed (is_members_authenticated a) (authenticated_content a) bytes e).1
+
+-- bytes encode at most one AuthenticatedContent in the members' profile
+pub authenticated_one : (x y : AuthenticatedParts) (bytes : List ℕ) → authenticated_in Members x ≡ Some bytes → authenticated_in Members y ≡ Some bytes → x ≡ y
+authenticated_one x y bytes p q = authenticated_once x y bytes (encoded x bytes p) (encoded y bytes q)
 
 there : (o : Option (List ℕ)) (x : List ℕ) → o ≡ Some x → IsSome o
 there o x e = subst (λ (y : Option (List ℕ)). IsSome y) (sym e) refl
@@ -28,11 +34,11 @@ formatted n x e =
       | false ↦ λ h. absurd (none-some x h)
     ] e
 
--- what of a spelled content is hashed has a spelling
-pub input_there : (a : AuthenticatedParts) (bytes : List ℕ) → authenticated_content a ≡ Some bytes → IsSome (confirmed_input a)
+-- the part of an encoded AuthenticatedContent that is hashed has an encoding
+pub input_there : (a : AuthenticatedParts) (bytes : List ℕ) → authenticated_in Members a ≡ Some bytes → IsSome (confirmed_input a)
 unfolding authenticated_content signed_frame frame_auth confirmed_input
 input_there a bytes e =
-    let whole = joined (frame_format a.wire_format) (signed_frame a) bytes e in
+    let whole = joined (frame_format a.wire_format) (signed_frame a) bytes (encoded a bytes e) in
     let parts = joined (framed_content a.content) (frame_auth (is_commit a.content.content) (a.signature, a.confirmation_tag)) whole.1 whole.3 in
     let signed = joined (vector a.signature) (tag_if (is_commit a.content.content) a.confirmation_tag) parts.1 parts.3 in
     there (confirmed_input a) (whole.0 ++ (parts.0 ++ signed.0))

@@ -5,7 +5,7 @@ use Rattle.serde_json.specs.View.{items_view}
 use Rattle.serde_json.specs.declared.value.Value.{Value}
 use Rattle.mls_tree.specs.Tree.{Tree}
 use Rattle.mls_hash.specs.SubtreeHashes.{AreSubtreeHashes}
-use Rattle.mls_vectors.specs.CheckSeen.{IsKeptHash}
+use Rattle.mls_vectors.specs.CheckModel.{IsKeptHash}
 use Rattle.mls_vectors.specs.TreeValidation.{IsTreeHash}
 use Rattle.mls_vectors.specs.VectorFile.{AreEntries, HasEntries}
 

@@ -1,6 +1,6 @@
-pub mod Check
-pub mod CheckSeen
-pub mod Outcomes
+pub mod CheckReport
+pub mod CheckModel
+pub mod VectorResults
 pub mod TranscriptVectors
 pub mod TreeMath
 pub mod TreeOperations

@@ -3,28 +3,28 @@
 ghost use Rattle.std.specs.Prelude.{◌≡◌, ◌↔◌, false, true, [], Err, map, IfOk, OnErr, IfErr, option_map};
 ghost use Rattle.std.specs.Io.KnownBytes.{Appends};
 ghost use Rattle.serde_json.specs.View.{view, items_view};
-ghost use Rattle.mls_vectors.specs.Check.{AreOutcomes, Checks, ChecksPart, IsCheckReport, IsNoVectorsReport, IsOutcomeOf, IsOutcomesReport, IsVectorsReport};
-ghost use Rattle.mls_vectors.specs.CheckSeen.{outcome_of, IsValueReport};
+ghost use Rattle.mls_vectors.specs.CheckReport.{AreOutcomes, Checks, ChecksPart, IsCheckReport, IsNoVectorsReport, IsOutcomeOf, IsOutcomesReport, IsVectorsReport};
+ghost use Rattle.mls_vectors.specs.CheckModel.{outcome_of, IsValueReport};
 ghost use Rattle.mls_vectors.specs.VectorFile as vectors;
 ghost use Rattle.mls_vectors.specs.VectorFile.{vectors_of};
 
-use crate::lines::{count, counts_line, outcome_lines};
+use crate::report_lines::{count, counts_line, outcome_lines};
 use crate::transcript::transcript_outcome;
 use crate::tree_math::tree_math_outcome;
 use crate::tree_operations::tree_operations_outcome;
 use crate::tree_validation::tree_validation_outcome;
-use crate::vector_outcome::Outcome;
+use crate::vector_result::Outcome;
 use mls_report::{Report, RunFault, Verdict, read_all, write_bytes};
 use mls_wire::{MAX_INPUT, Sink, Source};
 use serde_json::Value;
 use std::alloc::{AllocError, Global};
 
-/// What the vectors of a file check.
+/// The kind of a file of test vectors.
 #[derive(Clone, Copy, Debug, PartialEq, Eq)]
 pub enum CheckKind {
-    /// The places of the nodes of a tree (RFC 9420, 4.1.1 and Appendix C).
+    /// Node indices of a tree (RFC 9420, 4.1.1 and Appendix C).
     TreeMath,
-    /// A tree, with its resolutions and tree hashes, which has to be valid (RFC 9420, 4.1.1, 7.8 and 12.4.3.1).
+    /// A tree that must be valid, with its resolutions and tree hashes (RFC 9420, 4.1.1, 7.8 and 12.4.3.1).
     TreeValidation,
     /// A tree before and after one proposal (RFC 9420, 12.1 and 12.3).
     TreeOperations,
@@ -32,7 +32,7 @@ pub enum CheckKind {
     Transcript,
 }
 
-/// Whether each value is an object.
+/// Returns whether each value is an object.
 fn are_objects(values: &[Value]) -> bool
     ensures { result ≡ vectors.are_objects (items_view values.now) }
 {
@@ -46,7 +46,7 @@ fn are_objects(values: &[Value]) -> bool
     true
 }
 
-/// The vectors that a value holds: an array of objects.
+/// Returns the vectors in a value: an array of objects.
 fn vectors_in(whole: &Value) -> Option<&Vec<Value>>
     ensures { option_map (λ v. items_view v.now.items) result ≡ vectors_of (view whole.now) }
 {
@@ -58,7 +58,7 @@ fn vectors_in(whole: &Value) -> Option<&Vec<Value>>
     }
 }
 
-/// The outcome of a vector.
+/// Returns the outcome of a vector.
 fn outcome_by(alloc: Global, kind: CheckKind, vector: &Value) -> Result<Outcome, AllocError>
     ensures { IfOk result (λ o. IsOutcomeOf kind (view vector.now) (outcome_of o)) }
 {
@@ -70,7 +70,7 @@ fn outcome_by(alloc: Global, kind: CheckKind, vector: &Value) -> Result<Outcome,
     }
 }
 
-/// The outcomes of vectors.
+/// Returns the outcomes of vectors.
 fn outcomes_by(
     alloc: Global,
     kind: CheckKind,
@@ -88,7 +88,7 @@ fn outcomes_by(
     Ok(outcomes)
 }
 
-/// The report of outcomes.
+/// Returns the report of outcomes.
 fn outcomes_report(alloc: Global, outcomes: &[Outcome]) -> Result<Report, AllocError>
     ensures { IfOk result
         (λ r. IsOutcomesReport (map outcome_of outcomes.now) r.bytes.items r.verdict) }
@@ -105,7 +105,7 @@ fn outcomes_report(alloc: Global, outcomes: &[Outcome]) -> Result<Report, AllocE
     Ok(Report::of_text(text, verdict))
 }
 
-/// The report of a file without vectors that can be read.
+/// Returns the report of a file that is no array of vectors.
 fn no_vectors_report(alloc: Global) -> Result<Report, AllocError>
     ensures { IfOk result (λ r. IsNoVectorsReport r.bytes.items r.verdict) }
 {
@@ -115,7 +115,7 @@ fn no_vectors_report(alloc: Global) -> Result<Report, AllocError>
     })
 }
 
-/// The report of vectors.
+/// Returns the report of vectors.
 fn vectors_report(alloc: Global, kind: CheckKind, vectors: &[Value]) -> Result<Report, AllocError>
     ensures { IfOk result (λ r.
         IsVectorsReport kind (items_view vectors.now) r.bytes.items r.verdict) }
@@ -124,7 +124,7 @@ fn vectors_report(alloc: Global, kind: CheckKind, vectors: &[Value]) -> Result<R
     outcomes_report(alloc, outcomes.as_slice())
 }
 
-/// The report of a JSON text.
+/// Returns the report of a JSON text.
 fn whole_report(alloc: Global, kind: CheckKind, whole: &Value) -> Result<Report, AllocError>
     ensures { IfOk result
         (λ r. IsValueReport kind (view whole.now) r.bytes.items r.verdict) }
@@ -135,7 +135,7 @@ fn whole_report(alloc: Global, kind: CheckKind, whole: &Value) -> Result<Report,
     }
 }
 
-/// The report of the bytes of a file.
+/// Returns the report of a file's bytes.
 fn check_report(alloc: Global, kind: CheckKind, bytes: &[u8]) -> Result<Report, RunFault>
     ensures report { IfOk result
         (λ r. IsCheckReport kind bytes.now r.bytes.items r.verdict) }
@@ -160,15 +160,20 @@ fn check_report(alloc: Global, kind: CheckKind, bytes: &[u8]) -> Result<Report, 
     }
 }
 
-/// Reads a file of test vectors to its end, a JSON array of objects, and then writes a line for each of
-/// them: `N pass`; `N fail` and the name of the first check that fails; or `N skip`, where its cipher suite
-/// is a whole number that is that of no suite that is followed. A last line has the counts of each, and is
-/// `Yes` where none failed. A member that is missing or of another JSON type than its check wants fails at
-/// its turn. Where the input is no such array, or longer than [`mls_wire::MAX_INPUT`], it writes the line
-/// `vectors unreadable`, `No`.
+/// Reads a file of test vectors, a JSON array of objects, to its end, and writes a line for each:
 ///
-/// `Read` comes where the input fails, and `Write` where the output does; then a prefix of the report
-/// may be written already. Want of memory comes before anything is written.
+/// - `N pass`;
+/// - `N fail` and the name of the first check that fails;
+/// - `N skip` if the cipher suite is a whole number, but not of a supported suite.
+///
+/// The last line has the number of each; the verdict is `Yes` if none failed. A member that is missing or of the wrong
+/// JSON type fails when its check comes. If the input is no such array, or longer than [`mls_wire::MAX_INPUT`], the
+/// report is the line `vectors unreadable`, and the verdict is `No`.
+///
+/// # Errors
+///
+/// `Read` if the input fails. `Write` if the output fails; a prefix of the report may be written. `Memory` comes before
+/// anything is written.
 pub fn run_check<S: Source, K: Sink>(
     alloc: Global,
     kind: CheckKind,

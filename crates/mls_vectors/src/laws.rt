@@ -1,8 +1,8 @@
-//! A law about the definitions of the report, which no call of a caller's needs to run.
+//! A property of the report's definition. No caller needs to run this function.
 
-ghost use Rattle.mls_vectors.specs.Check.{TellsUnreadable};
+ghost use Rattle.mls_vectors.specs.CheckReport.{TellsUnreadable};
 
-/// The report of a file of vectors is the line `vectors unreadable` just where no vectors can be read from it.
+/// The report of a file is the line `vectors unreadable` exactly if it is no array of vectors.
 pub fn unreadable_is_told()
     ensures { TellsUnreadable }
 {}

@@ -2,15 +2,15 @@
 #![tactic(auto)]
 
 mod check;
+mod json_members;
 pub mod laws;
-mod lines;
-mod members;
+mod report_lines;
 mod suite;
 mod transcript;
 mod tree_math;
 mod tree_operations;
 mod tree_validation;
-mod trees;
-mod vector_outcome;
+mod vector_result;
+mod vector_trees;
 
 pub use check::{CheckKind, run_check};

@@ -3,24 +3,24 @@
 ghost use Rattle.std.specs.Prelude.{◌≡◌, IfSome, IfNone};
 ghost use Rattle.serde_json.specs.View.{view};
 ghost use Rattle.mls_hash.specs.Suites.{IsSupported};
-ghost use Rattle.mls_vectors.specs.CheckSeen.{SaysSuite};
+ghost use Rattle.mls_vectors.specs.CheckModel.{SaysSuite};
 
-use crate::members::number_under;
+use crate::json_members::number_under;
 use mls_hash::Suite;
 use serde_json::Value;
 
-/// What a vector says of its cipher suite.
+/// The cipher suite that a vector names.
 #[derive(Clone, Copy, Debug, PartialEq, Eq)]
 pub(crate) enum SuiteMember {
-    /// One that is followed.
+    /// A supported suite.
     Followed(Suite),
-    /// A whole number that is that of no suite that is followed.
+    /// A whole number that is not of a supported suite.
     Other,
     /// No whole number.
     Missing,
 }
 
-/// The suite of a number.
+/// Returns the suite with this number.
 fn suite_by(number: u64) -> Option<Suite>
     ensures some { IfSome result (λ s. (s ≡ number) × IsSupported number) }
     ensures none { IfNone result (¬ IsSupported number) }
@@ -29,7 +29,7 @@ fn suite_by(number: u64) -> Option<Suite>
     Suite::from_u16(number).ok()
 }
 
-/// What a vector says of its cipher suite.
+/// Returns the cipher suite that a vector names.
 pub(crate) fn suite_of(vector: &Value) -> SuiteMember
     ensures { SaysSuite (view vector.now) result }
 {

@@ -1,17 +1,16 @@
-//! Vectors of the kind `transcript`: the transcript hashes before and after a commit (RFC 9420,
-//! 8.2).
+//! Vectors of the kind `transcript`: the transcript hashes before and after a commit (RFC 9420, 8.2).
 
 ghost use Rattle.std.specs.Prelude.{◌≡◌, IfOk, codes};
 ghost use Rattle.serde_json.specs.View.{view};
-ghost use Rattle.mls_hash.specs.Hashing.{hash_of};
-ghost use Rattle.mls_vectors.specs.CheckSeen.{outcome_of, FindsCommit, ReadsCommitOf};
-ghost use Rattle.mls_vectors.specs.Outcomes.{IsOutcome};
+ghost use Rattle.mls_hash.specs.SuiteHash.{hash_of};
+ghost use Rattle.mls_vectors.specs.CheckModel.{outcome_of, FindsCommit, ReadsCommitOf};
+ghost use Rattle.mls_vectors.specs.VectorResults.{IsOutcome};
 ghost use Rattle.mls_vectors.specs.TranscriptVectors.{HasCommit, IsTranscript, hash_checks};
 ghost use Rattle.mls_vectors.specs.TreeValidation.{HasSuite, IsOutcomeUnlessSkipped};
 
-use crate::members::{bytes_under, has_bytes};
+use crate::json_members::{bytes_under, has_bytes};
 use crate::suite::{SuiteMember, suite_of};
-use crate::vector_outcome::Outcome;
+use crate::vector_result::Outcome;
 use mls_follow::{confirmed_hash, interim_hash};
 use mls_hash::Suite;
 use mls_msgs::{Authenticated, decode_authenticated};
@@ -19,7 +18,7 @@ use mls_wire::CodecFault;
 use serde_json::Value;
 use std::alloc::{AllocError, Global};
 
-/// The commit that bytes spell as an authenticated content. None where they spell none.
+/// Decodes an AuthenticatedContent with a commit. `None` if the bytes are not decodable as one.
 fn commit_of(alloc: Global, bytes: &[u8]) -> Result<Option<Authenticated>, AllocError>
     ensures { IfOk result (λ o. ReadsCommitOf bytes.now o) }
 {
@@ -37,7 +36,7 @@ fn commit_of(alloc: Global, bytes: &[u8]) -> Result<Option<Authenticated>, Alloc
     }
 }
 
-/// The commit of a vector. None where none can be read.
+/// Returns the commit of a vector. `None` if it is not decodable.
 fn commit_in(alloc: Global, vector: &Value) -> Result<Option<Authenticated>, AllocError>
     ensures { IfOk result (λ o. FindsCommit (view vector.now) o) }
 {
@@ -47,7 +46,7 @@ fn commit_in(alloc: Global, vector: &Value) -> Result<Option<Authenticated>, All
     }
 }
 
-/// The outcome of the checks of the hashes after the commit.
+/// Returns the outcome of the checks of the hashes after the commit.
 fn hash_outcome(
     alloc: Global,
     suite: Suite,
@@ -84,7 +83,7 @@ fn hash_outcome(
     Ok(Outcome::Pass)
 }
 
-/// The outcome by the suite and the commit.
+/// Returns the outcome, given the suite and the commit.
 fn commit_outcome(
     alloc: Global,
     suite: Suite,
@@ -101,7 +100,7 @@ fn commit_outcome(
     }
 }
 
-/// The outcome by the suite.
+/// Returns the outcome, given the suite.
 fn suite_outcome(alloc: Global, suite: Suite, vector: &Value) -> Result<Outcome, AllocError>
     requires { HasSuite (view vector.now) suite }
     ensures { IfOk result (λ o. IsTranscript (view vector.now) (outcome_of o)) }
@@ -116,7 +115,7 @@ fn suite_outcome(alloc: Global, suite: Suite, vector: &Value) -> Result<Outcome,
     }
 }
 
-/// The outcome of a vector.
+/// Returns the outcome of a vector.
 pub(crate) fn transcript_outcome(alloc: Global, vector: &Value) -> Result<Outcome, AllocError>
     ensures { IfOk result
         (λ o. IsOutcomeUnlessSkipped IsTranscript (view vector.now) (outcome_of o)) }

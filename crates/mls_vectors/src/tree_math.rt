@@ -1,37 +1,37 @@
-//! Vectors of the kind `tree-math`: the places of the nodes of a tree (RFC 9420, 4.1.1 and Appendix C).
+//! Vectors of the kind `tree-math`: node indices of a tree (RFC 9420, 4.1.1 and Appendix C).
 
 ghost use Rattle.std.specs.Prelude.{◌≡◌, ◌↔◌, ◌≤◌, ◌<◌, ◌+◌, ◌*◌, IsTrue, IfSome, IfNone, length};
 ghost use Rattle.serde_json.specs.View.{view, items_view};
 ghost use Rattle.mls_nodes.specs.Limits.{leaf_limit};
 ghost use Rattle.mls_tree.specs.RatchetTree.{RatchetTree};
 ghost use Rattle.mls_tree.specs.Tree.{leaf_count};
-ghost use Rattle.mls_vectors.specs.CheckSeen.{outcome_of, relation, column_name};
-ghost use Rattle.mls_vectors.specs.Outcomes.{IsOutcome};
+ghost use Rattle.mls_vectors.specs.CheckModel.{outcome_of, relation, column_name};
+ghost use Rattle.mls_vectors.specs.VectorResults.{IsOutcome};
 ghost use Rattle.mls_vectors.specs.TreeMath.{HasSize, IsEntry, IsTreeMath, place_checks};
 ghost use Rattle.mls_vectors.specs.VectorFile.{AreEntries, HasEntries};
 
-use crate::members::{array_under, has_number, is_number, whole_under};
-use crate::vector_outcome::Outcome;
+use crate::json_members::{array_under, has_number, is_number, whole_under};
+use crate::vector_result::Outcome;
 use mls_tree::{left, parent, right, root, sibling};
 use serde_json::Value;
 
-/// The most leaves that a tree has.
+/// The most leaves that a tree may have.
 const MAX_LEAVES: u64 = 1_048_576;
 
-/// Which place an array of a vector gives for each place.
+/// The relation that an array of a vector has for each node.
 #[derive(Clone, Copy, Debug, PartialEq, Eq)]
 enum Column {
-    /// That of the left child.
+    /// The left child.
     Left,
-    /// That of the right child.
+    /// The right child.
     Right,
-    /// That of the parent.
+    /// The parent.
     Parent,
-    /// That of the sibling.
+    /// The sibling.
     Sibling,
 }
 
-/// The name of the array.
+/// Returns the name of the array.
 fn name_of(column: Column) -> &'static str
     ensures { result.now ≡ column_name column }
 {
@@ -43,7 +43,7 @@ fn name_of(column: Column) -> &'static str
     }
 }
 
-/// The place that the array gives for a place.
+/// Returns the related node of the node at node index `place`.
 fn place_of(column: Column, place: u32, leaves: u32) -> Option<u32>
     ensures { (t : RatchetTree) → leaf_count t.tree ≡ leaves → relation column t.tree place result }
 {
@@ -55,7 +55,7 @@ fn place_of(column: Column, place: u32, leaves: u32) -> Option<u32>
     }
 }
 
-/// Whether an entry is the one for a place.
+/// Returns whether an entry is the right one for the node at node index `place`.
 fn is_entry(column: Column, leaves: u32, place: u32, entry: &Value) -> bool
     ensures { (t : RatchetTree)
         → leaf_count t.tree ≡ leaves
@@ -67,7 +67,7 @@ fn is_entry(column: Column, leaves: u32, place: u32, entry: &Value) -> bool
     }
 }
 
-/// Whether the entries are those for all places.
+/// Returns whether the entries are the right ones for all nodes.
 fn are_entries(column: Column, leaves: u32, entries: &[Value]) -> bool
     requires { leaves ≤ leaf_limit }
     ensures { (t : RatchetTree)
@@ -90,7 +90,7 @@ fn are_entries(column: Column, leaves: u32, entries: &[Value]) -> bool
     true
 }
 
-/// Whether the vector has the array, with the entries for all places.
+/// Returns whether the vector has the array, with the right entries for all nodes.
 fn has_entries(column: Column, leaves: u32, vector: &Value) -> bool
     requires { leaves ≤ leaf_limit }
     ensures { (t : RatchetTree)
@@ -105,7 +105,7 @@ fn has_entries(column: Column, leaves: u32, vector: &Value) -> bool
     }
 }
 
-/// The number of leaves that the vector says, where a tree has so many.
+/// Returns the number of leaves that the vector names, if a tree can have so many.
 fn size_of(vector: &Value) -> Option<u32>
     ensures some { IfSome result
         (λ n. (t : RatchetTree) × (leaf_count t.tree ≡ n) × HasSize (view vector.now) t) }
@@ -122,7 +122,7 @@ fn size_of(vector: &Value) -> Option<u32>
     Some(leaves)
 }
 
-/// The outcome of a vector that says this size of a tree.
+/// Returns the outcome of a vector with this number of leaves.
 fn place_outcome(leaves: u32, vector: &Value) -> Outcome
     requires low { leaves ≤ leaf_limit }
     requires some { 0 < leaves }
@@ -151,7 +151,7 @@ fn place_outcome(leaves: u32, vector: &Value) -> Outcome
     Outcome::Pass
 }
 
-/// The outcome of a vector.
+/// Returns the outcome of a vector.
 pub(crate) fn tree_math_outcome(vector: &Value) -> Outcome
     ensures { IsTreeMath (view vector.now) (outcome_of result) }
 {

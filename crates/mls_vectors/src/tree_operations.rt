@@ -2,19 +2,19 @@
 
 ghost use Rattle.std.specs.Prelude.{◌≡◌, ◌↔◌, ℕ, IsTrue, IfOk, IfSome, IfNone, codes, option_map};
 ghost use Rattle.serde_json.specs.View.{view};
-ghost use Rattle.mls_tree.specs.KeptTree.{plain};
-ghost use Rattle.mls_nodes.specs.RatchetTree.{ratchet_tree, trimmed};
+ghost use Rattle.mls_tree.specs.PublicTreeModel.{plain};
+ghost use Rattle.mls_nodes.specs.RatchetTreeEncoding.{ratchet_tree, trimmed};
 ghost use Rattle.mls_tree.specs.Tree.{listing};
-ghost use Rattle.mls_hash.specs.Hashing.{hash_of};
-ghost use Rattle.mls_vectors.specs.CheckSeen.{outcome_of, AppliesItem, FindsProposal, ReadsProposalOf};
-ghost use Rattle.mls_vectors.specs.Outcomes.{IsOutcome};
+ghost use Rattle.mls_hash.specs.SuiteHash.{hash_of};
+ghost use Rattle.mls_vectors.specs.CheckModel.{outcome_of, AppliesItem, FindsProposal, ReadsProposalOf};
+ghost use Rattle.mls_vectors.specs.VectorResults.{IsOutcome};
 ghost use Rattle.mls_vectors.specs.TreeOperations.{HasProposal, HasSender, HasTreeBytes, HasTreeHash, IsTreeOperation, IsItemOutcome, after_checks};
 ghost use Rattle.mls_vectors.specs.TreeValidation.{HasSuite, HasTreeUnder, IsOutcomeUnlessSkipped};
 
-use crate::members::{bytes_under, has_bytes, whole_under};
+use crate::json_members::{bytes_under, has_bytes, whole_under};
 use crate::suite::{SuiteMember, suite_of};
-use crate::trees::{tree_under, whole_hash};
-use crate::vector_outcome::Outcome;
+use crate::vector_result::Outcome;
+use crate::vector_trees::{tree_under, whole_hash};
 use mls_apply::{Applied, ApplyFault, ListItem, apply_list};
 use mls_hash::Suite;
 use mls_msgs::{Proposal, decode_proposal};
@@ -25,7 +25,7 @@ use serde_json::Value;
 use std::alloc::{AllocError, Global};
 use std::slice;
 
-/// The proposal that bytes spell. None where they spell none.
+/// Decodes a proposal. `None` if the bytes are not decodable.
 fn proposal_of(alloc: Global, bytes: &[u8]) -> Result<Option<Proposal>, AllocError>
     ensures { IfOk result (λ o. ReadsProposalOf bytes.now o) }
 {
@@ -36,7 +36,7 @@ fn proposal_of(alloc: Global, bytes: &[u8]) -> Result<Option<Proposal>, AllocErr
     }
 }
 
-/// The proposal of a vector. None where none can be read.
+/// Returns the proposal of a vector. `None` if it is not decodable.
 fn proposal_in(alloc: Global, vector: &Value) -> Result<Option<Proposal>, AllocError>
     ensures { IfOk result (λ o. FindsProposal (view vector.now) o) }
 {
@@ -46,7 +46,7 @@ fn proposal_in(alloc: Global, vector: &Value) -> Result<Option<Proposal>, AllocE
     }
 }
 
-/// The leaf of the member that sends the proposal. None where there is no such number.
+/// Returns the leaf of the proposal's sender. `None` if there is no such number.
 fn sender_in(vector: &Value) -> Option<u32>
     ensures some { IfSome result (λ n. HasSender (view vector.now) n) }
     ensures none { IfNone result ((n : ℕ) → ¬ HasSender (view vector.now) n) }
@@ -58,7 +58,7 @@ fn sender_in(vector: &Value) -> Option<u32>
     Some(sender as u32)
 }
 
-/// Whether a vector has the tree hash of a tree under a name.
+/// Returns whether the tree hash of a tree is there under this name.
 fn has_tree_hash(
     alloc: Global,
     suite: Suite,
@@ -73,7 +73,7 @@ fn has_tree_hash(
     has_bytes(alloc, vector, name, hash.as_slice())
 }
 
-/// The bytes that spell a tree. None where there are none, since all of its nodes are blank.
+/// Encodes a tree. `None` if all its nodes are blank: then it has no encoding.
 fn spelling_of(alloc: Global, tree: &PublicTree) -> Result<Option<Vec<u8>>, AllocError>
     ensures { IfOk result (λ o.
         option_map (λ v. v.items) o ≡ ratchet_tree (trimmed (listing tree.now.tree))) }
@@ -87,7 +87,7 @@ fn spelling_of(alloc: Global, tree: &PublicTree) -> Result<Option<Vec<u8>>, Allo
     }
 }
 
-/// Whether a vector has the bytes of a tree under a name.
+/// Returns whether the encoding of a tree is there under this name.
 fn has_tree_bytes(
     alloc: Global,
     tree: &PublicTree,
@@ -103,7 +103,7 @@ fn has_tree_bytes(
     }
 }
 
-/// The outcome of the checks of the tree after the proposal.
+/// Returns the outcome of the checks of the tree after the proposal.
 fn after_outcome(
     alloc: Global,
     suite: Suite,
@@ -123,7 +123,11 @@ fn after_outcome(
 }
 
 /// The tree after one proposal. None where it can't be applied.
-fn applied(alloc: Global, tree: &PublicTree, item: &ListItem) -> Result<Option<Applied>, AllocError>
+fn applied(
+    alloc: Global,
+    tree: &PublicTree,
+    item: &ListItem<'_>,
+) -> Result<Option<Applied>, AllocError>
     ensures { IfOk result (λ o. AppliesItem item.now tree.now.tree o) }
 {
     match apply_list(alloc, tree, slice::from_ref(item)) {
@@ -135,12 +139,12 @@ fn applied(alloc: Global, tree: &PublicTree, item: &ListItem) -> Result<Option<A
     }
 }
 
-/// The outcome by what the vector has.
+/// Returns the outcome, given what the vector has.
 fn item_outcome(
     alloc: Global,
     suite: Suite,
     tree: &PublicTree,
-    item: &ListItem,
+    item: &ListItem<'_>,
     vector: &Value,
 ) -> Result<Outcome, AllocError>
     ensures { IfOk result (λ o.
@@ -159,7 +163,7 @@ fn item_outcome(
     }
 }
 
-/// The outcome by the suite, the tree and the proposal.
+/// Returns the outcome, given the suite, the tree and the proposal.
 fn proposal_outcome(
     alloc: Global,
     suite: Suite,
@@ -174,9 +178,12 @@ fn proposal_outcome(
 {
     match sender_in(vector) {
         Some(sender) => {
-            let item = ListItem { sender, proposal };
+            let item = ListItem {
+                sender,
+                proposal: &proposal,
+            };
             let outcome = item_outcome(alloc, suite, tree, &item, vector);
-            drop(item);
+            drop(proposal);
             outcome
         }
         None => {
@@ -186,7 +193,7 @@ fn proposal_outcome(
     }
 }
 
-/// The outcome by the suite and the tree.
+/// Returns the outcome, given the suite and the tree.
 fn tree_outcome(
     alloc: Global,
     suite: Suite,
@@ -203,7 +210,7 @@ fn tree_outcome(
     }
 }
 
-/// The outcome by the suite.
+/// Returns the outcome, given the suite.
 fn suite_outcome(alloc: Global, suite: Suite, vector: &Value) -> Result<Outcome, AllocError>
     requires { HasSuite (view vector.now) suite }
     ensures { IfOk result (λ o. IsTreeOperation (view vector.now) (outcome_of o)) }
@@ -218,7 +225,7 @@ fn suite_outcome(alloc: Global, suite: Suite, vector: &Value) -> Result<Outcome,
     }
 }
 
-/// The outcome of a vector.
+/// Returns the outcome of a vector.
 pub(crate) fn tree_operations_outcome(alloc: Global, vector: &Value) -> Result<Outcome, AllocError>
     ensures { IfOk result
         (λ o. IsOutcomeUnlessSkipped IsTreeOperation (view vector.now) (outcome_of o)) }

@@ -1,22 +1,22 @@
-//! Vectors of the kind `tree-validation`: a tree with its resolutions and tree hashes, which has to be
-//! valid (RFC 9420, 4.1.1, 7.8 and 12.4.3.1).
+//! Vectors of the kind `tree-validation`: a tree that must be valid, with its resolutions and tree hashes (RFC 9420,
+//! 4.1.1, 7.8 and 12.4.3.1).
 
 ghost use Rattle.std.specs.Prelude.{◌≡◌, ◌↔◌, ◌≤◌, ℕ, List, IsTrue, IfOk, codes};
 ghost use Rattle.serde_json.specs.View.{view, items_view};
 ghost use Rattle.mls_nodes.specs.Limits.{leaf_limit};
 ghost use Rattle.mls_tree.specs.Tree.{leaf_count};
-ghost use Rattle.mls_hash.specs.Hashing.{hash_of};
-ghost use Rattle.mls_check.specs.Valid.{Valid};
-ghost use Rattle.mls_vectors.specs.CheckSeen.{outcome_of, IsKeptHash};
-ghost use Rattle.mls_vectors.specs.Outcomes.{IsOutcome};
+ghost use Rattle.mls_hash.specs.SuiteHash.{hash_of};
+ghost use Rattle.mls_check.specs.ValidTree.{Valid};
+ghost use Rattle.mls_vectors.specs.CheckModel.{outcome_of, IsKeptHash};
+ghost use Rattle.mls_vectors.specs.VectorResults.{IsOutcome};
 ghost use Rattle.mls_vectors.specs.TreeValidation as trees;
 ghost use Rattle.mls_vectors.specs.TreeValidation.{HasSuite, IsResolution, IsOutcomeUnlessSkipped, IsTreeHash, IsTreeValidation, tree_checks};
 ghost use Rattle.mls_vectors.specs.VectorFile.{AreEntries, HasEntries};
 
-use crate::members::{array_under, gives_bytes, is_number};
+use crate::json_members::{array_under, gives_bytes, is_number};
 use crate::suite::{SuiteMember, suite_of};
-use crate::trees::{tree_under, whole_hash};
-use crate::vector_outcome::Outcome;
+use crate::vector_result::Outcome;
+use crate::vector_trees::{tree_under, whole_hash};
 use mls_check::{TreeFault, validate_tree};
 use mls_hash::{SubtreeHashes, Suite};
 use mls_nodes::{Extensions, GroupContext};
@@ -25,7 +25,7 @@ use mls_wire::Opaque;
 use serde_json::Value;
 use std::alloc::{AllocError, Global};
 
-/// Whether values are these numbers.
+/// Returns whether values are these numbers.
 fn are_numbers(values: &[Value], numbers: &[u32]) -> bool
     ensures { result ≡ trees.are_numbers numbers.now (items_view values.now) }
 {
@@ -44,7 +44,7 @@ fn are_numbers(values: &[Value], numbers: &[u32]) -> bool
     numbers.is_empty()
 }
 
-/// Whether an entry has these numbers.
+/// Returns whether an entry is an array of these numbers.
 fn has_numbers(entry: &Value, numbers: &[u32]) -> bool
     ensures { result ≡ trees.has_numbers numbers.now (view entry.now) }
 {
@@ -54,7 +54,7 @@ fn has_numbers(entry: &Value, numbers: &[u32]) -> bool
     }
 }
 
-/// Whether an entry is the resolution of the node at a place.
+/// Returns whether an entry is the resolution of the node at a node index.
 fn is_resolution(
     alloc: Global,
     tree: &PublicTree,
@@ -71,7 +71,7 @@ fn is_resolution(
     }
 }
 
-/// Whether the entries are the resolutions of all nodes.
+/// Returns whether the entries are the resolutions of all nodes.
 fn are_resolutions(alloc: Global, tree: &PublicTree, entries: &[Value]) -> Result<bool, AllocError>
     ensures { IfOk result (λ b. IsTrue b
         ↔ AreEntries (IsResolution tree.now.tree) (leaf_count tree.now.tree) 0
@@ -92,7 +92,7 @@ fn are_resolutions(alloc: Global, tree: &PublicTree, entries: &[Value]) -> Resul
     Ok(true)
 }
 
-/// Whether the vector has the resolutions of all nodes.
+/// Returns whether the vector has the resolutions of all nodes.
 fn has_resolutions(alloc: Global, tree: &PublicTree, vector: &Value) -> Result<bool, AllocError>
     ensures { IfOk result (λ b. IsTrue b
         ↔ HasEntries (IsResolution tree.now.tree) (leaf_count tree.now.tree)
@@ -104,7 +104,7 @@ fn has_resolutions(alloc: Global, tree: &PublicTree, vector: &Value) -> Result<b
     }
 }
 
-/// Whether an entry is the hash that is kept for a place.
+/// Returns whether an entry is the cached tree hash at a node index.
 fn is_kept_hash(
     alloc: Global,
     hashes: &SubtreeHashes,
@@ -119,7 +119,7 @@ fn is_kept_hash(
     }
 }
 
-/// Whether the entries are the hashes that are kept for all places.
+/// Returns whether the entries are the cached tree hashes of all nodes.
 fn are_kept_hashes(
     alloc: Global,
     leaves: u32,
@@ -145,7 +145,7 @@ fn are_kept_hashes(
     Ok(true)
 }
 
-/// Whether the vector has the hashes that are kept for all places.
+/// Returns whether the vector has the cached tree hashes of all nodes.
 fn has_kept_hashes(
     alloc: Global,
     leaves: u32,
@@ -162,7 +162,7 @@ fn has_kept_hashes(
     }
 }
 
-/// Whether the vector has the tree hashes of all subtrees.
+/// Returns whether the vector has the tree hashes of all subtrees.
 fn has_tree_hashes(
     alloc: Global,
     suite: Suite,
@@ -177,7 +177,7 @@ fn has_tree_hashes(
     has_kept_hashes(alloc, tree.leaf_count(), &hashes, vector)
 }
 
-/// No extensions.
+/// Creates an empty list of extensions.
 fn no_extensions(alloc: Global) -> Extensions {
     match Extensions::new(Vec::new(alloc)) {
         Ok(extensions) => extensions,
@@ -185,7 +185,7 @@ fn no_extensions(alloc: Global) -> Extensions {
     }
 }
 
-/// A group context with a tree hash: all else is of no account for the validity of a tree.
+/// Creates a GroupContext with a tree hash. Its other fields don't matter for the validity of a tree.
 fn context_of(alloc: Global, suite: Suite, hash: &HashValue) -> Result<GroupContext, AllocError>
     ensures suite { IfOk result (λ c. c.cipher_suite ≡ suite) }
     ensures hash { IfOk result (λ c. c.tree_hash ≡ hash.now) }
@@ -201,7 +201,7 @@ fn context_of(alloc: Global, suite: Suite, hash: &HashValue) -> Result<GroupCont
     })
 }
 
-/// Whether a tree is valid in a context.
+/// Returns whether a tree is valid in a GroupContext.
 fn is_valid_in(
     alloc: Global,
     suite: Suite,
@@ -224,7 +224,7 @@ fn is_valid_in(
     }
 }
 
-/// Whether a tree is valid with its own tree hash.
+/// Returns whether a tree is valid with its own tree hash.
 fn is_valid(alloc: Global, suite: Suite, tree: &PublicTree) -> Result<bool, AllocError>
     ensures { IfOk result (λ b. IsTrue b
         ↔ ((hash : List ℕ) × Valid (hash_of suite) hash tree.now.tree)) }
@@ -234,7 +234,7 @@ fn is_valid(alloc: Global, suite: Suite, tree: &PublicTree) -> Result<bool, Allo
     is_valid_in(alloc, suite, &context, tree)
 }
 
-/// The outcome of a vector by its suite and its tree.
+/// Returns the outcome, given the suite and the tree.
 fn tree_outcome(
     alloc: Global,
     suite: Suite,
@@ -256,7 +256,7 @@ fn tree_outcome(
     Ok(Outcome::Pass)
 }
 
-/// The outcome of a vector by its suite.
+/// Returns the outcome, given the suite.
 fn suite_outcome(alloc: Global, suite: Suite, vector: &Value) -> Result<Outcome, AllocError>
     requires { HasSuite (view vector.now) suite }
     ensures { IfOk result (λ o. IsTreeValidation (view vector.now) (outcome_of o)) }
@@ -271,7 +271,7 @@ fn suite_outcome(alloc: Global, suite: Suite, vector: &Value) -> Result<Outcome,
     }
 }
 
-/// The outcome of a vector.
+/// Returns the outcome of a vector.
 pub(crate) fn tree_validation_outcome(alloc: Global, vector: &Value) -> Result<Outcome, AllocError>
     ensures { IfOk result
         (λ o. IsOutcomeUnlessSkipped IsTreeValidation (view vector.now) (outcome_of o)) }

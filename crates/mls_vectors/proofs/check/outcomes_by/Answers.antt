@@ -2,9 +2,9 @@ use Rattle.std.proofs.Common.{[], List, sym, ap, subst, map}
 use Rattle.std.proofs.lemmas.List.{append-nil, nil_from_length}
 use Rattle.serde_json.specs.Data.{Items}
 use Rattle.serde_json.specs.View.{items_view}
-use Rattle.mls_vectors.specs.Check.{AreOutcomes}
-use Rattle.mls_vectors.specs.CheckSeen.{outcome_of}
-use Rattle.mls_vectors.specs.Outcomes.{Outcome}
+use Rattle.mls_vectors.specs.CheckReport.{AreOutcomes}
+use Rattle.mls_vectors.specs.CheckModel.{outcome_of}
+use Rattle.mls_vectors.specs.VectorResults.{Outcome}
 use Rattle.mls_vectors.proofs.check.outcomes_by.Goals as goal
 
 pub returns : goal.returns

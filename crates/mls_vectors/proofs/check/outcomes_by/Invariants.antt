@@ -1,8 +1,8 @@
 use Rattle.std.proofs.Common.{◌++◌, List, length, map}
 use Rattle.serde_json.specs.View.{items_view}
-use Rattle.mls_vectors.specs.Check.{AreOutcomes}
-use Rattle.mls_vectors.specs.CheckSeen.{outcome_of}
-use Rattle.mls_vectors.specs.Outcomes.{Outcome}
+use Rattle.mls_vectors.specs.CheckReport.{AreOutcomes}
+use Rattle.mls_vectors.specs.CheckModel.{outcome_of}
+use Rattle.mls_vectors.specs.VectorResults.{Outcome}
 use Rattle.mls_vectors.proofs.check.outcomes_by.Given as goal
 
 -- the outcomes so far, with those of the vectors that are left, are those of all

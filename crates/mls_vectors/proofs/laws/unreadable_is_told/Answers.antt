@@ -1,7 +1,7 @@
 use Rattle.std.proofs.Common.{◌≢◌, ◌<◌, ◌++◌, ℕ, List, [], ◌∷◌, slice_index, sym, ap, ◌∙◌, inl, inr, codes, arith}
 use Rattle.std.specs.Fmt.{digits}
-use Rattle.mls_vectors.specs.Check.{outcome_lines, counts, counts_line}
-use Rattle.mls_vectors.specs.Outcomes.{Outcome}
+use Rattle.mls_vectors.specs.CheckReport.{outcome_lines, counts, counts_line}
+use Rattle.mls_vectors.specs.VectorResults.{Outcome}
 use Rattle.mls_vectors.proofs.laws.unreadable_is_told.Goals as goal
 
 -- a lower letter is another one

@@ -1,7 +1,7 @@
 use Rattle.std.proofs.Common.{Option, subst, refl, inl, inr}
 use Rattle.serde_json.specs.View.{view}
 use Rattle.mls_msgs.specs.declared.authenticated.AuthenticatedParts.{AuthenticatedParts}
-use Rattle.mls_vectors.specs.CheckSeen.{FindsCommit}
+use Rattle.mls_vectors.specs.CheckModel.{FindsCommit}
 use Rattle.mls_vectors.proofs.transcript.suite_outcome.Goals as goal
 
 pub returns-in-None : goal.returns-in-None

@@ -1,7 +1,7 @@
 use Rattle.std.proofs.Common.{sym, ap, subst, arith}
 use Rattle.serde_json.specs.Data.{Items}
 use Rattle.serde_json.specs.View.{items_view}
-use Rattle.mls_vectors.specs.CheckSeen.{relation}
+use Rattle.mls_vectors.specs.CheckModel.{relation}
 use Rattle.mls_vectors.specs.TreeMath.{IsEntry}
 use Rattle.mls_vectors.specs.VectorFile.{AreEntries}
 use Rattle.mls_vectors.proofs.Entries.{AreEntries-length}

@@ -2,7 +2,7 @@ use Rattle.std.proofs.Common.{◌≡◌, ◌↔◌, ◌+◌, ◌*◌, length}
 use Rattle.serde_json.specs.View.{items_view}
 use Rattle.mls_tree.specs.RatchetTree.{RatchetTree}
 use Rattle.mls_tree.specs.Tree.{leaf_count}
-use Rattle.mls_vectors.specs.CheckSeen.{relation}
+use Rattle.mls_vectors.specs.CheckModel.{relation}
 use Rattle.mls_vectors.specs.TreeMath.{IsEntry}
 use Rattle.mls_vectors.specs.VectorFile.{AreEntries}
 use Rattle.mls_vectors.proofs.tree_math.are_entries.Given as goal

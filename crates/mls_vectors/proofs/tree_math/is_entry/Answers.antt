@@ -1,6 +1,6 @@
 use Rattle.std.proofs.Common.{ℕ, ◌∙◌, sym, ap, subst, Some, None}
 use Rattle.serde_json.specs.View.{view}
-use Rattle.mls_vectors.specs.CheckSeen.{relation}
+use Rattle.mls_vectors.specs.CheckModel.{relation}
 use Rattle.mls_vectors.proofs.Columns.{entry-wanted, entry-null, entry-some}
 use Rattle.mls_vectors.proofs.tree_math.is_entry.Goals as goal
 

@@ -1,12 +1,12 @@
 use Rattle.std.proofs.Common.{◌≡◌, ◌≢◌, List, ap, subst, inl, inr, Option, Err, None}
 use Rattle.std.specs.Prelude.{◌⊎◌, option_and_then}
 use Rattle.mls_tree.specs.Tree.{Tree}
-use Rattle.mls_tree.specs.KeptTree.{plain}
+use Rattle.mls_tree.specs.PublicTreeModel.{plain}
 use Rattle.mls_tree.specs.RatchetTree.{RatchetTree}
-use Rattle.mls_apply.specs.Outcome.{outcome, with_members, new_members, without_adds}
+use Rattle.mls_apply.specs.AppliedList.{outcome, with_members, new_members, without_adds}
 use Rattle.mls_apply.specs.declared.fault.ApplyFault.{ApplyFault}
 use Rattle.mls_apply.specs.declared.fault.ApplyFault.TheVariants as faults
-use Rattle.mls_apply.specs.declared.item.ListItem.{ListItem}
+use Rattle.mls_apply.specs.declared.list_item.ListItem.{ListItem}
 use Rattle.mls_vectors.proofs.tree_operations.applied.Goals as goal
 
 -- a list that is refused, but for want of memory, can't be applied

@@ -1,6 +1,6 @@
 use Rattle.std.proofs.Common.{refl, inl, inr}
 use Rattle.std.proofs.lemmas.Result.{IfOk-weaker}
-use Rattle.mls_tree.specs.KeptTree.{plain}
+use Rattle.mls_tree.specs.PublicTreeModel.{plain}
 use Rattle.mls_vectors.proofs.tree_operations.proposal_outcome.Goals as goal
 
 pub returns-in-Some : goal.returns-in-Some

@@ -1,8 +1,8 @@
 use Rattle.std.proofs.Common.{Option, subst, refl, inl, inr, codes}
 use Rattle.serde_json.specs.View.{view}
 use Rattle.std.specs.Prelude.{option_map}
-use Rattle.mls_tree.specs.KeptTree.{KeptTree, plain}
-use Rattle.mls_vectors.specs.CheckSeen.{FindsTree}
+use Rattle.mls_tree.specs.PublicTreeModel.{KeptTree, plain}
+use Rattle.mls_vectors.specs.CheckModel.{FindsTree}
 use Rattle.mls_vectors.proofs.tree_operations.suite_outcome.Goals as goal
 
 pub returns-in-None : goal.returns-in-None

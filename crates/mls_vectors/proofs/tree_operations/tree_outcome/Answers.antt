@@ -1,8 +1,8 @@
 use Rattle.std.proofs.Common.{Option, subst, refl, inl, inr}
 use Rattle.serde_json.specs.View.{view}
-use Rattle.mls_tree.specs.KeptTree.{plain}
+use Rattle.mls_tree.specs.PublicTreeModel.{plain}
 use Rattle.mls_msgs.specs.declared.proposal.Proposal.{Proposal}
-use Rattle.mls_vectors.specs.CheckSeen.{FindsProposal}
+use Rattle.mls_vectors.specs.CheckModel.{FindsProposal}
 use Rattle.mls_vectors.proofs.tree_operations.tree_outcome.Goals as goal
 
 pub returns-in-None : goal.returns-in-None

@@ -1,5 +1,5 @@
 use Rattle.std.proofs.Common.{arith}
-use Rattle.mls_vectors.specs.CheckSeen.{IsKeptHash}
+use Rattle.mls_vectors.specs.CheckModel.{IsKeptHash}
 use Rattle.mls_vectors.proofs.Entries.{AreEntries-length}
 use Rattle.mls_vectors.proofs.tree_validation.are_kept_hashes.Goals as goal
 

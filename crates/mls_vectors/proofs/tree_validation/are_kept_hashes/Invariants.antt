@@ -1,6 +1,6 @@
 use Rattle.std.proofs.Common.{◌≡◌, ◌↔◌, ◌+◌, ◌*◌, length}
 use Rattle.serde_json.specs.View.{items_view}
-use Rattle.mls_vectors.specs.CheckSeen.{IsKeptHash}
+use Rattle.mls_vectors.specs.CheckModel.{IsKeptHash}
 use Rattle.mls_vectors.specs.VectorFile.{AreEntries}
 use Rattle.mls_vectors.proofs.tree_validation.are_kept_hashes.Given as goal
 

@@ -1,5 +1,5 @@
 use Rattle.std.proofs.Common.{arith}
-use Rattle.mls_tree.specs.KeptTree.{plain}
+use Rattle.mls_tree.specs.PublicTreeModel.{plain}
 use Rattle.mls_tree.specs.RatchetTree.{RatchetTree}
 use Rattle.mls_tree.specs.Tree.{leaf_count}
 use Rattle.mls_vectors.specs.TreeValidation.{IsResolution}

@@ -1,11 +1,11 @@
 use Rattle.std.proofs.Common.{ℕ, sym, subst, codes, arith}
 use Rattle.std.proofs.lemmas.Result.{IfOk-weaker}
 use Rattle.serde_json.specs.View.{view}
-use Rattle.mls_tree.specs.KeptTree.{plain}
+use Rattle.mls_tree.specs.PublicTreeModel.{plain}
 use Rattle.mls_tree.specs.RatchetTree.{RatchetTree}
 use Rattle.mls_tree.specs.Tree.{leaf_count}
-use Rattle.mls_hash.specs.Hashing.{hash_of}
-use Rattle.mls_vectors.specs.CheckSeen.{IsKeptHash}
+use Rattle.mls_hash.specs.SuiteHash.{hash_of}
+use Rattle.mls_vectors.specs.CheckModel.{IsKeptHash}
 use Rattle.mls_vectors.specs.TreeValidation.{IsTreeHash}
 use Rattle.mls_vectors.specs.VectorFile.{HasEntries}
 use Rattle.mls_vectors.proofs.Columns.{leaves_low}

@@ -1,9 +1,9 @@
 use Rattle.std.proofs.Common.{◌≢◌, rules}
-use Rattle.mls_tree.specs.KeptTree.{plain}
+use Rattle.mls_tree.specs.PublicTreeModel.{plain}
 use Rattle.mls_tree.specs.RatchetTree.{RatchetTree}
-use Rattle.mls_hash.specs.Hashing.{hash_of}
+use Rattle.mls_hash.specs.SuiteHash.{hash_of}
 use Rattle.mls_check.proofs.Faulted.{fault-not_valid}
-use Rattle.mls_check.specs.declared.valid.TreeFault.TheVariants.{OutOfMemory}
+use Rattle.mls_check.specs.declared.tree_validation.TreeFault.TheVariants.{OutOfMemory}
 use Rattle.mls_vectors.proofs.tree_validation.is_valid_in.Goals as goal
 
 pub returns-else-eq : goal.returns-else-eq

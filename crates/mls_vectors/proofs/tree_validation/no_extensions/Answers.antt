@@ -1,6 +1,6 @@
 use Rattle.std.proofs.Common.{◌≡◌, List, [], Some, option_map, length, sym, subst, refl, arith, IsSome}
-use Rattle.mls_wire.specs.Sizes.{fits_all}
-use Rattle.mls_wire.specs.Spelling.{items, list}
+use Rattle.mls_wire.specs.EncodedSizes.{fits_all}
+use Rattle.mls_wire.specs.Encoding.{items, list}
 use Rattle.mls_nodes.specs.Extension.{extension}
 use Rattle.mls_nodes.specs.declared.extension.Extension.{Extension}
 use Rattle.mls_vectors.proofs.tree_validation.no_extensions.Goals as goal

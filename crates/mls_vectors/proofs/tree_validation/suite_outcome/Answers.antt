@@ -2,8 +2,8 @@ use Rattle.std.proofs.Common.{Option, subst, refl, inl, inr, codes}
 use Rattle.std.proofs.lemmas.Result.{IfOk-weaker}
 use Rattle.serde_json.specs.View.{view}
 use Rattle.std.specs.Prelude.{option_map}
-use Rattle.mls_tree.specs.KeptTree.{KeptTree, plain}
-use Rattle.mls_vectors.specs.CheckSeen.{FindsTree}
+use Rattle.mls_tree.specs.PublicTreeModel.{KeptTree, plain}
+use Rattle.mls_vectors.specs.CheckModel.{FindsTree}
 use Rattle.mls_vectors.proofs.tree_validation.suite_outcome.Goals as goal
 
 pub returns-in-Some : goal.returns-in-Some

@@ -1,7 +1,7 @@
 use Rattle.std.proofs.Common.{◌≡◌, ◌+◌, ◌++◌, map, drop, string_bytes}
-use Rattle.mls_vectors.specs.Check as lines
-use Rattle.mls_vectors.specs.CheckSeen.{outcome_of}
-use Rattle.mls_vectors.proofs.lines.outcome_lines.Given as goal
+use Rattle.mls_vectors.specs.CheckReport as lines
+use Rattle.mls_vectors.specs.CheckModel.{outcome_of}
+use Rattle.mls_vectors.proofs.report_lines.outcome_lines.Given as goal
 
 -- the lines so far, and those of the outcomes still to come
 abbrev pub invariant-loop-index : goal.invariant-loop-index

@@ -1,11 +1,11 @@
 use Rattle.std.proofs.Common.{rules, arith, sym, ◌∙◌}
-use Rattle.mls_tree.specs.KeptTree.{plain}
+use Rattle.mls_tree.specs.PublicTreeModel.{plain}
 use Rattle.mls_tree.specs.RatchetTree.{RatchetTree}
 use Rattle.mls_tree.proofs.Trees.{leaf_count-positive}
-use Rattle.mls_hash.specs.Hashing.{hash_of}
+use Rattle.mls_hash.specs.SuiteHash.{hash_of}
 use Rattle.mls_hash.proofs.Filling.{root_there}
 use Rattle.mls_check.proofs.Hashed.{whole-hash}
-use Rattle.mls_vectors.proofs.trees.whole_hash.Goals as goal
+use Rattle.mls_vectors.proofs.vector_trees.whole_hash.Goals as goal
 
 pub overflow_sub-leaf_count : goal.overflow_sub-leaf_count
 overflow_sub-leaf_count c = let tree : RatchetTree = plain c.args.tree.now in omega (arith, c.leaf_count.ensures, leaf_count-positive tree.tree)

@@ -1,39 +1,39 @@
--- What becomes of a vector: its checks are made in their order, and the first that fails names the
--- outcome.
+-- The result of a vector: its checks are made in their order, and the first that fails names the result. Used by
+-- contracts.
 use Rattle.std.specs.Prelude.{ℕ, List, [], ◌∷◌, ◌≡◌, ◌⊎◌}
 
--- the outcome of a vector: it passes, it fails a check, or it is skipped
+-- The result of a vector: it passes, it fails a check, or it is skipped.
 pub data Outcome : Type 0 where
   pass : Outcome
   fail : List ℕ → Outcome
   skip : Outcome
 
--- a check of a vector: its name, and what has to hold
+-- A check of a vector: its name, and what has to hold.
 pub record Check : Type 1 where
   pub name : List ℕ
   pub holds : Type 0
 
--- the check of this name
+-- `check name holds` is the check with this name.
 abbrev pub check : List ℕ → Type 0 → Check
 check name holds = record { name = name; holds = holds }
 
--- all checks hold
+-- `AllHold checks`: all checks hold.
 abbrev pub AllHold : List Check → Type 0
 AllHold [] = Unit {0}
 AllHold (c ∷ cs) = c.holds × AllHold cs
 
--- the first check that fails has this name
+-- `IsFirstToFail checks name`: the first check that fails has this name.
 abbrev pub IsFirstToFail : List Check → List ℕ → Type 0
 IsFirstToFail [] name = ⊥
 IsFirstToFail (c ∷ cs) name = ((name ≡ c.name) × (¬ c.holds)) ⊎ (c.holds × IsFirstToFail cs name)
 
--- the outcome by all checks of a vector
+-- `IsOutcome checks o`: the result by all checks of a vector.
 abbrev pub IsOutcome : List Check → Outcome → Type 0
 IsOutcome checks pass = AllHold checks
 IsOutcome checks (fail name) = IsFirstToFail checks name
 IsOutcome checks skip = ⊥
 
--- the outcome of a vector that fails one of its first checks
+-- `IsEarlyFailure checks o`: the result of a vector that fails one of these checks.
 abbrev pub IsEarlyFailure : List Check → Outcome → Type 0
 IsEarlyFailure checks pass = ⊥
 IsEarlyFailure checks (fail name) = IsFirstToFail checks name

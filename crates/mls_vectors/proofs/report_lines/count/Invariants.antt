@@ -1,7 +1,7 @@
 use Rattle.std.proofs.Common.{◌≡◌, ◌+◌, map, drop}
-use Rattle.mls_vectors.specs.Check as lines
-use Rattle.mls_vectors.specs.CheckSeen.{outcome_of, counts_of}
-use Rattle.mls_vectors.proofs.lines.count.Given as goal
+use Rattle.mls_vectors.specs.CheckReport as lines
+use Rattle.mls_vectors.specs.CheckModel.{outcome_of, counts_of}
+use Rattle.mls_vectors.proofs.report_lines.count.Given as goal
 
 -- the counts so far, with the outcomes still to come
 abbrev pub invariant-loop-outcome : goal.invariant-loop-outcome

@@ -2,19 +2,19 @@
 
 ghost use Rattle.std.specs.Prelude.{◌≡◌, IfOk, Some, option_map};
 ghost use Rattle.serde_json.specs.View.{view};
-ghost use Rattle.mls_tree.specs.KeptTree.{plain};
+ghost use Rattle.mls_tree.specs.PublicTreeModel.{plain};
 ghost use Rattle.mls_tree.specs.TreeHash.{tree_hash};
-ghost use Rattle.mls_hash.specs.Hashing.{hash_of};
-ghost use Rattle.mls_vectors.specs.CheckSeen.{FindsTree, ReadsTreeOf};
+ghost use Rattle.mls_hash.specs.SuiteHash.{hash_of};
+ghost use Rattle.mls_vectors.specs.CheckModel.{FindsTree, ReadsTreeOf};
 
-use crate::members::bytes_under;
+use crate::json_members::bytes_under;
 use mls_hash::{HashFault, Suite, tree_hash};
 use mls_nodes::NodeFault;
 use mls_tree::{HashValue, PublicTree};
 use serde_json::Value;
 use std::alloc::{AllocError, Global};
 
-/// The tree that bytes spell. None where they spell none.
+/// Decodes a tree. `None` if the bytes are not decodable.
 fn tree_of(alloc: Global, bytes: &[u8]) -> Result<Option<PublicTree>, AllocError>
     ensures { IfOk result (λ o. ReadsTreeOf bytes.now (option_map plain o)) }
 {
@@ -27,7 +27,7 @@ fn tree_of(alloc: Global, bytes: &[u8]) -> Result<Option<PublicTree>, AllocError
     }
 }
 
-/// The tree that a vector has under a name. None where none can be read.
+/// Returns the tree with this name. `None` if it is not decodable.
 pub(crate) fn tree_under(
     alloc: Global,
     vector: &Value,
@@ -41,7 +41,7 @@ pub(crate) fn tree_under(
     }
 }
 
-/// The tree hash of a whole tree.
+/// Returns the tree hash of a whole tree.
 pub(crate) fn whole_hash(
     alloc: Global,
     suite: Suite,

@@ -1,4 +1,4 @@
-//! What a vector has under a name.
+//! The members of a vector.
 
 ghost use Rattle.std.specs.Prelude.{◌≡◌, ◌↔◌, IsTrue, IfOk, Some, option_map, option_and_then};
 ghost use Rattle.serde_json.specs.Find.{as_number, as_u64};
@@ -9,7 +9,7 @@ use hex::FromHexError;
 use serde_json::{Number, Value};
 use std::alloc::{AllocError, Global};
 
-/// Whether a value is this number.
+/// Returns whether a value is this number.
 pub(crate) fn is_number(value: &Value, number: u64) -> bool
     ensures { IsTrue result
         ↔ (option_and_then as_u64 (as_number (view value.now)) ≡ Some number) }
@@ -20,7 +20,7 @@ pub(crate) fn is_number(value: &Value, number: u64) -> bool
     }
 }
 
-/// The number under a name. None for anything else.
+/// Returns the number with this name. `None` for anything else.
 pub(crate) fn number_under<'v>(vector: &'v Value, name: &str) -> Option<&'v Number>
     ensures { option_map (λ n. number_view n.now) result
         ≡ vectors.number_under name.now (view vector.now) }
@@ -31,14 +31,14 @@ pub(crate) fn number_under<'v>(vector: &'v Value, name: &str) -> Option<&'v Numb
     }
 }
 
-/// The whole number that is not negative under a name. None for anything else.
+/// Returns the non-negative whole number with this name. `None` for anything else.
 pub(crate) fn whole_under(vector: &Value, name: &str) -> Option<u64>
     ensures { result ≡ vectors.whole_under name.now (view vector.now) }
 {
     vector.get(name).and_then(Value::as_u64)
 }
 
-/// Whether this number is under a name.
+/// Returns whether this number is there under this name.
 pub(crate) fn has_number(vector: &Value, name: &str, number: u64) -> bool
     ensures { IsTrue result ↔ (vectors.whole_under name.now (view vector.now) ≡ Some number) }
 {
@@ -48,7 +48,7 @@ pub(crate) fn has_number(vector: &Value, name: &str, number: u64) -> bool
     }
 }
 
-/// The array under a name. None for anything else.
+/// Returns the array with this name. `None` for anything else.
 pub(crate) fn array_under<'v>(vector: &'v Value, name: &str) -> Option<&'v Vec<Value>>
     ensures { option_map (λ v. items_view v.now.items) result
         ≡ vectors.array_under name.now (view vector.now) }
@@ -59,7 +59,7 @@ pub(crate) fn array_under<'v>(vector: &'v Value, name: &str) -> Option<&'v Vec<V
     }
 }
 
-/// The bytes that a text gives in hexadecimal. None for any other text.
+/// Decodes a hexadecimal text. `None` for any other text.
 fn hex_bytes(alloc: Global, text: &str) -> Result<Option<Vec<u8>>, AllocError>
     ensures { IfOk result
         (λ o. option_map (λ v. v.items) o ≡ vectors.hex_bytes text.now) }
@@ -73,7 +73,7 @@ fn hex_bytes(alloc: Global, text: &str) -> Result<Option<Vec<u8>>, AllocError>
     }
 }
 
-/// The bytes that a value gives as hexadecimal text. None for any other value.
+/// Returns the bytes of a value that is a hexadecimal text. `None` for any other value.
 pub(crate) fn bytes_of(alloc: Global, value: &Value) -> Result<Option<Vec<u8>>, AllocError>
     ensures { IfOk result
         (λ o. option_map (λ v. v.items) o ≡ vectors.bytes_of (view value.now)) }
@@ -84,7 +84,7 @@ pub(crate) fn bytes_of(alloc: Global, value: &Value) -> Result<Option<Vec<u8>>, 
     }
 }
 
-/// The bytes under a name, given as hexadecimal text. None for anything else.
+/// Returns the bytes of the hexadecimal text with this name. `None` for anything else.
 pub(crate) fn bytes_under(
     alloc: Global,
     vector: &Value,
@@ -99,7 +99,7 @@ pub(crate) fn bytes_under(
     }
 }
 
-/// Whether a value gives these bytes.
+/// Returns whether a value is the hexadecimal text of these bytes.
 pub(crate) fn gives_bytes(alloc: Global, value: &Value, bytes: &[u8]) -> Result<bool, AllocError>
     ensures { IfOk result
         (λ b. IsTrue b ↔ (vectors.bytes_of (view value.now) ≡ Some bytes.now)) }
@@ -110,7 +110,7 @@ pub(crate) fn gives_bytes(alloc: Global, value: &Value, bytes: &[u8]) -> Result<
     }
 }
 
-/// Whether a vector has these bytes under a name.
+/// Returns whether the hexadecimal text of these bytes is there under this name.
 pub(crate) fn has_bytes(
     alloc: Global,
     vector: &Value,

@@ -2,24 +2,24 @@
 
 ghost use Rattle.std.specs.Prelude.{◌≡◌, ◌++◌, ◌+◌, ◌<◌, IfOk, map, codes, string_bytes, length};
 ghost use Rattle.std.specs.Fmt.{decimal};
-ghost use Rattle.mls_vectors.specs.Check as lines;
-ghost use Rattle.mls_vectors.specs.CheckSeen.{outcome_of, counts_of};
+ghost use Rattle.mls_vectors.specs.CheckReport as lines;
+ghost use Rattle.mls_vectors.specs.CheckModel.{outcome_of, counts_of};
 
-use crate::vector_outcome::Outcome;
+use crate::vector_result::Outcome;
 use std::alloc::{AllocError, Global};
 
-/// How many vectors passed, failed and were skipped.
+/// The numbers of vectors that passed, failed and were skipped.
 #[derive(Clone, Copy, Debug, PartialEq, Eq)]
 pub(crate) struct Counts {
-    /// Those that passed.
+    /// Passed.
     passed: usize,
-    /// Those that failed.
+    /// Failed.
     pub(crate) failed: usize,
-    /// Those that were skipped.
+    /// Skipped.
     skipped: usize,
 }
 
-/// The line of a vector, by its number.
+/// Returns the line of a vector, given its number.
 fn outcome_line(alloc: Global, number: usize, outcome: Outcome) -> Result<String, AllocError>
     ensures { IfOk result
         (λ text. string_bytes text ≡ decimal number ++ lines.outcome_text (outcome_of outcome)) }
@@ -31,7 +31,7 @@ fn outcome_line(alloc: Global, number: usize, outcome: Outcome) -> Result<String
     }
 }
 
-/// The lines of all vectors.
+/// Returns the lines of all vectors.
 pub(crate) fn outcome_lines(alloc: Global, outcomes: &[Outcome]) -> Result<String, AllocError>
     ensures { IfOk result
         (λ text. string_bytes text ≡ lines.outcome_lines 1 (map outcome_of outcomes.now)) }
@@ -44,7 +44,7 @@ pub(crate) fn outcome_lines(alloc: Global, outcomes: &[Outcome]) -> Result<Strin
     Ok(text)
 }
 
-/// The counts with one more outcome.
+/// Returns the counts with one more outcome.
 fn counted(counts: Counts, outcome: Outcome) -> Counts
     requires { counts.passed + counts.failed + counts.skipped < 18446744073709551615 }
     ensures counted { counts_of result ≡ lines.counted (outcome_of outcome) (counts_of counts) }
@@ -75,7 +75,7 @@ fn counted(counts: Counts, outcome: Outcome) -> Counts
     }
 }
 
-/// The counts of all outcomes.
+/// Returns the counts of all outcomes.
 pub(crate) fn count(outcomes: &[Outcome]) -> Counts
     ensures { counts_of result ≡ lines.counts (map outcome_of outcomes.now) }
 {
@@ -90,7 +90,7 @@ pub(crate) fn count(outcomes: &[Outcome]) -> Counts
     counts
 }
 
-/// The last line.
+/// Returns the last line.
 pub(crate) fn counts_line(alloc: Global, counts: Counts) -> Result<String, AllocError>
     ensures { IfOk result (λ text. string_bytes text ≡ lines.counts_line (counts_of counts)) }
 {

@@ -1,9 +1,9 @@
-pub mod CarriedOut
-pub mod Commands
+pub mod Execution
+pub mod ClapCommands
 pub mod Files
-pub mod Judges
-pub mod Judging
+pub mod ProgramCheckers
+pub mod CheckerFaults
 pub mod Orders
-pub mod Outcome
+pub mod ReportResult
 pub mod Program
-pub mod Status
+pub mod FaultStatus

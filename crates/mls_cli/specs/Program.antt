@@ -1,13 +1,15 @@
--- What the program does with its command line: an order is carried out, or what is wrong is told; and the exit status.
+-- What the program does with its command line: it executes a command, or says what is wrong, and returns the exit
+-- status. `written0` and `written1` are what its output holds before and after, `noted0` and `noted1` what standard
+-- error holds. Used by contracts.
 use Rattle.std.specs.Prelude.{ℕ, List, [], codes, string_bytes, Bool, true, false, Option, Ok, Err, ◌≡◌, ◌↔◌, ◌⊎◌}
 use Rattle.std.specs.Io.KnownBytes.{Appends}
 use Rattle.clap.specs.Words.{Text}
 use Rattle.mls_wire.specs.Devices.{AppendsPrefix}
-use Rattle.mls_cli.specs.CarriedOut.{CarriesOut}
+use Rattle.mls_cli.specs.Execution.{ExecutesOrder}
 use Rattle.mls_cli.specs.Files.{Opener}
 use Rattle.mls_cli.specs.Orders.{IsOrderOf, IsHelp, IsUsage, AsksForHelp, AsksForHelpAlone, Refuses}
-use Rattle.mls_cli.specs.Outcome.{Outcome}
-use Rattle.mls_cli.specs.Status.{fault_status}
+use Rattle.mls_cli.specs.ReportResult.{Outcome}
+use Rattle.mls_cli.specs.FaultStatus.{fault_status}
 use Rattle.mls_cli.specs.declared.order.Order.{Order}
 use Rattle.mls_cli.specs.declared.order.OrderFault.{OrderFault}
 use Rattle.mls_cli.specs.declared.order.OrderFault.TheVariants as order
@@ -15,29 +17,29 @@ use Rattle.mls_report.specs.Status.{status}
 use Rattle.mls_report.specs.declared.verdict.RunFault.TheVariants.{Read, Write, Memory}
 use Rattle.mls_report.specs.declared.verdict.Verdict.TheVariants.{Yes}
 
--- what is told of how a report ended: a fault, by its name
+-- `fault_note outcome` is what is noted of how a report ended: a fault, by its name.
 abbrev pub fault_note : Outcome → List ℕ
 fault_note (Ok verdict) = []
 fault_note (Err Read) = codes "fault: read\n"
 fault_note (Err Write) = codes "fault: write\n"
 fault_note (Err Memory) = codes "fault: memory\n"
 
--- a text was written whole, or a prefix of it, and the sink has failed
+-- `Tells written0 written1 is_failed text`: a text was written whole, or a prefix of it and the sink has failed.
 abbrev pub Tells : Option (List ℕ) → Option (List ℕ) → Bool → List ℕ → Type 0
 Tells written0 written1 is_failed text =
     (Appends written0 written1 text × (is_failed ≡ false))
     ⊎ (AppendsPrefix written0 written1 text × (is_failed ≡ true))
 
--- a fault is noted, and the status with which the program exits is that of the outcome
+-- `Ends noted0 noted1 is_failed exit outcome`: a fault is noted, and the exit status is that of the result.
 abbrev pub Ends : Option (List ℕ) → Option (List ℕ) → Bool → ℕ → Outcome → Type 0
 Ends noted0 noted1 has_failed exit outcome =
     Tells noted0 noted1 has_failed (fault_note outcome) × (exit ≡ status outcome)
 
--- How the program ends without an order: by what it has written on its output and noted on its standard error, whether
--- these two have failed, and the status with which it exits.
+-- How the program ends without a command: what it has written and noted, whether output and standard error have failed,
+-- and the exit status.
 module _ (written0 written1 : Option (List ℕ)) (is_failed : Bool)
     (noted0 noted1 : Option (List ℕ)) (has_failed_notes : Bool) (exit : ℕ) where
-  -- help is written on the output; where that fails, it is a fault of writing
+  -- `EndsHelp text`: help is written on the output. If that fails, it is a fault of writing.
   abbrev pub EndsHelp : List ℕ → Type 0
   EndsHelp text =
       (Appends written0 written1 text × (is_failed ≡ false)
@@ -45,7 +47,7 @@ module _ (written0 written1 : Option (List ℕ)) (is_failed : Bool)
       ⊎ (AppendsPrefix written0 written1 text × (is_failed ≡ true)
       × Ends noted0 noted1 has_failed_notes exit (Err Write))
 
-  -- help is told, or what is wrong is noted
+  -- `EndsFault fault`: help is written, or what is wrong is noted.
   abbrev pub EndsFault : OrderFault → Type 0
   EndsFault (order.Help text) = EndsHelp (string_bytes text)
   EndsFault (order.Usage text) =
@@ -54,23 +56,23 @@ module _ (written0 written1 : Option (List ℕ)) (is_failed : Bool)
   EndsFault order.Memory =
       Appends written0 written1 [] × Ends noted0 noted1 has_failed_notes exit (Err Memory)
 
--- How the program ends that opens files: by the same.
+-- How the program ends that opens files.
 module _ {File : Type 0} (F : Opener File) (written0 written1 : Option (List ℕ)) (is_failed : Bool)
     (noted0 noted1 : Option (List ℕ)) (has_failed_notes : Bool) (exit : ℕ) where
-  -- an order is carried out
+  -- `EndsOrder o`: a command is executed.
   pub record EndsOrder (o : Order) : Type 0 where
     pub outcome : Outcome
-    pub carried : CarriesOut F o written0 written1 outcome
+    pub carried : ExecutesOrder F o written0 written1 outcome
     pub failed : (outcome ≡ Err Write) ↔ (is_failed ≡ true)
     pub ends : Ends noted0 noted1 has_failed_notes exit outcome
 
-  -- the words give an order, which is carried out
+  -- `RunsOrder words`: the arguments give a command, which is executed.
   pub record RunsOrder (words : List Text) : Type 0 where
     pub order : Order
     pub is_order : IsOrderOf words order
     pub ends : EndsOrder order
 
-  -- the words give no order
+  -- `RunsFault words`: the arguments give no command.
   pub record RunsFault (words : List Text) : Type 0 where
     pub fault : OrderFault
     pub refused : Refuses (IsOrderOf words) fault
@@ -78,6 +80,6 @@ module _ {File : Type 0} (F : Opener File) (written0 written1 : Option (List ℕ
     pub usage : IsUsage fault → ¬ AsksForHelpAlone words
     pub ends : EndsFault written0 written1 is_failed noted0 noted1 has_failed_notes exit fault
 
-  -- the program is run on these words, of which the first is its name
+  -- `RunsProgram words`: the program is run with these arguments, of which the first is its name.
   abbrev pub RunsProgram : List Text → Type 0
   RunsProgram words = RunsOrder words ⊎ RunsFault words

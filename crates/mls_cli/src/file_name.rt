@@ -5,7 +5,7 @@ ghost use Rattle.std.specs.Prelude.{◌≡◌, IfOk};
 use std::alloc::{AllocError, Global};
 use std::marker::Model;
 
-/// The name of a file, as it was written on the command line.
+/// The name of a file, as it is on the command line.
 #[derive(Debug, Drop)]
 pub struct FileName {
     text: String,
@@ -20,7 +20,7 @@ impl Model for FileName {
 }
 
 impl FileName {
-    /// The file of this name.
+    /// Returns the file name with this text.
     pub fn new(alloc: Global, text: &str) -> Result<FileName, AllocError>
         ensures { IfOk result (λ name. name ≡ text.now) }
     {
@@ -28,7 +28,7 @@ impl FileName {
         Ok(FileName { text })
     }
 
-    /// The name's text.
+    /// Returns the text of the name.
     pub fn as_str(&self) -> &str
         ensures { result.now ≡ self.now }
     {

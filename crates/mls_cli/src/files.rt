@@ -12,10 +12,10 @@ pub trait Files {
     /// What a file of a name may be when it is opened.
     ghost gives: { Self → List ℕ → Self.File → Type 0 };
 
-    /// Whether a name may be one that can't be opened.
+    /// Whether a name may be one that cannot be opened.
     ghost lacks: { Self → List ℕ → Type 0 };
 
-    /// Opens the file of a name, for reading it from its front; `None` where it can't be opened.
+    /// Opens the file with this name, for reading from its front; `None` if it cannot be opened.
     fn open(&self, name: &str) -> Option<Self::File>
         ensures given { IfSome result (λ file. gives self.now name.now file) }
         ensures fresh { IfSome result (λ file. Self.File.is_failed file ≡ false) }

@@ -1,58 +1,59 @@
-//! What a command line asks for.
+//! The commands of a command line.
 
 ghost use Rattle.std.specs.Prelude.{◌≡◌};
-ghost use Rattle.mls_cli.specs.Status.{fault_status};
+ghost use Rattle.mls_cli.specs.FaultStatus.{fault_status};
 
 use crate::file_name::FileName;
+use mls_msgs::Profile;
 use mls_report::ShowKind;
 use mls_vectors::CheckKind;
 use std::alloc::AllocError;
 use thiserror::Error;
 
-/// Who judges signatures.
+/// The choice of a checker.
 #[derive(Debug, Drop)]
-pub enum Checker {
-    /// `--trust`: every signature is good.
+pub enum CheckerChoice {
+    /// `--trust`: it accepts every signature.
     Trust,
-    /// `--receipts FILE`: those that the file lists are.
+    /// `--receipts FILE`: it accepts those that the file lists.
     Receipts(FileName),
-    /// Neither, in `signatures`: of none it is known.
+    /// Neither, in `signatures`: it accepts none.
     Nobody,
 }
 
-/// A report that asks who judges signatures.
+/// A report with a checker.
 #[derive(Debug, Drop)]
-pub enum JudgedReport {
-    /// `validate-tree`: say whether a tree is that of a group context, and its leaves are members.
+pub enum CheckedReport {
+    /// `validate-tree`: say whether a tree is valid for a GroupContext, and its leaf nodes are valid.
     ValidateTree {
-        /// The file of the group context.
+        /// The file of the GroupContext.
         context: FileName,
         /// The file of the ratchet tree.
         tree: FileName,
     },
-    /// `validate`: say whether a group is in order as its info shows it.
+    /// `validate`: say whether a group can be followed from its GroupInfo.
     Validate {
-        /// The file of the group info.
+        /// The file of the GroupInfo.
         info: FileName,
-        /// The file of the ratchet tree, where one is named.
+        /// The file of the ratchet tree, if one is named.
         tree: Option<FileName>,
     },
-    /// `replay`: follow a group from its info through a log of handshakes.
+    /// `replay`: follow a group from its GroupInfo through a log of handshakes.
     Replay {
-        /// The file of the group info.
+        /// The file of the GroupInfo.
         info: FileName,
-        /// The file of the ratchet tree, where one is named.
+        /// The file of the ratchet tree, if one is named.
         tree: Option<FileName>,
         /// The file of the log.
         log: FileName,
     },
-    /// `signatures`: print which signatures a group's start and its handshakes want.
+    /// `signatures`: print the signatures to verify of a group's start and its handshakes.
     Signatures {
-        /// The file of the group info.
+        /// The file of the GroupInfo.
         info: FileName,
-        /// The file of the ratchet tree, where one is named.
+        /// The file of the ratchet tree, if one is named.
         tree: Option<FileName>,
-        /// The file of the log, where one is named.
+        /// The file of the log, if one is named.
         log: Option<FileName>,
     },
 }
@@ -62,6 +63,8 @@ pub enum JudgedReport {
 pub enum Order {
     /// `show KIND FILE`: print what a file holds.
     Show {
+        /// The profile in which a message is decoded; that of the members for another kind.
+        profile: Profile,
         /// What the file is to be read as.
         kind: ShowKind,
         /// The file.
@@ -70,9 +73,9 @@ pub enum Order {
     /// `validate-tree`, `validate`, `replay` or `signatures`.
     Judged {
         /// Which of them, and its files.
-        report: JudgedReport,
-        /// Who judges signatures. `signatures` leaves out those that are good: those that the receipts list, or none.
-        checker: Checker,
+        report: CheckedReport,
+        /// The choice of a checker. `signatures` leaves out the signatures that it accepts.
+        checker: CheckerChoice,
     },
     /// `check KIND FILE`: say which test vectors of a file agree with this library.
     Check {
@@ -83,7 +86,7 @@ pub enum Order {
     },
 }
 
-/// Why a command line gives no order.
+/// Why a command line has no command to execute.
 #[derive(Debug, Drop, Error)]
 pub enum OrderFault {
     /// It asks for help or for the version, which is this text.
@@ -92,14 +95,14 @@ pub enum OrderFault {
     /// It is none of the forms that the program knows. The text says why.
     #[error("{0}")]
     Usage(String),
-    /// There was not enough memory.
+    /// An allocation failed.
     #[error("memory")]
     Memory,
 }
 
 impl OrderFault {
-    /// The exit status of a command line that gives no order: 0 for help and the version, 2 for a usage fault, 3 for
-    /// want of memory.
+    /// Returns the exit status of a command line without a command: 0 for help and the version, 2 for a usage fault, 3
+    /// for out of memory.
     pub fn status(&self) -> u8
         ensures { result ≡ fault_status self.now }
     {

@@ -1,19 +1,19 @@
-//! The program, but for what opens real files and ends the process.
+//! The program, except what opens real files and ends the process.
 
 ghost use Rattle.std.specs.Prelude.{◌≡◌, false, Err, map, string_bytes};
 ghost use Rattle.mls_cli.specs.Files.{opener};
 ghost use Rattle.mls_cli.specs.Program.{Ends, EndsOrder, EndsHelp, EndsFault, RunsProgram, Tells};
 ghost use Rattle.mls_cli.specs.Program as program;
 
-use crate::carry::carry_out;
+use crate::execution::execute_order;
 use crate::files::Files;
 use crate::order::{Order, OrderFault};
-use crate::order_words::order_of;
+use crate::parse_order::order_of;
 use mls_report::{RunFault, Verdict, status_of, write_text};
 use mls_wire::{Sink, write_all};
 use std::alloc::Global;
 
-/// What is noted of how a report ended.
+/// Returns what is noted of how a report ended.
 fn fault_note(outcome: &Result<Verdict, RunFault>) -> &'static str
     ensures { result.now ≡ program.fault_note outcome.now }
 {
@@ -25,7 +25,7 @@ fn fault_note(outcome: &Result<Verdict, RunFault>) -> &'static str
     }
 }
 
-/// Notes a text. Where `notes` fails, nobody can be told.
+/// Notes a text. If `notes` fails, that cannot be reported.
 fn note<N: Sink>(notes: &mut N, text: &str)
     requires { N.is_failed notes.old ≡ false }
     ensures { Tells (N.written notes.old) (N.written notes.new) (N.is_failed notes.new) text.now }
@@ -33,7 +33,7 @@ fn note<N: Sink>(notes: &mut N, text: &str)
     let _ = write_all(notes, text.as_bytes());
 }
 
-/// Notes a fault, and answers the exit status.
+/// Notes a fault, and returns the exit status.
 fn end<N: Sink>(outcome: &Result<Verdict, RunFault>, notes: &mut N) -> u8
     requires { N.is_failed notes.old ≡ false }
     ensures { Ends (N.written notes.old) (N.written notes.new) (N.is_failed notes.new) result
@@ -43,7 +43,7 @@ fn end<N: Sink>(outcome: &Result<Verdict, RunFault>, notes: &mut N) -> u8
     status_of(outcome)
 }
 
-/// Carries out an order.
+/// Executes a command.
 fn run_order<F: Files, K: Sink, N: Sink>(
     alloc: Global,
     order: &Order,
@@ -58,7 +58,7 @@ fn run_order<F: Files, K: Sink, N: Sink>(
         (K.written out.old) (K.written out.new) (K.is_failed out.new)
         (N.written notes.old) (N.written notes.new) (N.is_failed notes.new) result order.now }
 {
-    let outcome = carry_out(alloc, order, files, out);
+    let outcome = execute_order(alloc, order, files, out);
     end(&outcome, notes)
 }
 
@@ -75,8 +75,7 @@ fn help<K: Sink, N: Sink>(text: &str, out: &mut K, notes: &mut N) -> u8
     }
 }
 
-/// Ends the program where there is no order, and answers the exit status: help is written on `out`, and anything else
-/// that is wrong is told on `notes`.
+/// Ends the program without a command, and returns the exit status. Help is written on `out`, anything else on `notes`.
 pub fn run_fault<K: Sink, N: Sink>(fault: &OrderFault, out: &mut K, notes: &mut N) -> u8
     requires out { K.is_failed out.old ≡ false }
     requires notes { N.is_failed notes.old ≡ false }
@@ -93,11 +92,11 @@ pub fn run_fault<K: Sink, N: Sink>(fault: &OrderFault, out: &mut K, notes: &mut 
     }
 }
 
-/// The whole program, but for what opens real files and ends the process: reads the words, of which the first is the
-/// program's name, carries out their order, and answers the exit status. Reports and help are written on `out`, usage
-/// and faults on `notes`.
+/// Runs the program, except what opens real files and ends the process. It parses the arguments, of which the first is
+/// the program's name, executes their command, and returns the exit status. Reports and help are written on `out`,
+/// usage and faults on `notes`.
 ///
-/// The status is 0 for yes and for help, 1 for no, 2 for words that give no order, and 3 for a fault.
+/// The status is 0 for yes and for help, 1 for no, 2 for arguments that are no command, and 3 for a fault.
 pub fn run_program<F: Files, K: Sink, N: Sink>(
     alloc: Global,
     words: &[String],

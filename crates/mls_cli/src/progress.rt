@@ -1,4 +1,4 @@
-//! A note of how far a long report is, beside the report.
+//! Notes on the progress of a long report, next to the report.
 
 ghost use Rattle.std.specs.Prelude.{◌≡◌};
 
@@ -8,8 +8,8 @@ use std::alloc::Global;
 /// After how many lines there is a note.
 const NOTED_LINES: u64 = 1000;
 
-/// A sink that hands on what it takes to another one, and notes beside it, for each thousand lines, how many messages
-/// were told so far. The notes are written over one another in one line. Whether a note could be written is not asked.
+/// A sink that passes what it takes to another one. For each thousand lines it notes how many messages were reported so
+/// far. The notes are written over one another in one line. Whether a note could be written is ignored.
 #[derive(Drop)]
 pub struct Progress<K: Sink, N: Sink> {
     out: K,
@@ -20,7 +20,7 @@ pub struct Progress<K: Sink, N: Sink> {
 }
 
 impl<K: Sink, N: Sink> Progress<K, N> {
-    /// A sink over another one, with its notes on a third.
+    /// Returns a sink over another one, with its notes on a third.
     pub fn new(alloc: Global, out: K, notes: N) -> Progress<K, N>
         ensures written { ⟦<Progress<K, N> as Sink>⟧.written result ≡ K.written out }
         ensures failed { ⟦<Progress<K, N> as Sink>⟧.is_failed result ≡ K.is_failed out }
@@ -44,7 +44,7 @@ impl<K: Sink, N: Sink> Progress<K, N> {
         }
     }
 
-    /// Counts the lines that end in these bytes, and notes them where they are many.
+    /// Counts the lines that end in these bytes, and notes them if they are many.
     fn count(&mut self, bytes: &[u8])
         ensures { self.new.out ≡ self.old.out }
     {
@@ -56,7 +56,7 @@ impl<K: Sink, N: Sink> Progress<K, N> {
         }
     }
 
-    /// Ends the line of the notes, where there is one.
+    /// Ends the line of the notes, if there is one.
     pub fn finish(&mut self)
         ensures written { ⟦<Progress<K, N> as Sink>⟧.written self.new
             ≡ ⟦<Progress<K, N> as Sink>⟧.written self.old }

@@ -1,0 +1,17 @@
+use Rattle.std.proofs.Common.{inr, rules}
+use Rattle.mls_cli.proofs.execution.validate.Goals as goal
+
+pub returns-clause-carried : goal.returns-clause-carried
+returns-clause-carried g c =
+    inr (inr (record {
+      info_opened = c.in-Some.info;
+      info_ended = c.run_validate.new.info;
+      tree_opened = c.in-Some-open_named.tree;
+      tree_ended = c.run_validate.new.tree;
+      info_given = search rules;
+      tree_given = c.in-Some-open_named.ensures.given;
+      validated = c.run_validate.ensures.validated;
+      part = c.run_validate.ensures.part;
+      memory = c.run_validate.ensures.memory;
+      failed = c.run_validate.ensures.read;
+    }))

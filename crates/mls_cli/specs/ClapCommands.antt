@@ -1,0 +1,95 @@
+-- The subcommands of the program and their arguments, as clap's definitions read them. Used by contracts.
+use Rattle.std.specs.Prelude.{true, codes, Some}
+use Rattle.clap.specs.Words.{App, Rule, Text, new_app, new_rule, with_rule, with_subcommand}
+use Rattle.clap.specs.Simple.{on_top}
+use Rattle.clap.specs.declared.builder.ArgAction.TheVariants.{SetTrue}
+
+-- `word_rule id` is a required positional argument.
+abbrev pub word_rule : Text → Rule
+word_rule name = record (new_rule name) { required = true }
+
+-- `file_rule name` is an option `--name` that takes one value, mostly the name of a file; help has one name for the value.
+abbrev pub file_rule : Text → Rule
+file_rule name = record (new_rule name) { long = Some name; value_names = 1 }
+
+-- `needed_rule id` is an option with this name that has to name a file.
+abbrev pub needed_rule : Text → Rule
+needed_rule name = record (file_rule name) { required = true }
+
+-- `flag_rule id` is an option without a value.
+abbrev pub flag_rule : Text → Rule
+flag_rule name = record (new_rule name) { long = Some name; action = Some SetTrue }
+
+-- `with_checker app` adds the options `--trust` and `--receipts FILE`, one of which has to be given.
+abbrev pub with_checker : App → App
+with_checker a = with_rule (with_rule a (flag_rule (codes "trust"))) (file_rule (codes "receipts"))
+
+-- `show KIND FILE [--profile PROFILE]`
+abbrev pub show_app : App
+show_app =
+    with_rule (with_rule (with_rule
+    (new_app (codes "show"))
+    (word_rule (codes "KIND")))
+    (word_rule (codes "FILE")))
+    (file_rule (codes "profile"))
+
+-- `validate-tree --context FILE --tree FILE`, and one of `--trust` and `--receipts FILE`
+abbrev pub validate_tree_app : App
+validate_tree_app =
+    with_checker (with_rule (with_rule
+    (new_app (codes "validate-tree"))
+    (needed_rule (codes "context")))
+    (needed_rule (codes "tree")))
+
+-- `validate --info FILE [--tree FILE]`, and one of `--trust` and `--receipts FILE`
+abbrev pub validate_app : App
+validate_app =
+    with_checker (with_rule (with_rule
+    (new_app (codes "validate"))
+    (needed_rule (codes "info")))
+    (file_rule (codes "tree")))
+
+-- `replay --info FILE [--tree FILE] --log FILE`, and one of `--trust` and `--receipts FILE`
+abbrev pub replay_app : App
+replay_app =
+    with_checker (with_rule (with_rule (with_rule
+    (new_app (codes "replay"))
+    (needed_rule (codes "info")))
+    (file_rule (codes "tree")))
+    (needed_rule (codes "log")))
+
+-- `signatures --info FILE [--tree FILE] [--log FILE] [--receipts FILE]`
+abbrev pub signatures_app : App
+signatures_app =
+    with_rule (with_rule (with_rule (with_rule
+    (new_app (codes "signatures"))
+    (needed_rule (codes "info")))
+    (file_rule (codes "tree")))
+    (file_rule (codes "log")))
+    (file_rule (codes "receipts"))
+
+-- `check KIND FILE`
+abbrev pub check_app : App
+check_app =
+    with_rule (with_rule
+    (new_app (codes "check"))
+    (word_rule (codes "KIND")))
+    (word_rule (codes "FILE"))
+
+-- The program without its subcommands: it prints its version, and one of them has to be given.
+abbrev pub bare_app : App
+bare_app =
+    on_top (λ s. record s { has_version = true; subcommand_required = true })
+    (new_app (codes "mlscheck"))
+
+-- The program with its subcommands.
+abbrev pub mlscheck_app : App
+mlscheck_app =
+    with_subcommand (with_subcommand (with_subcommand
+    (with_subcommand (with_subcommand (with_subcommand bare_app
+    show_app.top)
+    validate_tree_app.top)
+    validate_app.top)
+    replay_app.top)
+    signatures_app.top)
+    check_app.top

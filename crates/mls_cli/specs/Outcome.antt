@@ -1,8 +1,0 @@
--- How a report ends.
-use Rattle.std.specs.Prelude.{Result}
-use Rattle.mls_report.specs.declared.verdict.RunFault.{RunFault}
-use Rattle.mls_report.specs.declared.verdict.Verdict.{Verdict}
-
--- the verdict of a report that was written whole, or why it was not
-abbrev pub Outcome : Type 0
-Outcome = Result Verdict RunFault

@@ -1,0 +1,87 @@
+-- The checker of a report, and how a report ends without one. Used by contracts.
+use Rattle.std.specs.Prelude.{ℕ, List, [], true, false, Option, Err, IfOk, OnErr, ◌≡◌, ◌≢◌, ◌⊎◌}
+use Rattle.std.specs.Io.KnownBytes.{Appends}
+use Rattle.mls_wire.specs.Devices.{AppendsPrefix}
+use Rattle.mls_check.specs.Receipts.{listed, IsReceipts, IsReceiptsFault}
+use Rattle.mls_check.specs.Signatures.{VerifyFn}
+use Rattle.mls_check.specs.declared.receipts.ReceiptsFault.{ReceiptsFault}
+use Rattle.mls_cli.specs.Files.{Opener, ReadsFile, CannotReadFile}
+use Rattle.mls_cli.specs.ReportResult.{Outcome}
+use Rattle.mls_cli.specs.declared.program_checker.ProgramChecker.{ProgramChecker}
+use Rattle.mls_cli.specs.declared.program_checker.ProgramChecker.TheVariants as judge
+use Rattle.mls_cli.specs.declared.order.CheckerChoice.{CheckerChoice}
+use Rattle.mls_cli.specs.declared.order.CheckerChoice.TheVariants as checker
+use Rattle.mls_report.specs.UnreadableReceipts.{TellsReceipts, receipts_line}
+use Rattle.mls_report.specs.declared.verdict.RunFault.{RunFault}
+use Rattle.mls_report.specs.declared.verdict.RunFault.TheVariants.{Read, Memory}
+
+-- `checker_verify c` is the verification function: it accepts each signature, or those that have a receipt, or none.
+abbrev pub checker_verify : ProgramChecker → VerifyFn
+checker_verify judge.All = λ suite key content signature. true
+checker_verify (judge.Listed digests) = listed digests
+checker_verify judge.Nobody = λ suite key content signature. false
+
+module _ {File : Type 0} (F : Opener File) where
+  -- `IsListed name G`: the receipts file was read, and `G` accepts the signatures that it lists.
+  pub record IsListed (name : List ℕ) (G : VerifyFn) : Type 0 where
+    pub bytes : List ℕ
+    pub digests : List (List ℕ)
+    pub read : ReadsFile F name bytes
+    pub are_receipts : IsReceipts bytes digests
+    pub means : G ≡ listed digests
+
+  -- `IsUnlisted name fault`: the file was read, and is no receipts file.
+  pub record IsUnlisted (name : List ℕ) (fault : ReceiptsFault) : Type 0 where
+    pub bytes : List ℕ
+    pub read : ReadsFile F name bytes
+    pub is_fault : IsReceiptsFault fault bytes
+
+  -- `IsMeaning c G`: `G` is the verification function of a choice on the command line.
+  abbrev pub IsMeaning : CheckerChoice → VerifyFn → Type 0
+  IsMeaning checker.Trust G = G ≡ (λ suite key content signature. true)
+  IsMeaning (checker.Receipts name) G = IsListed name G
+  IsMeaning checker.Nobody G = G ≡ (λ suite key content signature. false)
+
+  -- `CannotReadReceipts c fault`: the receipts file cannot be read.
+  abbrev pub CannotReadReceipts : CheckerChoice → RunFault → Type 0
+  CannotReadReceipts checker.Trust fault = ⊥
+  CannotReadReceipts (checker.Receipts name) fault = CannotReadFile F name fault
+  CannotReadReceipts checker.Nobody fault = ⊥
+
+  -- `RefusesReceipts c fault`: the receipts file is read, and refused.
+  abbrev pub RefusesReceipts : CheckerChoice → ReceiptsFault → Type 0
+  RefusesReceipts checker.Trust fault = ⊥
+  RefusesReceipts (checker.Receipts name) fault = IsUnlisted name fault
+  RefusesReceipts checker.Nobody fault = ⊥
+
+  -- `EndsUnread c ..`: there is no report, as the receipts file cannot be read. Nothing is written.
+  pub record EndsUnread (c : CheckerChoice) (written0 written1 : Option (List ℕ))
+      (outcome : Outcome) : Type 0 where
+    pub fault : RunFault
+    pub lost : CannotReadReceipts c fault
+    pub outcome_is : outcome ≡ Err fault
+    pub wrote : Appends written0 written1 []
+
+  -- `EndsRefused c ..`: the receipts file is bad, which is all that is reported.
+  pub record EndsRefused (c : CheckerChoice) (written0 written1 : Option (List ℕ))
+      (outcome : Outcome) : Type 0 where
+    pub fault : ReceiptsFault
+    pub refused : RefusesReceipts c fault
+    pub told : IfOk outcome (TellsReceipts fault written0 written1)
+    pub part : OnErr outcome (AppendsPrefix written0 written1 (receipts_line fault))
+    pub memory : outcome ≡ Err Memory → Appends written0 written1 []
+    pub own : outcome ≢ Err Read
+
+  -- `IsJudged c P`: P holds of the verification function of a choice.
+  pub record IsJudged (c : CheckerChoice) (P : VerifyFn → Type 0) : Type 0 where
+    pub meaning : VerifyFn
+    pub is_meaning : IsMeaning c meaning
+    pub report : P meaning
+
+  -- `IsJudgedBy c P ..`: the receipts are read, if there are any, and the report begins if they are good. That they are
+  -- read first, and that no other file is opened if they are bad, is no clause.
+  abbrev pub IsJudgedBy : CheckerChoice → (VerifyFn → Type 0) → Option (List ℕ) → Option (List ℕ)
+      → Outcome → Type 0
+  IsJudgedBy c P written0 written1 outcome =
+      EndsUnread c written0 written1 outcome
+      ⊎ (EndsRefused c written0 written1 outcome ⊎ IsJudged c P)

@@ -1,0 +1,307 @@
+//! The program's subcommands and their arguments.
+
+ghost use Rattle.std.specs.Prelude.{◌≡◌, IfOk, false, codes};
+ghost use Rattle.clap.specs.Words.{App, app_of, new_app, rule_of, with_rule, with_subcommand};
+ghost use Rattle.clap.specs.declared.builder.command.Command.TheViews.{out-Command as fields_of};
+ghost use Rattle.mls_cli.specs.ClapCommands as specs;
+ghost use Rattle.mls_cli.specs.ClapCommands.{word_rule, file_rule, needed_rule, flag_rule, show_app, validate_tree_app, validate_app, replay_app, signatures_app, check_app, bare_app, mlscheck_app};
+
+use clap::{Arg, ArgAction, Command};
+use std::alloc::{AllocError, Global};
+
+/// The program's version.
+const VERSION: &str = "0.1.0";
+
+/// What help says of files, and of the exit status.
+const STATUSES: &str = "\
+A file may be named - for standard input, which can be given for one file.
+
+Exit status:
+  0  yes, or help is shown
+  1  no: something can't be read, is refused, or is broken off
+  2  the command line is none of these forms
+  3  a fault of reading, of writing, or of memory
+
+Example:
+  mlscheck show tree examples/one-leaf.tree";
+
+/// The heading of `--trust` and `--receipts` in help.
+const SIGNATURES: &str = "Signatures (give one of these)";
+
+const SHOW_HELP: &str = "\
+Example:
+  mlscheck show tree examples/one-leaf.tree";
+
+const VALIDATE_TREE_HELP: &str = "\
+Example:
+  mlscheck validate-tree --context examples/one-leaf.context \\
+      --tree examples/one-leaf.tree --trust";
+
+const VALIDATE_HELP: &str = "\
+Example:
+  mlscheck validate --info examples/one-leaf.info --trust";
+
+const REPLAY_HELP: &str = "\
+Example:
+  mlscheck replay --info examples/real/epoch-1.info --log examples/real/handshakes.log \\
+      --receipts examples/real/receipts.txt";
+
+const SIGNATURES_HELP: &str = "\
+Prints a line for each signature that is wanted and that no receipt covers:
+  RECEIPT SUITE KEY CONTENT SIGNATURE
+Where the signature is good, RECEIPT is its line in the list of good signatures.
+A log is followed as if each signature were good: give one whose messages another
+party has accepted, or from which bad ones are struck after a first replay.
+
+Example:
+  mlscheck signatures --info examples/real/epoch-1.info \\
+      --log examples/real/handshakes.log";
+
+const CHECK_HELP: &str = "\
+Example:
+  mlscheck check tree-math examples/tree-math.json";
+
+/// Returns a required positional argument.
+fn word<'a>(alloc: Global, name: &'a str, help: &'a str) -> Arg<'a>
+    ensures rule { rule_of result ≡ word_rule name.entry.now }
+    ensures own { result.global ≡ false }
+{
+    Arg::new(alloc, name).required(true).help(help)
+}
+
+/// Returns an option that takes one value.
+fn valued<'a>(alloc: Global, name: &'a str, value: &'a str, help: &'a str) -> Arg<'a>
+    ensures rule { rule_of result ≡ file_rule name.entry.now }
+    ensures own { result.global ≡ false }
+{
+    Arg::new(alloc, name)
+        .long(name)
+        .value_name(value)
+        .help(help)
+}
+
+/// Returns an option that may name a file.
+fn file<'a>(alloc: Global, name: &'a str, help: &'a str) -> Arg<'a>
+    ensures rule { rule_of result ≡ file_rule name.entry.now }
+    ensures own { result.global ≡ false }
+{
+    valued(alloc, name, "FILE", help)
+}
+
+/// Returns an option that has to name a file.
+fn needed<'a>(alloc: Global, name: &'a str, help: &'a str) -> Arg<'a>
+    ensures rule { rule_of result ≡ needed_rule name.entry.now }
+    ensures own { result.global ≡ false }
+{
+    file(alloc, name, help).required(true)
+}
+
+/// Returns an option without a value.
+fn flag<'a>(alloc: Global, name: &'a str, help: &'a str) -> Arg<'a>
+    ensures rule { rule_of result ≡ flag_rule name.entry.now }
+    ensures own { result.global ≡ false }
+{
+    Arg::new(alloc, name)
+        .long(name)
+        .action(ArgAction::SetTrue)
+        .help(help)
+}
+
+/// Returns a command with this name, and what help says of it and below it.
+fn titled<'a>(alloc: Global, name: &'a str, about: &'a str, below: &'a str) -> Command<'a>
+    ensures app { app_of result ≡ new_app name.entry.now }
+    ensures own { (fields_of result).has_globals ≡ false }
+{
+    Command::new(alloc, name).about(about).after_help(below)
+}
+
+/// Adds an argument to the command, after the others.
+fn with<'a>(command: Command<'a>, arg: Arg<'a>) -> Result<Command<'a>, AllocError>
+    requires command_own { (fields_of command).has_globals ≡ false }
+    requires arg_own { arg.global ≡ false }
+    ensures app { IfOk result
+        (λ r. app_of r ≡ with_rule (app_of command.entry) (rule_of arg.entry)) }
+    ensures own { IfOk result (λ r. (fields_of r).has_globals ≡ false) }
+{
+    command.arg(arg)
+}
+
+/// Adds the two arguments KIND and FILE to the command.
+fn with_words<'a>(
+    alloc: Global,
+    command: Command<'a>,
+    kind_help: &'a str,
+) -> Result<Command<'a>, AllocError>
+    requires { (fields_of command).has_globals ≡ false }
+    ensures app { IfOk result
+        (λ r. app_of r ≡ with_rule (with_rule (app_of command.entry)
+        (word_rule (codes "KIND"))) (word_rule (codes "FILE"))) }
+    ensures own { IfOk result (λ r. (fields_of r).has_globals ≡ false) }
+{
+    let command = with(command, word(alloc, "KIND", kind_help))?;
+    with(command, word(alloc, "FILE", "The file's path"))
+}
+
+/// `show KIND FILE [--profile PROFILE]`.
+fn show_command<'a>(alloc: Global) -> Result<Command<'a>, AllocError>
+    ensures app { IfOk result (λ c. app_of c ≡ show_app) }
+    ensures own { IfOk result (λ c. (fields_of c).has_globals ≡ false) }
+{
+    let command = titled(alloc, "show", "Prints what a file holds", SHOW_HELP);
+    let command = with_words(alloc, command, "What the file holds: tree, info or message")?;
+    let help = "The profile of a message: members, which is taken without it, or full";
+    with(command, valued(alloc, "profile", "PROFILE", help))
+}
+
+/// Adds `--trust` and `--receipts FILE` to the command, in a group of help that says to give one.
+fn with_checker<'a>(alloc: Global, command: Command<'a>) -> Result<Command<'a>, AllocError>
+    requires { (fields_of command).has_globals ≡ false }
+    ensures app { IfOk result (λ r. app_of r ≡ specs.with_checker (app_of command.entry)) }
+    ensures own { IfOk result (λ r. (fields_of r).has_globals ≡ false) }
+{
+    let trust = flag(alloc, "trust", "Takes every signature as good");
+    let command = with(command, trust.help_heading(SIGNATURES))?;
+    let receipts = file(alloc, "receipts", "The path of the list of good signatures");
+    with(command, receipts.help_heading(SIGNATURES))
+}
+
+/// `validate-tree --context FILE --tree FILE`, and one of `--trust` and `--receipts FILE`.
+fn validate_tree_command<'a>(alloc: Global) -> Result<Command<'a>, AllocError>
+    ensures app { IfOk result (λ c. app_of c ≡ validate_tree_app) }
+    ensures own { IfOk result (λ c. (fields_of c).has_globals ≡ false) }
+{
+    let about = "Checks a tree against a group context";
+    let command = titled(alloc, "validate-tree", about, VALIDATE_TREE_HELP);
+    let context = needed(alloc, "context", "The group context's path");
+    let command = with(command, context)?;
+    let tree = needed(alloc, "tree", "The ratchet tree's path");
+    let command = with(command, tree)?;
+    with_checker(alloc, command)
+}
+
+/// Adds the files of a group's start to the command: its GroupInfo, and its tree.
+fn with_start<'a>(alloc: Global, command: Command<'a>) -> Result<Command<'a>, AllocError>
+    requires { (fields_of command).has_globals ≡ false }
+    ensures app { IfOk result
+        (λ r. app_of r ≡ with_rule (with_rule (app_of command.entry)
+        (needed_rule (codes "info"))) (file_rule (codes "tree"))) }
+    ensures own { IfOk result (λ r. (fields_of r).has_globals ≡ false) }
+{
+    let info = needed(alloc, "info", "The group info's path");
+    let command = with(command, info)?;
+    let tree = file(
+        alloc,
+        "tree",
+        "The ratchet tree's path, where the info holds none",
+    );
+    with(command, tree)
+}
+
+/// `validate --info FILE [--tree FILE]`, and one of `--trust` and `--receipts FILE`.
+fn validate_command<'a>(alloc: Global) -> Result<Command<'a>, AllocError>
+    ensures app { IfOk result (λ c. app_of c ≡ validate_app) }
+    ensures own { IfOk result (λ c. (fields_of c).has_globals ≡ false) }
+{
+    let about = "Checks a group as its info shows it";
+    let command = titled(alloc, "validate", about, VALIDATE_HELP);
+    let command = with_start(alloc, command)?;
+    with_checker(alloc, command)
+}
+
+/// `replay --info FILE [--tree FILE] --log FILE`, and one of `--trust` and `--receipts FILE`.
+fn replay_command<'a>(alloc: Global) -> Result<Command<'a>, AllocError>
+    ensures app { IfOk result (λ c. app_of c ≡ replay_app) }
+    ensures own { IfOk result (λ c. (fields_of c).has_globals ≡ false) }
+{
+    let about = "Follows a group through a log of its handshakes";
+    let command = titled(alloc, "replay", about, REPLAY_HELP);
+    let command = with_start(alloc, command)?;
+    let log = needed(
+        alloc,
+        "log",
+        "The path of the handshakes, each behind its length",
+    );
+    let command = with(command, log)?;
+    with_checker(alloc, command)
+}
+
+/// `signatures --info FILE [--tree FILE] [--log FILE] [--receipts FILE]`.
+fn signatures_command<'a>(alloc: Global) -> Result<Command<'a>, AllocError>
+    ensures app { IfOk result (λ c. app_of c ≡ signatures_app) }
+    ensures own { IfOk result (λ c. (fields_of c).has_globals ≡ false) }
+{
+    let about = "Prints the signatures that a group's start and its handshakes want";
+    let command = titled(alloc, "signatures", about, SIGNATURES_HELP);
+    let command = with_start(alloc, command)?;
+    let log = file(
+        alloc,
+        "log",
+        "The path of the handshakes, each behind its length",
+    );
+    let command = with(command, log)?;
+    let receipts = file(alloc, "receipts", "The path of the list of good signatures");
+    with(command, receipts)
+}
+
+/// `check KIND FILE`.
+fn check_command<'a>(alloc: Global) -> Result<Command<'a>, AllocError>
+    ensures app { IfOk result (λ c. app_of c ≡ check_app) }
+    ensures own { IfOk result (λ c. (fields_of c).has_globals ≡ false) }
+{
+    let command = titled(
+        alloc,
+        "check",
+        "Checks the test vectors of a file",
+        CHECK_HELP,
+    );
+    with_words(
+        alloc,
+        command,
+        "What the vectors check: tree-math, tree-validation, tree-operations or transcript",
+    )
+}
+
+/// Adds a subcommand to the command, after the others, if it could be made.
+fn with_command<'a>(
+    command: Command<'a>,
+    sub: Result<Command<'a>, AllocError>,
+) -> Result<Command<'a>, AllocError>
+    requires command_own { (fields_of command).has_globals ≡ false }
+    requires sub_own { IfOk sub (λ s. (fields_of s).has_globals ≡ false) }
+    ensures app { (app : App) → IfOk sub.entry (λ s. app_of s ≡ app)
+        → IfOk result (λ r. app_of r ≡ with_subcommand (app_of command.entry) app.top) }
+    ensures own { IfOk result (λ r. (fields_of r).has_globals ≡ false) }
+{
+    match sub {
+        Ok(sub) => command.subcommand(sub),
+        Err(error) => {
+            drop(command);
+            Err(error)
+        }
+    }
+}
+
+/// Returns the program without its subcommands.
+fn bare_command<'a>(alloc: Global) -> Command<'a>
+    ensures app { app_of result ≡ bare_app }
+    ensures own { (fields_of result).has_globals ≡ false }
+{
+    Command::new(alloc, "mlscheck")
+        .about("Checks the public state of MLS groups (RFC 9420)")
+        .version(VERSION)
+        .after_help(STATUSES)
+        .subcommand_required(true)
+}
+
+/// Returns the program with all of its subcommands.
+pub(crate) fn mlscheck_command<'a>(alloc: Global) -> Result<Command<'a>, AllocError>
+    ensures app { IfOk result (λ c. app_of c ≡ mlscheck_app) }
+    ensures own { IfOk result (λ c. (fields_of c).has_globals ≡ false) }
+{
+    let command = with_command(bare_command(alloc), show_command(alloc))?;
+    let command = with_command(command, validate_tree_command(alloc))?;
+    let command = with_command(command, validate_command(alloc))?;
+    let command = with_command(command, replay_command(alloc))?;
+    let command = with_command(command, signatures_command(alloc))?;
+    with_command(command, check_command(alloc))
+}

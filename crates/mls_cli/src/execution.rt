@@ -1,0 +1,296 @@
+//! Executing a command: the files that it names are opened, and its report is made of them.
+
+ghost use Rattle.std.specs.Prelude.{◌≡◌, ◌↔◌, ◌⊎◌, false, true, None, Err, option_map, IfSome};
+ghost use Rattle.mls_cli.specs.Execution.{ExecutesOrder, CarriesReport, CarriesShow, CarriesValidateTree, CarriesValidate, CarriesReplay, CarriesSignatures, CarriesCheck};
+ghost use Rattle.mls_cli.specs.Files.{opener, IsOpened, NamedFileIsMissing};
+ghost use Rattle.mls_cli.specs.ProgramCheckers.{checker_verify, IsJudgedBy, EndsUnread, EndsRefused};
+ghost use Rattle.mls_report.specs.StartInputs.{has_failed};
+ghost use Rattle.mls_cli.specs.CheckerFaults.{IsJudgeFault};
+
+use crate::file_name::FileName;
+use crate::files::Files;
+use crate::load_checker::read_judge;
+use crate::order::{CheckedReport, CheckerChoice, Order};
+use crate::program_checker::{CheckerFault, ProgramChecker};
+use mls_msgs::Profile;
+use mls_report::{
+    RunFault, ShowKind, Verdict, run_replay, run_show_in, run_signatures, run_unreadable_receipts,
+    run_validate, run_validate_tree,
+};
+use mls_vectors::{CheckKind, run_check};
+use mls_wire::Sink;
+use std::alloc::Global;
+
+/// Shows a file. A message is decoded in a profile.
+fn show<F: Files, K: Sink>(
+    alloc: Global,
+    profile: Profile,
+    kind: ShowKind,
+    file: &FileName,
+    files: &F,
+    out: &mut K,
+) -> Result<Verdict, RunFault>
+    requires { K.is_failed out.old ≡ false }
+    ensures carried { CarriesShow
+        (opener (F.gives files.now) (F.lacks files.now) F.File.left F.File.is_failed)
+        profile kind file.now (K.written out.old) (K.written out.new) result }
+    ensures write { (result ≡ Err RunFault.Write) ↔ (K.is_failed out.new ≡ true) }
+{
+    let Some(mut input) = files.open(file.as_str()) else {
+        return Err(RunFault::Read);
+    };
+    run_show_in(alloc, profile, kind, &mut input, out)
+}
+
+/// Says which test vectors of a file agree with this library.
+fn check<F: Files, K: Sink>(
+    alloc: Global,
+    kind: CheckKind,
+    file: &FileName,
+    files: &F,
+    out: &mut K,
+) -> Result<Verdict, RunFault>
+    requires { K.is_failed out.old ≡ false }
+    ensures carried { CarriesCheck
+        (opener (F.gives files.now) (F.lacks files.now) F.File.left F.File.is_failed)
+        kind file.now (K.written out.old) (K.written out.new) result }
+    ensures write { (result ≡ Err RunFault.Write) ↔ (K.is_failed out.new ≡ true) }
+{
+    let Some(mut input) = files.open(file.as_str()) else {
+        return Err(RunFault::Read);
+    };
+    run_check(alloc, kind, &mut input, out)
+}
+
+/// Says whether a tree is valid for a GroupContext, and its leaf nodes are valid.
+fn validate_tree<F: Files, K: Sink>(
+    alloc: Global,
+    context: &FileName,
+    tree: &FileName,
+    files: &F,
+    judge: &ProgramChecker,
+    out: &mut K,
+) -> Result<Verdict, RunFault>
+    requires { K.is_failed out.old ≡ false }
+    ensures carried { CarriesValidateTree
+        (opener (F.gives files.now) (F.lacks files.now) F.File.left F.File.is_failed)
+        (checker_verify judge.now) context.now tree.now
+        (K.written out.old) (K.written out.new) result }
+    ensures write { (result ≡ Err RunFault.Write) ↔ (K.is_failed out.new ≡ true) }
+{
+    let Some(mut context) = files.open(context.as_str()) else {
+        return Err(RunFault::Read);
+    };
+    let Some(mut tree) = files.open(tree.as_str()) else {
+        return Err(RunFault::Read);
+    };
+    run_validate_tree(alloc, &mut context, &mut tree, judge, out)
+}
+
+/// Opens a file with an optional name.
+fn open_named<F: Files>(name: &Option<FileName>, files: &F) -> Option<Option<F::File>>
+    ensures given { IfSome result (IsOpened
+        (opener (F.gives files.now) (F.lacks files.now) F.File.left F.File.is_failed) name.now) }
+    ensures fresh { IfSome result
+        (λ file. has_failed (option_map F.File.is_failed file) ≡ false) }
+    ensures none { result ≡ None → NamedFileIsMissing
+        (opener (F.gives files.now) (F.lacks files.now) F.File.left F.File.is_failed) name.now }
+{
+    match name {
+        Some(name) => Some(Some(files.open(name.as_str())?)),
+        None => Some(None),
+    }
+}
+
+/// Says whether a group can be followed from its GroupInfo.
+fn validate<F: Files, K: Sink>(
+    alloc: Global,
+    info: &FileName,
+    tree: &Option<FileName>,
+    files: &F,
+    judge: ProgramChecker,
+    out: &mut K,
+) -> Result<Verdict, RunFault>
+    requires { K.is_failed out.old ≡ false }
+    ensures carried { CarriesValidate
+        (opener (F.gives files.now) (F.lacks files.now) F.File.left F.File.is_failed)
+        (checker_verify judge) info.now tree.now (K.written out.old) (K.written out.new) result }
+    ensures write { (result ≡ Err RunFault.Write) ↔ (K.is_failed out.new ≡ true) }
+{
+    let Some(mut info) = files.open(info.as_str()) else {
+        return Err(RunFault::Read);
+    };
+    let Some(mut tree) = open_named(tree, files) else {
+        return Err(RunFault::Read);
+    };
+    run_validate(alloc, &mut info, &mut tree, judge, out)
+}
+
+/// Follows a group from its GroupInfo through a log of handshakes.
+fn replay<F: Files, K: Sink>(
+    alloc: Global,
+    info: &FileName,
+    tree: &Option<FileName>,
+    log: &FileName,
+    files: &F,
+    judge: ProgramChecker,
+    out: &mut K,
+) -> Result<Verdict, RunFault>
+    requires { K.is_failed out.old ≡ false }
+    ensures carried { CarriesReplay
+        (opener (F.gives files.now) (F.lacks files.now) F.File.left F.File.is_failed)
+        (checker_verify judge) info.now tree.now log.now
+        (K.written out.old) (K.written out.new) result }
+    ensures write { (result ≡ Err RunFault.Write) ↔ (K.is_failed out.new ≡ true) }
+{
+    let Some(mut info) = files.open(info.as_str()) else {
+        return Err(RunFault::Read);
+    };
+    let Some(mut tree) = open_named(tree, files) else {
+        return Err(RunFault::Read);
+    };
+    let Some(mut log) = files.open(log.as_str()) else {
+        return Err(RunFault::Read);
+    };
+    run_replay(alloc, &mut info, &mut tree, &mut log, judge, out)
+}
+
+/// Prints the signatures to verify of a group's start and its handshakes.
+fn signatures<F: Files, K: Sink>(
+    alloc: Global,
+    info: &FileName,
+    tree: &Option<FileName>,
+    log: &Option<FileName>,
+    files: &F,
+    receipts: &ProgramChecker,
+    out: &mut K,
+) -> Result<Verdict, RunFault>
+    requires { K.is_failed out.old ≡ false }
+    ensures carried { CarriesSignatures
+        (opener (F.gives files.now) (F.lacks files.now) F.File.left F.File.is_failed)
+        (checker_verify receipts.now) info.now tree.now log.now
+        (K.written out.old) (K.written out.new) result }
+    ensures write { (result ≡ Err RunFault.Write) ↔ (K.is_failed out.new ≡ true) }
+{
+    let Some(mut info) = files.open(info.as_str()) else {
+        return Err(RunFault::Read);
+    };
+    let Some(mut tree) = open_named(tree, files) else {
+        return Err(RunFault::Read);
+    };
+    let Some(mut log) = open_named(log, files) else {
+        return Err(RunFault::Read);
+    };
+    run_signatures(alloc, &mut info, &mut tree, &mut log, receipts, out)
+}
+
+/// Says why there is no checker.
+fn refuse<F: Files, K: Sink>(
+    alloc: Global,
+    checker: &CheckerChoice,
+    files: &F,
+    fault: CheckerFault,
+    out: &mut K,
+) -> Result<Verdict, RunFault>
+    requires out { K.is_failed out.old ≡ false }
+    requires fault { IsJudgeFault
+        (opener (F.gives files.now) (F.lacks files.now) F.File.left F.File.is_failed)
+        checker.now fault }
+    ensures ended { let opened = opener (F.gives files.now) (F.lacks files.now)
+        F.File.left F.File.is_failed in
+        EndsUnread opened checker.now (K.written out.old) (K.written out.new) result
+        ⊎ EndsRefused opened checker.now (K.written out.old) (K.written out.new) result }
+    ensures write { (result ≡ Err RunFault.Write) ↔ (K.is_failed out.new ≡ true) }
+{
+    match fault {
+        CheckerFault::Lost(fault) => Err(fault),
+        CheckerFault::Refused(fault) => run_unreadable_receipts(alloc, fault, out),
+    }
+}
+
+/// Executes a report with a checker.
+fn report_by<F: Files, K: Sink>(
+    alloc: Global,
+    report: &CheckedReport,
+    files: &F,
+    judge: ProgramChecker,
+    out: &mut K,
+) -> Result<Verdict, RunFault>
+    requires { K.is_failed out.old ≡ false }
+    ensures carried { CarriesReport
+        (opener (F.gives files.now) (F.lacks files.now) F.File.left F.File.is_failed)
+        (checker_verify judge) report.now (K.written out.old) (K.written out.new) result }
+    ensures write { (result ≡ Err RunFault.Write) ↔ (K.is_failed out.new ≡ true) }
+{
+    match report {
+        CheckedReport::ValidateTree { context, tree } => {
+            validate_tree(alloc, context, tree, files, &judge, out)
+        }
+        CheckedReport::Validate { info, tree } => validate(alloc, info, tree, files, judge, out),
+        CheckedReport::Replay { info, tree, log } => {
+            replay(alloc, info, tree, log, files, judge, out)
+        }
+        CheckedReport::Signatures { info, tree, log } => {
+            signatures(alloc, info, tree, log, files, &judge, out)
+        }
+    }
+}
+
+/// Executes a report with the checker of a choice, or says why there is none.
+fn judged<F: Files, K: Sink>(
+    alloc: Global,
+    report: &CheckedReport,
+    checker: &CheckerChoice,
+    files: &F,
+    out: &mut K,
+) -> Result<Verdict, RunFault>
+    requires { K.is_failed out.old ≡ false }
+    ensures carried { IsJudgedBy
+        (opener (F.gives files.now) (F.lacks files.now) F.File.left F.File.is_failed)
+        checker.now
+        (λ G. CarriesReport
+        (opener (F.gives files.now) (F.lacks files.now) F.File.left F.File.is_failed)
+        G report.now (K.written out.old) (K.written out.new) result)
+        (K.written out.old) (K.written out.new) result }
+    ensures write { (result ≡ Err RunFault.Write) ↔ (K.is_failed out.new ≡ true) }
+{
+    match read_judge(alloc, checker, files) {
+        Ok(judge) => report_by(alloc, report, files, judge, out),
+        Err(fault) => refuse(alloc, checker, files, fault, out),
+    }
+}
+
+/// Executes a command, and writes its report on `out`. The receipts are read first, if there are any, then the other
+/// files are opened, then the report begins.
+///
+/// No postcondition says in which order files are opened, or that no other file is, since nothing is known of an opener
+/// except what it may give. The contract says which file is read as which input, that nothing is written if one cannot
+/// be opened, and that a bad receipts file is reported alone, with `No`.
+///
+/// # Errors
+///
+/// `Read` if a file cannot be opened, and then nothing is written, or if one fails; `Write` if the output fails;
+/// `Memory`. A prefix of the report may have been written, except if memory runs out in a report other than `replay`
+/// and `signatures`.
+pub fn execute_order<F: Files, K: Sink>(
+    alloc: Global,
+    order: &Order,
+    files: &F,
+    out: &mut K,
+) -> Result<Verdict, RunFault>
+    requires { K.is_failed out.old ≡ false }
+    ensures carried { ExecutesOrder
+        (opener (F.gives files.now) (F.lacks files.now) F.File.left F.File.is_failed)
+        order.now (K.written out.old) (K.written out.new) result }
+    ensures write { (result ≡ Err RunFault.Write) ↔ (K.is_failed out.new ≡ true) }
+{
+    match order {
+        Order::Show {
+            profile,
+            kind,
+            file,
+        } => show(alloc, *profile, *kind, file, files, out),
+        Order::Judged { report, checker } => judged(alloc, report, checker, files, out),
+        Order::Check { kind, file } => check(alloc, *kind, file, files, out),
+    }
+}

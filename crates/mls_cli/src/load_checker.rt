@@ -1,0 +1,73 @@
+//! Reading a receipts file.
+
+ghost use Rattle.std.specs.Prelude.{◌≡◌, ◌↔◌, false, true, IfOk, IfErr};
+ghost use Rattle.mls_cli.specs.Files.{opener, ReadsFile, CannotReadFile};
+ghost use Rattle.mls_cli.specs.ProgramCheckers.{checker_verify, IsMeaning, IsListed, IsUnlisted};
+ghost use Rattle.mls_cli.specs.CheckerFaults.{IsJudgeFault};
+ghost use Rattle.mls_cli.specs.declared.order.CheckerChoice.TheVariants.{Receipts};
+
+use crate::file_name::FileName;
+use crate::files::Files;
+use crate::order::CheckerChoice;
+use crate::program_checker::{CheckerFault, ProgramChecker};
+use mls_check::Listed;
+use mls_report::{RunFault, read_all};
+use std::alloc::Global;
+
+/// Returns the bytes of a file.
+fn read_file<F: Files>(alloc: Global, file: &FileName, files: &F) -> Result<Vec<u8>, RunFault>
+    ensures all { IfOk result (λ bytes. ReadsFile
+        (opener (F.gives files.now) (F.lacks files.now) F.File.left F.File.is_failed)
+        file.now bytes.items) }
+    ensures lost { IfErr result (CannotReadFile
+        (opener (F.gives files.now) (F.lacks files.now) F.File.left F.File.is_failed)
+        file.now) }
+{
+    let Some(mut input) = files.open(file.as_str()) else {
+        return Err(RunFault::Read);
+    };
+    read_all(alloc, &mut input)
+}
+
+/// Returns the checker of a receipts file.
+fn read_listed<F: Files>(
+    alloc: Global,
+    file: &FileName,
+    files: &F,
+) -> Result<ProgramChecker, CheckerFault>
+    ensures judge { IfOk result (λ judge. IsMeaning
+        (opener (F.gives files.now) (F.lacks files.now) F.File.left F.File.is_failed)
+        (Receipts file.now) (checker_verify judge)) }
+    ensures fault { IfErr result (IsJudgeFault
+        (opener (F.gives files.now) (F.lacks files.now) F.File.left F.File.is_failed)
+        (Receipts file.now)) }
+{
+    let bytes = match read_file(alloc, file, files) {
+        Ok(bytes) => bytes,
+        Err(fault) => return Err(CheckerFault::Lost(fault)),
+    };
+    match Listed::read(alloc, bytes.as_slice()) {
+        Ok(listed) => Ok(ProgramChecker::Listed(listed)),
+        Err(fault) => Err(CheckerFault::Refused(fault)),
+    }
+}
+
+/// Returns the checker of a choice. A receipts file is read.
+pub(crate) fn read_judge<F: Files>(
+    alloc: Global,
+    checker: &CheckerChoice,
+    files: &F,
+) -> Result<ProgramChecker, CheckerFault>
+    ensures judge { IfOk result (λ judge. IsMeaning
+        (opener (F.gives files.now) (F.lacks files.now) F.File.left F.File.is_failed)
+        checker.now (checker_verify judge)) }
+    ensures fault { IfErr result (IsJudgeFault
+        (opener (F.gives files.now) (F.lacks files.now) F.File.left F.File.is_failed)
+        checker.now) }
+{
+    match checker {
+        CheckerChoice::Trust => Ok(ProgramChecker::All),
+        CheckerChoice::Receipts(file) => read_listed(alloc, file, files),
+        CheckerChoice::Nobody => Ok(ProgramChecker::Nobody),
+    }
+}

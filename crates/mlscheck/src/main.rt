@@ -1,6 +1,5 @@
-//! The program `mlscheck`: it hands its command line, the real files and the two standard streams to
-//! [`mls_cli::run_program`], and ends with the exit status that this answers: 0 for yes and for help, 1 for no, 2 for a
-//! usage fault, 3 for a fault.
+//! The program `mlscheck`: passes its command line, the files and the standard streams to [`mls_cli::run_program`], and
+//! ends with the exit status that this returns: 0 for yes and for help, 1 for no, 2 for a usage error, 3 for a fault.
 #![tactic(auto)]
 
 ghost use Rattle.std.specs.Prelude.{◌≡◌, false};
@@ -11,10 +10,10 @@ use std::io::{IsTerminal, Read, Stdin};
 use std::process::ExitCode;
 use std::{env, fs, io};
 
-/// What a file is read from, of whose bytes nothing is known before.
+/// A source of bytes, about which nothing is known.
 #[derive(Drop)]
 enum Input<F: Read + Drop> {
-    /// A file that has a name.
+    /// A file with a name.
     File(F),
     /// Standard input.
     Stdin(Stdin),
@@ -54,7 +53,7 @@ impl<R: fs::Files> Files for StdFiles<'_, R> {
     }
 }
 
-/// The words of the command line that the program was started with.
+/// Returns the words of the command line.
 fn words(rt: &HostRuntime) -> Result<Vec<String>, OrderFault> {
     let alloc = rt.alloc();
     match env::args(rt) {
@@ -67,8 +66,8 @@ fn words(rt: &HostRuntime) -> Result<Vec<String>, OrderFault> {
     }
 }
 
-/// Whether it is noted on standard error how far the report is: where a log is replayed, standard error is a terminal,
-/// and standard output, where the report goes, is none.
+/// Returns whether progress is shown on standard error: if a log is replayed, standard error is a terminal, and
+/// standard output, where the report goes, is none.
 fn is_noted(rt: &HostRuntime, words: &[String]) -> bool {
     match words.get(1) {
         Some(word) if word.as_str() == "replay" => {
@@ -78,7 +77,7 @@ fn is_noted(rt: &HostRuntime, words: &[String]) -> bool {
     }
 }
 
-/// Runs the program on its words.
+/// Runs the program.
 fn run<K: Sink>(rt: &HostRuntime, words: &[String], out: &mut K) -> u8
     requires { K.is_failed out.old ≡ false }
 {
@@ -90,7 +89,7 @@ fn run<K: Sink>(rt: &HostRuntime, words: &[String], out: &mut K) -> u8
     run_program(rt.alloc(), words, &files, out, &mut notes)
 }
 
-/// The same, with a note of how far the report is.
+/// Runs the program, and shows its progress.
 fn run_noted(rt: &HostRuntime, words: &[String]) -> u8 {
     let out = StdSink::new(rt.stdout());
     let mut out = Progress::new(rt.alloc(), out, StdSink::new(rt.stderr()));

@@ -1,15 +1,15 @@
-//! Inputs that are changed by chance, and what the libraries answer to them. Which changes are made is determined by
-//! the number of the input, so that a run can be made again.
+//! Inputs changed at random, and what the libraries do with them. The number of an input determines its changes, so a
+//! run can be repeated.
 
 use crate::followers::{bytes_of_all, follow};
 use crate::group::{
-    ADD_COMMIT, COMMIT, EXTENSIONS_COMMIT, GROUP_INFO, OPERATIONS, PATH_COMMIT, PROPOSAL,
-    TRANSCRIPT, TREE, TREE_CONTEXT, VALIDATION, VECTORS,
+    ADD_COMMIT, COMMIT, EXTENSIONS_COMMIT, FULL_COMMIT, GROUP_INFO, OPERATIONS, PATH_COMMIT,
+    PROPOSAL, PSK_PROPOSAL, REINIT_PROPOSAL, TRANSCRIPT, TREE, TREE_CONTEXT, VALIDATION, VECTORS,
 };
 use crate::told::{Stop, have};
 use mls_check::{TreeFault, validate_tree};
 use mls_hash::{Suite, tree_hash};
-use mls_msgs::{Message, decode_message, encode_message};
+use mls_msgs::{Message, Profile, decode_message_in, encode_message};
 use mls_nodes::{GroupContext, NodeFault, decode_context};
 use mls_report::Verdict;
 use mls_tree::{PublicTree, root};
@@ -19,14 +19,14 @@ use std::alloc::Global;
 
 // ---- changes
 
-/// Numbers that look like chance, each made from the one before (the generator `splitmix64`).
+/// Pseudorandom numbers (the generator `splitmix64`).
 #[derive(Drop)]
 struct Chance {
     state: u64,
 }
 
 impl Chance {
-    /// The next number below a bound, or 0.
+    /// Returns the next number below `bound`, or 0.
     fn below(&mut self, bound: usize) -> usize {
         self.state = self.state.wrapping_add(0x9e37_79b9_7f4a_7c15);
         let mut mixed = self.state;
@@ -37,8 +37,7 @@ impl Chance {
     }
 }
 
-/// Some bytes with one change: a byte is another one, the bytes are cut, a part of them stands there twice, or a byte
-/// is enlarged, as in a length.
+/// Returns the bytes with one change: another byte, a cut, a repeated part, or a greater byte, as in a length.
 fn change(alloc: Global, chance: &mut Chance, bytes: &[u8]) -> Result<Vec<u8>, Stop> {
     let at = chance.below(bytes.len()).min(bytes.len());
     let (front, rest) = bytes.split_at(at);
@@ -68,7 +67,7 @@ fn change(alloc: Global, chance: &mut Chance, bytes: &[u8]) -> Result<Vec<u8>, S
     Ok(changed)
 }
 
-/// Some bytes with one to three changes.
+/// Returns the bytes with one to three changes.
 fn change_often(alloc: Global, chance: &mut Chance, bytes: &[u8]) -> Result<Vec<u8>, Stop> {
     let mut changed = have(Vec::from_slice(alloc, bytes))?;
     for _ in 0..chance.below(3).saturating_add(1) {
@@ -79,9 +78,9 @@ fn change_often(alloc: Global, chance: &mut Chance, bytes: &[u8]) -> Result<Vec<
 
 // ---- calls
 
-/// Whether a message is read. Then it is written as it was.
-fn is_read(alloc: Global, input: &[u8]) -> Result<bool, Stop> {
-    match decode_message(alloc, input) {
+/// Returns whether a message is decodable in a profile. If so, it must encode to the same bytes.
+fn is_read(alloc: Global, profile: Profile, input: &[u8]) -> Result<bool, Stop> {
+    match decode_message_in(alloc, profile, input) {
         Ok(message) => {
             let bytes = encode_message(alloc, &message);
             drop(message);
@@ -95,7 +94,16 @@ fn is_read(alloc: Global, input: &[u8]) -> Result<bool, Stop> {
     }
 }
 
-/// Whether the last word of a text is a hash of 32 bytes.
+/// Returns whether a message is decodable in the full profile. If not, it must not be in the members' profile either.
+fn is_read_in_full(alloc: Global, input: &[u8]) -> Result<bool, Stop> {
+    let is_full = is_read(alloc, Profile::Full, input)?;
+    if is_read(alloc, Profile::Members, input)? && !is_full {
+        return Err(Stop::OtherProfile);
+    }
+    Ok(is_full)
+}
+
+/// Returns whether the last word of a text is a hash of 32 bytes.
 fn ends_in_hash(text: &str) -> bool {
     match text.rsplit_once(' ') {
         Some((_, last)) => last.len() == 64,
@@ -103,19 +111,19 @@ fn ends_in_hash(text: &str) -> bool {
     }
 }
 
-/// Whether a follower that has just been started takes a message behind others. Where it doesn't, its state is the one
-/// before. The answer to a message ends in a hash where it is taken, and is a number where it isn't.
+/// Returns whether a follower that has just started accepts a message after others. If it refuses the message, its
+/// state must be unchanged. The text of an answer ends in a hash if the message was accepted, otherwise it is a number.
 fn is_taken(alloc: Global, before: &[&str], message: Vec<u8>) -> Result<bool, Stop> {
     let mut messages = bytes_of_all(alloc, before)?;
     have(messages.push(message))?;
-    let told = follow(alloc, messages.as_slice())?;
-    if told.was_refused {
+    let followed = follow(alloc, messages.as_slice())?;
+    if followed.was_refused {
         return Err(Stop::Memory);
     }
-    Ok(ends_in_hash(told.text.as_str()))
+    Ok(ends_in_hash(followed.answers.as_str()))
 }
 
-/// Whether a tree is valid in a context that has its hash.
+/// Returns whether a tree is valid in a GroupContext with its hash.
 fn is_valid(alloc: Global, mut context: GroupContext, tree: &PublicTree) -> Result<bool, Stop> {
     let Ok(suite) = Suite::from_u16(1) else {
         return Err(Stop::OtherSuite);
@@ -133,7 +141,7 @@ fn is_valid(alloc: Global, mut context: GroupContext, tree: &PublicTree) -> Resu
     }
 }
 
-/// Whether bytes are read as a tree that is valid in a context with its hash.
+/// Returns whether bytes decode as a tree that is valid in a GroupContext with its hash.
 fn is_valid_tree(alloc: Global, input: &[u8]) -> Result<bool, Stop> {
     let context = have(hex::decode(alloc, TREE_CONTEXT))?;
     match PublicTree::decode(alloc, input) {
@@ -147,7 +155,7 @@ fn is_valid_tree(alloc: Global, input: &[u8]) -> Result<bool, Stop> {
     }
 }
 
-/// Whether test vectors pass, all of them.
+/// Returns whether all test vectors pass.
 fn is_passed(alloc: Global, kind: CheckKind, input: &[u8]) -> Result<bool, Stop> {
     let Ok(mut out) = MemorySink::new(alloc, 10_000, 40, None) else {
         return Err(Stop::Memory);
@@ -163,13 +171,14 @@ fn is_passed(alloc: Global, kind: CheckKind, input: &[u8]) -> Result<bool, Stop>
 #[derive(Clone, Copy)]
 enum Use {
     Read(&'static str),
+    ReadInFull(&'static str),
     Take(&'static [&'static str], &'static str),
     Validate(&'static str),
     Check(CheckKind, &'static str),
 }
 
 /// What is done in turn, each with a changed input.
-const USES: [Use; 20] = [
+const USES: [Use; 24] = [
     Use::Read(GROUP_INFO),
     Use::Take(&[], PROPOSAL),
     Use::Validate(TREE),
@@ -190,21 +199,26 @@ const USES: [Use; 20] = [
     Use::Take(&[PROPOSAL, COMMIT], EXTENSIONS_COMMIT),
     Use::Validate(TREE),
     Use::Check(CheckKind::TreeMath, VECTORS),
+    Use::ReadInFull(PSK_PROPOSAL),
+    Use::ReadInFull(REINIT_PROPOSAL),
+    Use::ReadInFull(FULL_COMMIT),
+    Use::Take(&[PROPOSAL, COMMIT], PSK_PROPOSAL),
 ];
 
-/// Whether the input of this number is read, taken, valid or passed.
+/// Returns whether the input with this number is decodable, accepted, valid or passed.
 pub(crate) fn try_input(alloc: Global, number: u64) -> Result<bool, Stop> {
     let mut chance = Chance { state: number };
-    let first = USES[(number % 20) as usize];
+    let first = USES[(number % 24) as usize];
     let input = match first {
-        Use::Read(text) | Use::Take(_, text) | Use::Validate(text) => {
+        Use::Read(text) | Use::ReadInFull(text) | Use::Take(_, text) | Use::Validate(text) => {
             have(hex::decode(alloc, text))?
         }
         Use::Check(_, text) => have(Vec::from_slice(alloc, text.as_bytes()))?,
     };
     let input = change_often(alloc, &mut chance, input.as_slice())?;
     match first {
-        Use::Read(_) => is_read(alloc, input.as_slice()),
+        Use::Read(_) => is_read(alloc, Profile::Members, input.as_slice()),
+        Use::ReadInFull(_) => is_read_in_full(alloc, input.as_slice()),
         Use::Take(before, _) => is_taken(alloc, before, input),
         Use::Validate(_) => is_valid_tree(alloc, input.as_slice()),
         Use::Check(kind, _) => is_passed(alloc, kind, input.as_slice()),

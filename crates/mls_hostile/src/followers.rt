@@ -1,23 +1,24 @@
-//! A follower: how it starts, and what it takes.
+//! A follower: its start, and the messages it processes.
 
 use crate::group::GROUP_INFO;
+use crate::signatures::{add_receipts, first_info};
 use crate::told::{Stop, Told, have};
 use mls_apply::KnownProposal;
 use mls_check::Trusting;
-use mls_follow::{Follower, Refusal, StartFault, StartRefused, Taken};
+use mls_follow::{Follower, Refusal, SignatureListFault, StartFault, StartRefused, Taken};
 use mls_hash::{Suite, tree_hash};
-use mls_msgs::{GroupInfo, Message, decode_message, encode_proposal};
+use mls_msgs::encode_proposal;
 use mls_nodes::{GroupContext, encode_context, encode_ratchet_tree};
 use mls_tree::PublicTree;
 use mls_wire::bytes_of;
 use std::alloc::Global;
 
-/// A follower that takes each signature as good.
+/// A follower that accepts every signature.
 type TrustingFollower = Follower<Trusting>;
 
 // ---- states
 
-/// Adds the tree hash of each place to a state.
+/// Appends the tree hash at each node index to a state.
 fn add_hashes(
     alloc: Global,
     suite: u16,
@@ -34,7 +35,7 @@ fn add_hashes(
     Ok(())
 }
 
-/// Adds the known proposals to a state.
+/// Appends the pending proposals to a state.
 fn add_known(alloc: Global, known: &[KnownProposal], state: &mut Vec<u8>) -> Result<(), Stop> {
     for proposal in known {
         have(state.extend_from_slice(proposal.reference.as_slice()))?;
@@ -45,8 +46,8 @@ fn add_known(alloc: Global, known: &[KnownProposal], state: &mut Vec<u8>) -> Res
     Ok(())
 }
 
-/// A follower's state, with this tree in place of its own: the context, every node, the tree hash of each place, the
-/// interim transcript hash and the known proposals.
+/// Returns a follower's state, with `tree` instead of its own: the context, every node, every tree hash, the interim
+/// transcript hash and the pending proposals.
 fn state_with(
     alloc: Global,
     follower: &TrustingFollower,
@@ -62,7 +63,7 @@ fn state_with(
     Ok(state)
 }
 
-/// The same with a tree that is made anew of the nodes of its own, so that none of its hashes is a kept one.
+/// The same with a tree made of the nodes of its own, which has no cached hashes.
 fn state_anew(alloc: Global, follower: &TrustingFollower) -> Result<Vec<u8>, Stop> {
     let nodes = have(encode_ratchet_tree(alloc, follower.tree().nodes()))?;
     match PublicTree::decode(alloc, nodes.as_slice()) {
@@ -73,8 +74,8 @@ fn state_anew(alloc: Global, follower: &TrustingFollower) -> Result<Vec<u8>, Sto
 
 // ---- messages
 
-/// A message that was accepted: a proposal by its reference, and a commit by the epoch after it, with the tree hash and
-/// the confirmed transcript hash of the context then.
+/// Returns the text of an accepted message: the reference of a proposal; for a commit the epoch after it, with the tree
+/// hash and the confirmed transcript hash.
 fn taken_text(alloc: Global, context: &GroupContext, taken: Taken) -> Result<String, Stop> {
     match taken {
         Taken::Proposal(reference) => {
@@ -89,7 +90,7 @@ fn taken_text(alloc: Global, context: &GroupContext, taken: Taken) -> Result<Str
     }
 }
 
-/// What a follower answered, by its context then.
+/// Returns the text of an answer. `context` is the follower's context after the message.
 fn answer_text(
     alloc: Global,
     context: &GroupContext,
@@ -101,7 +102,7 @@ fn answer_text(
     }
 }
 
-/// Adds what a follower answered to the answers before, by its context then.
+/// Appends an answer to those before. `context` is the follower's context after the message.
 fn add_answer(
     alloc: Global,
     context: &GroupContext,
@@ -115,7 +116,7 @@ fn add_answer(
     have(text.push_str(answer.as_str()))
 }
 
-/// Whether a follower's state is the one before.
+/// Returns whether a follower's state is `before`.
 fn is_unchanged(alloc: Global, follower: &TrustingFollower, before: &[u8]) -> Result<bool, Stop> {
     let after = state_with(alloc, follower, follower.tree())?;
     Ok(before == after.as_slice())
@@ -123,15 +124,7 @@ fn is_unchanged(alloc: Global, follower: &TrustingFollower, before: &[u8]) -> Re
 
 // ---- followers
 
-/// The info of the group of member 0 alone.
-fn first_info(alloc: Global, input: &[u8]) -> Result<GroupInfo, Stop> {
-    match decode_message(alloc, input) {
-        Ok(Message::GroupInfo(info)) => Ok(info),
-        _ => Err(Stop::Memory),
-    }
-}
-
-/// Whether a start was refused memory, and hands back what it was handed: the info of this message, and no tree.
+/// Returns whether a start ran out of memory and returned what was passed: the GroupInfo of this message, and no tree.
 fn is_handed_back(
     alloc: Global,
     refused: &StartRefused<Trusting>,
@@ -142,8 +135,8 @@ fn is_handed_back(
     Ok(is_memory && refused.tree.is_none() && input.get(4..) == Some(bytes.as_slice()))
 }
 
-/// Starts a follower on the group of member 0 alone, and says whether memory was refused. Where it is, the start has to
-/// hand back what it was handed, and is made again with that.
+/// Starts a follower on the group of member 0 alone. Returns also whether it ran out of memory. If so, the start must
+/// return what was passed, and is repeated with that.
 fn start(alloc: Global) -> Result<(TrustingFollower, bool), Stop> {
     let input = have(hex::decode(alloc, GROUP_INFO))?;
     let info = first_info(alloc, input.as_slice())?;
@@ -161,17 +154,45 @@ fn start(alloc: Global) -> Result<(TrustingFollower, bool), Stop> {
     }
 }
 
-/// Hands a follower a message, adds what it answered, and says whether memory was refused. A refused message has to
-/// leave the state before it, and is handed over again where memory was refused.
+/// Gets the signatures of a message from a follower, appends their receipts, and returns whether `wanted` ran out of
+/// memory. The state must be `before`, whatever is returned. If it ran out of memory, it is called again.
+fn push_wanted(
+    alloc: Global,
+    follower: &mut TrustingFollower,
+    message: &[u8],
+    before: &[u8],
+    receipts: &mut String,
+) -> Result<bool, Stop> {
+    let mut answer = follower.wanted(message);
+    if !is_unchanged(alloc, follower, before)? {
+        return Err(Stop::Changed);
+    }
+    let was_refused = matches!(answer, Err(SignatureListFault::OutOfMemory));
+    if was_refused {
+        answer = follower.wanted(message);
+        if !is_unchanged(alloc, follower, before)? {
+            return Err(Stop::Changed);
+        }
+    }
+    match answer {
+        Ok(signatures) => add_receipts(alloc, signatures.as_slice(), receipts)?,
+        Err(SignatureListFault::Malformed) => {}
+        Err(SignatureListFault::OutOfMemory) => return Err(Stop::OtherSignatures),
+    }
+    Ok(was_refused)
+}
+
+/// Passes a message to a follower, appends its answer, and returns whether it ran out of memory. A refused message must
+/// leave the state unchanged. If it ran out of memory, the message is passed again.
 fn hand_over(
     alloc: Global,
     follower: &mut TrustingFollower,
     message: &[u8],
+    before: &[u8],
     text: &mut String,
 ) -> Result<bool, Stop> {
-    let before = state_anew(alloc, follower)?;
     let mut answer = follower.take(message);
-    if answer.is_err() && !is_unchanged(alloc, follower, before.as_slice())? {
+    if answer.is_err() && !is_unchanged(alloc, follower, before)? {
         return Err(Stop::Changed);
     }
     let was_refused = answer == Err(Refusal::OutOfMemory);
@@ -182,17 +203,51 @@ fn hand_over(
     Ok(was_refused)
 }
 
-/// What a follower that starts on the group of member 0 alone, and takes each signature as good, answers to messages.
-pub(crate) fn follow(alloc: Global, messages: &[Vec<u8>]) -> Result<Told, Stop> {
-    let (mut follower, mut was_refused) = start(alloc)?;
-    let mut text = String::new(alloc);
-    for message in messages {
-        was_refused |= hand_over(alloc, &mut follower, message.as_slice(), &mut text)?;
-    }
-    Ok(Told { was_refused, text })
+/// What a follower returns for messages.
+#[derive(Drop)]
+pub(crate) struct Followed {
+    /// Whether a call first ran out of memory, left everything unchanged, and was repeated.
+    pub(crate) was_refused: bool,
+    /// The answers to the messages.
+    pub(crate) answers: String,
+    /// The receipts of the signatures of the messages.
+    pub(crate) receipts: String,
 }
 
-/// The bytes of messages.
+/// Passes messages to a follower that starts on the group of member 0 alone and accepts every signature. Before each
+/// message it is asked for its signatures.
+pub(crate) fn follow(alloc: Global, messages: &[Vec<u8>]) -> Result<Followed, Stop> {
+    let (mut follower, mut was_refused) = start(alloc)?;
+    let mut answers = String::new(alloc);
+    let mut receipts = String::new(alloc);
+    for message in messages {
+        let message = message.as_slice();
+        let before = state_anew(alloc, &follower)?;
+        let before = before.as_slice();
+        was_refused |= push_wanted(alloc, &mut follower, message, before, &mut receipts)?;
+        was_refused |= hand_over(alloc, &mut follower, message, before, &mut answers)?;
+    }
+    Ok(Followed {
+        was_refused,
+        answers,
+        receipts,
+    })
+}
+
+/// Returns the answers to messages, whose signatures must have these receipts.
+pub(crate) fn tell_answers(alloc: Global, messages: &[&str], receipts: &str) -> Result<Told, Stop> {
+    let messages = bytes_of_all(alloc, messages)?;
+    let followed = follow(alloc, messages.as_slice())?;
+    if followed.receipts.as_str() != receipts {
+        return Err(Stop::OtherSignatures);
+    }
+    Ok(Told {
+        was_refused: followed.was_refused,
+        text: followed.answers,
+    })
+}
+
+/// Returns the bytes of messages.
 pub(crate) fn bytes_of_all(alloc: Global, messages: &[&str]) -> Result<Vec<Vec<u8>>, Stop> {
     let mut all = Vec::new(alloc);
     for message in messages {

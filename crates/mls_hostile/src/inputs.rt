@@ -1,13 +1,13 @@
-//! Calls that read: they are handed bytes, which they can't change.
+//! Calls that only read their input.
 
 use crate::group::{LEAVES, RECEIPTS, SIGNED_START};
 use crate::told::{Stop, Told, have};
 use mls_check::{Listed, ReceiptsFault, SignatureCheck};
-use mls_msgs::{Message, decode_message, encode_message};
+use mls_msgs::{Message, Profile, decode_message_in, encode_message};
 use mls_wire::CodecFault;
 use std::alloc::Global;
 
-/// A message as it is written.
+/// Encodes a message.
 fn written(
     alloc: Global,
     was_refused: bool,
@@ -23,19 +23,19 @@ fn written(
     Ok(Told { was_refused, text })
 }
 
-/// Reads a message. What is told is how it is written.
-pub(crate) fn read_message(alloc: Global, message: &str) -> Result<Told, Stop> {
+/// Decodes a message in a profile. The text is its encoding.
+pub(crate) fn read_message(alloc: Global, profile: Profile, message: &str) -> Result<Told, Stop> {
     let input = have(hex::decode(alloc, message))?;
-    match decode_message(alloc, input.as_slice()) {
+    match decode_message_in(alloc, profile, input.as_slice()) {
         Err(CodecFault::OutOfMemory) => {
-            let again = decode_message(alloc, input.as_slice());
+            let again = decode_message_in(alloc, profile, input.as_slice());
             written(alloc, true, again)
         }
         answer => written(alloc, false, answer),
     }
 }
 
-/// Whether a leaf's signature is good.
+/// Returns whether the signature of a leaf node is good.
 fn is_good(alloc: Global, listed: &Listed, leaf: &str, member: u8) -> Result<bool, Stop> {
     let tbs = leaf.get(..74).unwrap_or(leaf);
     let content = have(format!(in alloc; "{SIGNED_START}{tbs}"))?;
@@ -45,7 +45,8 @@ fn is_good(alloc: Global, listed: &Listed, leaf: &str, member: u8) -> Result<boo
     Ok(listed.good(1, &key, content.as_slice(), &signature))
 }
 
-/// Which signatures are good by what was read: those of the two leaves, and that of one under the other's key.
+/// Returns which signatures are good by the receipts: those of the two leaf nodes, and that of one under the key of the
+/// other.
 fn listed_text(
     alloc: Global,
     was_refused: bool,

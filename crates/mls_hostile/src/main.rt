@@ -1,17 +1,16 @@
-//! The program `mls_hostile`: it uses the libraries as a hostile world does, and says whether they stand it. It takes
-//! three numbers from standard input; where there is nothing each is 0.
+//! The program `mls_hostile`: tests the libraries with failing allocations and with changed inputs. It reads three
+//! numbers from standard input; each is 0 if it is missing.
 //!
-//! It makes calls of the libraries one after the other, and prints a line for each, with what it answered. A call that
-//! answers want of memory has to leave what it was handed and what stood as it was, and is made again on that; then it
-//! has to answer what it answers else. The first number says how often a piece of memory is taken and given back
-//! before: where the n-th allocation of a run is refused, it moves that one through the calls, so that one build serves
-//! for all of them. `examples/refused.sh` does so.
+//! First it makes calls of the libraries, and prints a line for each with the answer. A call that runs out of memory
+//! must leave its arguments and the state unchanged. It is then repeated, and must give the usual answer. The first
+//! number is how often a piece of memory is allocated and freed before: if the n-th allocation of a run fails, this
+//! number moves the failure through the calls, so that one build serves for all of them. `examples/refused.sh` does so.
 //!
-//! Then it changes inputs by chance, and hands them to the libraries: so many as the third number says, from the one of
-//! the second number on. What is refused has to leave a follower as it was. `examples/changed.sh` tries many.
+//! Then it changes inputs at random and passes them to the libraries: as many as the third number, beginning with the
+//! one of the second number. A refused input must leave a follower unchanged. `examples/changed.sh` tries many.
 //!
-//! The exit status is 0 where memory was never refused, 2 where it was outside of the calls, 3 where a call answered
-//! want of memory and all is as it has to be, and 1 where something is not.
+//! The exit status is 0 if no allocation failed, 2 if one failed outside of the calls, 3 if a call ran out of memory
+//! and all is as it must be, and 1 if something is not.
 #![tactic(auto)]
 
 mod changed;
@@ -19,35 +18,41 @@ mod followers;
 mod group;
 mod inputs;
 mod reports;
+mod signatures;
 mod told;
 mod trees;
 
 use crate::changed::try_input;
-use crate::followers::{bytes_of_all, follow};
+use crate::followers::tell_answers;
 use crate::group::{
-    ADD_ANSWERS, ADD_COMMIT, COMMIT, EXTENSIONS_ANSWERS, EXTENSIONS_COMMIT, GROUP_INFO,
-    PATH_ANSWERS, PATH_COMMIT, PROPOSAL, REMOVE_COMMIT, SECOND_ADD_COMMIT,
+    ADD_ANSWERS, ADD_COMMIT, ADD_RECEIPTS, COMMIT, EXTENSIONS_ANSWERS, EXTENSIONS_COMMIT,
+    EXTENSIONS_RECEIPTS, FULL_COMMIT, GROUP_INFO, PATH_ANSWERS, PATH_COMMIT, PATH_RECEIPTS,
+    PROPOSAL, REMOVE_COMMIT, SECOND_ADD_COMMIT, START_RECEIPTS,
 };
 use crate::inputs::{read_message, read_receipts};
 use crate::reports::{Report, tell_report};
+use crate::signatures::tell_start_signatures;
 use crate::told::{Stop, Told};
 use crate::trees::{Validator, validate};
+use mls_msgs::Profile;
 use std::alloc::Global;
 use std::io::Read;
 use std::process::ExitCode;
 use std::time::Instant;
 
-/// A call, or a start of a follower and the messages that it takes.
+/// A call, or a start of a follower with the messages that it processes and the receipts of their signatures.
 #[derive(Clone, Copy)]
 enum Call {
     Message(&'static str),
+    FullMessage(&'static str),
     Receipts,
     Validate(Validator),
-    Follow(&'static [&'static str]),
+    StartSignatures,
+    Follow(&'static [&'static str], &'static str),
     Report(Report),
 }
 
-/// The calls, by their names, with what is told of each.
+/// The calls, with their names and the expected texts.
 const CALLS: &[(&str, Call, &str)] = &[
     (
         "decode_message of a group info",
@@ -60,6 +65,11 @@ const CALLS: &[(&str, Call, &str)] = &[
         PROPOSAL,
     ),
     ("decode_message of a commit", Call::Message(COMMIT), COMMIT),
+    (
+        "decode_message_in, in the full profile, of a commit of each of its proposals",
+        Call::FullMessage(FULL_COMMIT),
+        FULL_COMMIT,
+    ),
     ("Listed::read", Call::Receipts, "true true false"),
     ("validate_tree", Call::Validate(Validator::Tree), "yes"),
     (
@@ -68,46 +78,68 @@ const CALLS: &[(&str, Call, &str)] = &[
         "yes",
     ),
     (
-        "Follower::start and take, to a commit with a path",
-        Call::Follow(&[PROPOSAL, COMMIT, PATH_COMMIT]),
+        "start_signatures, of a group info and a tree of four members",
+        Call::StartSignatures,
+        START_RECEIPTS,
+    ),
+    (
+        "Follower::start, wanted and take, to a commit with a path",
+        Call::Follow(&[PROPOSAL, COMMIT, PATH_COMMIT], PATH_RECEIPTS),
         PATH_ANSWERS,
     ),
     (
-        "Follower::start and take, to commits that add a member to a full tree, add one under a set parent, \
+        "Follower::start, wanted and take, to commits that add a member to a full tree, add one under a set parent, \
         and halve the tree",
-        Call::Follow(&[
-            PROPOSAL,
-            COMMIT,
-            ADD_COMMIT,
-            SECOND_ADD_COMMIT,
-            REMOVE_COMMIT,
-        ]),
+        Call::Follow(
+            &[
+                PROPOSAL,
+                COMMIT,
+                ADD_COMMIT,
+                SECOND_ADD_COMMIT,
+                REMOVE_COMMIT,
+            ],
+            ADD_RECEIPTS,
+        ),
         ADD_ANSWERS,
     ),
     (
-        "Follower::start and take, to a commit with a path that sets the context's extensions",
-        Call::Follow(&[PROPOSAL, COMMIT, EXTENSIONS_COMMIT]),
+        "Follower::start, wanted and take, to a commit with a path that sets the context's extensions",
+        Call::Follow(&[PROPOSAL, COMMIT, EXTENSIONS_COMMIT], EXTENSIONS_RECEIPTS),
         EXTENSIONS_ANSWERS,
     ),
     ("run_replay", Call::Report(Report::Replay), "no, 294 bytes"),
     ("run_check", Call::Report(Report::Check), "yes, 35 bytes"),
+    (
+        "run_validate",
+        Call::Report(Report::Validate),
+        "yes, 94 bytes",
+    ),
+    (
+        "run_validate_tree",
+        Call::Report(Report::ValidateTree),
+        "yes, 71 bytes",
+    ),
+    (
+        "run_signatures",
+        Call::Report(Report::Signatures),
+        "no, 1821 bytes",
+    ),
 ];
 
 /// Makes a call.
 fn make(alloc: Global, call: Call) -> Result<Told, Stop> {
     match call {
-        Call::Message(message) => read_message(alloc, message),
+        Call::Message(message) => read_message(alloc, Profile::Members, message),
+        Call::FullMessage(message) => read_message(alloc, Profile::Full, message),
         Call::Receipts => read_receipts(alloc),
         Call::Validate(validator) => validate(alloc, validator),
-        Call::Follow(messages) => {
-            let messages = bytes_of_all(alloc, messages)?;
-            follow(alloc, messages.as_slice())
-        }
+        Call::StartSignatures => tell_start_signatures(alloc),
+        Call::Follow(messages, receipts) => tell_answers(alloc, messages, receipts),
         Call::Report(report) => tell_report(alloc, report),
     }
 }
 
-/// Where memory was refused.
+/// Where an allocation failed.
 #[derive(Clone, Copy, PartialEq, Eq)]
 enum Refused {
     Nowhere,
@@ -115,7 +147,7 @@ enum Refused {
     InCall,
 }
 
-/// Makes a call, all of it once more where memory was refused outside of it, and answers where it was refused.
+/// Makes a call, and once more if an allocation outside of it failed. Returns also where one failed.
 fn make_all(alloc: Global, call: Call) -> (Refused, Result<Told, Stop>) {
     match make(alloc, call) {
         Err(Stop::Memory) => (Refused::Outside, make(alloc, call)),
@@ -124,7 +156,7 @@ fn make_all(alloc: Global, call: Call) -> (Refused, Result<Told, Stop>) {
     }
 }
 
-/// Prints what a call answered, and answers where memory was refused, unless something is wrong.
+/// Prints the answer of a call. Returns where an allocation failed, or `None` if something is wrong.
 fn tell(rt: &HostRuntime, name: &str, call: Call, wanted: &str) -> Option<Refused> {
     let (refused, told) = make_all(rt.alloc(), call);
     match told {
@@ -147,7 +179,7 @@ fn tell(rt: &HostRuntime, name: &str, call: Call, wanted: &str) -> Option<Refuse
     }
 }
 
-/// Makes all calls, and answers where memory was refused, unless something is wrong.
+/// Makes all calls. Returns where an allocation failed, or `None` if something is wrong.
 fn tell_all(rt: &HostRuntime) -> Option<Refused> {
     let mut refused = Refused::Nowhere;
     for (name, call, wanted) in CALLS {
@@ -159,8 +191,8 @@ fn tell_all(rt: &HostRuntime) -> Option<Refused> {
     Some(refused)
 }
 
-/// Hands so many changed inputs to the libraries, and prints the first at which something is wrong. How many were
-/// accepted, and how long the slowest took, is told on standard error.
+/// Passes `count` changed inputs to the libraries, and prints the first at which something is wrong. The number of
+/// accepted ones and the time of the slowest go to standard error.
 fn tell_changed(rt: &HostRuntime, first: u64, count: u64) -> Option<()> {
     let (mut accepted, mut slowest) = (0u64, 0u128);
     for at in 0..count {
@@ -180,7 +212,7 @@ fn tell_changed(rt: &HostRuntime, first: u64, count: u64) -> Option<()> {
     println!(rt; "changed inputs: {count}, and nothing is wrong").ok()
 }
 
-/// The numbers on standard input.
+/// Reads the numbers on standard input.
 fn numbers(rt: &HostRuntime) -> [u64; 3] {
     let mut text = [0u8; 64];
     let count = rt.stdin().read(&mut text).unwrap_or(0);
@@ -197,7 +229,7 @@ fn numbers(rt: &HostRuntime) -> [u64; 3] {
     [first, second, third]
 }
 
-/// Takes a piece of memory and gives it back, so often.
+/// Allocates and frees a piece of memory, `count` times.
 fn take_memory(alloc: Global, count: u64) {
     for _ in 0..count {
         let mut piece = Vec::new(alloc);

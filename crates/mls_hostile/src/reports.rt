@@ -1,9 +1,12 @@
 //! Reports over devices in memory.
 
-use crate::group::{CHECKED, GROUP_INFO, LOG, REPLAYED, VECTORS};
+use crate::group::{
+    CHECKED, GROUP_INFO, LOG, REPLAYED, SIGNATURES, TREE, TREE_CONTEXT, VALIDATED, VALIDATED_TREE,
+    VECTORS,
+};
 use crate::told::{Stop, Told, have};
-use mls_check::Trusting;
-use mls_report::{RunFault, Verdict, run_replay};
+use mls_check::{Listed, Trusting};
+use mls_report::{RunFault, Verdict, run_replay, run_signatures, run_validate, run_validate_tree};
 use mls_vectors::{CheckKind, run_check};
 use mls_wire::{MemorySink, MemorySource};
 use std::alloc::Global;
@@ -11,44 +14,117 @@ use std::alloc::Global;
 /// A report.
 #[derive(Clone, Copy)]
 pub(crate) enum Report {
-    /// Of the log.
+    /// `replay` of the log.
     Replay,
-    /// Of the test vector.
+    /// `check` of the test vector.
     Check,
+    /// `validate` of the group of member 0 alone.
+    Validate,
+    /// `validate-tree` of the tree of four members.
+    ValidateTree,
+    /// `signatures` of the group of member 0 alone and of the log, with no receipts.
+    Signatures,
 }
 
 /// How a report ends, and what is written then.
-fn ended(alloc: Global, report: Report) -> Result<(Result<Verdict, RunFault>, MemorySink), Stop> {
+type Ended = (Result<Verdict, RunFault>, MemorySink);
+
+/// Returns how `replay` ends.
+fn replay_ended(alloc: Global) -> Result<Ended, Stop> {
     let Ok(mut out) = MemorySink::new(alloc, 1000, 40, None) else {
         return Err(Stop::Memory);
     };
+    let info = have(hex::decode(alloc, GROUP_INFO))?;
+    let log = have(hex::decode(alloc, LOG))?;
+    let mut info = MemorySource::new(info.as_slice(), 40, None);
+    let mut tree: Option<MemorySource> = None;
+    let mut log = MemorySource::new(log.as_slice(), 40, None);
+    let outcome = run_replay(alloc, &mut info, &mut tree, &mut log, Trusting, &mut out);
+    Ok((outcome, out))
+}
+
+/// Returns how `check` ends.
+fn check_ended(alloc: Global) -> Result<Ended, Stop> {
+    let Ok(mut out) = MemorySink::new(alloc, 1000, 40, None) else {
+        return Err(Stop::Memory);
+    };
+    let mut input = MemorySource::new(VECTORS.as_bytes(), 40, None);
+    let outcome = run_check(alloc, CheckKind::TreeMath, &mut input, &mut out);
+    Ok((outcome, out))
+}
+
+/// Returns how `validate` ends.
+fn validate_ended(alloc: Global) -> Result<Ended, Stop> {
+    let Ok(mut out) = MemorySink::new(alloc, 1000, 40, None) else {
+        return Err(Stop::Memory);
+    };
+    let info = have(hex::decode(alloc, GROUP_INFO))?;
+    let mut info = MemorySource::new(info.as_slice(), 40, None);
+    let mut tree: Option<MemorySource> = None;
+    let outcome = run_validate(alloc, &mut info, &mut tree, Trusting, &mut out);
+    Ok((outcome, out))
+}
+
+/// Returns how `validate-tree` ends.
+fn validate_tree_ended(alloc: Global) -> Result<Ended, Stop> {
+    let Ok(mut out) = MemorySink::new(alloc, 1000, 40, None) else {
+        return Err(Stop::Memory);
+    };
+    let context = have(hex::decode(alloc, TREE_CONTEXT))?;
+    let tree = have(hex::decode(alloc, TREE))?;
+    let mut context = MemorySource::new(context.as_slice(), 40, None);
+    let mut tree = MemorySource::new(tree.as_slice(), 40, None);
+    let outcome = run_validate_tree(alloc, &mut context, &mut tree, &Trusting, &mut out);
+    Ok((outcome, out))
+}
+
+/// Returns how `signatures` ends.
+fn signatures_ended(alloc: Global) -> Result<Ended, Stop> {
+    let Ok(mut out) = MemorySink::new(alloc, 2000, 40, None) else {
+        return Err(Stop::Memory);
+    };
+    let receipts = have(Listed::read(alloc, b""))?;
+    let info = have(hex::decode(alloc, GROUP_INFO))?;
+    let log = have(hex::decode(alloc, LOG))?;
+    let mut info = MemorySource::new(info.as_slice(), 40, None);
+    let mut tree: Option<MemorySource> = None;
+    let mut log = Some(MemorySource::new(log.as_slice(), 40, None));
+    let outcome = run_signatures(alloc, &mut info, &mut tree, &mut log, &receipts, &mut out);
+    Ok((outcome, out))
+}
+
+/// Returns how a report ends.
+fn ended(alloc: Global, report: Report) -> Result<Ended, Stop> {
     match report {
-        Report::Replay => {
-            let info = have(hex::decode(alloc, GROUP_INFO))?;
-            let log = have(hex::decode(alloc, LOG))?;
-            let mut info = MemorySource::new(info.as_slice(), 40, None);
-            let mut tree: Option<MemorySource> = None;
-            let mut log = MemorySource::new(log.as_slice(), 40, None);
-            let outcome = run_replay(alloc, &mut info, &mut tree, &mut log, Trusting, &mut out);
-            Ok((outcome, out))
-        }
-        Report::Check => {
-            let mut input = MemorySource::new(VECTORS.as_bytes(), 40, None);
-            let outcome = run_check(alloc, CheckKind::TreeMath, &mut input, &mut out);
-            Ok((outcome, out))
-        }
+        Report::Replay => replay_ended(alloc),
+        Report::Check => check_ended(alloc),
+        Report::Validate => validate_ended(alloc),
+        Report::ValidateTree => validate_tree_ended(alloc),
+        Report::Signatures => signatures_ended(alloc),
     }
 }
 
-/// Makes a report, and once more where it was refused memory: then what is written is the front of the report that it
-/// makes else, and nothing where it is made whole before it is written.
+/// Returns the usual verdict and text of a report.
+fn usual(report: Report) -> (&'static str, &'static str) {
+    match report {
+        Report::Replay => ("no", REPLAYED),
+        Report::Check => ("yes", CHECKED),
+        Report::Validate => ("yes", VALIDATED),
+        Report::ValidateTree => ("yes", VALIDATED_TREE),
+        Report::Signatures => ("no", SIGNATURES),
+    }
+}
+
+/// Makes a report, and once more if it ran out of memory. Then what is written must be a prefix of the usual report,
+/// and nothing if the report is made whole before it is written.
 pub(crate) fn tell_report(alloc: Global, report: Report) -> Result<Told, Stop> {
+    let (usual_verdict, usual_text) = usual(report);
     let (mut outcome, mut out) = ended(alloc, report)?;
     let was_refused = matches!(outcome, Err(RunFault::Memory));
     if was_refused {
         let front = match report {
-            Report::Replay => REPLAYED.as_bytes(),
-            Report::Check => b"",
+            Report::Replay | Report::Signatures => usual_text.as_bytes(),
+            Report::Check | Report::Validate | Report::ValidateTree => b"",
         };
         if !front.starts_with(out.bytes()) {
             return Err(Stop::OtherReport);
@@ -60,11 +136,7 @@ pub(crate) fn tell_report(alloc: Global, report: Report) -> Result<Told, Stop> {
         Ok(Verdict::No) => "no",
         Err(_) => return Err(Stop::OtherReport),
     };
-    let wanted = match report {
-        Report::Replay => ("no", REPLAYED),
-        Report::Check => ("yes", CHECKED),
-    };
-    if wanted.0 != verdict || wanted.1.as_bytes() != out.bytes() {
+    if usual_verdict != verdict || usual_text.as_bytes() != out.bytes() {
         return Err(Stop::OtherReport);
     }
     let text = have(format!(in alloc; "{verdict}, {} bytes", out.bytes().len()))?;

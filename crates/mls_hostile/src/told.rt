@@ -1,34 +1,38 @@
-//! What is told of a call, and why there may be nothing to tell.
+//! The result of a call, and why there may be none.
 
-/// What a call answered, in words.
+/// The answer of a call as text.
 #[derive(Drop)]
 pub(crate) struct Told {
-    /// Whether it answered want of memory first, left everything as it was, and was made again.
+    /// Whether the call first ran out of memory, left everything unchanged, and was repeated.
     pub(crate) was_refused: bool,
-    /// What it answered then.
+    /// The answer.
     pub(crate) text: String,
 }
 
-/// Why there is nothing to tell of a call.
+/// Why there is no answer.
 #[derive(Clone, Copy, Debug)]
 pub(crate) enum Stop {
-    /// Memory was refused outside of the call.
+    /// An allocation outside of the call failed.
     Memory,
-    /// What can be read isn't read.
+    /// A decodable input was not decoded.
     NotRead,
-    /// What is read is written in another way.
+    /// A decoded input has another encoding.
     OtherBytes,
-    /// The suite is another one than the context's.
+    /// A message is decodable in the members' profile, but not in the full one.
+    OtherProfile,
+    /// The suite is not that of the GroupContext.
     OtherSuite,
-    /// A follower doesn't start, or hands back other things than it was handed.
+    /// A follower did not start, or did not return what was passed.
     NotStarted,
-    /// What a call was handed, or what stood, isn't as it was.
+    /// The arguments or the state have changed.
     Changed,
-    /// A report is another one, or broken off.
+    /// A report is another one, or incomplete.
     OtherReport,
+    /// The signatures of a start or of messages are other ones, or are not returned.
+    OtherSignatures,
 }
 
-/// What is made or compared before and behind a call. Where there is none, memory was refused.
+/// Returns a value that is made or compared before or after a call. If there is none, memory ran out.
 pub(crate) fn have<T, E: Drop>(made: Result<T, E>) -> Result<T, Stop> {
     match made {
         Ok(value) => Ok(value),

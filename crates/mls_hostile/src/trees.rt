@@ -1,4 +1,4 @@
-//! The two validators, which are handed a tree that they can't change.
+//! The two validators, whose tree is unchanged.
 
 ghost use Rattle.std.specs.Prelude.{◌≡◌};
 
@@ -15,11 +15,11 @@ use std::alloc::Global;
 pub(crate) enum Validator {
     /// Of the tree.
     Tree,
-    /// Of its leaves, as members of the group.
+    /// Of its leaf nodes, as members of the group.
     Members,
 }
 
-/// What a validator says of a tree: yes, no, or nothing for want of memory.
+/// Returns the result of a validator: yes, no, or `None` if it ran out of memory.
 fn judge(
     alloc: Global,
     validator: Validator,
@@ -51,7 +51,7 @@ fn judge(
     }
 }
 
-/// Asks a validator, and once more where it was refused memory: then the tree has the nodes that it had.
+/// Calls a validator, and once more if it ran out of memory. Then the tree must have the same nodes.
 fn judge_again(
     alloc: Global,
     validator: Validator,
@@ -76,7 +76,7 @@ fn judge_again(
     Ok((true, judge(alloc, validator, suite, context, tree)?))
 }
 
-/// Asks a validator of the tree of four members.
+/// Calls a validator with the tree of four members.
 pub(crate) fn validate(alloc: Global, validator: Validator) -> Result<Told, Stop> {
     let context = have(hex::decode(alloc, TREE_CONTEXT))?;
     let tree = have(hex::decode(alloc, TREE))?;

@@ -1,0 +1,233 @@
+//! Rows of inputs that are cut, and of messages of which one bit is changed.
+
+use crate::call_result::CallResult;
+use crate::fault::RowFault;
+use crate::row::Row;
+use crate::state::brief_state;
+use crate::stories::{started, taken_text};
+use mls_check::{Listed, SignatureCheck, Trusting};
+use mls_follow::{Follower, Refusal};
+use mls_msgs::decode_message;
+use mls_nodes::{NodeFault, decode_leaf, decode_ratchet_tree};
+use mls_wire::{CodecFault, WireFault, WireFaultKind};
+use std::alloc::Global;
+use std::mem;
+
+// ---- cut inputs
+
+/// Why bytes are no encoding, if they are none.
+fn fault_of(alloc: Global, what: &str, bytes: &[u8]) -> Option<WireFault> {
+    let fault = match what {
+        "tree" => match decode_ratchet_tree(alloc, bytes).err()? {
+            NodeFault::Wire(fault) => CodecFault::Wire(fault),
+            _ => CodecFault::OutOfMemory,
+        },
+        "leaf" => decode_leaf(alloc, bytes).err()?,
+        _ => decode_message(alloc, bytes).err()?,
+    };
+    match fault {
+        CodecFault::Wire(fault) => Some(fault),
+        CodecFault::OutOfMemory => None,
+    }
+}
+
+/// Whether the first bytes of an encoding are truncated, a tree at its beginning.
+fn is_truncated(alloc: Global, what: &str, front: &[u8]) -> bool {
+    match fault_of(alloc, what, front) {
+        Some(fault) => {
+            let is_in_front = if what == "tree" {
+                fault.at == 0
+            } else {
+                fault.at <= front.len()
+            };
+            fault.kind == WireFaultKind::Truncated && is_in_front
+        }
+        None => false,
+    }
+}
+
+/// `cut | tree, leaf or message | BYTES`: how many bytes an encoding has. Each shorter front of it has to be truncated.
+pub(crate) fn cut(row: &Row) -> Result<CallResult, RowFault> {
+    row.has(2)?;
+    let bytes = row.bytes(2)?;
+    for size in 0..bytes.len() {
+        let front = bytes.as_slice().get(..size).unwrap_or(&[]);
+        if !is_truncated(row.alloc, row.word(1), front) {
+            return Err(RowFault::CutIsRead(size));
+        }
+    }
+    Ok(CallResult::text(format!(in row.alloc; "{}", bytes.len())?))
+}
+
+/// Whether a follower that starts from the first field refuses bytes as malformed.
+fn is_malformed(row: &Row, bytes: &[u8]) -> Result<bool, RowFault> {
+    let mut follower = started(row, Trusting)?;
+    let taken = follower.take(bytes);
+    drop(follower);
+    Ok(matches!(taken, Err(Refusal::Malformed)))
+}
+
+/// `cut_message | INFO | MESSAGE`: how many bytes a message has. A follower that starts from a GroupInfo has to refuse each shorter front
+/// of it as malformed.
+pub(crate) fn cut_message(row: &Row) -> Result<CallResult, RowFault> {
+    row.has(2)?;
+    let bytes = row.bytes(2)?;
+    for size in 0..bytes.len() {
+        let front = bytes.as_slice().get(..size).unwrap_or(&[]);
+        if !is_malformed(row, front)? {
+            return Err(RowFault::CutIsRead(size));
+        }
+    }
+    Ok(CallResult::text(format!(in row.alloc; "{}", bytes.len())?))
+}
+
+// ---- changed bits
+
+/// The result for a message, if it is accepted. A refused one has to leave the state unchanged.
+fn accepted<C: SignatureCheck>(
+    alloc: Global,
+    follower: &mut Follower<C>,
+    message: &[u8],
+) -> Result<Option<String>, RowFault> {
+    let before = brief_state(alloc, follower)?;
+    if let Ok(taken) = follower.take(message) {
+        return Ok(Some(taken_text(alloc, taken)?));
+    }
+    if before.as_slice() == brief_state(alloc, follower)?.as_slice() {
+        Ok(None)
+    } else {
+        Err(RowFault::Changed(1))
+    }
+}
+
+/// A follower that has accepted the messages of the fields from the third to the last but two.
+fn ready(row: &Row) -> Result<Follower<Listed>, RowFault> {
+    let mut follower = started(row, row.receipts(2)?)?;
+    let mut refused = None;
+    for at in 3..row.len().saturating_sub(1) {
+        match row.bytes(at) {
+            Ok(message) if follower.take(message.as_slice()).is_ok() => {}
+            _ => refused = Some(at),
+        }
+    }
+    match refused {
+        None => Ok(follower),
+        Some(at) => {
+            drop(follower);
+            Err(RowFault::Field(at, "a message that is accepted"))
+        }
+    }
+}
+
+/// Whether a message is accepted with the result of the unchanged one. The follower is then replaced by another one that is ready.
+fn is_accepted(
+    row: &Row,
+    follower: &mut Follower<Listed>,
+    message: &[u8],
+    unchanged: &str,
+) -> Result<bool, RowFault> {
+    match accepted(row.alloc, follower, message)? {
+        None => Ok(false),
+        Some(found) if found.as_str() == unchanged => {
+            let old = mem::replace(follower, ready(row)?);
+            drop(old);
+            Ok(true)
+        }
+        Some(_) => Err(RowFault::OtherResult),
+    }
+}
+
+/// How many bits of a byte can be changed so that the message is accepted all the same.
+fn unchecked_bits(
+    row: &Row,
+    follower: &mut Follower<Listed>,
+    message: &mut Vec<u8>,
+    at: usize,
+    unchanged: &str,
+) -> Result<u32, RowFault> {
+    let mut count = 0u32;
+    for bit in [1u8, 2, 4, 8, 16, 32, 64, 128] {
+        flip(message, at, bit);
+        let found = is_accepted(row, follower, message.as_slice(), unchanged);
+        flip(message, at, bit);
+        if found? {
+            count = count.saturating_add(1);
+        }
+    }
+    Ok(count)
+}
+
+/// Changes one bit of a byte.
+fn flip(message: &mut Vec<u8>, at: usize, bit: u8) {
+    if let Some(byte) = message.get_mut(at) {
+        *byte ^= bit;
+    }
+}
+
+/// Those of the bytes from `first` to before `end` of which no bit is checked.
+fn unchecked_bytes(
+    row: &Row,
+    follower: &mut Follower<Listed>,
+    message: &mut Vec<u8>,
+    ends: (usize, usize),
+    unchanged: &str,
+) -> Result<Vec<usize>, RowFault> {
+    let mut unchecked = Vec::new(row.alloc);
+    for at in ends.0..ends.1 {
+        match unchecked_bits(row, follower, message, at, unchanged)? {
+            0 => {}
+            8 => unchecked.push(at)?,
+            _ => return Err(RowFault::OtherResult),
+        }
+    }
+    Ok(unchecked)
+}
+
+/// The result of a follower that is ready for the unchanged message.
+fn unchanged_result(row: &Row, message: &[u8]) -> Result<String, RowFault> {
+    let mut follower = ready(row)?;
+    let found = accepted(row.alloc, &mut follower, message);
+    drop(follower);
+    match found? {
+        Some(found) => Ok(found),
+        None => Err(RowFault::Field(row.len().saturating_sub(1), "a message that is accepted")),
+    }
+}
+
+/// Numbers that rise by their runs, each as the first and the one after the last: `3..5`.
+fn runs_text(alloc: Global, numbers: &[usize]) -> Result<String, RowFault> {
+    let mut text = String::new(alloc);
+    let mut end = 0usize;
+    for number in numbers {
+        if text.is_empty() {
+            write!(text, "{number}..")?;
+        } else if *number != end {
+            write!(text, "{end} {number}..")?;
+        }
+        end = number.saturating_add(1);
+    }
+    if !text.is_empty() {
+        write!(text, "{end}")?;
+    }
+    Ok(text)
+}
+
+/// `bits | INFO | RECEIPTS | MESSAGE | .. | FIRST END`: of the last message, those of the bytes from the first to the one before the end
+/// whose bits aren't checked: the message is accepted all the same, whichever of these bits is changed. Of every other byte each bit has to
+/// be checked: the message is refused whichever of them is changed, which has to leave the state unchanged.
+pub(crate) fn bits(row: &Row) -> Result<CallResult, RowFault> {
+    if row.len() < 4 {
+        return Err(RowFault::Fields(4));
+    }
+    let last = row.len();
+    let ends = match row.numbers(last)?.as_slice() {
+        [first, end] => (*first as usize, *end as usize),
+        _ => return Err(RowFault::Field(last, "two numbers")),
+    };
+    let mut message = row.bytes(last.saturating_sub(1))?;
+    let unchanged = unchanged_result(row, message.as_slice())?;
+    let mut follower = ready(row)?;
+    let found = unchecked_bytes(row, &mut follower, &mut message, ends, unchanged.as_str());
+    drop(follower);
+    Ok(CallResult::text(runs_text(row.alloc, found?.as_slice())?))
+}

@@ -1,0 +1,173 @@
+//! Rows of proposals (RFC 9420, 12.1 and 12.4).
+
+use crate::call_result::CallResult;
+use crate::fault::RowFault;
+use crate::row::Row;
+use mls_apply::{
+    ApplyFault, EpochState, KnownProposal, ListItem, PendingProposals, check_proposal, resolve_list,
+};
+use mls_check::{SignatureCheck, Trusting};
+use mls_hash::Suite;
+use mls_msgs::{Commit, Proposal, encode_proposal};
+use mls_nodes::GroupContext;
+use mls_tree::{HashValue, PublicTree};
+use mls_wire::{CodecFault, Reader, WireFault, read_value};
+use std::alloc::Global;
+
+/// `none`, or a fault.
+fn fault_result(alloc: Global, fault: Option<ApplyFault>) -> Result<CallResult, RowFault> {
+    match fault {
+        None => CallResult::word(alloc, "none"),
+        Some(fault) => CallResult::fault(alloc, &fault),
+    }
+}
+
+/// Why a proposal is refused in this context and tree.
+fn checked<C: SignatureCheck>(
+    alloc: Global,
+    context: &GroupContext,
+    tree: &PublicTree,
+    sender: u32,
+    proposal: &Proposal,
+    checker: &C,
+) -> Result<Option<ApplyFault>, RowFault> {
+    match Suite::from_u16(context.cipher_suite) {
+        Ok(suite) if suite.number() == context.cipher_suite => {
+            let epoch = EpochState { context, tree };
+            Ok(check_proposal(alloc, &epoch, sender, proposal, checker).err())
+        }
+        _ => Err(RowFault::Field(1, "a context of a suite that is followed")),
+    }
+}
+
+/// The same of a row's fields.
+fn checked_by<C: SignatureCheck>(row: &Row, checker: &C) -> Result<Option<ApplyFault>, RowFault> {
+    let sender = row.number(3)?;
+    let context = row.value::<GroupContext>(1, "a context")?;
+    let proposal = row.value::<Proposal>(5, "a proposal");
+    match proposal {
+        Ok(proposal) => checked_in(row, &context, sender, &proposal, checker),
+        Err(fault) => Err(fault),
+    }
+}
+
+/// The same in the tree of its field.
+fn checked_in<C: SignatureCheck>(
+    row: &Row,
+    context: &GroupContext,
+    sender: u32,
+    proposal: &Proposal,
+    checker: &C,
+) -> Result<Option<ApplyFault>, RowFault> {
+    let tree = row.tree(2)?;
+    checked(row.alloc, context, &tree, sender, proposal, checker)
+}
+
+/// `proposal | CONTEXT | TREE | SENDER | CHECKER | PROPOSAL`: why a member's proposal is refused, or `none`.
+pub(crate) fn proposal(row: &Row) -> Result<CallResult, RowFault> {
+    row.has(5)?;
+    let fault = if row.is_trusting(4) {
+        checked_by(row, &Trusting)?
+    } else {
+        let listed = row.receipts(4)?;
+        checked_by(row, &listed)?
+    };
+    fault_result(row.alloc, fault)
+}
+
+/// Reads a pending proposal: a vector that is its reference, its sender, and itself.
+fn read_known(alloc: Global, reader: &mut Reader<'_>) -> Result<KnownProposal, CodecFault> {
+    let reference = reader.read_vec()?;
+    let sender = reader.read_u32()?;
+    let proposal = read_value::<Proposal>(alloc, reader)?;
+    match HashValue::new(reference) {
+        Some(reference) => Ok(KnownProposal {
+            reference,
+            sender,
+            proposal,
+        }),
+        None => Err(CodecFault::OutOfMemory),
+    }
+}
+
+/// A field that is pending proposals, one after the other.
+fn known_at(row: &Row, at: usize) -> Result<PendingProposals, RowFault> {
+    let bytes = row.bytes(at)?;
+    let mut reader = Reader::new(bytes.as_slice());
+    let mut all = PendingProposals::new(row.alloc);
+    for _ in 0..bytes.len() {
+        if reader.at_end() {
+            return Ok(all);
+        }
+        match read_known(row.alloc, &mut reader) {
+            Ok(known) => all.push(row.alloc, known)?,
+            Err(_) => return Err(RowFault::Field(at, "pending proposals")),
+        }
+    }
+    Ok(all)
+}
+
+/// Proposals, each after its sender.
+fn items_text(alloc: Global, items: &[ListItem<'_>]) -> Result<String, RowFault> {
+    let mut text = String::new(alloc);
+    for item in items {
+        if !text.is_empty() {
+            text.push(' ')?;
+        }
+        let Ok(proposal) = encode_proposal(alloc, item.proposal) else {
+            return Err(RowFault::OutOfMemory);
+        };
+        let proposal = hex::encode(alloc, proposal.as_slice())?;
+        let sender = item.sender;
+        write!(text, "{sender} {proposal}")?;
+    }
+    Ok(text)
+}
+
+/// The proposals of the list of a commit, each after its sender, or the fault.
+fn resolved_text(
+    alloc: Global,
+    commit: &Commit,
+    committer: u32,
+    known: &PendingProposals,
+) -> Result<CallResult, RowFault> {
+    match resolve_list(alloc, commit, committer, known) {
+        Ok(items) => {
+            let text = items_text(alloc, items.as_slice());
+            drop(items);
+            Ok(CallResult::text(text?))
+        }
+        Err(fault) => CallResult::fault(alloc, &fault),
+    }
+}
+
+/// `resolve | PENDING | COMMITTER | COMMIT`: the proposals of the list of a commit, each after its sender.
+pub(crate) fn resolve(row: &Row) -> Result<CallResult, RowFault> {
+    row.has(3)?;
+    let committer = row.number(2)?;
+    let known = known_at(row, 1)?;
+    let commit = match row.value(3, "a commit") {
+        Ok(commit) => commit,
+        Err(fault) => {
+            drop(known);
+            return Err(fault);
+        }
+    };
+    let text = resolved_text(row.alloc, &commit, committer, &known);
+    drop(commit);
+    drop(known);
+    text
+}
+
+/// `pending | PENDING | REFERENCE`: the sender of the first pending proposal of a reference, or `none`.
+pub(crate) fn find(row: &Row) -> Result<CallResult, RowFault> {
+    row.has(2)?;
+    let reference = row.bytes(2)?;
+    let known = known_at(row, 1)?;
+    let sender = known.find(reference.as_slice()).map(|found| found.sender);
+    drop(known);
+    match sender {
+        Some(sender) => Ok(CallResult::text(format!(in row.alloc; "{sender}")?)),
+        None => CallResult::word(row.alloc, "none"),
+    }
+}

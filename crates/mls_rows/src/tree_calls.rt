@@ -1,0 +1,348 @@
+//! Rows of trees (RFC 9420, 4.1, 7.7 and Appendix C): node indices, lists of nodes, and changes.
+
+use crate::call_result::CallResult;
+use crate::fault::RowFault;
+use crate::row::{Row, have, only_word};
+use mls_nodes::{LeafNode, Node, ParentNode, decode_ratchet_tree, encode_ratchet_tree};
+use mls_tree::{
+    HashKind, Part, PublicTree, TreeError, left, level, parent, right, root, sibling, split_leaves,
+};
+use std::alloc::Global;
+use std::collections::BTreeSet;
+
+/// A number, or `none`.
+fn number_result(alloc: Global, number: Option<u32>) -> Result<CallResult, RowFault> {
+    match number {
+        Some(number) => Ok(CallResult::text(format!(in alloc; "{number}")?)),
+        None => CallResult::word(alloc, "none"),
+    }
+}
+
+/// Numbers with a space between two.
+pub(crate) fn numbers_text(alloc: Global, numbers: &[u32]) -> Result<String, RowFault> {
+    let mut text = String::new(alloc);
+    for number in numbers {
+        if !text.is_empty() {
+            text.push(' ')?;
+        }
+        write!(text, "{number}")?;
+    }
+    Ok(text)
+}
+
+/// `root | LEAVES`: the node index of the root, or `none`.
+pub(crate) fn root_of(row: &Row) -> Result<CallResult, RowFault> {
+    row.has(1)?;
+    number_result(row.alloc, root(row.number(1)?))
+}
+
+/// `left | NODE INDEX | LEAVES` and the like: the node index of a child, the parent or the sibling, or the level of a node; `none` if
+/// there is none.
+pub(crate) fn relative(row: &Row) -> Result<CallResult, RowFault> {
+    row.has(2)?;
+    let index = row.number(1)?;
+    let leaves = row.number(2)?;
+    let found = match row.word(0) {
+        "left" => left(index, leaves),
+        "right" => right(index, leaves),
+        "parent" => parent(index, leaves),
+        "sibling" => sibling(index, leaves),
+        _ => level(index, leaves),
+    };
+    number_result(row.alloc, found)
+}
+
+/// `direct_path | TREE | INDEX` and the like: the direct path, the copath or the filtered direct path of a leaf, or the resolution of
+/// a node.
+pub(crate) fn list(row: &Row) -> Result<CallResult, RowFault> {
+    row.has(2)?;
+    let index = row.number(2)?;
+    let tree = row.tree(1)?;
+    let found = match row.word(0) {
+        "direct_path" => tree.direct_path(row.alloc, index),
+        "copath" => tree.copath(row.alloc, index),
+        "filtered_direct_path" => tree.filtered_direct_path(row.alloc, index),
+        _ => tree.resolution(row.alloc, index),
+    };
+    drop(tree);
+    match found {
+        Ok(list) => Ok(CallResult::text(numbers_text(row.alloc, list.as_slice())?)),
+        Err(fault) => CallResult::fault(row.alloc, &fault),
+    }
+}
+
+/// Whether a resolution has a length, by the nodes alone and by the counts that are stored with cached hashes.
+fn has_length(
+    alloc: Global,
+    tree: &PublicTree,
+    index: u32,
+    without: &BTreeSet<u64>,
+    length: usize,
+) -> Result<Result<bool, TreeError>, RowFault> {
+    let mut counted = have(tree.try_clone(alloc))?;
+    let reserved = counted.reserve_hashes(alloc, HashKind::Sha256);
+    let by_counts = counted.has_resolution_len(index, without, length);
+    drop(counted);
+    have(reserved)?;
+    let found = tree.has_resolution_len(index, without, length);
+    if found == by_counts {
+        Ok(found)
+    } else {
+        Err(RowFault::TwoResults)
+    }
+}
+
+/// `resolution_length | TREE | NODE INDEX | NUMBERS | NUMBER`: whether the resolution has so many nodes other than these.
+pub(crate) fn resolution_length(row: &Row) -> Result<CallResult, RowFault> {
+    row.has(4)?;
+    let index = row.number(2)?;
+    let length = row.number(4)? as usize;
+    let mut without = BTreeSet::new(row.alloc);
+    for other in row.numbers(3)? {
+        have(without.insert(u64::from(other)))?;
+    }
+    let tree = row.tree(1)?;
+    let found = has_length(row.alloc, &tree, index, &without, length);
+    drop(tree);
+    match found? {
+        Ok(found) => Ok(CallResult::text(format!(in row.alloc; "{found}")?)),
+        Err(fault) => CallResult::fault(row.alloc, &fault),
+    }
+}
+
+// ---- nodes
+
+/// The encryption key of a leaf, or `blank`.
+fn leaf_key(alloc: Global, leaf: Option<&LeafNode>) -> Result<String, RowFault> {
+    match leaf {
+        Some(leaf) => Ok(hex::encode(alloc, leaf.encryption_key.as_slice())?),
+        None => Ok(String::from_str(alloc, "blank")?),
+    }
+}
+
+/// The encryption key of a parent, or `blank`.
+fn parent_key(alloc: Global, parent: Option<&ParentNode>) -> Result<String, RowFault> {
+    match parent {
+        Some(parent) => Ok(hex::encode(alloc, parent.encryption_key.as_slice())?),
+        None => Ok(String::from_str(alloc, "blank")?),
+    }
+}
+
+/// The encryption key of a node, or `blank`.
+pub(crate) fn node_key(alloc: Global, node: Option<&Node>) -> Result<String, RowFault> {
+    match node {
+        Some(Node::Leaf(leaf)) => leaf_key(alloc, Some(leaf)),
+        Some(Node::Parent(parent)) => parent_key(alloc, Some(parent)),
+        None => Ok(String::from_str(alloc, "blank")?),
+    }
+}
+
+/// The part of a tree at a node index in words.
+fn part_text(alloc: Global, tree: &PublicTree, index: u32) -> Result<String, RowFault> {
+    match tree.part(index) {
+        Some(Part::Leaf { index, node }) => {
+            let key = leaf_key(alloc, node)?;
+            Ok(format!(in alloc; "leaf {index} {key}")?)
+        }
+        Some(
+            Part::Parent {
+                node,
+                left,
+                right,
+                middle,
+            },
+        ) => {
+            let key = parent_key(alloc, node)?;
+            Ok(format!(in alloc; "parent {key} {left} {right} {middle}")?)
+        }
+        None => Ok(String::from_str(alloc, "none")?),
+    }
+}
+
+/// `part | TREE | NODE INDEX`: a leaf by its index and its key; or a parent by its key, the node indices of its children, and the
+/// index of the first leaf under the right one; or `none`.
+pub(crate) fn part(row: &Row) -> Result<CallResult, RowFault> {
+    row.has(2)?;
+    let index = row.number(2)?;
+    let tree = row.tree(1)?;
+    let text = part_text(row.alloc, &tree, index);
+    drop(tree);
+    Ok(CallResult::text(text?))
+}
+
+/// The key of the node at a node index, and its key if it is a parent.
+fn node_text(alloc: Global, tree: &PublicTree, index: u32) -> Result<String, RowFault> {
+    let any = node_key(alloc, tree.node(index))?;
+    let parent = parent_key(alloc, tree.parent(index))?;
+    Ok(format!(in alloc; "{any} {parent}")?)
+}
+
+/// `node | TREE | NODE INDEX`: the key of the node there, and the key of the parent there; each may be `blank`.
+pub(crate) fn node(row: &Row) -> Result<CallResult, RowFault> {
+    row.has(2)?;
+    let index = row.number(2)?;
+    let tree = row.tree(1)?;
+    let text = node_text(row.alloc, &tree, index);
+    drop(tree);
+    Ok(CallResult::text(text?))
+}
+
+/// `leaf | TREE | INDEX`: the key of a leaf, or `blank`.
+pub(crate) fn leaf(row: &Row) -> Result<CallResult, RowFault> {
+    row.has(2)?;
+    let index = row.number(2)?;
+    let tree = row.tree(1)?;
+    let text = leaf_key(row.alloc, tree.leaf(index));
+    drop(tree);
+    Ok(CallResult::text(text?))
+}
+
+/// `split_leaves | NUMBERS | NUMBER`: the leaves to the left of a leaf, and the others.
+pub(crate) fn split(row: &Row) -> Result<CallResult, RowFault> {
+    row.has(2)?;
+    let numbers = row.numbers(1)?;
+    let (front, rest) = split_leaves(numbers.as_slice(), row.number(2)?);
+    let front = numbers_text(row.alloc, front)?;
+    let rest = numbers_text(row.alloc, rest)?;
+    Ok(CallResult::text(format!(in row.alloc; "{front} / {rest}")?))
+}
+
+// ---- sizes
+
+/// `tree_size | BYTES`: how many nodes and members the tree of an encoding has, or why it has none.
+pub(crate) fn size(row: &Row) -> Result<CallResult, RowFault> {
+    row.has(1)?;
+    let bytes = row.bytes(1)?;
+    match PublicTree::decode(row.alloc, bytes.as_slice()) {
+        Ok(tree) => {
+            let (nodes, members) = (tree.nodes().len(), tree.member_count());
+            drop(tree);
+            Ok(CallResult::text(format!(in row.alloc; "{nodes} {members}")?))
+        }
+        Err(fault) => CallResult::fault(row.alloc, &fault),
+    }
+}
+
+/// `nodes_form | BYTES | COUNT`: how many leaves and members the tree of nodes has, of which there are so many, those of a ratchet_tree
+/// first and blank ones after them; or why they form none.
+pub(crate) fn nodes_form(row: &Row) -> Result<CallResult, RowFault> {
+    row.has(2)?;
+    let count = row.number(2)? as usize;
+    let bytes = row.bytes(1)?;
+    let Ok(mut nodes) = decode_ratchet_tree(row.alloc, bytes.as_slice()) else {
+        return Err(RowFault::Field(1, "a tree"));
+    };
+    nodes.truncate(count);
+    for _ in 0..count.saturating_sub(nodes.len()) {
+        nodes.push(None)?;
+    }
+    match PublicTree::from_nodes(nodes) {
+        Ok(tree) => {
+            let (leaves, members) = (tree.leaf_count(), tree.member_count());
+            drop(tree);
+            Ok(CallResult::text(format!(in row.alloc; "{leaves} {members}")?))
+        }
+        Err((fault, nodes)) => {
+            drop(nodes);
+            CallResult::fault(row.alloc, &fault)
+        }
+    }
+}
+
+/// `extended_blank | LEAVES`: how many leaves a blank tree of so many has once it is extended, or why there is none or can't be
+/// extended.
+pub(crate) fn extended_blank(row: &Row) -> Result<CallResult, RowFault> {
+    row.has(1)?;
+    let extended = match PublicTree::blank(row.alloc, row.number(1)?) {
+        Ok(mut tree) => {
+            let extended = tree.extend();
+            let leaves = tree.leaf_count();
+            drop(tree);
+            extended.map(|()| leaves)
+        }
+        Err(fault) => Err(fault),
+    };
+    match extended {
+        Ok(leaves) => Ok(CallResult::text(format!(in row.alloc; "{leaves}")?)),
+        Err(fault) => CallResult::fault(row.alloc, &fault),
+    }
+}
+
+/// `blank_leaf | TREE | NUMBER`: the first blank leaf from this one on, or `none`.
+pub(crate) fn blank_leaf(row: &Row) -> Result<CallResult, RowFault> {
+    row.has(2)?;
+    let start = row.number(2)?;
+    let tree = row.tree(1)?;
+    let next = tree.next_blank_leaf(start);
+    let first = tree.first_blank_leaf();
+    drop(tree);
+    if start == 0 && next != first {
+        return Err(RowFault::TwoResults);
+    }
+    number_result(row.alloc, next)
+}
+
+// ---- changes
+
+/// How many leaves a tree has, and its encoding; `blank` if it has none.
+pub(crate) fn tree_text(alloc: Global, tree: &PublicTree) -> Result<String, RowFault> {
+    let leaves = tree.leaf_count();
+    match encode_ratchet_tree(alloc, tree.nodes()) {
+        Ok(bytes) => {
+            let bytes = hex::encode(alloc, bytes.as_slice())?;
+            Ok(format!(in alloc; "{leaves} {bytes}")?)
+        }
+        Err(_) => Ok(format!(in alloc; "{leaves} blank")?),
+    }
+}
+
+/// Changes a tree.
+fn change(alloc: Global, tree: &mut PublicTree, word: &str, leaf: u32) -> Result<(), RowFault> {
+    match word {
+        "blank_path" => have(tree.blank_path(leaf)),
+        "blank_leaf" => match tree.set_leaf(leaf, None) {
+            Ok(()) => Ok(()),
+            Err(refused) => {
+                drop(refused);
+                Err(RowFault::OutOfMemory)
+            }
+        },
+        "add_unmerged" => have(tree.add_unmerged(alloc, leaf)),
+        "extend" => have(tree.extend()),
+        "truncate" => {
+            tree.truncate();
+            Ok(())
+        }
+        _ => Err(RowFault::Field(3, "a change")),
+    }
+}
+
+/// `changed | TREE | LEAF | CHANGES`: how many leaves a tree has after changes at a leaf, and its encoding.
+pub(crate) fn changed(row: &Row) -> Result<CallResult, RowFault> {
+    row.has(3)?;
+    let leaf = row.number(2)?;
+    let mut tree = row.tree(1)?;
+    let mut made = Ok(());
+    for step in row.field(3) {
+        let word = only_word(std::slice::from_ref(step)).unwrap_or("");
+        if made.is_ok() {
+            made = change(row.alloc, &mut tree, word, leaf);
+        }
+    }
+    let text = tree_text(row.alloc, &tree);
+    drop(tree);
+    made?;
+    Ok(CallResult::text(text?))
+}
+
+/// `copied | TREE`: how many leaves the copy of a tree has, and its encoding.
+pub(crate) fn copied(row: &Row) -> Result<CallResult, RowFault> {
+    row.has(1)?;
+    let tree = row.tree(1)?;
+    let copy = tree.try_clone(row.alloc);
+    drop(tree);
+    let copy = have(copy)?;
+    let text = tree_text(row.alloc, &copy);
+    drop(copy);
+    Ok(CallResult::text(text?))
+}

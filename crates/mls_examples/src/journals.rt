@@ -1,14 +1,13 @@
 //! Changes of a tree that a journal takes back (RFC 9420, 7.7 and 12.1): the tree is then the one before them, node by
 //! node.
 
-use crate::context_extensions::list_of;
 use crate::kept_hashes::{whole_text, whole_text_anew};
 use crate::support::{
-    bytes, expect_text, grown_tree, key_package, list_text, suite, tree_of, tree_text,
+    GROWN, TWO_OF_FOUR, bytes, expect_text, key_package, list_text, suite, tree_text, tree_with,
 };
 use mls_apply::{ListItem, apply_list_in_place};
 use mls_hash::fill_hashes;
-use mls_msgs::decode_proposal;
+use mls_msgs::{Proposal, decode_proposal};
 use mls_tree::{Journal, PublicTree};
 use std::alloc::Global;
 use std::test::Fail;
@@ -82,7 +81,7 @@ fn changed_and_back(
 
 /// The same of the tree of four leaves, one of which is unmerged.
 fn back(alloc: Global, changes: &[Change]) -> Result<String, Fail> {
-    let mut tree = grown_tree(alloc)?;
+    let mut tree = tree_with(alloc, GROWN)?;
     changed_and_back(alloc, &mut tree, changes)
 }
 
@@ -134,7 +133,7 @@ fn changes_are_taken_back(rt: HostRuntime) -> Result<(), Fail> {
 
 /// A change that is kept stays when those after it are taken back.
 fn kept(alloc: Global, changes: (Change, Change)) -> Result<String, Fail> {
-    let mut tree = grown_tree(alloc)?;
+    let mut tree = tree_with(alloc, GROWN)?;
     let mut journal = Journal::new(alloc);
     make_change(alloc, &mut tree, &mut journal, changes.0)?;
     journal.keep();
@@ -160,7 +159,7 @@ fn kept_changes_stay(rt: HostRuntime) -> Result<(), Fail> {
 
 /// The places that a journal tells of after changes of the tree of four leaves, one of which is unmerged.
 fn told(alloc: Global, changes: &[Change]) -> Result<String, Fail> {
-    let mut tree = grown_tree(alloc)?;
+    let mut tree = tree_with(alloc, GROWN)?;
     let mut journal = Journal::new(alloc);
     for step in changes {
         make_change(alloc, &mut tree, &mut journal, *step)?;
@@ -196,17 +195,26 @@ fn changed_places_are_told(rt: HostRuntime) -> Result<(), Fail> {
     Ok(())
 }
 
+/// The items of a list that has these proposals, each after its sender.
+fn items_of(alloc: Global, proposals: &[(u32, Proposal)]) -> Result<Vec<ListItem<'_>>, Fail> {
+    let mut items = Vec::new(alloc);
+    for (sender, proposal) in proposals {
+        items.push(ListItem {
+            sender: *sender,
+            proposal,
+        })?;
+    }
+    Ok(items)
+}
+
 /// A list of so many Adds by member 0.
-fn adds(alloc: Global, count: u32) -> Result<Vec<ListItem>, Fail> {
+fn adds(alloc: Global, count: u32) -> Result<Vec<(u32, Proposal)>, Fail> {
     let mut list = Vec::new(alloc);
     for member in 0..count {
         let package = key_package(alloc, 1 + member % 15)?;
         let entry = format!(in alloc; "0001{package}")?;
         let proposal = decode_proposal(alloc, bytes(alloc, entry.as_str())?.as_slice())?;
-        list.push(ListItem {
-            sender: 0,
-            proposal,
-        })?;
+        list.push((0, proposal))?;
     }
     Ok(list)
 }
@@ -224,12 +232,14 @@ fn many_adds_are_taken_back(rt: HostRuntime) -> Result<(), Fail> {
     // back.
     for (count, wanted) in COUNTS {
         let count = *count;
-        let list = adds(alloc, count)?;
-        let mut tree = tree_of(alloc, 4, &[0, 2])?;
+        let proposals = adds(alloc, count)?;
+        let list = items_of(alloc, proposals.as_slice())?;
+        let mut tree = tree_with(alloc, TWO_OF_FOUR)?;
         let before = nodes_text(alloc, &tree)?;
         let mut journal = Journal::new(alloc);
         let added = apply_list_in_place(alloc, &mut tree, &mut journal, list.as_slice());
         drop(list);
+        drop(proposals);
         drop(added?);
         let leaves = tree.leaf_count();
         journal.take_back(&mut tree);
@@ -238,6 +248,16 @@ fn many_adds_are_taken_back(rt: HostRuntime) -> Result<(), Fail> {
         expect_text(&rt, found, wanted);
     }
     Ok(())
+}
+
+/// The list of these proposals, as member 0's.
+fn list_of(alloc: Global, proposals: &[&str]) -> Result<Vec<(u32, Proposal)>, Fail> {
+    let mut list = Vec::new(alloc);
+    for proposal in proposals {
+        let proposal = decode_proposal(alloc, bytes(alloc, proposal)?.as_slice())?;
+        list.push((0, proposal))?;
+    }
+    Ok(list)
 }
 
 /// Fills the hashes of a tree, applies a list that can't be applied to its end, and takes back what was applied: how
@@ -250,10 +270,12 @@ fn applied_and_back(
 ) -> Result<String, Fail> {
     let filled = fill_hashes(alloc, suite()?, tree)?;
     let before = whole_text(alloc, tree)?;
-    let list = list_of(alloc, proposals)?;
+    let owned = list_of(alloc, proposals)?;
+    let list = items_of(alloc, owned.as_slice())?;
     let mut journal = Journal::new(alloc);
     let fault = apply_list_in_place(alloc, tree, &mut journal, list.as_slice()).err();
     drop(list);
+    drop(owned);
     let changed = whole_text(alloc, tree);
     journal.take_back(tree);
     drop(journal);
@@ -274,7 +296,7 @@ fn the_front_of_a_list_is_taken_back(rt: HostRuntime) -> Result<(), Fail> {
         &["000300000002", "000300000002", "000300000003"],
     ];
     for proposals in LISTS {
-        let mut tree = grown_tree(alloc)?;
+        let mut tree = tree_with(alloc, GROWN)?;
         let told = applied_and_back(alloc, &mut tree, proposals);
         drop(tree);
         expect_text(&rt, told?, "7 Some(NoSuchLeaf) true true true");

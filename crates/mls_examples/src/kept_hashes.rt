@@ -1,23 +1,14 @@
-//! Hashes that a tree keeps of its subtrees (RFC 9420, 7.8): which of them a change empties, how many are made anew,
-//! and that a follower's tree keeps each of them.
+//! Hashes that a tree caches of its subtrees (RFC 9420, 7.8): which of them a change empties, and how many are filled.
 
-use crate::by_hand::{adds_of, member_commit};
-use crate::commits::SOURCE;
-use crate::paths::LOWER_COMMIT;
-use crate::story::{started, taken_text};
 use crate::support::{
-    COMMIT, GROUP_INFO, PROPOSAL, bytes, expect_text, joined_leaf, leaf_node, list_text, suite,
-    text, tree_text,
+    TWO_LEAVES, TWO_LEAVES_HASH, expect_text, joined_leaf, leaf_node, list_text, suite, text,
+    tree_text, tree_with,
 };
-use mls_check::{SignatureCheck, Trusting};
-use mls_follow::Follower;
-use mls_hash::{fill_hashes, tree_hash};
+use mls_hash::{Suite, fill_hashes, tree_hash};
 use mls_nodes::{decode_ratchet_tree, encode_ratchet_tree};
 use mls_tree::{HashKind, PublicTree};
 use std::alloc::Global;
 use std::test::Fail;
-
-// ---- changes
 
 /// A change of a tree.
 #[derive(Clone, Copy)]
@@ -108,8 +99,6 @@ fn emptied_places(rt: HostRuntime) -> Result<(), Fail> {
     Ok(())
 }
 
-// ---- a follower's tree
-
 /// The nodes of a tree, and the tree hash of each place.
 pub(crate) fn whole_text(alloc: Global, tree: &PublicTree) -> Result<String, Fail> {
     let mut all = tree_text(alloc, tree)?;
@@ -132,77 +121,38 @@ pub(crate) fn whole_text_anew(alloc: Global, tree: &PublicTree) -> Result<String
     }
 }
 
-/// How many hashes a tree doesn't keep.
-fn lacking(alloc: Global, tree: &PublicTree) -> Result<u32, Fail> {
-    let suite = suite()?;
-    let mut copy = tree.try_clone(alloc)?;
-    let filled = fill_hashes(alloc, suite, &mut copy);
-    drop(copy);
-    Ok(filled?)
+/// That of `02004040`, the first of these, `4040` and the second.
+const LONG_ROOT: &str = "1e1db873b4faac7d7014b9786112b266718fb0615bde2fd3715e83d75a3877547a6e62\
+        6867002333444137858d02de09dafb7d6991e556fc612be0dc2d40cae2";
+
+/// That of `020030`, the first of these, `30` and the second.
+const MIDDLE_ROOT: &str = "d37a2bcacca3a77f993562bc222ab9764463662aec6c3fecf5167ee7978a8136711076\
+        0c8147e2bb333176ddd518f8c9";
+
+/// How many hashes of a tree of two set leaves are filled by a suite, and then by another one, and the hash of the whole tree that is
+/// read by each of them after that.
+fn filled(alloc: Global, numbers: (u16, u16)) -> Result<String, Fail> {
+    let (number, other) = numbers;
+    let mut tree = tree_with(alloc, TWO_LEAVES)?;
+    let first = fill_hashes(alloc, Suite::from_u16(number)?, &mut tree)?;
+    let second = fill_hashes(alloc, Suite::from_u16(other)?, &mut tree)?;
+    let hash = tree_hash(alloc, Suite::from_u16(number)?, &tree, 1);
+    let other_hash = tree_hash(alloc, Suite::from_u16(other)?, &tree, 1);
+    drop(tree);
+    let hash = text(alloc, hash?.as_slice())?;
+    let other_hash = text(alloc, other_hash?.as_slice())?;
+    Ok(format!(in alloc; "{first} {second} {hash} {other_hash}")?)
 }
 
-/// Takes a message that has to be accepted. The tree then keeps the hash of each place, and has the hashes of a tree
-/// that is made anew.
-fn accept<C: SignatureCheck>(
-    alloc: Global,
-    follower: &mut Follower<C>,
-    message: &str,
-) -> Result<String, Fail> {
-    let message = bytes(alloc, message)?;
-    let Ok(taken) = follower.take(message.as_slice()) else {
-        return Err(Fail::from("an accepted message"));
-    };
-    let said = taken_text(alloc, taken)?;
-    let tree = follower.tree();
-    if whole_text(alloc, tree)?.as_str() != whole_text_anew(alloc, tree)?.as_str() {
-        return Err(Fail::from("the hashes of these nodes"));
-    }
-    match lacking(alloc, tree)? {
-        0 => Ok(said),
-        _ => Err(Fail::from("a hash of each place")),
-    }
-}
-
-/// Takes messages that have to be accepted, each as [`accept`] does.
-pub(crate) fn accept_all<C: SignatureCheck>(
-    alloc: Global,
-    follower: &mut Follower<C>,
-    messages: &[&str],
-) -> Result<String, Fail> {
-    let mut said = String::new(alloc);
-    for message in messages {
-        if !said.is_empty() {
-            said.push_str("; ")?;
-        }
-        said.push_str(accept(alloc, follower, message)?.as_str())?;
-    }
-    Ok(said)
-}
-
-/// What a new follower says of messages that have to be accepted.
-fn accepted(alloc: Global, messages: &[&str]) -> Result<String, Fail> {
-    let mut follower = started(alloc, Trusting, GROUP_INFO)?;
-    let said = accept_all(alloc, &mut follower, messages);
-    drop(follower);
-    said
-}
-
-/// After a commit without a path, one with a path, one that adds a member beside a path, and a lone member's path
-/// without nodes.
+/// The hashes of one hash function are never read for another.
 #[test]
-fn followers_keep_each_hash(rt: HostRuntime) -> Result<(), Fail> {
+fn hashes_of_a_kind_are_kept(rt: HostRuntime) -> Result<(), Fail> {
     let alloc = rt.alloc();
-    let renewed = member_commit(alloc, 1, "", Some(("8", SOURCE, "01d10401aa01bb")))?;
-    let list = adds_of(alloc, &[2])?;
-    let nodes = "01d10401aa01bb01d300";
-    let grown = member_commit(alloc, 1, list.as_str(), Some(("8", LOWER_COMMIT, nodes)))?;
-    let alone = member_commit(alloc, 0, "", Some(("8", "0300", "")))?;
-    let two = "proposal 419afc0a88fe171b793b00410d11c8121fb96fdfde7b5ced43d5912144a3a9f9; \
-        commit 1; commit 2";
-    let found = accepted(alloc, &[PROPOSAL, COMMIT, renewed.as_str()])?;
-    expect_text(&rt, found, two);
-    let found = accepted(alloc, &[PROPOSAL, COMMIT, grown.as_str()])?;
-    expect_text(&rt, found, two);
-    expect_text(&rt, accepted(alloc, &[alone.as_str()])?, "commit 1");
+    let changed = filled(alloc, (1, 7))?;
+    let wanted = format!(in alloc; "3 3 {TWO_LEAVES_HASH} {MIDDLE_ROOT}")?;
+    expect_text(&rt, changed, wanted.as_str());
+    let stayed = filled(alloc, (4, 6))?;
+    let wanted = format!(in alloc; "3 0 {LONG_ROOT} {LONG_ROOT}")?;
+    expect_text(&rt, stayed, wanted.as_str());
     Ok(())
 }

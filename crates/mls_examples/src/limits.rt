@@ -1,33 +1,13 @@
-//! The limits of a group: the last epoch that its 64 bits hold (RFC 9420, 8.1), and the most members that a tree
-//! holds, which is this library's own limit.
+//! The largest group: the most members that a tree holds, which is this library's own limit.
 
-use crate::by_hand::{adds_of, commit_of, info_at, vector};
-use crate::story::{Story, follow};
-use crate::support::{bytes, expect_text};
-use mls_apply::{Applied, ListItem, apply_list, resolve_list};
+use crate::support::{bytes, expect_text, key_package};
+use mls_apply::{Applied, Leaves, PendingProposals, apply_list, resolve_list};
 use mls_msgs::Commit;
 use mls_nodes::decode_leaf;
 use mls_tree::PublicTree;
 use mls_wire::read_all_of;
 use std::alloc::Global;
 use std::test::Fail;
-
-/// The answers to a commit in the epoch before the last one, and to one in the last.
-fn last_commits(alloc: Global) -> Result<String, Fail> {
-    let info = info_at(alloc, u64::MAX - 1)?;
-    let first = commit_of(alloc, u64::MAX - 1, 0, adds_of(alloc, &[1])?.as_str(), "00")?;
-    let second = commit_of(alloc, u64::MAX, 0, adds_of(alloc, &[2])?.as_str(), "00")?;
-    let messages = [first.as_str(), second.as_str()];
-    let Story { answers, .. } = follow(alloc, None, info.as_str(), &messages)?;
-    Ok(answers)
-}
-
-#[test]
-fn the_last_two_epochs(rt: HostRuntime) -> Result<(), Fail> {
-    let wanted = "commit 18446744073709551615; 12 LastEpoch; ";
-    expect_text(&rt, last_commits(rt.alloc())?, wanted);
-    Ok(())
-}
 
 /// The most members of a group.
 const MOST: u32 = 1_048_576;
@@ -44,14 +24,32 @@ fn tree_without(alloc: Global, blank: u32) -> Result<PublicTree, Fail> {
     Ok(tree)
 }
 
-/// The proposals of a commit's list by member 0.
-fn list_of(alloc: Global, list: &str) -> Result<Vec<ListItem>, Fail> {
+/// A vector by its body of less than 16,384 bytes.
+fn vector(alloc: Global, body: &str) -> Result<String, Fail> {
+    let length = body.len() / 2 % 16384;
+    if length < 64 {
+        Ok(format!(in alloc; "{length:02x}{body}")?)
+    } else {
+        let form = 16384 + length;
+        Ok(format!(in alloc; "{form:04x}{body}")?)
+    }
+}
+
+/// The Adds of these members, as a commit has them in its list.
+fn adds_of(alloc: Global, members: &[u32]) -> Result<String, Fail> {
+    let mut list = String::new(alloc);
+    for member in members {
+        list.push_str("010001")?;
+        list.push_str(key_package(alloc, *member)?.as_str())?;
+    }
+    Ok(list)
+}
+
+/// A commit with this list and no path.
+fn commit_with(alloc: Global, list: &str) -> Result<Commit, Fail> {
     let commit = format!(in alloc; "{}00", vector(alloc, list)?)?;
     let commit = bytes(alloc, commit.as_str())?;
-    let commit: Commit = read_all_of(alloc, commit.as_slice())?;
-    let items = resolve_list(alloc, &commit, 0, &[]);
-    drop(commit);
-    Ok(items?)
+    Ok(read_all_of(alloc, commit.as_slice())?)
 }
 
 /// How many leaves and members a tree has after a list, and which leaves the list added.
@@ -64,9 +62,13 @@ fn applied_text(alloc: Global, applied: &Applied) -> Result<String, Fail> {
 
 /// The same of a list that is applied to a tree, or its fault.
 fn outcome_of(alloc: Global, tree: &PublicTree, list: &str) -> Result<String, Fail> {
-    let items = list_of(alloc, list)?;
+    let commit = commit_with(alloc, list)?;
+    let known = PendingProposals::new(alloc);
+    let items = resolve_list(alloc, &commit, 0, &known)?;
     let outcome = apply_list(alloc, tree, items.as_slice());
     drop(items);
+    drop(known);
+    drop(commit);
     match outcome {
         Ok(applied) => {
             let told = applied_text(alloc, &applied);
@@ -118,5 +120,12 @@ fn a_group_is_filled(rt: HostRuntime) -> Result<(), Fail> {
     let too_many = "a tree has at most 1,048,576 leaves";
     let wanted = format!(in rt.alloc(); "1048576 1048576 [1048575]; {too_many}; ")?;
     expect_text(&rt, at_the_limit(rt.alloc(), 1, &rows)?, wanted.as_str());
+    Ok(())
+}
+
+#[test]
+fn leaves_hold_their_numbers(rt: HostRuntime) -> Result<(), Fail> {
+    let leaves = Leaves::new(Vec::from_slice(rt.alloc(), &[3, 1, 2])?);
+    assert!(rt; leaves.as_slice() == [3, 1, 2].as_slice());
     Ok(())
 }

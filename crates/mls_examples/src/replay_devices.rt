@@ -3,7 +3,6 @@
 
 ghost use Rattle.std.specs.Prelude.{◌≡◌, false};
 
-use crate::group_reports::{LOG, TOLD};
 use crate::support::{GROUP_INFO, bytes, expect_text};
 use mls_check::Trusting;
 use mls_cli::{RunFault, Verdict, run_replay};
@@ -11,6 +10,20 @@ use mls_wire::{MemorySink, MemorySource, Sink, StdSink};
 use std::alloc::Global;
 use std::io::{self, ErrorKind, Write};
 use std::test::Fail;
+
+/// The example log, of 151 bytes: a proposal, its commit, a private message, and a record that the log ends in.
+pub(crate) const LOG: &str =
+    "404b00010001014700000000000000000100000000000200010001000101f101a101b100010141020001\
+    0200010000020001010000000000000000ffffffffffffffff0001c10001c901c801c73f000100010147000000000000\
+    000001000000000003220220419afc0a88fe171b793b00410d11c8121fb96fdfde7b5ced43d5912144a3a9f90001c601\
+    e101c50600010002abcd050001";
+
+/// What is told of it.
+const TOLD: &str = "no: \
+    1 accepted proposal 419afc0a88fe171b793b00410d11c8121fb96fdfde7b5ced43d5912144a3a9f9\n\
+    2 accepted commit 1 3dd545ada09b9e9be453de8b5c20702e810685eca3710882583a67d8a3eddd8b \
+    3b3fe4cf185f12883575d4bc9a402561feafe917dc05379ecd9f3f0abe6607e5\n\
+    3 refused 2\n4 broken\naccepted 2 refused 1 broken 1 epoch 1\n";
 
 /// How many bytes a device moves at a call.
 const PIECE: usize = 13;

@@ -1,41 +1,10 @@
-//! The index of a tree's keys, while the tree changes (RFC 9420, 7.3), and the rules of the leaves that changed.
+//! The index of a tree's keys while the tree changes (RFC 9420, 7.3).
 
-use crate::support::{bytes, expect_text, leaf_node, leaf_with, path_tree, updated_leaf};
-use mls_check::Trusting;
-use mls_index::{KeyKind, TreeIndex, changed_leaves_keep_rules};
+use crate::support::{PATH, expect_text, leaf_node, leaf_with, tree_with, updated_leaf};
+use mls_index::{KeyKind, TreeIndex};
 use mls_tree::{Journal, PublicTree};
-use mls_wire::{Opaque, read_all_of};
 use std::alloc::Global;
 use std::test::Fail;
-
-/// Keys of leaves and of parents; a key that begins as another one, and is longer, is not that one.
-#[test]
-fn keys_of_a_tree(rt: HostRuntime) -> Result<(), Fail> {
-    let alloc = rt.alloc();
-    const KEYS: &[(KeyKind, &str, bool)] = &[
-        (KeyKind::Encryption, "80", true),
-        (KeyKind::Encryption, "a1", true),
-        (KeyKind::Encryption, "d1", true),
-        (KeyKind::Encryption, "d3", true),
-        (KeyKind::Encryption, "b1", false),
-        (KeyKind::Encryption, "a3", false),
-        (KeyKind::Encryption, "a100", false),
-        (KeyKind::Encryption, "", false),
-        (KeyKind::Signature, "b0", true),
-        (KeyKind::Signature, "b2", true),
-        (KeyKind::Signature, "b3", false),
-        (KeyKind::Signature, "a1", false),
-        (KeyKind::Signature, "d1", false),
-    ];
-    let tree = path_tree(alloc)?;
-    let index = TreeIndex::of(alloc, &tree)?;
-    for (kind, key, wanted) in KEYS {
-        let bytes = bytes(alloc, key)?;
-        let found = index.has_key(&tree, *kind, bytes.as_slice());
-        assert_eq!(rt; found, *wanted, "{kind:?} {key}");
-    }
-    Ok(())
-}
 
 /// Which of the keys `91` and `a1` a tree has.
 fn both(alloc: Global, index: &TreeIndex, tree: &PublicTree) -> Result<String, Fail> {
@@ -46,7 +15,7 @@ fn both(alloc: Global, index: &TreeIndex, tree: &PublicTree) -> Result<String, F
 
 /// Which of them the tree has once member 1 has updated its leaf, and again once that is accepted or refused.
 fn updated(alloc: Global, is_accepted: bool) -> Result<String, Fail> {
-    let mut tree = path_tree(alloc)?;
+    let mut tree = tree_with(alloc, PATH)?;
     let mut index = TreeIndex::of(alloc, &tree)?;
     let mut journal = Journal::new(alloc);
     let leaf = updated_leaf(alloc, 1)?;
@@ -78,7 +47,7 @@ fn keys_that_come_and_go(rt: HostRuntime) -> Result<(), Fail> {
 /// Whose keys are their own once the blank leaf 3 gets the keys of member 1, and leaf 1 is removed or not: those of
 /// leaf 3, of leaf 1, and of the places 0 and 6.
 fn moved(alloc: Global, is_removed: bool) -> Result<String, Fail> {
-    let mut tree = path_tree(alloc)?;
+    let mut tree = tree_with(alloc, PATH)?;
     let mut index = TreeIndex::of(alloc, &tree)?;
     let leaf = leaf_with(alloc, 1, "a", "02")?;
     tree.set_leaf(3, Some(leaf_node(alloc, leaf.as_str())?))?;
@@ -99,29 +68,5 @@ fn keys_that_move(rt: HostRuntime) -> Result<(), Fail> {
     let alloc = rt.alloc();
     expect_text(&rt, moved(alloc, false)?, "false false false false true");
     expect_text(&rt, moved(alloc, true)?, "true true true true true");
-    Ok(())
-}
-
-/// The leaves support no type of extension beside the default ones, and the parents and the blank leaf are asked
-/// nothing.
-#[test]
-fn rules_of_changed_leaves(rt: HostRuntime) -> Result<(), Fail> {
-    let alloc = rt.alloc();
-    const CHANGES: &[(&str, &[u32], bool)] = &[
-        ("000000", &[0, 1, 2, 4], true),
-        ("0200090000", &[0, 1, 2, 4], false),
-        ("0200090000", &[1, 3, 6, 9], true),
-    ];
-    let tree = path_tree(alloc)?;
-    let group_id = Opaque::copy(alloc, &[0x47])?;
-    for (required, places, wanted) in CHANGES {
-        let input = bytes(alloc, required)?;
-        let required = read_all_of(alloc, input.as_slice())?;
-        let kept = changed_leaves_keep_rules(
-            alloc, 1, &group_id, &required, &tree, places, &Trusting,
-        )?;
-        drop(required);
-        assert_eq!(rt; kept, *wanted);
-    }
     Ok(())
 }

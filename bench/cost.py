@@ -1,0 +1,32 @@
+#!/usr/bin/env python3
+"""Makes inputs that may cost more than their size, for cost.sh.
+
+    cost.py --list            prints the names of the shapes
+    cost.py FOLDER SHAPE K    writes a shape's input, K times its least size, into the folder: `words`, the program's
+                              arguments, one a line; `before`, those of a run that is subtracted, as of the start alone;
+                              and the files that they name. It prints how many bytes came after that start. If messages
+                              touch much of the group, it also prints how many they are, and which share of the time
+                              of a start each may take.
+
+Where a message is sent again and again to a large group, the group and the number of messages grow with K together, so
+that a cost of the group's size for each message grows with the square of K. Where a message touches much of the group,
+the group is the same for each K.
+"""
+import sys
+
+# These two put their shapes into SHAPES.
+import large_shapes
+import small_shapes
+from shape import SHAPES, Input
+
+
+def main():
+    if sys.argv[1:] == ["--list"]:
+        print("\n".join(SHAPES))
+        return
+    folder, name, times = sys.argv[1:]
+    print(*SHAPES[name](Input(folder, float(times))))
+
+
+if __name__ == "__main__":
+    main()

@@ -1,0 +1,101 @@
+"""Messages of groups that group.py makes, for cost.py: signatures and tags are empty, and any rule may be broken."""
+from group import KEY_PACKAGE, Group, digest, key, key_package, leaf_bytes, new_leaf, number, optional, vector
+
+
+class Sparse(Group):
+    """A group whose tree has so many leaves, rounded up to a power of two, of which few are members."""
+
+    def __init__(self, leaves, present, name=b"group"):
+        super().__init__(1)
+        self.NAME = name
+        self.depth = (leaves - 1).bit_length()
+        lengths = [1 << (self.depth - level) for level in range(self.depth + 1)]
+        self.levels = [[None] * length for length in lengths]
+        self.hashes = [[None] * length for length in lengths]
+        self.sizes = [[0] * length for length in lengths]
+        self.leaves = [None] * lengths[0]
+        for index in present:
+            self.leaves[index] = new_leaf("made", index)
+            self.levels[0][index] = leaf_bytes(self.leaves[index], KEY_PACKAGE)
+        self.hash_again(range(lengths[0]))
+
+
+def with_capabilities(group, capabilities):
+    """The group with new members who have these capabilities."""
+    for index in group.present():
+        group.leaves[index] = new_leaf("made", index, capabilities=capabilities)
+        group.levels[0][index] = leaf_bytes(group.leaves[index], KEY_PACKAGE)
+    group.hash_again(range(len(group.leaves)))
+    return group
+
+
+def frozen(group):
+    """The group, of which `info` and `tree` tell what it is now, whatever commits change later."""
+    info, tree = group.info(), group.tree()
+    group.info, group.tree = lambda: info, lambda: tree
+    return group
+
+
+def far_members(leaves):
+    """The members of a tree in which the first one has a member below each node of its copath."""
+    return [0] + [1 << level for level in range((leaves - 1).bit_length())]
+
+
+def framed(group, sender, content, data=b""):
+    head = vector(group.NAME) + number(group.epoch, 8) + b"\x01" + number(sender, 4) + vector(data)
+    return number(1, 2) + head + content
+
+
+def message(frame, auth):
+    return number(1, 2) + frame + auth + vector(b"")
+
+
+def proposal(group, sender, body, data=b""):
+    """A proposal's message, and the item of a commit that names it."""
+    frame = framed(group, sender, b"\x02" + body, data)
+    reference = digest(vector(b"MLS 1.0 Proposal Reference") + vector(frame + vector(b"")))
+    return message(frame, vector(b"")), b"\x02" + vector(reference)
+
+
+def commit(group, items, path=None, committer=0):
+    content = b"\x03" + vector(b"".join(items)) + optional(path)
+    return message(framed(group, committer, content), vector(b"") + vector(b""))
+
+
+def commit_with_path(group, items):
+    """A commit of member 0 that changes no members, and the group after it."""
+    path = group.renew(0, group.renewed(0))
+    sent = commit(group, items, group.path_bytes(0, path, set()))
+    group.epoch += 1
+    return sent
+
+
+def false_path(parent_hash, nodes):
+    return leaf_bytes(new_leaf("path"), b"\x03" + vector(parent_hash)) + vector(nodes)
+
+
+def add(leaf):
+    return number(1, 2) + key_package(leaf, key("init", leaf.encryption, leaf.signature))
+
+
+def remove(index):
+    return number(3, 2) + number(index, 4)
+
+
+def extensions_of(items):
+    """A proposal of extensions of the context, by their types and data."""
+    return number(7, 2) + vector(b"".join(number(kind, 2) + vector(data) for kind, data in items))
+
+
+def inline(body):
+    return b"\x01" + body
+
+
+def small_leaf(at):
+    """A leaf of few bytes, unlike others in its keys."""
+    name = b"%d" % at
+    return new_leaf(at)._replace(encryption=b"e" + name, signature=b"s" + name, credential=b"\x00\x01" + vector(b""))
+
+
+def inline_adds(count):
+    return [inline(add(small_leaf(at))) for at in range(count)]

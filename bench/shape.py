@@ -1,0 +1,53 @@
+"""The shapes of inputs that cost.py makes, by their names, and where an input is written."""
+import os
+
+from group import vector
+
+SHAPES = {}
+
+
+def shape(make):
+    SHAPES[make.__name__.replace("_", "-")] = make
+    return make
+
+
+class Input:
+    """Where an input is written, and how many times its least size it has."""
+
+    def __init__(self, folder, times):
+        self.folder = folder
+        self.times = times
+
+    def size(self, least):
+        return max(round(least * self.times), 2)
+
+    def full(self, least):
+        """The size, rounded up to a power of two: the members of a full tree."""
+        return 1 << (self.size(least) - 1).bit_length()
+
+    def write(self, name, body):
+        path = os.path.join(self.folder, name)
+        with open(path, "wb") as file:
+            file.write(body)
+        return path
+
+    def lists(self, words, before):
+        for name, listed in (("words", words), ("before", before)):
+            self.write(name, "".join(word + "\n" for word in listed).encode())
+
+    def replay(self, group, messages, command="replay", touches_all=False, share=None):
+        """A log through which the group is followed, beside the start alone. If its messages touch all of the tree, the
+        tree's bytes count as bytes that came. With a share, each message may take that of the time of a start."""
+        log = b"".join(vector(body) for body in messages)
+        words = [command, "--info", self.write("info", group.info()), "--tree", self.write("tree", group.tree())]
+        words += ["--trust", "--log"] if command == "replay" else ["--log"]
+        self.lists([*words, self.write("log", log)], [*words, self.write("empty", b"")])
+        told = [len(log) + (len(group.tree()) if touches_all else 0)]
+        return told if share is None else [*told, len(messages), share]
+
+    def files(self, words, files):
+        """A command on files, which are named in its words, beside its help."""
+        for name, body in files.items():
+            self.write(name, body)
+        self.lists([os.path.join(self.folder, word) if word in files else word for word in words], ["--help"])
+        return [sum(map(len, files.values()))]

@@ -11,7 +11,7 @@ mkdir "$made/none" "$made/each"
 
 # How many allocations the calls make: a run of which none is refused.
 echo '0 0 0' >"$made/none/0"
-rt try --fail-alloc 1000000 --cases "$made/none" >"$made/out" 2>"$made/notes" || {
+rt try --steps 100000000 --fail-alloc 1000000 --cases "$made/none" >"$made/out" 2>"$made/notes" || {
     cat "$made/out" "$made/notes" >&2
     exit 1
 }

@@ -100,21 +100,30 @@ fn accepted<C: SignatureCheck>(
     }
 }
 
+/// Whether a follower accepts the message of a field.
+fn accepts(row: &Row, follower: &mut Follower<Listed>, at: usize) -> Result<bool, RowFault> {
+    let message = row.bytes(at)?;
+    Ok(follower.take(message.as_slice()).is_ok())
+}
+
+/// Has a follower accept the messages of the fields from the third to the last but two.
+fn accept_first(row: &Row, follower: &mut Follower<Listed>) -> Result<(), RowFault> {
+    for at in 3..row.len().saturating_sub(1) {
+        if !accepts(row, follower, at)? {
+            return Err(RowFault::Field(at, "a message that is accepted"));
+        }
+    }
+    Ok(())
+}
+
 /// A follower that has accepted the messages of the fields from the third to the last but two.
 fn ready(row: &Row) -> Result<Follower<Listed>, RowFault> {
     let mut follower = started(row, row.receipts(2)?)?;
-    let mut refused = None;
-    for at in 3..row.len().saturating_sub(1) {
-        match row.bytes(at) {
-            Ok(message) if follower.take(message.as_slice()).is_ok() => {}
-            _ => refused = Some(at),
-        }
-    }
-    match refused {
-        None => Ok(follower),
-        Some(at) => {
+    match accept_first(row, &mut follower) {
+        Ok(()) => Ok(follower),
+        Err(fault) => {
             drop(follower);
-            Err(RowFault::Field(at, "a message that is accepted"))
+            Err(fault)
         }
     }
 }

@@ -1,5 +1,7 @@
 //! The fields of an entry, and what they are.
 
+ghost use Rattle.std.specs.Prelude.{◌≡◌, Ok, IfOk};
+
 use crate::bytes::bytes_of;
 use crate::fault::RowFault;
 use crate::names::Names;
@@ -18,7 +20,9 @@ pub(crate) struct Parts {
 }
 
 /// What was made. An allocation failed if it was not.
-pub(crate) fn have<T, E: Drop>(made: Result<T, E>) -> Result<T, RowFault> {
+pub(crate) fn have<T, E: Drop>(made: Result<T, E>) -> Result<T, RowFault>
+    ensures { IfOk result (λ value. made ≡ Ok value) }
+{
     match made {
         Ok(value) => Ok(value),
         Err(_) => Err(RowFault::OutOfMemory),

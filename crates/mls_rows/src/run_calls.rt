@@ -163,17 +163,21 @@ pub(crate) fn first_words(row: &Row) -> Result<CallResult, RowFault> {
     Ok(CallResult::text(all))
 }
 
+/// What a command prints as its output, or, if it fails, as its notes.
+fn main_text(printed: &Printed) -> &str {
+    if printed.status == 0 {
+        printed.output.as_str()
+    } else {
+        printed.notes.as_str()
+    }
+}
+
 /// `prints | COMMAND | TEXT`: the exit status of a command without files that prints this among other things.
 pub(crate) fn prints(row: &Row) -> Result<CallResult, RowFault> {
     row.has(2)?;
     let part = row.text(2)?;
     let printed = run_over(row, &[], 40)?;
-    let text = if printed.status == 0 {
-        &printed.output
-    } else {
-        &printed.notes
-    };
-    if text.as_str().contains(part.as_str()) {
+    if main_text(&printed).contains(part.as_str()) {
         return Ok(CallResult::text(format!(in row.alloc; "{}", printed.status)?));
     }
     Ok(CallResult::text(printed_text(row.alloc, &printed)?))

@@ -51,7 +51,7 @@ tell() {
             fault = fault || $3 || $1 >= 99
             bytes = $7
             part = $8 && $4 > 0 ? seconds[NR] / $8 / $4 : 0
-            share = $9
+            share = $9 + 0
         }
         END {
             least = seconds[1] > 0.03 ? seconds[1] : 0.03

@@ -31,7 +31,7 @@ pub use members::{
     LEAF_NODE_TBS, MemberFault, first_unmet_requirement, is_leaf_signed, validate_members,
 };
 pub use receipt_set::{LearningCheck, Receipts};
-pub use receipts::{Listed, ReceiptsFault, receipt};
+pub use receipts::{ReceiptsFault, receipt};
 pub use signature_keys::first_repeated_signature_key;
 pub use signatures::{OutOfMemory, SignatureCheck, Trusting, sign_content, signed};
 pub use sorted_requirements::SortedRequirements;

@@ -1,4 +1,4 @@
-//! Receipts: a file that lists good signatures by their digests, and the checker that it makes.
+//! Receipts: a file that lists good signatures by their digests.
 //!
 //! Each line has 64 hexadecimal digits, of either case, and is ended by LF, which the last line may lack. The digits
 //! are the SHA-256 digest, for every suite, of the suite in two bytes and of the key, the signed content and the
@@ -8,15 +8,13 @@ ghost use Rattle.std.specs.Prelude.{◌≡◌, ◌++◌, ℕ, ◌<◌, ◌≤◌
 ghost use Rattle.sha2.specs.Sha256.{sha256};
 ghost use Rattle.mls_wire.specs.Encoding.{length_form, vector};
 ghost use Rattle.mls_wire.specs.Limits.{input_limit, vector_limit};
-ghost use Rattle.mls_check.specs.Receipts.{receipt_input, listed, receipt_lines, digest_of, bad_line, IsReceipts, IsReceiptsFault};
+ghost use Rattle.mls_check.specs.Receipts.{receipt_input, receipt_lines, digest_of, bad_line, IsReceipts, IsReceiptsFault};
 ghost use Rattle.mls_check.specs.declared.receipts.ReceiptsFault.TheVariants.{BadLine, TooLong, OutOfMemory};
 
-use crate::signatures::SignatureCheck;
 use hex::FromHex;
-use mls_wire::{MAX_BODY, MAX_INPUT};
+use mls_wire::MAX_BODY;
 use sha2::{Digest, Sha256};
 use std::alloc::{AllocFailed, Global};
-use std::marker::Model;
 use thiserror::Error;
 
 /// Why a receipts file cannot be read.
@@ -41,59 +39,6 @@ impl<T: Drop> From<AllocFailed<T>> for ReceiptsFault {
 
     fn from(_failed: AllocFailed<T>) -> ReceiptsFault {
         ReceiptsFault::OutOfMemory
-    }
-}
-
-/// A checker that accepts the signatures with a receipt in a list.
-#[derive(Debug, Drop)]
-pub struct Listed {
-    digests: Vec<[u8; 32]>,
-}
-
-impl Model for Listed {
-    ghost use Rattle.std.specs.Prelude.{ℕ, List};
-    ghost use Rattle.std.specs.Cmp.Lexicographic.{slice_cmp};
-    ghost use Rattle.std.specs.Ordering.{nat_cmp};
-    ghost use Rattle.std.specs.List.Sorted.{IsSorted};
-
-    ghost Value = { List (List ℕ) };
-
-    ghost view = { λ l. l.digests.items };
-
-    ghost invariant = { λ l. IsSorted (slice_cmp nat_cmp) l.digests.items };
-}
-
-impl Listed {
-    /// Returns the checker of a receipts file.
-    ///
-    /// # Errors
-    ///
-    /// `TooLong` if the file is over the limit; otherwise `BadLine` with its first bad line; or `OutOfMemory`.
-    pub fn read(alloc: Global, bytes: &[u8]) -> Result<Listed, ReceiptsFault>
-        ensures listed { IfOk result
-            (λ l. (digests : List (List ℕ)) × IsReceipts bytes.now digests
-            × (⟦<Listed as SignatureCheck>⟧.meaning l ≡ listed digests)) }
-        ensures refused { IfErr result (λ e. IsReceiptsFault e bytes.now) }
-    {
-        if bytes.len() > MAX_INPUT {
-            return Err(ReceiptsFault::TooLong);
-        }
-        let mut digests = digests_of(alloc, bytes)?;
-        digests.sort_unstable();
-        Ok(Listed { digests })
-    }
-}
-
-impl SignatureCheck for Listed {
-    ghost use Rattle.mls_check.specs.Receipts.{listed};
-
-    ghost meaning = { λ l. listed l };
-
-    fn good(&self, suite: u16, key: &[u8], content: &[u8], signature: &[u8]) -> bool {
-        match receipt(suite, key, content, signature) {
-            Some(digest) => self.digests.binary_search(&digest).is_ok(),
-            None => false,
-        }
     }
 }
 

@@ -23,10 +23,7 @@ use crate::list_item::ListItem;
 use crate::new_parents::{fill, put_path_in_place};
 use crate::path_merge::filled_nodes;
 use crate::requirements::same_requirements;
-use mls_check::{
-    MemberFault, OutOfMemory, SignatureCheck, first_repeated_signature_key,
-    first_unmet_requirement, first_unsupported_credential,
-};
+use mls_check::{MemberFault, OutOfMemory, SignatureCheck, first_unmet_requirement};
 use mls_hash::{HashFault, Suite, tree_hash};
 use mls_index::{KeyKind, LeafRule, LeafRules, TreeIndex, first_changed_failing};
 use mls_nodes::RequiredCapabilities;
@@ -233,40 +230,33 @@ impl StagedTree {
         first_unmet_requirement(alloc, &self.tree, rules.required)
     }
 
-    /// Returns the smallest leaf index of a leaf that does not support the credential type of some leaf. The leaves are
-    /// visited only if there is one.
+    /// Returns the smallest leaf index of a leaf that does not support the credential type of some leaf. The index has
+    /// it: no leaf of the tree is visited.
     fn first_unsupported(&self) -> Option<u32>
         requires indexed { self.now.indexed ≡ true }
         ensures { FindsFailing (λ _ x. supports_used_credentials self.now.tree x) self.now.tree result }
     {
-        if self.index.support_credentials() {
-            return None;
-        }
-        first_unsupported_credential(&self.tree)
+        self.index.first_unsupported_credential()
     }
 
     /// Returns the smallest leaf index of a leaf whose signature key another leaf has. The signature keys of the tree
-    /// before the changes must be distinct. The leaves are visited only if there is one.
-    fn first_repeated(&self, alloc: Global) -> Result<Option<u32>, OutOfMemory>
+    /// before the changes must be distinct. Only the keys of the changed leaves are looked up.
+    fn first_repeated(&self) -> Option<u32>
         requires indexed { self.now.indexed ≡ true }
         requires kept { all_leaves (has_own_signature_key self.now.base) 0 self.now.base ≡ true }
-        ensures { IfOk result (FindsFailing (has_own_signature_key self.now.tree) self.now.tree) }
+        ensures { FindsFailing (has_own_signature_key self.now.tree) self.now.tree result }
     {
         let Some(places) = &self.entered else {
             unreachable!()
         };
-        let (index, tree) = (&self.index, &self.tree);
-        if index.have_own_keys(tree, KeyKind::Signature, places.as_slice()) {
-            return Ok(None);
-        }
-        first_repeated_signature_key(alloc, tree)
+        self.index.first_repeated_key(&self.tree, places.as_slice())
     }
 
     /// Checks that every non-blank leaf of the tree is a valid leaf node (RFC 9420, 7.3), as
     /// [`mls_check::validate_members`] does. Those of the tree before the changes must be, under what the group required
-    /// then, `former`. Rules that need no other leaf are checked of the changed leaves alone, but for what the group
-    /// requires, if that changes. The others are decided by the index; all leaves are visited only to find the first one
-    /// that fails.
+    /// then, `former`. Rules that need no other leaf are checked of the changed leaves alone, except what the group
+    /// requires: if that changes, all leaves are checked. The others are decided by the index, which also has the first
+    /// leaf that fails one.
     ///
     /// # Errors
     ///
@@ -294,7 +284,7 @@ impl StagedTree {
         if let Some(leaf) = self.first_unsupported() {
             return Err(MemberFault::CredentialUnsupported(leaf));
         }
-        if let Some(leaf) = self.first_repeated(alloc)? {
+        if let Some(leaf) = self.first_repeated() {
             return Err(MemberFault::SignatureKeyRepeated(leaf));
         }
         if let Some(leaf) = self.first_failing(alloc, rules, LeafRule::Signature)? {

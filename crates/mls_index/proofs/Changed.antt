@@ -50,11 +50,11 @@ changed_keys places old new same distinct = (λ all p here. at-own_key new p (al
 -- ---- leaves
 
 -- a test of all set leaves, by each of them
-all_leaves-each : (test : ℕ → LeafNode → Bool) (t : Tree) → ((i : ℕ) (x : LeafNode) → leaf_at 0 t i ≡ Some x → test i x ≡ true) → all_leaves test 0 t ≡ true
+pub all_leaves-each : (test : ℕ → LeafNode → Bool) (t : Tree) → ((i : ℕ) (x : LeafNode) → leaf_at 0 t i ≡ Some x → test i x ≡ true) → all_leaves test 0 t ≡ true
 all_leaves-each test t h = all_leaves-from test 0 t (λ i x from low set. h i x set)
 
 module _ (places : List ℕ) (old new : Tree) (same : AgreeExceptAt places old new) where
-  same_leaf-at : (i : ℕ) → lists_place places (2 * i) ≡ false → leaf_at 0 new i ≡ leaf_at 0 old i
+  pub same_leaf-at : (i : ℕ) → lists_place places (2 * i) ≡ false → leaf_at 0 new i ≡ leaf_at 0 old i
   same_leaf-at i off = same_leaf old new i (same (2 * i) off)
 
   -- a test that asks nothing of other leaves
@@ -82,7 +82,7 @@ changed_first test places old new same was (Some i) h = record {
 -- ---- signature keys
 
 -- no other leaf has the signature key of a leaf
-own_key-apart : (t : Tree) (i : ℕ) (x : LeafNode) → has_own_signature_key t i x ≡ true
+pub own_key-apart : (t : Tree) (i : ℕ) (x : LeafNode) → has_own_signature_key t i x ≡ true
     → (j : ℕ) (y : LeafNode) → leaf_at 0 t j ≡ Some y → j ≢ i → y.signature_key ≢ x.signature_key
 unfolding has_own_signature_key
 own_key-apart t i x own j y set other equal =
@@ -103,7 +103,7 @@ or_true : (a : Bool) {b : Bool} → b ≡ true → (a || b) ≡ true
 or_true true e = refl
 or_true false e = e
 
-own_key-from : (t : Tree) (i : ℕ) (x : LeafNode)
+pub own_key-from : (t : Tree) (i : ℕ) (x : LeafNode)
     → ((j : ℕ) (y : LeafNode) → leaf_at 0 t j ≡ Some y → j ≢ i → y.signature_key ≢ x.signature_key) → has_own_signature_key t i x ≡ true
 unfolding has_own_signature_key
 own_key-from t i x h =

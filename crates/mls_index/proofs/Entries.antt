@@ -1,15 +1,18 @@
 -- Entries of a beginning and a place, in sets and in lists.
-use Rattle.std.proofs.Common.{◌≡◌, ◌≢◌, ◌∙◌, ◌⊎◌, ℕ, ◌≤◌, List, [], ◌∷◌, ◌++◌, Bool, true, false, cond, eqb, inl, inr, refl, sym, ap, subst, arith, BTreeSet}
+use Rattle.std.proofs.Common.{◌≡◌, ◌≢◌, ◌∙◌, ◌⊎◌, ℕ, ◌<◌, ◌≤◌, List, [], ◌∷◌, ◌++◌, Bool, true, false, cond, eqb, inl, inr, refl, sym, ap, subst, arith, BTreeSet}
 use Rattle.std.specs.Prelude.{◌||◌, ◌&&◌}
-use Rattle.std.specs.List.{list_any, filter}
+use Rattle.std.specs.List.{list_any, filter, AllByRecursion}
+use Rattle.std.specs.List.Sorted.{IsStrictlySortedBy}
 use Rattle.std.specs.BTreeSet.{contains, Updates, IsUnchanged, keys_between}
 use Rattle.std.specs.BTreeMap.{is_at}
 use Rattle.std.specs.BTreeMap.Range.{range_contains}
+use Rattle.std.specs.declared.cmp.Ordering.TheVariants.{Less}
 use Rattle.std.specs.declared.ops.Bound.{Bound}
 use Rattle.std.specs.declared.ops.Bound.TheVariants.{Included}
 use Rattle.std.proofs.lemmas.Bool.{cases_Bool, cases_eq, false≢true, and_parts}
 use Rattle.std.proofs.lemmas.Bool.Decides.{nat_tests}
 use Rattle.std.proofs.lemmas.List.Folds.{list_any-append}
+use Rattle.std.proofs.lemmas.Map.Keys.{sorted_head, sorted_tail}
 use Rattle.mls_index.specs.IncrementalCheck.{lists_place}
 use Rattle.mls_index.specs.KeyTable.{entry_cmp, has_entry, lists_entry}
 
@@ -185,6 +188,61 @@ unfolding has_entry lists_entry
 in_range s b lo hi r is from to q low has =
     ap (list_any (is_entry b q)) (is ∙ (ap (λ l. keys_between entry_cmp l hi s) from ∙ ap (λ h. keys_between entry_cmp (Included (b, 0)) h s) to))
     ∙ filtered (range_contains entry_cmp (Included (b, 0)) (Included (b, 4294967295))) b q (passes_range b q low) s.keys has
+
+-- ---- their order
+
+-- the node indices of a beginning's entries rise
+abbrev pub RisesFrom : ℕ → ℕ × ℕ → List (ℕ × ℕ) → Type 0
+RisesFrom b e es = (q : ℕ) → lists_entry es b q ≡ true → e.1 < q
+
+abbrev pub AreRising : ℕ → List (ℕ × ℕ) → Type 0
+AreRising b [] = Unit {0}
+AreRising b (e ∷ es) = RisesFrom b e es × AreRising b es
+
+-- an entry before others of a list is below what a filter lets through
+below_listed : (k : ℕ × ℕ) (test : ℕ × ℕ → Bool) (ks : List (ℕ × ℕ)) → AllByRecursion (λ y. entry_cmp k y ≡ Less) ks
+    → (b q : ℕ) → lists_entry (filter test ks) b q ≡ true → entry_cmp k (b, q) ≡ Less
+unfolding lists_entry
+below_listed k test [] h b q on = absurd (false≢true on)
+below_listed k test (y ∷ ys) h b q on =
+    elim (cases_Bool (test y)) [
+      | inl passed ↦ elim (or_cases (is_entry b q y) (list_any (is_entry b q) (filter test ys)) (ap (λ v. list_any (is_entry b q) (cond v (y ∷ filter test ys) (filter test ys))) (sym passed) ∙ on)) [
+        | inl at ↦
+            (let is = is_entry-same b q y at in
+            subst (λ c. entry_cmp k (c, q) ≡ Less) is.0 (subst (λ r. entry_cmp k (y.0, r) ≡ Less) is.1 h.0))
+        | inr more ↦ below_listed k test ys h.1 b q more
+      ]
+      | inr failed ↦ below_listed k test ys h.1 b q (ap (λ v. list_any (is_entry b q) (cond v (y ∷ filter test ys) (filter test ys))) (sym failed) ∙ on)
+    ]
+
+of_beginning : (b : ℕ) (k : ℕ × ℕ) → range_contains entry_cmp (Included (b, 0)) (Included (b, 4294967295)) k ≡ true → k.0 ≡ b
+of_beginning b k h = grind (arith, nat_tests)
+
+less_place : (b q : ℕ) (k : ℕ × ℕ) → k.0 ≡ b → entry_cmp k (b, q) ≡ Less → k.1 < q
+less_place b q k same less = grind (arith, nat_tests)
+
+rising_filter : (b : ℕ) (ks : List (ℕ × ℕ)) → IsStrictlySortedBy entry_cmp ks
+    → AreRising b (filter (range_contains entry_cmp (Included (b, 0)) (Included (b, 4294967295))) ks)
+rising_filter b [] h = tt
+rising_filter b (k ∷ ks) h =
+    let test = range_contains entry_cmp (Included (b, 0)) (Included (b, 4294967295)) in
+    let rest = rising_filter b ks (sorted_tail entry_cmp k ks h) in
+    elim (cases_Bool (test k)) [
+      | inl passed ↦
+          subst (λ v. AreRising b (cond v (k ∷ filter test ks) (filter test ks))) (sym passed)
+          (λ q on. less_place b q k (of_beginning b k passed) (below_listed k test ks (sorted_head entry_cmp k ks h) b q on), rest)
+      | inr failed ↦ subst (λ v. AreRising b (cond v (k ∷ filter test ks) (filter test ks))) (sym failed) rest
+    ]
+
+-- those that a range shows rise
+pub rising_first : (s : BTreeSet (ℕ × ℕ)) (b : ℕ) (lo hi : Bound (ℕ × ℕ)) (r : List (ℕ × ℕ)) → IsStrictlySortedBy entry_cmp s.keys
+    → r ≡ keys_between entry_cmp lo hi s → lo ≡ Included (b, 0) → hi ≡ Included (b, 4294967295) → AreRising b r
+rising_first s b lo hi r sorted is from to =
+    subst (AreRising b) (sym (is ∙ (ap (λ l. keys_between entry_cmp l hi s) from ∙ ap (λ h. keys_between entry_cmp (Included (b, 0)) h s) to)))
+    (rising_filter b s.keys sorted)
+
+pub rising_more : (b : ℕ) (e : ℕ × ℕ) (all rest : List (ℕ × ℕ)) → all ≡ e ∷ rest → AreRising b all → AreRising b rest
+rising_more b e all rest cut h = (subst (AreRising b) cut h).1
 
 -- ---- a search among them
 

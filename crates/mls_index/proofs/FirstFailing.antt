@@ -1,5 +1,5 @@
 -- The first leaf that fails a test, node index by node index.
-use Rattle.std.proofs.Common.{◌≡◌, ◌≢◌, ◌∙◌, ℕ, ◌*◌, ◌<◌, ◌%◌, ◌||◌, List, [], ◌∷◌, Bool, true, false, Option, Some, None, eqb, inl, inr, refl, sym, ap, subst, arith}
+use Rattle.std.proofs.Common.{◌≡◌, ◌∙◌, ℕ, ◌*◌, ◌<◌, ◌%◌, ◌||◌, List, [], ◌∷◌, Bool, true, false, Option, Some, None, eqb, inl, inr, refl, sym, ap, subst, arith}
 use Rattle.std.specs.Prelude.{◌⊎◌, nat_lt}
 use Rattle.std.proofs.lemmas.Bool.{cases_lt, false≢true}
 use Rattle.std.proofs.lemmas.Bool.Decides.{nat_tests}
@@ -24,14 +24,14 @@ smaller-assoc (Some i) (Some j) (Some k) = grind (arith, nat_tests)
 
 -- ---- one node index, and those after it
 
-one_or_rest : (r p : ℕ) (rest : List ℕ) → lists_place (r ∷ rest) p ≡ true → (lists_place (r ∷ []) p ≡ true) ⊎ (lists_place rest p ≡ true)
+pub one_or_rest : (r p : ℕ) (rest : List ℕ) → lists_place (r ∷ rest) p ≡ true → (lists_place (r ∷ []) p ≡ true) ⊎ (lists_place rest p ≡ true)
 one_or_rest r p rest e = go (eqb r p) refl e
   where
     go : (b : Bool) → eqb r p ≡ b → (b || lists_place rest p) ≡ true → (lists_place (r ∷ []) p ≡ true) ⊎ (lists_place rest p ≡ true)
     go true is h = inl (ap (λ (c : Bool). c || false) is)
     go false is h = inr h
 
-listed-one : (r p : ℕ) (rest : List ℕ) → lists_place (r ∷ []) p ≡ true → lists_place (r ∷ rest) p ≡ true
+pub listed-one : (r p : ℕ) (rest : List ℕ) → lists_place (r ∷ []) p ≡ true → lists_place (r ∷ rest) p ≡ true
 listed-one r p rest e = go (eqb r p) refl e
   where
     go : (b : Bool) → eqb r p ≡ b → (b || false) ≡ true → lists_place (r ∷ rest) p ≡ true
@@ -86,21 +86,21 @@ nothing-first test t i x on set = absurd (false≢true on)
 
 -- ---- what stands at one node index
 
-module _ (test : ℕ → LeafNode → Bool) (t : Tree) (p : ℕ) where
-  at_one : (i : ℕ) → lists_place (p ∷ []) (2 * i) ≡ true → p ≡ 2 * i
-  at_one i on = go (eqb p (2 * i)) refl on
-    where
-      go : (b : Bool) → eqb p (2 * i) ≡ b → (b || false) ≡ true → p ≡ 2 * i
-      go true is h = grind (arith, nat_tests)
-      go false is h = absurd (false≢true h)
+pub at_one : (p i : ℕ) → lists_place (p ∷ []) (2 * i) ≡ true → p ≡ 2 * i
+at_one p i on = go (eqb p (2 * i)) refl on
+  where
+    go : (b : Bool) → eqb p (2 * i) ≡ b → (b || false) ≡ true → p ≡ 2 * i
+    go true is h = grind (arith, nat_tests)
+    go false is h = absurd (false≢true h)
 
+module _ (test : ℕ → LeafNode → Bool) (t : Tree) (p : ℕ) where
   -- a parent
   pub parent-first : p % 2 ≡ 1 → FindsFailingAt test (p ∷ []) t None
-  parent-first odd i x on set = let at = at_one i on in absurd (omega (arith, odd, at))
+  parent-first odd i x on set = let at = at_one p i on in absurd (omega (arith, odd, at))
 
   module _ (i : ℕ) (at : p ≡ 2 * i) where
     same_leaf : (j : ℕ) → lists_place (p ∷ []) (2 * j) ≡ true → i ≡ j
-    same_leaf j on = let other = at_one j on in omega (arith, at, other)
+    same_leaf j on = let other = at_one p j on in omega (arith, at, other)
 
     -- a blank leaf
     pub blank-first : leaf_at 0 t i ≡ None → FindsFailingAt test (p ∷ []) t None

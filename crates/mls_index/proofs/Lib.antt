@@ -10,3 +10,5 @@ pub mod Classes
 pub mod Supporting
 pub mod Counting
 pub mod FirstFailing
+pub mod FirstIndexes
+pub mod Repeating

@@ -1,15 +1,17 @@
 -- Keys that are looked for among the entries of their beginning.
-use Rattle.std.proofs.Common.{◌≡◌, ◌≢◌, ◌∙◌, ℕ, ◌+◌, ◌*◌, ◌-◌, ◌≤◌, List, [], true, Some, None, sym, ap, arith}
-use Rattle.std.specs.Prelude.{option_map}
-use Rattle.std.proofs.lemmas.Option.{none-some}
+use Rattle.std.proofs.Common.{◌≡◌, ◌≢◌, ◌∙◌, ◌↔◌, ℕ, ◌+◌, ◌*◌, ◌-◌, ◌≤◌, List, [], ◌∷◌, Bool, true, false, not, Option, Some, None, inl, inr, sym, ap, subst, arith}
+use Rattle.std.specs.Prelude.{IsTrue, is_some, option_map}
+use Rattle.std.proofs.lemmas.Bool.{false≢true}
 use Rattle.mls_tree.specs.Tree.{Tree, leaf_count}
 use Rattle.mls_tree.proofs.Trees.{leaf_count-positive}
 use Rattle.mls_index.specs.NodeKeys.{fingerprint}
 use Rattle.mls_index.specs.NodeKeys.{keyed, begun, HasKey, IsOwnKey}
-use Rattle.mls_index.specs.KeyTable.{has_entry, ContainsKeysOf}
+use Rattle.mls_index.specs.KeyTable.{has_entry, lists_entry, ContainsKeysOf}
+use Rattle.mls_index.specs.RepeatedKeys.{ShareKey, FindsOther}
 use Rattle.mls_index.specs.declared.node_key.KeyKind.{KeyKind}
 use Rattle.mls_index.specs.declared.key_table.KeyTable.{KeyTable}
-use Rattle.mls_index.proofs.Entries.{IsSought, sought-all}
+use Rattle.mls_index.proofs.Entries.{IsSought, AreRising, sought-all, lists-nil, lists-first}
+use Rattle.mls_index.proofs.Fitting.{never, always}
 use Rattle.mls_index.proofs.Tables.{begun-low}
 
 module _ (kind : KeyKind) (t : Tree) (k : KeyTable) (key : List ℕ) (covers : ContainsKeysOf (begun kind t) k) (few : leaf_count t ≤ 1048576) where
@@ -31,12 +33,37 @@ module _ (kind : KeyKind) (t : Tree) (k : KeyTable) (key : List ℕ) (covers : C
       sought-all (λ q. keyed kind t q ≢ Some key) k.entries (fingerprint key) rest none sought q (key_low q is) (key_entry q is) is
 
   -- no entry that was met is another node's with the key
-  pub not_shared : (p : ℕ) (rest : List (ℕ × ℕ)) → rest ≡ [] → Some key ≡ keyed kind t p
-      → IsSought (λ q. q ≢ p → keyed kind t q ≢ Some key) k.entries (fingerprint key) rest → IsOwnKey kind t p
-  not_shared p rest none is sought q other apart here there =
-      let same : keyed kind t q ≡ Some key = there ∙ (sym here ∙ sym is) in
-      sought-all (λ q. q ≢ p → keyed kind t q ≢ Some key) k.entries (fingerprint key) rest none sought q (key_low q same) (key_entry q same) apart same
+  module _ (p : ℕ) (is : Some key ≡ keyed kind t p) where
+    abbrev pub Differs : ℕ → Type 0
+    Differs q = q ≢ p → keyed kind t q ≢ Some key
 
--- a node without a key shares none
-pub no_key_shared : (kind : KeyKind) (t : Tree) (p : ℕ) → None ≡ keyed kind t p → IsOwnKey kind t p
-no_key_shared kind t p none q key other here there = none-some key (none ∙ here)
+    -- an entry of another node with the key was not met
+    shared_left : (rest : List (ℕ × ℕ)) → IsSought Differs k.entries (fingerprint key) rest → (q : ℕ) → ShareKey kind t p q
+        → lists_entry rest (fingerprint key) q ≡ true
+    shared_left rest sought q s =
+        let same : keyed kind t q ≡ Some key = s.there ∙ (sym s.here ∙ sym is) in
+        elim (sought.at q (key_low q same) (key_entry q same)) [
+          | inl met ↦ absurd (met s.other same)
+          | inr left ↦ left
+        ]
+
+    pub not_shared : (rest : List (ℕ × ℕ)) → rest ≡ [] → IsSought Differs k.entries (fingerprint key) rest → FindsOther kind t p None
+    not_shared rest none sought q s = lists-nil rest none (fingerprint key) q (shared_left rest sought q s)
+
+    pub first_shared : (e : ℕ × ℕ) (rest tail : List (ℕ × ℕ)) → rest ≡ e ∷ tail → IsSought Differs k.entries (fingerprint key) rest
+        → AreRising (fingerprint key) rest → e.1 ≢ p → keyed kind t e.1 ≡ Some key → FindsOther kind t p (Some e.1)
+    first_shared e rest tail cut sought rising other has = record {
+      holds = record { key = key; other = other; here = sym is; there = has };
+      smaller = λ q low s. let left = ap (λ es. lists_entry es (fingerprint key) q) (sym cut) ∙ shared_left rest sought q s in
+          elim (lists-first e tail (fingerprint key) q left) [
+            | inl same ↦ absurd (omega (arith, same, low))
+            | inr more ↦ (let above = (subst (AreRising (fingerprint key)) cut rising).0 q more in absurd (omega (arith, above, low)))
+          ];
+    }
+
+-- whether there is another node with the key
+pub own-other : (kind : KeyKind) (t : Tree) (p : ℕ) (o : Option ℕ) (own : Bool) → is_some o ≡ not own → FindsOther kind t p o → IsTrue own ↔ IsOwnKey kind t p
+own-other kind t p None true e none = always (λ q key other here there. none q (record { key = key; other = other; here = here; there = there }))
+own-other kind t p None false e none = absurd (false≢true e)
+own-other kind t p (Some q) true e f = absurd (false≢true (sym e))
+own-other kind t p (Some q) false e f = never (λ own. own q f.holds.key f.holds.other f.holds.here f.holds.there)

@@ -1,5 +1,5 @@
 -- Places of a list that are met one after the other.
-use Rattle.std.proofs.Common.{◌≡◌, ◌≢◌, ◌∙◌, ℕ, List, [], ◌∷◌, true, false, inl, inr, sym, ap, subst}
+use Rattle.std.proofs.Common.{◌≡◌, ◌∙◌, ℕ, List, [], ◌∷◌, true, false, inl, inr, sym, ap, subst}
 use Rattle.std.proofs.lemmas.Bool.{cases_eq, false≢true}
 use Rattle.mls_index.specs.IncrementalCheck.{lists_place}
 use Rattle.mls_index.proofs.Entries.{listed-here, listed-other, listed-more}

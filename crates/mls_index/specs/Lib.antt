@@ -1,3 +1,4 @@
+pub mod FirstIndex
 pub mod NodeKeys
 pub mod KeyTable
 pub mod TreeIndex
@@ -5,3 +6,4 @@ pub mod IncrementalCheck
 pub mod LeafCredentials
 pub mod CredentialCounts
 pub mod FirstChanged
+pub mod RepeatedKeys

@@ -87,7 +87,7 @@ fn failing_at<C: SignatureCheck>(
 }
 
 /// Returns the smaller one of two leaf indices, if there are any.
-fn smaller(one: Option<u32>, other: Option<u32>) -> Option<u32>
+pub(crate) fn smaller(one: Option<u32>, other: Option<u32>) -> Option<u32>
     ensures { result ≡ smaller one other }
 {
     match (one, other) {

@@ -3,6 +3,7 @@
 ghost use Rattle.std.specs.Prelude.{◌≡◌, ◌<◌, ◌≤◌, ◌+◌, ◌↔◌, ◌∷◌, [], ℕ, List, IsTrue, IfOk, OnOk, OnErr, length};
 ghost use Rattle.mls_tree.specs.Tree.{Tree};
 ghost use Rattle.mls_tree.specs.ChangedNodes.{AgreeExceptAt};
+ghost use Rattle.mls_check.specs.LeafValidation.{FindsFailing, supports_used_credentials};
 ghost use Rattle.mls_index.specs.IncrementalCheck.{SupportCredentials};
 ghost use Rattle.mls_index.specs.CredentialCounts.{Count, HaveBase, AreCountsOf, CountBut, HasCapacityFor, IsFilled};
 
@@ -135,5 +136,16 @@ impl CredentialCounts {
         ensures { (t : Tree) → Count t self.now → IsTrue result ↔ SupportCredentials t }
     {
         self.classes.support_each_other()
+    }
+
+    /// Returns the smallest leaf index of a leaf that does not support the credential type of some leaf.
+    pub(crate) fn first_unsupported(&self) -> Option<u32>
+        ensures { (t : Tree) → Count t self.now
+            → FindsFailing (λ _ x. supports_used_credentials t x) t result }
+    {
+        if self.support_credentials() {
+            return None;
+        }
+        self.classes.first_lacking()
     }
 }

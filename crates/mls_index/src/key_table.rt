@@ -2,6 +2,7 @@
 
 ghost use Rattle.std.specs.Prelude.{◌≡◌, ◌<◌, ◌≤◌, ◌+◌, ◌^◌, ◌∷◌, ◌↔◌, [], ℕ, List, Option, Some, IsTrue, IfOk, OnOk, length, true};
 ghost use Rattle.mls_index.specs.NodeKeys.{begun, HasKey, IsOwnKey};
+ghost use Rattle.mls_index.specs.RepeatedKeys.{FindsOther};
 ghost use Rattle.mls_index.specs.KeyTable.{has_entry, settled_at, AreSameBut, HasBase, IsTableOf, ContainsKeysOf, ContainsKeysBut, IsFilled, IsSettling, HasEntered, HasLeft};
 
 use crate::node_key::{KeyKind, begun, fingerprint, has_key_at, is_number, keyed, place_count};
@@ -233,20 +234,29 @@ impl KeyTable {
         false
     }
 
+    /// Returns the smallest node index of another node of a tree that has the key at a node index. The entries of a
+    /// fingerprint are met in the order of their node indices.
+    pub(crate) fn first_other(&self, tree: &PublicTree, kind: KeyKind, place: u32) -> Option<u32>
+        ensures { ContainsKeysOf (begun kind tree.now.tree) self.now
+            → FindsOther kind tree.now.tree place result }
+    {
+        let Some(key) = keyed(tree, kind, place) else {
+            return None;
+        };
+        let number = fingerprint(key);
+        for entry in self.entries.range((number, 0)..=(number, u32::MAX)) {
+            if entry.1 != place && has_key_at(tree, kind, entry.1, key) {
+                return Some(entry.1);
+            }
+        }
+        None
+    }
+
     /// Returns whether no other node of a tree has the key at a node index.
     pub(crate) fn has_own_key(&self, tree: &PublicTree, kind: KeyKind, place: u32) -> bool
         ensures { ContainsKeysOf (begun kind tree.now.tree) self.now
             → IsTrue result ↔ IsOwnKey kind tree.now.tree place }
     {
-        let Some(key) = keyed(tree, kind, place) else {
-            return true;
-        };
-        let number = fingerprint(key);
-        for entry in self.entries.range((number, 0)..=(number, u32::MAX)) {
-            if entry.1 != place && has_key_at(tree, kind, entry.1, key) {
-                return false;
-            }
-        }
-        true
+        self.first_other(tree, kind, place).is_none()
     }
 }

@@ -2,6 +2,7 @@
 
 ghost use Rattle.mls_index.specs.IncrementalCheck.{ChangedNodesDecideKeys, ChangedLeavesDecideValidity};
 ghost use Rattle.mls_index.specs.FirstChanged.{ChangedLeavesFindFailing};
+ghost use Rattle.mls_index.specs.RepeatedKeys.{ChangedLeavesFindRepeated};
 ghost use Rattle.mls_index.specs.TreeIndex.{IndexHasBase, IndexContainsKeys};
 
 /// If the encryption keys of a tree are distinct (RFC 9420, 12.4.2), those of the tree after a change are distinct if
@@ -21,6 +22,13 @@ pub fn changed_members_suffice()
 /// is the first of the leaves that changed.
 pub fn first_failing_leaf_changed()
     ensures { ChangedLeavesFindFailing }
+{}
+
+/// If each leaf of a tree has a signature key of its own, the first leaf after a change whose signature key another leaf
+/// has is the one that [`TreeIndex::first_repeated_key`](crate::TreeIndex::first_repeated_key) returns for the changed
+/// node indices.
+pub fn first_repeated_key_changed()
+    ensures { ChangedLeavesFindRepeated }
 {}
 
 /// The index of a tree has it as its base, and contains its keys.

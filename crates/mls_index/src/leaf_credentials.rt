@@ -2,7 +2,7 @@
 
 ghost use Rattle.std.specs.Prelude.{◌≡◌, ◌+◌, ◌<◌, ◌≤◌, ◌^◌, ◌++◌, ◌∷◌, [], Some, OnOk, OnErr, cond, length, slice_set, slice_index_or, count_by};
 ghost use Rattle.mls_tree.specs.Tree.{leaf_at};
-ghost use Rattle.mls_index.specs.LeafCredentials.{LeafClass, class_of, blank_class, support_each_other};
+ghost use Rattle.mls_index.specs.LeafCredentials.{LeafClass, class_of, blank_class, class_at, support_each_other, lacks_used, FindsLacking};
 
 use mls_nodes::{Credential, LeafNode};
 use mls_tree::PublicTree;
@@ -88,6 +88,7 @@ pub(crate) struct CountedClasses {
     with_x509: usize,
     without_basic: usize,
     without_x509: usize,
+    ghost fits: { length list.items < 2 ^ 32 },
     ghost with_basic_counted: { with_basic ≡ count_by (λ (c : LeafClass). c.has_basic) list.items },
     ghost with_x509_counted: { with_x509 ≡ count_by (λ (c : LeafClass). c.has_x509) list.items },
     ghost without_basic_counted: { without_basic ≡ count_by (λ (c : LeafClass). c.lacks_basic) list.items },
@@ -117,6 +118,7 @@ impl CountedClasses {
 
     /// Adds the class of the next leaf.
     pub(crate) fn push(&mut self, class: LeafClass) -> Result<(), AllocError>
+        requires { length self.old.list.items + 1 < 2 ^ 32 }
         ensures pushed { OnOk result
             (self.new.list.items ≡ self.old.list.items ++ class ∷ []) }
         ensures same { OnErr result (self.new.list.items ≡ self.old.list.items) }
@@ -150,5 +152,26 @@ impl CountedClasses {
     {
         (self.with_basic == 0 || self.without_basic == 0)
             && (self.with_x509 == 0 || self.without_x509 == 0)
+    }
+
+    /// Returns whether the leaf of a class lacks a credential type that some leaf has.
+    fn lacks_used(&self, index: usize) -> bool
+        requires { index < length self.now.list.items }
+        ensures { result ≡ lacks_used self.now.list.items (class_at self.now.list.items index) }
+    {
+        let class = self.list[index];
+        (self.with_basic != 0 && class.lacks_basic) || (self.with_x509 != 0 && class.lacks_x509)
+    }
+
+    /// Returns the smallest index of a class that lacks a credential type that some class has.
+    pub(crate) fn first_lacking(&self) -> Option<u32>
+        ensures { FindsLacking self.now.list.items result }
+    {
+        for index in 0..self.list.len() as u32 {
+            if self.lacks_used(index as usize) {
+                return Some(index);
+            }
+        }
+        None
     }
 }

@@ -3,9 +3,10 @@
 //!
 //! A commit changes few nodes of a large tree. If the tree before it has distinct encryption keys and valid leaf nodes,
 //! the keys of the changed nodes are looked up in a [`TreeIndex`], which also says whether each leaf supports the
-//! credential types of all leaves. The other rules are checked of the changed leaves only
-//! ([`first_changed_failing`]). The theorems in [`laws`] say that the whole tree then has distinct keys and valid
-//! leaf nodes again.
+//! credential types of all leaves. It names the first leaf that does not, or whose signature key another leaf has. The
+//! other rules are checked of the changed leaves only ([`first_changed_failing`]). The theorems in [`laws`] say that the
+//! whole tree then has distinct keys and valid leaf nodes again, and that a leaf that is named is the first of the whole
+//! tree.
 #![tactic(auto)]
 
 mod changed_leaves;

@@ -1,12 +1,15 @@
 //! The index of a tree's keys and of its leaves' credentials.
 
-ghost use Rattle.std.specs.Prelude.{◌≡◌, ◌↔◌, IsTrue, IfOk, OnOk};
+ghost use Rattle.std.specs.Prelude.{◌≡◌, ◌↔◌, ◌∷◌, [], IsTrue, IfOk, OnOk};
 ghost use Rattle.mls_tree.specs.Tree.{Tree};
 ghost use Rattle.mls_tree.specs.ChangedNodes.{AgreeExceptAt};
+ghost use Rattle.mls_check.specs.LeafValidation.{FindsFailing, supports_used_credentials};
 ghost use Rattle.mls_index.specs.NodeKeys.{HasKey, IsOwnKey};
+ghost use Rattle.mls_index.specs.RepeatedKeys.{FindsRepeatedAt};
 ghost use Rattle.mls_index.specs.TreeIndex.{HasBase, IsIndexOf, ContainsKeysOf};
 ghost use Rattle.mls_index.specs.IncrementalCheck.{AreOwnKeys, SupportCredentials};
 
+use crate::changed_leaves::smaller;
 use crate::credential_counts::CredentialCounts;
 use crate::key_table::KeyTable;
 use crate::node_key::KeyKind;
@@ -131,5 +134,40 @@ impl TreeIndex {
         ensures { (t : Tree) → ContainsKeysOf t self.now → IsTrue result ↔ SupportCredentials t }
     {
         self.credentials.support_credentials()
+    }
+
+    /// Returns the smallest leaf index of a leaf that does not support the credential type of some leaf, in the tree of
+    /// which the index was made or that was added last (RFC 9420, 7.3). Does not visit the tree.
+    pub fn first_unsupported_credential(&self) -> Option<u32>
+        ensures { (t : Tree) → ContainsKeysOf t self.now
+            → FindsFailing (λ _ x. supports_used_credentials t x) t result }
+    {
+        self.credentials.first_unsupported()
+    }
+
+    /// Returns the smaller leaf index of the leaf at a node index and of the first other leaf with its signature key, if
+    /// there is one.
+    fn repeated_at(&self, tree: &PublicTree, place: u32) -> Option<u32>
+        ensures { ContainsKeysOf tree.now.tree self.now → FindsRepeatedAt (place ∷ []) tree.now.tree result }
+    {
+        match self.signature.first_other(tree, KeyKind::Signature, place) {
+            Some(other) => Some(place.min(other) / 2),
+            None => None,
+        }
+    }
+
+    /// Returns the smallest leaf index of a leaf whose signature key another leaf has, if one of the two is at one of
+    /// these node indices (RFC 9420, 7.3). The index must contain the tree's keys. A node index may be listed twice.
+    /// One key is looked up for each node index. Does not allocate.
+    pub fn first_repeated_key(&self, tree: &PublicTree, places: &[u32]) -> Option<u32>
+        ensures { ContainsKeysOf tree.now.tree self.now → FindsRepeatedAt places.now tree.now.tree result }
+    {
+        let mut found = None;
+        let mut rest = places;
+        while let Some((place, tail)) = rest.split_first() {
+            found = smaller(found, self.repeated_at(tree, *place));
+            rest = tail;
+        }
+        found
     }
 }

@@ -45,6 +45,17 @@ returns-in-Some-first_unsupported-clause-fault g c =
     let three = requirements_hold G x.cipher_suite x.group_id r t two (rw c.in_default-2.is at c.in_ok-leaf-2.ensures) in
     credentials_fail G x.cipher_suite x.group_id r t c.in-Some-first_unsupported.leaf three c.in-Some-first_unsupported.ensures
 
+pub returns-in-Some-first_repeated-clause-fault : goal.returns-in-Some-first_repeated-clause-fault
+returns-in-Some-first_repeated-clause-fault g c =
+    let G = g.C.SignatureCheck.meaning c.args.rules.now.checker.now in
+    let x = c.args.rules.now.context.now in
+    let r = c.args.rules.now.required.now in
+    let t = c.args.self.now.tree in
+    let two = extensions_hold G x.cipher_suite x.group_id r t (extensions_found G x r t None (rw c.in_default.is at c.in_ok-leaf.ensures)) in
+    let three = requirements_hold G x.cipher_suite x.group_id r t two (rw c.in_default-2.is at c.in_ok-leaf-2.ensures) in
+    let four = credentials_hold G x.cipher_suite x.group_id r t three c.in_default-first_unsupported.ensures in
+    keys_fail G x.cipher_suite x.group_id r t c.in-Some-first_repeated.leaf four c.in-Some-first_repeated.ensures
+
 pub returns-in-Some-3-clause-fault : goal.returns-in-Some-3-clause-fault
 returns-in-Some-3-clause-fault g c =
     let G = g.C.SignatureCheck.meaning c.args.rules.now.checker.now in
@@ -54,19 +65,8 @@ returns-in-Some-3-clause-fault g c =
     let two = extensions_hold G x.cipher_suite x.group_id r t (extensions_found G x r t None (rw c.in_default.is at c.in_ok-leaf.ensures)) in
     let three = requirements_hold G x.cipher_suite x.group_id r t two (rw c.in_default-2.is at c.in_ok-leaf-2.ensures) in
     let four = credentials_hold G x.cipher_suite x.group_id r t three c.in_default-first_unsupported.ensures in
-    keys_fail G x.cipher_suite x.group_id r t c.in-Some-3.leaf four (rw c.in-Some-3.is at c.in_ok-leaf-3.ensures)
-
-pub returns-in-Some-4-clause-fault : goal.returns-in-Some-4-clause-fault
-returns-in-Some-4-clause-fault g c =
-    let G = g.C.SignatureCheck.meaning c.args.rules.now.checker.now in
-    let x = c.args.rules.now.context.now in
-    let r = c.args.rules.now.required.now in
-    let t = c.args.self.now.tree in
-    let two = extensions_hold G x.cipher_suite x.group_id r t (extensions_found G x r t None (rw c.in_default.is at c.in_ok-leaf.ensures)) in
-    let three = requirements_hold G x.cipher_suite x.group_id r t two (rw c.in_default-2.is at c.in_ok-leaf-2.ensures) in
-    let four = credentials_hold G x.cipher_suite x.group_id r t three c.in_default-first_unsupported.ensures in
-    let five = keys_hold G x.cipher_suite x.group_id r t four (rw c.in_default-3.is at c.in_ok-leaf-3.ensures) in
-    signatures_fail G x.cipher_suite x.group_id r t c.in-Some-4.leaf five (signatures_found G x r t (Some c.in-Some-4.leaf) (rw c.in-Some-4.is at c.in_ok-leaf-4.ensures))
+    let five = keys_hold G x.cipher_suite x.group_id r t four c.in_default-first_repeated.ensures in
+    signatures_fail G x.cipher_suite x.group_id r t c.in-Some-3.leaf five (signatures_found G x r t (Some c.in-Some-3.leaf) (rw c.in-Some-3.is at c.in_ok-leaf-3.ensures))
 
 pub returns-clause-members : goal.returns-clause-members
 returns-clause-members g c =
@@ -77,5 +77,5 @@ returns-clause-members g c =
     let two = extensions_hold G x.cipher_suite x.group_id r t (extensions_found G x r t None (rw c.in_default.is at c.in_ok-leaf.ensures)) in
     let three = requirements_hold G x.cipher_suite x.group_id r t two (rw c.in_default-2.is at c.in_ok-leaf-2.ensures) in
     let four = credentials_hold G x.cipher_suite x.group_id r t three c.in_default-first_unsupported.ensures in
-    let five = keys_hold G x.cipher_suite x.group_id r t four (rw c.in_default-3.is at c.in_ok-leaf-3.ensures) in
-    signatures_hold G x.cipher_suite x.group_id r t five (signatures_found G x r t None (rw c.in_default-4.is at c.in_ok-leaf-4.ensures))
+    let five = keys_hold G x.cipher_suite x.group_id r t four c.in_default-first_repeated.ensures in
+    signatures_hold G x.cipher_suite x.group_id r t five (signatures_found G x r t None (rw c.in_default-3.is at c.in_ok-leaf-3.ensures))

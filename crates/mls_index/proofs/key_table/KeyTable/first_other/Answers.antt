@@ -1,0 +1,59 @@
+use Rattle.std.proofs.Common.{◌≡◌, ◌≢◌, ◌∙◌, ℕ, [], Some, sym, ap, subst, rules}
+use Rattle.std.specs.declared.ops.Bound.TheVariants.{Included}
+use Rattle.std.proofs.lemmas.Bool.{false≢true}
+use Rattle.mls_tree.specs.PublicTreeModel.{plain}
+use Rattle.mls_tree.specs.RatchetTree.{RatchetTree}
+use Rattle.mls_tree.proofs.Descent.{leaf_count-limit}
+use Rattle.mls_index.specs.NodeKeys.{keyed}
+use Rattle.mls_index.proofs.Entries.{AreRising, IsSought, sought-first, sought-more, rising_first, rising_more}
+use Rattle.mls_index.proofs.Lookups.{not_shared, first_shared}
+use Rattle.mls_index.proofs.key_table.KeyTable.first_other.Goals as goal
+use Rattle.mls_index.proofs.key_table.KeyTable.first_other.Goals.{else-entry-place-via-then-entry-place+else-has_key_at, else-entry-place-via-else-entry-place}
+
+pub loop-entry-init : goal.loop-entry-init
+loop-entry-init c =
+    let entries = c.args.self.now.entries in
+    let is = c.into_iter-entry-iterator.ensures.into_iter_gives ∙ c.range-entry-items.ensures.between c.new.ensures.exhausted in
+    record {
+      sought = sought-first (λ q. q ≢ c.args.place → keyed c.args.kind c.args.tree.now.tree q ≢ Some c.in-Some.key.now) entries c.fingerprint-number.result _ _
+          c.into_iter-entry-iterator.result is (ap Included c.new.ensures.start) (ap Included c.new.ensures.end);
+      rising = rising_first entries c.fingerprint-number.result _ _ c.into_iter-entry-iterator.result c.range-entry-items.ensures.ordered is
+          (ap Included c.new.ensures.start) (ap Included c.new.ensures.end);
+    }
+
+pub loop-entry-preserved : goal.loop-entry-preserved
+loop-entry-preserved c =
+    let P = λ (q : ℕ). q ≢ c.args.place → keyed c.args.kind c.args.tree.now.tree q ≢ Some c.in-Some.key.now in
+    let e = c.in-Some-entry.entry.now in
+    let met : P e.1 = elim c.else-entry-place.branch [
+      | else-entry-place-via-then-entry-place+else-has_key_at w ↦ λ other is. false≢true (sym w.if-has_key_at.false ∙ w.has_key_at.ensures.1 is)
+      | else-entry-place-via-else-entry-place w ↦ λ other is. other w.if-entry-place.false
+    ] in
+    record {
+      sought = sought-more P c.args.self.now.entries c.fingerprint-number.result e c.loop-entry.entry-iterator c.next.new.self c.in-Some-entry.ensures.steps met
+          c.loop-entry.invariant.sought;
+      rising = rising_more c.fingerprint-number.result e c.loop-entry.entry-iterator c.next.new.self c.in-Some-entry.ensures.steps c.loop-entry.invariant.rising;
+    }
+
+pub returns-then-has_key_at : goal.returns-then-has_key_at
+returns-then-has_key_at c = λ covers.
+    let kind = c.args.kind in
+    let t = c.args.tree.now.tree in
+    let entries = c.args.self.now.entries in
+    let key = c.in-Some.key.now in
+    let kept : RatchetTree = plain c.args.tree.now in
+    let rest = c.loop-entry.entry-iterator in
+    first_shared kind t c.args.self.now key covers (leaf_count-limit kept) c.args.place c.in-Some.ensures c.in-Some-entry.entry.now rest c.next.new.self c.in-Some-entry.ensures.steps
+    (subst (λ b. IsSought (λ q. q ≢ c.args.place → keyed kind t q ≢ Some key) entries b rest) c.fingerprint-number.ensures c.loop-entry.invariant.sought)
+    (subst (λ b. AreRising b rest) c.fingerprint-number.ensures c.loop-entry.invariant.rising) c.if-entry-place.true (c.has_key_at.ensures.0 c.if-has_key_at.true)
+
+pub returns : goal.returns
+returns c = λ covers.
+    let kind = c.args.kind in
+    let t = c.args.tree.now.tree in
+    let entries = c.args.self.now.entries in
+    let key = c.in-Some.key.now in
+    let kept : RatchetTree = plain c.args.tree.now in
+    let none : c.loop-entry.entry-iterator ≡ [] = search rules in
+    not_shared kind t c.args.self.now key covers (leaf_count-limit kept) c.args.place c.in-Some.ensures c.loop-entry.entry-iterator none
+    (subst (λ b. IsSought (λ q. q ≢ c.args.place → keyed kind t q ≢ Some key) entries b c.loop-entry.entry-iterator) c.fingerprint-number.ensures c.loop-entry.invariant.sought)

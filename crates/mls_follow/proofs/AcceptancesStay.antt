@@ -44,13 +44,13 @@ use Rattle.mls_follow.proofs.SignatureAgreement.{text_stays, leaf_stays, members
 
 -- ---- tests and rules in a list
 
-both_stay : (a b c d : Bool) → (a ≡ true → c ≡ true) → (b ≡ true → d ≡ true) → (a && b) ≡ true → (c && d) ≡ true
+pub both_stay : (a b c d : Bool) → (a ≡ true → c ≡ true) → (b ≡ true → d ≡ true) → (a && b) ≡ true → (c && d) ≡ true
 both_stay a b c d f g e = joined c d (f (and-left a b e)) (g (and-right a b e))
   where
     joined : (x y : Bool) → x ≡ true → y ≡ true → (x && y) ≡ true
     joined x y p q = λ i. p i && q i
 
-first_stays : {E : Type 0} {r : E} {b c : Bool} {rs qs : List (Rule E)} → (b ≡ true → c ≡ true) → (AreKept rs → AreKept qs)
+pub first_stays : {E : Type 0} {r : E} {b c : Bool} {rs qs : List (Rule E)} → (b ≡ true → c ≡ true) → (AreKept rs → AreKept qs)
     → AreKept (rule r b ∷ rs) → AreKept (rule r c ∷ qs)
 first_stays {r = r} {c = c} {qs = qs} f rest h =
     let p = passed h in record { none = holding r c qs (f p.0) (rest p.1).none }
@@ -106,7 +106,7 @@ module _ (G K : VerifyFn) (more : Extends G K) where
       (fits_leaf present x) (is_leaf_signed K context.cipher_suite context.group_id i x) (λ h. h)
       (leaf_stays G K more context.cipher_suite context.group_id i x) e
 
-  adds_stay : (context : GroupContext) (p : Proposal) → valid_if_add G context p ≡ true → valid_if_add K context p ≡ true
+  pub adds_stay : (context : GroupContext) (p : Proposal) → valid_if_add G context p ≡ true → valid_if_add K context p ≡ true
   adds_stay context (proposals.Add k) e = add_stays context k e
   adds_stay context (proposals.Update x) e = e
   adds_stay context (proposals.Remove i) e = e
@@ -115,7 +115,7 @@ module _ (G K : VerifyFn) (more : Extends G K) where
   adds_stay context (proposals.ReInit r) e = e
   adds_stay context (proposals.ExternalInit o) e = e
 
-  updates_stay : (context : GroupContext) (t : Tree) (i : ℕ) (p : Proposal) → valid_if_update G context t i p ≡ true → valid_if_update K context t i p ≡ true
+  pub updates_stay : (context : GroupContext) (t : Tree) (i : ℕ) (p : Proposal) → valid_if_update G context t i p ≡ true → valid_if_update K context t i p ≡ true
   updates_stay context t i (proposals.Add k) e = e
   updates_stay context t i (proposals.Update x) e = update_stays context i (leaf_at 0 t i) x e
   updates_stay context t i (proposals.Remove j) e = e

@@ -23,10 +23,10 @@ use Rattle.mls_follow.proofs.Deciding.{an_answer}
 use Rattle.mls_apply.proofs.Spellings.{put_back}
 
 -- a state that a follower may hold, whose group's requirements can be read
-record IsSteady (s : State) : Type 0 where
-  held : IsWellFormed s
-  required : RequiredCapabilities
-  requires : Requires s.context required
+pub record IsSteady (s : State) : Type 0 where
+  pub held : IsWellFormed s
+  pub required : RequiredCapabilities
+  pub requires : Requires s.context required
 
 -- it starts in one
 start_steady : (G : VerifyFn) (info : GroupInfo) (handed : Option RatchetTree) (s : State) → IsStart G info handed s → IsSteady s
@@ -54,7 +54,7 @@ module _ (G : VerifyFn) (s : State) (steady : IsSteady s) (bytes : List ℕ) whe
   taken_steady (Ok taken) new h = accepted_steady (record { taken = taken; state = new }) h.0 h.1
   taken_steady (Err e) new h = subst IsSteady (sym h.0) steady
 
-run_steady : (G : VerifyFn) (s : State) (calls : List Call) (new : State) → IsSteady s → IsRun G s calls new → IsSteady new
+pub run_steady : (G : VerifyFn) (s : State) (calls : List Call) (new : State) → IsSteady s → IsRun G s calls new → IsSteady new
 run_steady G s [] new steady h = subst IsSteady (sym h) steady
 run_steady G s (call ∷ calls) new steady h =
     run_steady G h.0 calls new (taken_steady G s steady call.bytes call.answer h.0 h.1) h.2

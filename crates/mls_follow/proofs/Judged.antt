@@ -51,7 +51,7 @@ pub taken_judged : (G : VerifyFn) (s : State) (bytes : List ℕ) (answer : Resul
     → Takes G s bytes answer new → IsJudged G s → IsJudged G new
 taken_judged G s bytes answer new h j = either_judged G s new j (taken G s bytes answer new h)
 
-valid_judged : (G : VerifyFn) (s : State) → IsValidState G s → IsJudged G s
+pub valid_judged : (G : VerifyFn) (s : State) → IsValidState G s → IsJudged G s
 valid_judged G s v = record {
   distinct = (distinct-by_keys s.tree).1 v.valid.distinct;
   members = of_one G s v.required v.requires v.members;

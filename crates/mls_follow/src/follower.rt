@@ -1,6 +1,7 @@
 //! The follower.
 
-ghost use Rattle.std.specs.Prelude.{◌≡◌, ◌≢◌, ◌↔◌, ℕ, List, None, IfOk, IfErr, OnOk, OnErr, IsErrAnd, option_map};
+ghost use Rattle.std.specs.Prelude.{◌≡◌, ◌≢◌, ◌↔◌, ℕ, ◌<◌, List, length, None, Err, IfOk, IfErr, OnOk, OnErr, IsErrAnd, option_map};
+ghost use Rattle.mls_wire.specs.Limits.{input_limit};
 ghost use Rattle.mls_tree.specs.PublicTreeModel.{plain};
 ghost use Rattle.mls_nodes.specs.Requirements.{extension_of, Requires};
 ghost use Rattle.mls_apply.specs.Staged.{IsSettled};
@@ -9,15 +10,18 @@ ghost use Rattle.mls_follow.specs.State.{HasEncoding, EncodesMessage};
 ghost use Rattle.mls_follow.specs.GroupModel.{group_state};
 ghost use Rattle.mls_follow.specs.FollowerInvariant.{IsJudged, IsJudged-prop};
 ghost use Rattle.mls_follow.specs.Acceptance.{IsAcceptable, IsNext, IsFirstRefusal};
+ghost use Rattle.mls_follow.specs.MessageHeader.{HasNoHeader, IsUnreadMessage};
 ghost use Rattle.mls_follow.specs.Runs.{Takes};
 ghost use Rattle.mls_check.specs.GroupTree.{FailsSuite, IsSupportedContext};
 ghost use Rattle.mls_check.specs.ReceiptSets.{with_receipt};
 ghost use Rattle.mls_check.specs.Signatures.{Extends};
+ghost use Rattle.mls_follow.specs.Resumption.{IsResumed, IsResumeFault};
 ghost use Rattle.mls_follow.specs.Start.{IsStart, IsStartFault};
 
 use crate::framed_content_rules::read_message;
 use crate::group::Group;
 use crate::refusal::Refusal;
+use crate::resume::{ResumeRefused, resumed_group};
 use crate::start::{Judged, StartRefused, check_start, supported_suite};
 use crate::start_fault::StartFault;
 use crate::taken::Taken;
@@ -130,6 +134,39 @@ impl<C: SignatureCheck> Follower<C> {
         }
     }
 
+    /// Resumes a follower from the file of a stored state ([`Follower::encode_state`]). Whoever wrote the file, the
+    /// follower's tree is valid and its pending proposals satisfy their rules, by this checker. That the transcript hash
+    /// and the pending proposals are those of the group's history rests on who stored the file.
+    ///
+    /// # Errors
+    ///
+    /// The first of these conditions that fails, or `OutOfMemory`, with the checker as it was:
+    ///
+    /// 1. The bytes are a file, and its tree can be read.
+    /// 2. The checksum is that of the state after it.
+    /// 3. The version is 1.
+    /// 4. The cipher suite is one from 1 to 7.
+    /// 5. The required capabilities can be read.
+    /// 6. The tree is valid ([`mls_check::validate_tree`]).
+    /// 7. Its leaf nodes are valid ([`mls_check::validate_members`]).
+    /// 8. The interim transcript hash has the length of the suite's hashes.
+    /// 9. Each pending proposal is one that a follower in this state could hold after those before it.
+    pub fn resume(alloc: Global, bytes: &[u8], checker: C) -> Result<Follower<C>, ResumeRefused<C>>
+        ensures resumed { IfOk result (λ f. IsResumed (C.meaning checker) bytes.now (state_of f)) }
+        ensures checker { IfOk result (λ f. C.meaning (checker_of f) ≡ C.meaning checker) }
+        ensures refused { IfErr result (λ r. IsResumeFault (C.meaning checker) bytes.now r.fault) }
+        ensures handed_back { IfErr result (λ r. r.checker ≡ checker) }
+    {
+        match resumed_group(alloc, bytes, &checker) {
+            Ok(group) => Ok(Follower {
+                group,
+                checker,
+                alloc,
+            }),
+            Err(fault) => Err(ResumeRefused { fault, checker }),
+        }
+    }
+
     /// Returns the GroupContext (RFC 9420, 8.1).
     pub fn context(&self) -> &GroupContext
         ensures { result.now ≡ (state_of self.now).context }
@@ -180,11 +217,14 @@ impl<C: SignatureCheck> Follower<C> {
     /// Processes one message (RFC 9420, 6), and accepts it if it satisfies every rule.
     ///
     /// After a commit the tree is checked from its changes. All leaves are visited only if the commit changes what the
-    /// group requires, or to find the first leaf that lacks a credential type or shares its signature key.
+    /// group requires.
     ///
     /// # Errors
     ///
     /// The first rule that fails, or `OutOfMemory`. The state is then unchanged.
+    ///
+    /// These are returned even without memory: `Malformed` for more than 268,435,456 bytes or for bytes without the
+    /// header of a message, and `NotPublic` for a PrivateMessage or a Welcome.
     pub fn take(&mut self, bytes: &[u8]) -> Result<Taken, Refusal>
         ensures accepted { OnOk result (IsAcceptable (C.meaning (checker_of self.old))
             (state_of self.old) bytes.now) }
@@ -193,6 +233,9 @@ impl<C: SignatureCheck> Follower<C> {
         ensures refused { IfErr result (λ e. e ≢ Refusal.OutOfMemory
             → IsFirstRefusal (C.meaning (checker_of self.old)) (state_of self.old)
             bytes.now e) }
+        ensures too_long { input_limit < length bytes.now → result ≡ Err Refusal.Malformed }
+        ensures no_header { HasNoHeader bytes.now → result ≡ Err Refusal.Malformed }
+        ensures unread { IsUnreadMessage bytes.now → result ≡ Err Refusal.NotPublic }
         ensures stays { OnErr result (state_of self.new ≡ state_of self.old) }
         ensures checker { C.meaning (checker_of self.new) ≡ C.meaning (checker_of self.old) }
     {

@@ -1,25 +1,28 @@
 //! The rules for every message of a group (RFC 9420, 6.1).
 
-ghost use Rattle.std.specs.Prelude.{◌≡◌, ◌≢◌, Some, None, IsSome, IsTrue, IfOk, IfErr, OnOk};
+ghost use Rattle.std.specs.Prelude.{◌≡◌, ◌≢◌, ◌⊎◌, ◌<◌, length, Some, None, Err, IsSome, IsTrue, IfOk, IfErr, OnOk};
+ghost use Rattle.mls_wire.specs.Limits.{input_limit};
 ghost use Rattle.mls_tree.specs.Tree.{leaf_at};
 ghost use Rattle.mls_msgs.specs.declared.framed_content.Sender.TheVariants.{Member};
 ghost use Rattle.mls_follow.specs.State.{EncodesMessage};
 ghost use Rattle.mls_follow.specs.GroupModel.{group_state};
 ghost use Rattle.mls_follow.specs.MessageRules.{frame_refusal, handshake_refusal, is_frame_signed, is_handshake};
 ghost use Rattle.mls_follow.specs.Acceptance.{Refuses, EncodesNoMessage};
+ghost use Rattle.mls_follow.specs.MessageHeader.{HasNoHeader, IsUnreadMessage};
 
 use crate::group::Group;
+use crate::message_header::{is_unread, wire_format_of};
 use crate::refusal::Refusal;
 use mls_check::{OutOfMemory, SignatureCheck, signed};
 use mls_msgs::{
     Authenticated, CONTENT_LABEL, Content, Message, Sender, content_tbs, decode_message,
 };
 use mls_nodes::{GroupContext, LeafNode};
-use mls_wire::CodecFault;
+use mls_wire::{CodecFault, MAX_INPUT};
 use std::alloc::Global;
 
-/// Returns the message whose encoding the bytes are. `Malformed` if there is none.
-pub(crate) fn read_message(alloc: Global, bytes: &[u8]) -> Result<Message, Refusal>
+/// Decodes the message whose encoding the bytes are. `Malformed` if there is none.
+fn decode(alloc: Global, bytes: &[u8]) -> Result<Message, Refusal>
     ensures read { IfOk result (λ m. EncodesMessage m bytes.now) }
     ensures refused { IfErr result (λ e. e ≢ Refusal.OutOfMemory → (e ≡ Refusal.Malformed)
         × EncodesNoMessage bytes.now) }
@@ -29,6 +32,35 @@ pub(crate) fn read_message(alloc: Global, bytes: &[u8]) -> Result<Message, Refus
         Err(CodecFault::OutOfMemory) => Err(Refusal::OutOfMemory),
         Err(CodecFault::Wire(_)) => Err(Refusal::Malformed),
     }
+}
+
+/// Returns the message whose encoding the bytes are, unless its body is stored unread (RFC 9420, 6).
+///
+/// # Errors
+///
+/// - `Malformed` if there is none. More than 268,435,456 bytes, and the lack of a header, are refused even without
+///   memory.
+/// - `NotPublic` if it is a PrivateMessage or a Welcome, which needs no memory.
+/// - `OutOfMemory`.
+pub(crate) fn read_message(alloc: Global, bytes: &[u8]) -> Result<Message, Refusal>
+    ensures read { IfOk result (λ m. EncodesMessage m bytes.now) }
+    ensures refused { IfErr result (λ e. e ≢ Refusal.OutOfMemory
+        → ((e ≡ Refusal.Malformed) × EncodesNoMessage bytes.now)
+        ⊎ ((e ≡ Refusal.NotPublic) × IsUnreadMessage bytes.now)) }
+    ensures too_long { input_limit < length bytes.now → result ≡ Err Refusal.Malformed }
+    ensures no_header { HasNoHeader bytes.now → result ≡ Err Refusal.Malformed }
+    ensures unread { IsUnreadMessage bytes.now → result ≡ Err Refusal.NotPublic }
+{
+    if bytes.len() > MAX_INPUT {
+        return Err(Refusal::Malformed);
+    }
+    let Some(wire_format) = wire_format_of(bytes) else {
+        return Err(Refusal::Malformed);
+    };
+    if is_unread(wire_format) {
+        return Err(Refusal::NotPublic);
+    }
+    decode(alloc, bytes)
 }
 
 /// Returns whether the signature of a FramedContent is good, under the key of the sender's leaf and over the group's

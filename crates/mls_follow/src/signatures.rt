@@ -1,9 +1,11 @@
 //! Which signatures of a message a follower would verify (RFC 9420, 5.1.2).
 
-ghost use Rattle.std.specs.Prelude.{◌≡◌, ◌≢◌, IfOk, IfErr};
+ghost use Rattle.std.specs.Prelude.{◌≡◌, ◌≢◌, ◌<◌, [], length, Err, IsOkAnd, IfOk, IfErr};
+ghost use Rattle.mls_wire.specs.Limits.{input_limit};
 ghost use Rattle.mls_follow.specs.Acceptance.{EncodesNoMessage};
 ghost use Rattle.mls_follow.specs.GroupModel.{group_state};
 ghost use Rattle.mls_follow.specs.FollowerModel.{state_of, checker_of};
+ghost use Rattle.mls_follow.specs.MessageHeader.{HasNoHeader, IsUnreadMessage};
 ghost use Rattle.mls_follow.specs.MessageSignatures.{AreSignaturesOf, message_signatures};
 
 use crate::follower::Follower;
@@ -55,15 +57,22 @@ impl<C: SignatureCheck> Follower<C> {
     /// # Errors
     ///
     /// [`SignatureListFault::Malformed`] if the bytes encode no message; [`SignatureListFault::OutOfMemory`].
+    ///
+    /// More than 268,435,456 bytes, and bytes without the header of a message, are `Malformed` even without memory. A
+    /// PrivateMessage and a Welcome have no signatures: an empty list is returned, even without memory.
     pub fn wanted(&mut self, bytes: &[u8]) -> Result<Vec<SignatureToVerify>, SignatureListFault>
         ensures wanted { IfOk result (λ v. AreSignaturesOf (state_of self.old) bytes.now v.items) }
         ensures malformed { IfErr result (λ e. e ≢ SignatureListFault.OutOfMemory
             → (e ≡ SignatureListFault.Malformed) × EncodesNoMessage bytes.now) }
+        ensures too_long { input_limit < length bytes.now → result ≡ Err SignatureListFault.Malformed }
+        ensures no_header { HasNoHeader bytes.now → result ≡ Err SignatureListFault.Malformed }
+        ensures unread { IsUnreadMessage bytes.now → IsOkAnd result (λ v. v.items ≡ []) }
         ensures state { state_of self.new ≡ state_of self.old }
         ensures checker { checker_of self.new ≡ checker_of self.old }
     {
         let message = match read_message(self.alloc, bytes) {
             Ok(message) => message,
+            Err(Refusal::NotPublic) => return Ok(Vec::new(self.alloc)),
             Err(Refusal::OutOfMemory) => return Err(SignatureListFault::OutOfMemory),
             Err(_) => return Err(SignatureListFault::Malformed),
         };

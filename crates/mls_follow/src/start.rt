@@ -10,16 +10,17 @@ ghost use Rattle.mls_apply.specs.Staged.{IsSettled};
 ghost use Rattle.mls_follow.specs.CommitTree.{state_in};
 ghost use Rattle.mls_follow.specs.Start.{UsesTree, UsesNoTree, IsStart, IsStartFault, StartsWith, FailsWith, IsSignedIn, FailsSigned, info_interim, is_info_signed};
 
+use crate::group_tree::{UnsupportedContext, group_requirements, suite_of};
 use crate::start_fault::StartFault;
 use crate::transcript::interim_hash;
 use mls_apply::StagedTree;
-use mls_check::{OutOfMemory, SignatureCheck, signed, validate_group_tree};
-use mls_hash::{HashFault, Suite, fill_hashes};
+use mls_check::{OutOfMemory, SignatureCheck, signed};
+use mls_hash::Suite;
 use mls_msgs::{GROUP_INFO_LABEL, GroupInfo, info_tbs};
 use mls_nodes::{LeafNode, NodeFault, RequiredCapabilities, find_extension};
 use mls_tree::{HashValue, PublicTree};
 use mls_wire::CodecFault;
-use std::alloc::{AllocError, Global};
+use std::alloc::Global;
 
 /// The extension type of a ratchet_tree (RFC 9420, 12.4.3.3).
 const RATCHET_TREE: u16 = 2;
@@ -44,18 +45,6 @@ pub(crate) struct Judged {
     pub(crate) interim: HashValue,
 }
 
-/// Fills the hash cache of a tree, so that each subtree is hashed once.
-fn fill(alloc: Global, suite: Suite, tree: &mut PublicTree) -> Result<(), AllocError>
-    ensures tree { tree.new.tree ≡ tree.old.tree }
-    ensures plain { plain tree.new ≡ plain tree.old }
-{
-    match fill_hashes(alloc, suite, tree) {
-        Ok(_) => Ok(()),
-        Err(HashFault::OutOfMemory) => Err(AllocError),
-        Err(_) => unreachable!(),
-    }
-}
-
 /// Returns the cipher suite of a GroupInfo whose version and suite are supported.
 pub(crate) fn supported_suite(info: &GroupInfo) -> Result<Suite, StartFault>
     ensures followed { OnOk result (IsSupportedContext info.now.context) }
@@ -67,12 +56,10 @@ pub(crate) fn supported_suite(info: &GroupInfo) -> Result<Suite, StartFault>
         ↔ (info.now.context.version ≢ 1) }
     ensures unsupported_suite { (result ≡ Err StartFault.UnsupportedSuite) ↔ FailsSuite info.now.context }
 {
-    if info.context.version != 1 {
-        return Err(StartFault::UnsupportedVersion);
-    }
-    match Suite::from_u16(info.context.cipher_suite) {
+    match suite_of(&info.context) {
         Ok(suite) => Ok(suite),
-        Err(_) => Err(StartFault::UnsupportedSuite),
+        Err(UnsupportedContext::Version) => Err(StartFault::UnsupportedVersion),
+        Err(UnsupportedContext::Suite) => Err(StartFault::UnsupportedSuite),
     }
 }
 
@@ -160,8 +147,7 @@ fn validated_requirements<C: SignatureCheck>(
         (λ t. t ≡ plain tree.new) (plain tree.new)) }
     ensures refused { IfErr result (FailsWith (C.meaning checker.now) info.now (plain tree.new)) }
 {
-    fill(alloc, suite, tree)?;
-    match validate_group_tree(alloc, suite, &info.context, tree, checker) {
+    match group_requirements(alloc, suite, &info.context, tree, checker) {
         Ok(required) => Ok(required),
         Err(fault) => Err(StartFault::from(fault)),
     }

@@ -1,10 +1,13 @@
-use Rattle.std.proofs.Common.{refl}
-use Rattle.mls_follow.proofs.MembersProfile.{encodes, encodes_none}
+use Rattle.std.proofs.Common.{refl, sym, inl}
+use Rattle.mls_follow.proofs.Headers.{no_message, other_is_read}
 use Rattle.mls_follow.proofs.framed_content_rules.read_message.Goals as goal
 
-pub returns-in-Ok-clause-read : goal.returns-in-Ok-clause-read
-returns-in-Ok-clause-read c = encodes c.in-Ok.message c.args.bytes.now c.in-Ok.ensures.decoded
+pub returns-in_default-clause-refused : goal.returns-in_default-clause-refused
+returns-in_default-clause-refused c = λ own. inl (refl, no_message c.args.bytes.now c.in_default.ensures.none)
 
-pub returns-in-Err-Wire-clause-refused : goal.returns-in-Err-Wire-clause-refused
-returns-in-Err-Wire-clause-refused c =
-    λ own. (refl, encodes_none c.args.bytes.now c.in-Err-Wire.field-0-0 (rw c.in-Err-Wire.field-0-is at c.in-Err-Wire.ensures.decoded))
+-- the wire format that was read is in a header, and is not that of an unread message
+pub returns-clause-no_header : goal.returns-clause-no_header
+returns-clause-no_header c = λ none. absurd (none c.in-Some.wire_format c.in-Some.ensures.known c.in-Some.ensures.header)
+
+pub returns-clause-unread : goal.returns-clause-unread
+returns-clause-unread c = λ u. absurd (other_is_read c.in-Some.wire_format c.args.bytes.now c.in-Some.ensures.header (sym c.if-is_unread.ensures) u)

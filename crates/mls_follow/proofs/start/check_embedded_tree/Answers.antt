@@ -1,5 +1,4 @@
 use Rattle.std.proofs.Common.{None, sym, subst}
-use Rattle.mls_tree.specs.PublicTreeModel.{plain}
 use Rattle.mls_tree.specs.Tree.{Tree}
 use Rattle.mls_follow.specs.CommitTree.{state_in}
 use Rattle.mls_follow.specs.Start.{IsStart}

@@ -1,0 +1,119 @@
+-- Theorems on stored states and on runs from a resumption.
+use Rattle.std.proofs.Common.{◌≡◌, ℕ, List, [], ◌∷◌, Some, IsSome, refl, sym, subst}
+use Rattle.std.specs.Prelude.{All, map}
+use Rattle.std.proofs.lemmas.List.Elements.{All-nil, All-cons, All-head, All-tail}
+use Rattle.mls_wire.specs.Encoding.{◌⊕◌, vector, list}
+use Rattle.mls_nodes.specs.Layout.{group_context}
+use Rattle.mls_tree.specs.RatchetTree.{RatchetTree}
+use Rattle.mls_tree.specs.TreeHash.{tree_hash}
+use Rattle.mls_hash.specs.SuiteHash.{hash_of}
+use Rattle.mls_check.specs.GroupTree.{HasMembers}
+use Rattle.mls_check.specs.Signatures.{VerifyFn}
+use Rattle.mls_msgs.specs.Layout.{proposal, sender}
+use Rattle.mls_state.specs.Layout.{known_entry, state_profile, group_phase, follower_state}
+use Rattle.mls_state.specs.declared.known_entry.KnownEntry.{KnownEntry}
+use Rattle.mls_state.specs.declared.state.FollowerState.{FollowerState}
+use Rattle.mls_apply.specs.declared.list_item.KnownProposal.{KnownProposal}
+use Rattle.mls_apply.proofs.Spellings.{put_back, right_spelled}
+use Rattle.mls_follow.specs.State.{State}
+use Rattle.mls_follow.specs.StoredState.{IsIntact, Stores, stored_entry}
+use Rattle.mls_follow.specs.Resumption.{Holds, IsStateOf, base_state}
+use Rattle.mls_follow.specs.StoredRuns.{IsResumable, ResumableStatesResume, FollowersResume, ResumptionsAreValid, ResumedRunsAreValid, ResumedRunsAreAnswered}
+use Rattle.mls_follow.proofs.Deciding.{an_answer}
+use Rattle.mls_follow.proofs.Holding.{IsSteady, run_steady}
+use Rattle.mls_follow.proofs.Pending.{held_entries}
+use Rattle.mls_follow.proofs.Resumable.{followers_resumable, resumed_resumable}
+use Rattle.mls_follow.proofs.Spellings.{list_each}
+use Rattle.mls_follow.proofs.Validity.{run_valid}
+
+-- ---- a stored state is resumed
+
+module _ (G : VerifyFn) (s : State) (c : FollowerState) (t : RatchetTree) (h : IsResumable G s) (stores : Stores c t s) where
+  -- the state without its pending proposals
+  base_same : record s { known = [] } ≡ base_state c t
+  base_same = λ i. record { context = sym stores.context i; tree = sym stores.tree i; interim = sym stores.interim i; known = [] }
+
+  members : HasMembers G c.context (λ u. u ≡ t) t h.valid.required
+  members =
+      rw (stores.context) (record {
+        valid_tree = record {
+          readable = record { has_tree = record { followed = h.followed; uses = refl }; requires = h.valid.requires };
+          valid = rw (stores.tree) h.valid.valid;
+        };
+        members = rw (stores.tree) h.valid.members;
+      })
+
+  pub stored_state : IsStateOf G c t s
+  stored_state = record {
+    has_interim = record {
+      required = h.valid.required;
+      has_members = members;
+      hashed = rw (stores.interim, stores.context) h.hashed;
+    };
+    held =
+        subst (λ (b : State). Holds G b c.known s) base_same
+        (subst (λ (es : List KnownEntry). Holds G (record s { known = [] }) es s) (sym stores.known) h.held);
+  }
+
+pub resumable_resumes : ResumableStatesResume
+resumable_resumes G s bytes h e = record {
+  content = e.content;
+  tree = e.tree;
+  intact = e.intact;
+  state = stored_state G s e.content e.tree h e.stores;
+}
+
+pub followers_resume : FollowersResume
+followers_resume G first last calls bytes h run e = resumable_resumes G last bytes (followers_resumable G first last calls h run) e
+
+-- ---- validity
+
+pub resumption_valid : ResumptionsAreValid
+resumption_valid G bytes s h = (resumed_resumable G bytes s h).valid
+
+pub resumed_run_valid : ResumedRunsAreValid
+resumed_run_valid G bytes first last calls h run = run_valid G first calls last (resumption_valid G bytes first h) run
+
+-- ---- answers
+
+-- each entry of a content that has an encoding has one
+entries_spelled : (c : FollowerState) (body : List ℕ) → follower_state c ≡ Some body → All (λ e. IsSome (known_entry e)) c.known
+unfolding follower_state
+entries_spelled c body e =
+    let whole = put_back (follower_state c) body e in
+    let a = right_spelled (state_profile c.profile) (group_phase c.phase ⊕ group_context c.context ⊕ vector c.interim ⊕ vector c.tree ⊕ list known_entry c.known) whole in
+    let b = right_spelled (group_phase c.phase) (group_context c.context ⊕ vector c.interim ⊕ vector c.tree ⊕ list known_entry c.known) a in
+    let d = right_spelled (group_context c.context) (vector c.interim ⊕ vector c.tree ⊕ list known_entry c.known) b in
+    let f = right_spelled (vector c.interim) (vector c.tree ⊕ list known_entry c.known) d in
+    list_each known_entry c.known (right_spelled (vector c.tree) (list known_entry c.known) f)
+
+entry_proposal : (e : KnownEntry) → IsSome (known_entry e) → IsSome (proposal e.proposal)
+unfolding known_entry
+entry_proposal e h = right_spelled (sender e.sender) (proposal e.proposal) (right_spelled (vector e.reference) (sender e.sender ⊕ proposal e.proposal) h)
+
+known_spelled : (ks : List KnownProposal) → All (λ e. IsSome (known_entry e)) (map stored_entry ks) → All (λ k. IsSome (proposal k.proposal)) ks
+known_spelled [] h = All-nil (λ k. IsSome (proposal k.proposal))
+known_spelled (k ∷ ks) h =
+    All-cons (λ k. IsSome (proposal k.proposal)) k ks
+    (entry_proposal (stored_entry k) (All-head (λ e. IsSome (known_entry e)) (stored_entry k) (map stored_entry ks) h))
+    (known_spelled ks (All-tail (λ e. IsSome (known_entry e)) (stored_entry k) (map stored_entry ks) h))
+
+content_steady : (G : VerifyFn) (bytes : List ℕ) (c : FollowerState) (t : RatchetTree) (s : State) → IsIntact bytes c t → IsStateOf G c t s → IsSteady s
+content_steady G bytes c t s i h =
+    let w = held_entries G (base_state c t) c.known s h.held in
+    let member = h.has_interim.has_members in
+    let spelled = entries_spelled c i.file.checked.body (subst (λ (d : FollowerState). follower_state d ≡ Some i.file.checked.body) i.file.state i.file.checked.encoded) in
+    subst IsSteady (sym w.2) (record {
+      held = record {
+        shape = t.shape;
+        tree = put_back (tree_hash (hash_of c.context.cipher_suite) 0 t.tree) c.context.tree_hash member.valid_tree.valid.hashed;
+        known = known_spelled w.0 (subst (λ (es : List KnownEntry). All (λ e. IsSome (known_entry e)) es) w.1 spelled);
+      };
+      required = h.has_interim.required;
+      requires = member.valid_tree.readable.requires;
+    })
+
+pub resumed_answered : ResumedRunsAreAnswered
+resumed_answered G bytes more first last calls h run =
+    let steady = run_steady G first calls last (content_steady G bytes h.content h.tree first h.intact h.state) run in
+    an_answer G last steady.required more steady.held steady.requires

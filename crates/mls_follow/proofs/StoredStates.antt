@@ -1,0 +1,113 @@
+-- A state has one file, and bytes are the file of one state.
+use Rattle.std.proofs.Common.{◌≡◌, ◌∙◌, ℕ, ◌≤◌, List, [], ◌∷◌, length, map, refl, sym, ap, subst}
+use Rattle.mls_wire.specs.Limits.{input_limit}
+use Rattle.mls_tree.specs.RatchetTree.{RatchetTree, RatchetTree-same}
+use Rattle.mls_msgs.specs.declared.framed_content.Sender.{Sender}
+use Rattle.mls_msgs.specs.declared.framed_content.Sender.TheVariants.{Member}
+use Rattle.mls_state.proofs.Files.{state_is_unique, file_is_unique}
+use Rattle.mls_state.specs.StateFile.{IsFileOf}
+use Rattle.mls_state.specs.declared.known_entry.KnownEntry.{KnownEntry}
+use Rattle.mls_state.specs.declared.state.FollowerState.{FollowerState}
+use Rattle.mls_apply.specs.declared.list_item.KnownProposal.{KnownProposal}
+use Rattle.mls_follow.specs.State.{State}
+use Rattle.mls_follow.specs.StoredState.{IsTreeBody, IsIntact, Stores, EncodesState, HasNoFile, stored_entry}
+use Rattle.mls_follow.specs.StoredRuns.{StoredFileIsUnique, StoredStateIsUnique}
+use Rattle.mls_follow.proofs.StoredTrees.{one_tree, one_body}
+
+-- ---- entries
+
+same_member : (i j : ℕ) → ◌≡◌ {A = Sender} (Member i) (Member j) → i ≡ j
+same_member i j e = cc
+
+pub one_entry : (k l : KnownProposal) → stored_entry k ≡ stored_entry l → k ≡ l
+one_entry k l e =
+    let reference : k.reference ≡ l.reference = ap (λ (x : KnownEntry). x.reference) e in
+    let sender : k.sender ≡ l.sender = same_member k.sender l.sender (ap (λ (x : KnownEntry). x.sender) e) in
+    let proposal : k.proposal ≡ l.proposal = ap (λ (x : KnownEntry). x.proposal) e in
+    λ i. record { reference = reference i; sender = sender i; proposal = proposal i }
+
+same_head : (x y : KnownEntry) (xs ys : List KnownEntry) → ◌≡◌ {A = List KnownEntry} (x ∷ xs) (y ∷ ys) → x ≡ y
+same_head x y xs ys e = cc
+
+same_tail : (x y : KnownEntry) (xs ys : List KnownEntry) → ◌≡◌ {A = List KnownEntry} (x ∷ xs) (y ∷ ys) → xs ≡ ys
+same_tail x y xs ys e = cc
+
+one_list : (ks ls : List KnownProposal) → map stored_entry ks ≡ map stored_entry ls → ks ≡ ls
+one_list [] [] e = refl
+one_list [] (l ∷ ls) e = absurd (cc)
+one_list (k ∷ ks) [] e = absurd (cc)
+one_list (k ∷ ks) (l ∷ ls) e =
+    let first : k ≡ l = one_entry k l (same_head (stored_entry k) (stored_entry l) (map stored_entry ks) (map stored_entry ls) e) in
+    let rest : ks ≡ ls = one_list ks ls (same_tail (stored_entry k) (stored_entry l) (map stored_entry ks) (map stored_entry ls) e) in
+    λ i. first i ∷ rest i
+
+-- ---- contents
+
+-- a state is stored by one content
+pub one_content : (c d : FollowerState) (t u : RatchetTree) (s : State) → IsTreeBody c.tree t → IsTreeBody d.tree u → Stores c t s → Stores d u s → c ≡ d
+one_content c d t u s a b p q =
+    let trees : t ≡ u = RatchetTree-same t u (p.tree ∙ sym q.tree) in
+    let body : c.tree ≡ d.tree = one_body c.tree d.tree u (subst (IsTreeBody c.tree) trees a) b in
+    let profile = p.profile ∙ sym q.profile in
+    let phase = p.phase ∙ sym q.phase in
+    let context = p.context ∙ sym q.context in
+    let interim = p.interim ∙ sym q.interim in
+    let known = p.known ∙ sym q.known in
+    λ i. record {
+      profile = profile i;
+      phase = phase i;
+      context = context i;
+      interim = interim i;
+      tree = body i;
+      known = known i;
+    }
+
+-- a content stores one state
+pub one_state : (c : FollowerState) (t : RatchetTree) (r s : State) → Stores c t r → Stores c t s → r ≡ s
+one_state c t r s p q =
+    let context = sym p.context ∙ q.context in
+    let tree = sym p.tree ∙ q.tree in
+    let interim = sym p.interim ∙ q.interim in
+    let known = one_list r.known s.known (sym p.known ∙ q.known) in
+    λ i. record { context = context i; tree = tree i; interim = interim i; known = known i }
+
+-- ---- files
+
+pub one_file : StoredFileIsUnique
+one_file s a b p q =
+    let same = one_content p.content q.content p.tree q.tree s p.intact.tree q.intact.tree p.stores q.stores in
+    file_is_unique a b q.content (subst (IsFileOf a) same p.intact.file) q.intact.file
+
+pub same_content : (bytes : List ℕ) (c d : FollowerState) (t u : RatchetTree) → IsIntact bytes c t → IsIntact bytes d u → c ≡ d
+same_content bytes c d t u a b = state_is_unique bytes c d a.file b.file
+
+pub same_tree : (bytes : List ℕ) (c d : FollowerState) (t u : RatchetTree) → IsIntact bytes c t → IsIntact bytes d u → t ≡ u
+same_tree bytes c d t u a b =
+    one_tree d.tree t u (subst (λ (e : FollowerState). IsTreeBody e.tree t) (same_content bytes c d t u a b) a.tree) b.tree
+
+pub file_of_one : StoredStateIsUnique
+file_of_one bytes s r p q =
+    let same = same_content bytes p.content q.content p.tree q.tree p.intact q.intact in
+    let trees = same_tree bytes p.content q.content p.tree q.tree p.intact q.intact in
+    one_state q.content q.tree s r (subst (λ (t : RatchetTree). Stores q.content t s) trees (subst (λ (c : FollowerState). Stores c p.tree s) same p.stores)) q.stores
+
+-- ---- what is written
+
+module _ (s : State) (c : FollowerState) (t : RatchetTree) (body : IsTreeBody c.tree t) (stores : Stores c t s) where
+  pub made_file : (bytes : List ℕ) → IsFileOf bytes c → length bytes ≤ input_limit → EncodesState s bytes
+  made_file bytes file le = record { content = c; tree = t; intact = record { file = file; bounded = le; tree = body }; stores = stores }
+
+  own_file : (bytes : List ℕ) → EncodesState s bytes → IsFileOf bytes c
+  own_file bytes h = subst (IsFileOf bytes) (one_content h.content c h.tree t s h.intact.tree body h.stores stores) h.intact.file
+
+  pub no_file : ((bytes : List ℕ) → IsFileOf bytes c → ⊥) → HasNoFile s
+  no_file none bytes h = none bytes (own_file bytes h)
+
+  pub long_file : (bytes : List ℕ) → IsFileOf bytes c → (length bytes ≤ input_limit → ⊥) → HasNoFile s
+  long_file bytes file long other h =
+      long (subst (λ (b : List ℕ). length b ≤ input_limit) (file_is_unique other bytes c (own_file other h) file) h.intact.bounded)
+  -- without a body there is no content
+
+pub no_tree_no_file : (s : State) (t : RatchetTree) → t.tree ≡ s.tree → ((body : List ℕ) → IsTreeBody body t → ⊥) → HasNoFile s
+no_tree_no_file s t e none bytes h =
+    none h.content.tree (subst (IsTreeBody h.content.tree) (RatchetTree-same h.tree t (h.stores.tree ∙ sym e)) h.intact.tree)

@@ -1,0 +1,5 @@
+use Rattle.mls_follow.proofs.StoredStates.{one_file, file_of_one}
+use Rattle.mls_follow.proofs.laws.stored_states_have_one_file.Goals as goal
+
+pub returns : goal.returns
+returns c = record { file = one_file; state = file_of_one }

@@ -1,0 +1,118 @@
+-- Theorems on stored states: the file of a state, and runs from a state in which a follower resumes. Used by contracts.
+use Rattle.std.specs.Prelude.{◌≡◌, ◌≢◌, ◌⊎◌, ℕ, List, [], length, map, Bool, true, false, Option}
+use Rattle.mls_tree.specs.RatchetTree.{RatchetTree}
+use Rattle.mls_hash.specs.SuiteHash.{hash_length}
+use Rattle.mls_check.specs.GroupTree.{IsSupportedContext}
+use Rattle.mls_check.specs.Signatures.{VerifyFn, Extends}
+use Rattle.mls_msgs.specs.declared.group_info.GroupInfo.{GroupInfo}
+use Rattle.mls_follow.specs.State.{State}
+use Rattle.mls_follow.specs.Start.{IsStart}
+use Rattle.mls_follow.specs.Runs.{Call, IsRun, IsAnswered}
+use Rattle.mls_follow.specs.Validity.{IsValidState}
+use Rattle.mls_follow.specs.StoredState.{EncodesState, stored_entry}
+use Rattle.mls_follow.specs.Resumption.{Holds, IsResumed, IsResumeFault}
+use Rattle.mls_follow.specs.declared.resume_fault.ResumeFault.{ResumeFault}
+use Rattle.mls_follow.specs.declared.resume_fault.ResumeFault.TheVariants.{Unreadable, ChecksumDiffers, UnsupportedVersion, UnsupportedSuite, RequirementsUnreadable, Tree, Member, InterimLength, KnownInvalid, OutOfMemory}
+
+-- `IsResumable G s`: the state satisfies the conditions of a resumption: the context is supported, the tree and its leaf
+-- nodes are valid, the interim transcript hash has the length of the suite's hashes, and each pending proposal can be
+-- pending after those before it.
+pub record IsResumable (G : VerifyFn) (s : State) : Type 0 where
+  pub followed : IsSupportedContext s.context
+  pub valid : IsValidState G s
+  pub hashed : length s.interim ≡ hash_length s.context.cipher_suite
+  pub held : Holds G (record s { known = [] }) (map stored_entry s.known) s
+
+-- `IsFirst G s`: a follower starts from a GroupInfo in the state, or resumes from a file in it.
+abbrev pub IsFirst : VerifyFn → State → Type 0
+IsFirst G s =
+    ((info : GroupInfo) × (handed : Option RatchetTree) × IsStart G info handed s)
+    ⊎ ((bytes : List ℕ) × IsResumed G bytes s)
+
+-- ---- resumptions are determined
+
+-- From bytes a follower resumes in at most one state.
+abbrev pub ResumptionIsUnique : Type 0
+ResumptionIsUnique = (G : VerifyFn) (bytes : List ℕ) (s t : State) → IsResumed G bytes s → IsResumed G bytes t → s ≡ t
+
+-- Where a follower resumes there is no fault.
+abbrev pub ResumptionHasNoFault : Type 0
+ResumptionHasNoFault =
+    (G : VerifyFn) (bytes : List ℕ) (s : State) (fault : ResumeFault) → IsResumed G bytes s
+    → fault ≢ OutOfMemory → IsResumeFault G bytes fault → ⊥
+
+-- `is_unreadable fault`: it is `Unreadable`, with any cause.
+abbrev pub is_unreadable : ResumeFault → Bool
+is_unreadable (Unreadable cause) = true
+is_unreadable ChecksumDiffers = false
+is_unreadable UnsupportedVersion = false
+is_unreadable UnsupportedSuite = false
+is_unreadable RequirementsUnreadable = false
+is_unreadable (Tree fault) = false
+is_unreadable (Member fault) = false
+is_unreadable InterimLength = false
+is_unreadable (KnownInvalid n) = false
+is_unreadable OutOfMemory = false
+
+-- There is at most one fault, but for the cause that `Unreadable` names.
+abbrev pub ResumeFaultIsUnique : Type 0
+ResumeFaultIsUnique =
+    (G : VerifyFn) (bytes : List ℕ) (fault other : ResumeFault) → fault ≢ OutOfMemory → other ≢ OutOfMemory
+    → IsResumeFault G bytes fault → IsResumeFault G bytes other
+    → (fault ≡ other) ⊎ ((is_unreadable fault ≡ true) × (is_unreadable other ≡ true))
+
+-- From any bytes a follower resumes, or there is a fault.
+abbrev pub ResumptionOrFault : Type 0
+ResumptionOrFault =
+    (G : VerifyFn) (bytes : List ℕ)
+    → ((s : State) × IsResumed G bytes s)
+    ⊎ ((fault : ResumeFault) × (fault ≢ OutOfMemory) × IsResumeFault G bytes fault)
+
+-- ---- stored states
+
+-- A state has at most one file.
+abbrev pub StoredFileIsUnique : Type 0
+StoredFileIsUnique = (s : State) (a b : List ℕ) → EncodesState s a → EncodesState s b → a ≡ b
+
+-- Bytes are the file of at most one state.
+abbrev pub StoredStateIsUnique : Type 0
+StoredStateIsUnique = (bytes : List ℕ) (s t : State) → EncodesState s bytes → EncodesState t bytes → s ≡ t
+
+-- From the file of a state that satisfies the conditions a follower resumes in this state.
+abbrev pub ResumableStatesResume : Type 0
+ResumableStatesResume =
+    (G : VerifyFn) (s : State) (bytes : List ℕ) → IsResumable G s → EncodesState s bytes → IsResumed G bytes s
+
+-- After any run from a start or a resumption the state satisfies the conditions.
+abbrev pub FollowersAreResumable : Type 0
+FollowersAreResumable =
+    (G : VerifyFn) (first last : State) (calls : List Call) → IsFirst G first → IsRun G first calls last
+    → IsResumable G last
+
+-- So from the file of a follower's state a follower resumes in this state.
+abbrev pub FollowersResume : Type 0
+FollowersResume =
+    (G : VerifyFn) (first last : State) (calls : List Call) (bytes : List ℕ) → IsFirst G first
+    → IsRun G first calls last → EncodesState last bytes → IsResumed G bytes last
+
+-- If a checker comes to accept more signatures, the state satisfies the conditions by it too.
+abbrev pub ResumableStays : Type 0
+ResumableStays = (G K : VerifyFn) (s : State) → Extends G K → IsResumable G s → IsResumable K s
+
+-- ---- runs from a resumption
+
+-- A follower resumes in a valid state.
+abbrev pub ResumptionsAreValid : Type 0
+ResumptionsAreValid = (G : VerifyFn) (bytes : List ℕ) (s : State) → IsResumed G bytes s → IsValidState G s
+
+-- After any run from a resumption the state is valid.
+abbrev pub ResumedRunsAreValid : Type 0
+ResumedRunsAreValid =
+    (G : VerifyFn) (bytes : List ℕ) (first last : State) (calls : List Call) → IsResumed G bytes first
+    → IsRun G first calls last → IsValidState G last
+
+-- After any run from a resumption there is a result for any bytes, other than out of memory.
+abbrev pub ResumedRunsAreAnswered : Type 0
+ResumedRunsAreAnswered =
+    (G : VerifyFn) (bytes more : List ℕ) (first last : State) (calls : List Call) → IsResumed G bytes first
+    → IsRun G first calls last → IsAnswered G last more

@@ -1,0 +1,50 @@
+-- The file of a follower's state (layout of `mls_state/specs/Layout`). Used by contracts.
+use Rattle.std.specs.Prelude.{◌≡◌, ◌≤◌, ℕ, List, length, map, Some}
+use Rattle.mls_wire.specs.Encoding.{vector}
+use Rattle.mls_wire.specs.Limits.{input_limit}
+use Rattle.mls_tree.specs.RatchetTree.{RatchetTree}
+use Rattle.mls_tree.specs.TreeDecoding.{IsTreeOf}
+use Rattle.mls_msgs.specs.declared.framed_content.Sender.TheVariants.{Member}
+use Rattle.mls_state.specs.StateFile.{IsFileOf}
+use Rattle.mls_state.specs.declared.known_entry.KnownEntry.{KnownEntry}
+use Rattle.mls_state.specs.declared.state.FollowerState.{FollowerState}
+use Rattle.mls_state.specs.declared.state.GroupPhase.TheVariants.{Open}
+use Rattle.mls_state.specs.declared.state.StateProfile.TheVariants.{Members}
+use Rattle.mls_apply.specs.declared.list_item.KnownProposal.{KnownProposal}
+use Rattle.mls_follow.specs.State.{State}
+
+-- `IsTreeBody body t`: the body, after its length, is the encoding of the ratchet tree `t` (RFC 9420, 12.4.3.3).
+pub record IsTreeBody (body : List ℕ) (t : RatchetTree) : Type 0 where
+  pub bytes : List ℕ
+  pub encoded : vector body ≡ Some bytes
+  pub tree : IsTreeOf bytes t
+
+-- `IsIntact bytes c t`: the bytes, no more than an input may have, are the file of `c`, and `t` is its tree.
+pub record IsIntact (bytes : List ℕ) (c : FollowerState) (t : RatchetTree) : Type 0 where
+  pub file : IsFileOf bytes c
+  pub bounded : length bytes ≤ input_limit
+  pub tree : IsTreeBody c.tree t
+
+-- `stored_entry k` is the entry of the pending proposal `k` in a file: its sender is a member (RFC 9420, 6).
+abbrev pub stored_entry : KnownProposal → KnownEntry
+stored_entry k = record { reference = k.reference; sender = Member k.sender; proposal = k.proposal }
+
+-- `Stores c t s`: `c`, whose tree is `t`, stores the state `s`. The profile is that of members, and the group goes on.
+pub record Stores (c : FollowerState) (t : RatchetTree) (s : State) : Type 0 where
+  pub profile : c.profile ≡ Members
+  pub phase : c.phase ≡ Open
+  pub context : c.context ≡ s.context
+  pub tree : t.tree ≡ s.tree
+  pub interim : c.interim ≡ s.interim
+  pub known : c.known ≡ map stored_entry s.known
+
+-- `EncodesState s bytes`: the bytes are the file of the state `s`.
+pub record EncodesState (s : State) (bytes : List ℕ) : Type 0 where
+  pub content : FollowerState
+  pub tree : RatchetTree
+  pub intact : IsIntact bytes content tree
+  pub stores : Stores content tree s
+
+-- `HasNoFile s`: no bytes are the file of the state `s`.
+abbrev pub HasNoFile : State → Type 0
+HasNoFile s = (bytes : List ℕ) → EncodesState s bytes → ⊥

@@ -1,0 +1,249 @@
+//! What a follower resumes from (own rules; RFC 9420, 12.4.3.1, for the context and the tree).
+
+ghost use Rattle.std.specs.Prelude.{◌≡◌, ◌≢◌, None, Some, [], IfOk, IfErr, IfSome, OnOk, length};
+ghost use Rattle.mls_tree.specs.PublicTreeModel.{plain};
+ghost use Rattle.mls_tree.specs.RatchetTree.{RatchetTree};
+ghost use Rattle.mls_hash.specs.SuiteHash.{hash_length};
+ghost use Rattle.mls_nodes.specs.Requirements.{Requires};
+ghost use Rattle.mls_check.specs.GroupTree.{IsSupportedContext, HasMembers};
+ghost use Rattle.mls_check.specs.Signatures.{VerifyFn};
+ghost use Rattle.mls_apply.specs.Staged.{IsSettled};
+ghost use Rattle.mls_state.specs.Layout.{state_file};
+ghost use Rattle.mls_state.specs.StateFile.{HasChecksum};
+ghost use Rattle.mls_state.specs.declared.file.StateFile.{StateFile};
+ghost use Rattle.mls_follow.specs.GroupModel.{group_state};
+ghost use Rattle.mls_follow.specs.StoredState.{IsIntact};
+ghost use Rattle.mls_follow.specs.Resumption.{HasInterim, Holds, IsStateOf, IsContentFault, IsResumed, IsResumeFault};
+ghost use Rattle.mls_follow.specs.ResumptionParts.{ReadsTreeBody, IsKnownFault, state_without_pending};
+
+use crate::group::Group;
+use crate::group_tree::{UnsupportedContext, group_requirements, suite_of};
+use crate::pending_entries::hold_entries;
+use crate::resume_fault::ResumeFault;
+use mls_apply::{PendingProposals, StagedTree};
+use mls_check::SignatureCheck;
+use mls_hash::Suite;
+use mls_nodes::{GroupContext, NodeFault, RequiredCapabilities};
+use mls_state::{FollowerState, StateFile, StateFileFault, decode_state_file};
+use mls_tree::{HashValue, PublicTree};
+use mls_wire::{CodecFault, Opaque, bytes_of, read_input};
+use std::alloc::Global;
+
+/// A refused resumption, with the checker as it was.
+#[derive(Drop)]
+pub struct ResumeRefused<C> {
+    /// The first condition that failed.
+    pub fault: ResumeFault,
+    /// The checker.
+    pub checker: C,
+}
+
+/// Returns the tree of the body of an encoded ratchet tree (RFC 9420, 12.4.3.3).
+fn tree_of(alloc: Global, body: &Opaque) -> Result<PublicTree, NodeFault>
+    ensures { ReadsTreeBody body.now result }
+{
+    let bytes = bytes_of(alloc, body)?;
+    PublicTree::decode(alloc, bytes.as_slice())
+}
+
+/// Returns the fault of a file whose checksum differs: `Unreadable` if its tree cannot be read.
+fn damage_of(alloc: Global, bytes: &[u8]) -> ResumeFault
+    requires { (file : StateFile) × (state_file file ≡ Some bytes.now) × (HasChecksum file → ⊥) }
+    ensures { (G : VerifyFn) → IsResumeFault G bytes.now result }
+{
+    let file: StateFile = match read_input(alloc, bytes) {
+        Ok(file) => file,
+        Err(fault) => return ResumeFault::from(NodeFault::from(fault)),
+    };
+    match tree_of(alloc, &file.state.tree) {
+        Ok(_) => ResumeFault::ChecksumDiffers,
+        Err(fault) => ResumeFault::from(fault),
+    }
+}
+
+/// Returns the content of an intact file, and its tree.
+fn read_state(alloc: Global, bytes: &[u8]) -> Result<(FollowerState, PublicTree), ResumeFault>
+    ensures intact { IfOk result (λ read. IsIntact bytes.now read.0 (plain read.1)) }
+    ensures refused { IfErr result (λ e. (G : VerifyFn) → IsResumeFault G bytes.now e) }
+{
+    match decode_state_file(alloc, bytes) {
+        Ok(content) => match tree_of(alloc, &content.tree) {
+            Ok(tree) => Ok((content, tree)),
+            Err(fault) => {
+                drop(content);
+                Err(ResumeFault::from(fault))
+            }
+        },
+        Err(StateFileFault::Unreadable(fault)) => {
+            Err(ResumeFault::Unreadable(NodeFault::Wire(fault)))
+        }
+        Err(StateFileFault::ChecksumDiffers) => Err(damage_of(alloc, bytes)),
+        Err(StateFileFault::OutOfMemory) => Err(ResumeFault::OutOfMemory),
+    }
+}
+
+/// Returns the cipher suite of a context whose version and suite are supported.
+fn resumed_suite(context: &GroupContext) -> Result<Suite, ResumeFault>
+    ensures followed { OnOk result (IsSupportedContext context.now) }
+    ensures suite { IfOk result (λ suite. suite ≡ context.now.cipher_suite) }
+    ensures refused { IfErr result (λ e. (G : VerifyFn) (c : FollowerState) (t : RatchetTree)
+        → c.context ≡ context.now → IsContentFault G c t e) }
+{
+    match suite_of(context) {
+        Ok(suite) => Ok(suite),
+        Err(UnsupportedContext::Version) => Err(ResumeFault::UnsupportedVersion),
+        Err(UnsupportedContext::Suite) => Err(ResumeFault::UnsupportedSuite),
+    }
+}
+
+/// Returns the tree, indexed, and what the group of a supported context requires, if the tree is valid for the context
+/// and its leaf nodes are valid.
+fn resumed_tree<C: SignatureCheck>(
+    alloc: Global,
+    suite: Suite,
+    context: &GroupContext,
+    mut tree: PublicTree,
+    checker: &C,
+) -> Result<(StagedTree, RequiredCapabilities), ResumeFault>
+    requires followed { IsSupportedContext context.now }
+    requires suite_of_context { suite ≡ context.now.cipher_suite }
+    ensures tree { IfOk result (λ found. found.0.tree ≡ tree.tree) }
+    ensures settled { IfOk result (λ found. IsSettled found.0) }
+    ensures members { IfOk result (λ found. HasMembers (C.meaning checker.now) context.now
+        (λ t. t ≡ plain tree) (plain tree) found.1) }
+    ensures refused { IfErr result (λ e. (c : FollowerState) → c.context ≡ context.now
+        → IsContentFault (C.meaning checker.now) c (plain tree) e) }
+{
+    match group_requirements(alloc, suite, context, &mut tree, checker) {
+        Ok(required) => match StagedTree::of(alloc, tree) {
+            Ok(tree) => Ok((tree, required)),
+            Err(tree) => {
+                drop(tree);
+                drop(required);
+                Err(ResumeFault::OutOfMemory)
+            }
+        },
+        Err(fault) => {
+            drop(tree);
+            Err(ResumeFault::from(fault))
+        }
+    }
+}
+
+/// Returns the interim transcript hash, if it has the length of the suite's hashes.
+fn resumed_interim(suite: Suite, interim: &Opaque) -> Option<HashValue>
+    ensures hash { IfSome result (λ hash. (hash ≡ interim.now) × (length interim.now ≡ hash_length suite)) }
+    ensures other { result ≡ None → length interim.now ≢ hash_length suite }
+{
+    if interim.as_slice().len() != usize::from(suite.hash_length()) {
+        return None;
+    }
+    HashValue::new(interim.as_slice())
+}
+
+/// What is found of the content of a file, before its pending proposals are checked.
+#[derive(Drop)]
+struct Found {
+    suite: Suite,
+    tree: StagedTree,
+    required: RequiredCapabilities,
+    interim: HashValue,
+}
+
+/// Returns what is found of the content of a file, if its context, its tree and its interim transcript hash satisfy
+/// their conditions.
+fn check_content<C: SignatureCheck>(
+    alloc: Global,
+    content: &FollowerState,
+    tree: PublicTree,
+    checker: &C,
+) -> Result<Found, ResumeFault>
+    ensures suite { IfOk result (λ found. found.suite ≡ content.now.context.cipher_suite) }
+    ensures tree { IfOk result (λ found. found.tree.tree ≡ tree.tree) }
+    ensures settled { IfOk result (λ found. IsSettled found.tree) }
+    ensures required { IfOk result (λ found. Requires content.now.context found.required) }
+    ensures interim { IfOk result (λ found. found.interim ≡ content.now.interim) }
+    ensures based { OnOk result (HasInterim (C.meaning checker.now) content.now (plain tree)) }
+    ensures refused { IfErr result (IsContentFault (C.meaning checker.now) content.now (plain tree)) }
+{
+    let suite = resumed_suite(&content.context)?;
+    let (tree, required) = resumed_tree(alloc, suite, &content.context, tree, checker)?;
+    match resumed_interim(suite, &content.interim) {
+        Some(interim) => Ok(Found {
+            suite,
+            tree,
+            required,
+            interim,
+        }),
+        None => {
+            drop(tree);
+            drop(required);
+            Err(ResumeFault::InterimLength)
+        }
+    }
+}
+
+/// Returns the group of a file, if each of its pending proposals can be pending.
+fn group_of<C: SignatureCheck>(
+    alloc: Global,
+    content: FollowerState,
+    found: Found,
+    checker: &C,
+) -> Result<Group, ResumeFault>
+    requires suite { found.suite ≡ content.context.cipher_suite }
+    requires settled { IsSettled found.tree }
+    requires required { Requires content.context found.required }
+    ensures held { IfOk result (λ group. Holds (C.meaning checker.now)
+        (state_without_pending content.context found.tree.tree found.interim) content.known (group_state group)) }
+    ensures refused { IfErr result (IsKnownFault (C.meaning checker.now)
+        (state_without_pending content.context found.tree.tree found.interim) content.known) }
+{
+    let FollowerState { context, known, .. } = content;
+    let mut group = Group {
+        context,
+        tree: found.tree,
+        interim: found.interim,
+        known: PendingProposals::new(alloc),
+        suite: found.suite,
+        required: found.required,
+    };
+    match hold_entries(alloc, &mut group, checker, known.as_slice()) {
+        Ok(()) => Ok(group),
+        Err(fault) => {
+            drop(group);
+            Err(fault)
+        }
+    }
+}
+
+/// Returns the group of a file with this content and this tree.
+fn resumed_content<C: SignatureCheck>(
+    alloc: Global,
+    content: FollowerState,
+    tree: PublicTree,
+    checker: &C,
+) -> Result<Group, ResumeFault>
+    ensures resumed { IfOk result (λ group. IsStateOf (C.meaning checker.now) content (plain tree) (group_state group)) }
+    ensures refused { IfErr result (IsContentFault (C.meaning checker.now) content (plain tree)) }
+{
+    match check_content(alloc, &content, tree, checker) {
+        Ok(found) => group_of(alloc, content, found, checker),
+        Err(fault) => {
+            drop(content);
+            Err(fault)
+        }
+    }
+}
+
+/// Returns the group of a file.
+pub(crate) fn resumed_group<C: SignatureCheck>(
+    alloc: Global,
+    bytes: &[u8],
+    checker: &C,
+) -> Result<Group, ResumeFault>
+    ensures resumed { IfOk result (λ group. IsResumed (C.meaning checker.now) bytes.now (group_state group)) }
+    ensures refused { IfErr result (IsResumeFault (C.meaning checker.now) bytes.now) }
+{
+    let (content, tree) = read_state(alloc, bytes)?;
+    resumed_content(alloc, content, tree, checker)
+}

@@ -1,0 +1,174 @@
+//! The file of a follower's state.
+
+ghost use Rattle.std.specs.Prelude.{◌≡◌, ◌≢◌, map, Some, IfOk, IfErr};
+ghost use Rattle.std.specs.Bool.{OnTrue, OnFalse};
+ghost use Rattle.mls_wire.specs.Faults.{too_long_at};
+ghost use Rattle.mls_wire.specs.ReadContracts.{seen};
+ghost use Rattle.mls_nodes.specs.RatchetTreeEncoding.{ratchet_tree, trimmed};
+ghost use Rattle.mls_tree.specs.PublicTreeModel.{plain};
+ghost use Rattle.mls_tree.specs.RatchetTree.{RatchetTree};
+ghost use Rattle.mls_tree.specs.Tree.{listing};
+ghost use Rattle.mls_tree.specs.TreeDecoding.{IsTreeOf};
+ghost use Rattle.mls_follow.specs.FollowerModel.{state_of};
+ghost use Rattle.mls_follow.specs.GroupModel.{group_state};
+ghost use Rattle.mls_follow.specs.StoringParts.{HasNoTreeBody, MakesShortFile, storing_fault};
+ghost use Rattle.mls_follow.specs.StoredState.{IsTreeBody, Stores, EncodesState, HasNoFile, stored_entry};
+
+use crate::follower::Follower;
+use crate::group::Group;
+use mls_apply::KnownProposal;
+use mls_check::SignatureCheck;
+use mls_msgs::Sender;
+use mls_nodes::{NodeFault, encode_ratchet_tree};
+use mls_state::{FollowerState, GroupPhase, KnownEntry, StateProfile, encode_state_file};
+use mls_tree::PublicTree;
+use mls_wire::{
+    CodecFault, MAX_INPUT, Opaque, Sequence, WireFault, WireFaultKind, copy_of, read_input,
+};
+use std::alloc::{AllocError, Global};
+
+/// Returns the fault of a state that has no file.
+fn too_long() -> CodecFault
+    ensures { result ≡ CodecFault.Wire (too_long_at 0) }
+{
+    CodecFault::Wire(WireFault {
+        kind: WireFaultKind::TooLong,
+        at: 0,
+    })
+}
+
+/// Returns whether bytes, which encode the entries of a tree, encode the tree. They do not if its right subtree is
+/// blank, or if they are more than an input may have.
+fn encodes_tree(alloc: Global, bytes: &[u8], tree: &PublicTree) -> Result<bool, AllocError>
+    requires { ratchet_tree (trimmed (listing tree.now.tree)) ≡ Some bytes.now }
+    ensures same { IfOk result (λ same. OnTrue same (IsTreeOf bytes.now (plain tree.now))) }
+    ensures other { IfOk result (λ same. OnFalse same (IsTreeOf bytes.now (plain tree.now) → ⊥)) }
+{
+    match PublicTree::decode(alloc, bytes) {
+        Ok(decoded) => Ok(decoded.leaf_count() == tree.leaf_count()),
+        Err(NodeFault::OutOfMemory) => Err(AllocError),
+        Err(_) => Ok(false),
+    }
+}
+
+/// Returns the body of these bytes, which encode the entries of a tree. `TooLong` if they do not encode the tree.
+fn body_of(alloc: Global, bytes: &[u8], tree: &PublicTree) -> Result<Opaque, CodecFault>
+    requires { ratchet_tree (trimmed (listing tree.now.tree)) ≡ Some bytes.now }
+    ensures body { IfOk result (λ body. IsTreeBody body (plain tree.now)) }
+    ensures none { IfErr result (λ e. e ≢ CodecFault.OutOfMemory → HasNoTreeBody (plain tree.now)) }
+{
+    if !encodes_tree(alloc, bytes, tree)? {
+        return Err(too_long());
+    }
+    read_input(alloc, bytes)
+}
+
+/// Returns the fault of a tree that has no encoding as one of a state.
+fn storing_fault(fault: NodeFault) -> CodecFault
+    ensures { result ≡ storing_fault fault }
+{
+    match fault {
+        NodeFault::OutOfMemory => CodecFault::OutOfMemory,
+        _ => too_long(),
+    }
+}
+
+/// Returns the body of an encoded tree (RFC 9420, 12.4.3.3). `TooLong` if it has none.
+fn tree_body(alloc: Global, tree: &PublicTree) -> Result<Opaque, CodecFault>
+    ensures body { IfOk result (λ body. IsTreeBody body (plain tree.now)) }
+    ensures none { IfErr result (λ e. e ≢ CodecFault.OutOfMemory → HasNoTreeBody (plain tree.now)) }
+{
+    match encode_ratchet_tree(alloc, tree.nodes()) {
+        Ok(bytes) => body_of(alloc, bytes.as_slice(), tree),
+        Err(fault) => Err(storing_fault(fault)),
+    }
+}
+
+/// Returns the entry of a pending proposal.
+fn stored_entry(alloc: Global, known: &KnownProposal) -> Result<KnownEntry, AllocError>
+    ensures { IfOk result (λ entry. entry ≡ stored_entry known.now) }
+{
+    let reference = known.reference.to_opaque(alloc)?;
+    match copy_of(alloc, &known.proposal) {
+        Ok(proposal) => Ok(KnownEntry {
+            reference,
+            sender: Sender::Member(known.sender),
+            proposal,
+        }),
+        Err(AllocError) => {
+            drop(reference);
+            Err(AllocError)
+        }
+    }
+}
+
+/// Returns the entries of pending proposals, in their order.
+fn stored_entries(alloc: Global, known: &[KnownProposal]) -> Result<Vec<KnownEntry>, AllocError>
+    ensures { IfOk result (λ entries. entries.items ≡ map stored_entry known.now) }
+{
+    let mut entries = Vec::with_capacity(alloc, known.len())?;
+    for proposal in known {
+        entries.push(stored_entry(alloc, proposal)?)?;
+    }
+    Ok(entries)
+}
+
+impl Group {
+    /// Returns the content of the file of the group's state. `TooLong` if it has none.
+    fn content(&self, alloc: Global) -> Result<FollowerState, CodecFault>
+        ensures stores { IfOk result (λ c. (t : RatchetTree) × IsTreeBody c.tree t
+            × Stores c t (group_state self.now)) }
+        ensures none { IfErr result (λ e. e ≢ CodecFault.OutOfMemory → HasNoFile (group_state self.now)) }
+    {
+        let tree = tree_body(alloc, self.tree.tree())?;
+        let context = copy_of(alloc, &self.context)?;
+        let interim = self.interim.to_opaque(alloc)?;
+        let known = stored_entries(alloc, self.known.as_slice())?;
+        Ok(FollowerState {
+            profile: StateProfile::Members,
+            phase: GroupPhase::Open,
+            context,
+            interim,
+            tree,
+            known: Sequence::new(known),
+        })
+    }
+}
+
+/// Returns the file with this content, of no more bytes than an input may have. `TooLong` at 0 if there is none.
+#[tactic(auto, using(crate::proofs::Storing::over_limit))]
+fn file_of(alloc: Global, content: FollowerState) -> Result<Vec<u8>, CodecFault>
+    ensures { MakesShortFile content (seen (λ v. v.items) result) }
+{
+    match encode_state_file(alloc, content) {
+        Ok(bytes) => {
+            if bytes.len() > MAX_INPUT {
+                drop(bytes);
+                return Err(too_long());
+            }
+            Ok(bytes)
+        }
+        Err(CodecFault::Wire(_)) => Err(too_long()),
+        Err(CodecFault::OutOfMemory) => Err(CodecFault::OutOfMemory),
+    }
+}
+
+impl<C: SignatureCheck> Follower<C> {
+    /// Returns the file of the state, from which [`Follower::resume`] resumes a follower.
+    ///
+    /// # Errors
+    ///
+    /// `TooLong` at 0 only if the state has no file: it would have more than 268,435,456 bytes, as many as an input may
+    /// have. Or [`CodecFault::OutOfMemory`].
+    pub fn encode_state(&self) -> Result<Vec<u8>, CodecFault>
+        ensures encoded { IfOk result (λ bytes. EncodesState (state_of self.now) bytes.items) }
+        ensures too_long { IfErr result (λ e. e ≢ CodecFault.OutOfMemory
+            → (e ≡ CodecFault.Wire (too_long_at 0)) × HasNoFile (state_of self.now)) }
+    {
+        match self.group.content(self.alloc) {
+            Ok(content) => file_of(self.alloc, content),
+            Err(CodecFault::Wire(_)) => Err(too_long()),
+            Err(CodecFault::OutOfMemory) => Err(CodecFault::OutOfMemory),
+        }
+    }
+}

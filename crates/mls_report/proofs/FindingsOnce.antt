@@ -45,10 +45,10 @@ one_message bytes m n a b = messages_once Members m n bytes a.spelled b.spelled
 info_in : (x y : GroupInfo) → messages.GroupInfo x ≡ messages.GroupInfo y → x ≡ y
 info_in x y e = cc
 
-one_info : (bytes : List ℕ) (x y : GroupInfo) → IsInfo bytes x → IsInfo bytes y → x ≡ y
+pub one_info : (bytes : List ℕ) (x y : GroupInfo) → IsInfo bytes x → IsInfo bytes y → x ≡ y
 one_info bytes x y a b = info_in x y (one_message bytes (messages.GroupInfo x) (messages.GroupInfo y) a b)
 
-one_handed : (bytes : Option (List ℕ)) (t u : Option RatchetTree) → IsHanded bytes t → IsHanded bytes u → t ≡ u
+pub one_handed : (bytes : Option (List ℕ)) (t u : Option RatchetTree) → IsHanded bytes t → IsHanded bytes u → t ≡ u
 one_handed None None None a b = refl
 one_handed None (Some t) u a b = absurd a
 one_handed None None (Some u) a b = absurd b

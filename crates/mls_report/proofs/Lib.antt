@@ -8,7 +8,9 @@ pub mod AskedLogs
 pub mod AskedStarts
 pub mod InOrder
 pub mod FindingsOnce
+pub mod InputsOnce
 pub mod ReplaysOnce
+pub mod SignaturesOnce
 pub mod StartsOnce
 pub mod TurnsOnce
 pub mod Decided
@@ -16,5 +18,6 @@ pub mod StartsExist
 pub mod FindingsExist
 pub mod LogsExist
 pub mod ReplaysExist
+pub mod SignaturesExist
 mod ValidEpochs
 mod CoveredReports

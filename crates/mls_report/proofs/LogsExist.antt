@@ -17,19 +17,19 @@ use Rattle.mls_report.specs.Replay.{ProcessedMessage, IsLogEnd}
 -- ---- what comes next in a log
 
 -- a record, and what is behind it
-record Begins (log : List ℕ) : Type 0 where
-  body : List ℕ
-  read : List ℕ
-  after : List ℕ
-  is_record : IsRecord read body
-  log_is : log ≡ read ++ after
+pub record Begins (log : List ℕ) : Type 0 where
+  pub body : List ℕ
+  pub read : List ℕ
+  pub after : List ℕ
+  pub is_record : IsRecord read body
+  pub log_is : log ≡ read ++ after
 
 -- a break, and what is behind it
-record Breaks (most : ℕ) (log : List ℕ) : Type 0 where
-  rest : List ℕ
-  left : List ℕ
-  is_break : IsBrokenAt most rest (Some left)
-  log_is : log ≡ rest ++ left
+pub record Breaks (most : ℕ) (log : List ℕ) : Type 0 where
+  pub rest : List ℕ
+  pub left : List ℕ
+  pub is_break : IsBrokenAt most rest (Some left)
+  pub log_is : log ≡ rest ++ left
 
 size_some : (first : ℕ) → 1 ≤ length_size first
 unfolding length_size
@@ -43,7 +43,7 @@ size_some first = go (nat_lt first 64) (nat_lt first 128) (nat_lt first 192)
 
 -- bytes that begin with one: a record may come
 module _ (most first : ℕ) (bytes : List ℕ) where
-  abbrev Comes : Type 0
+  abbrev pub Comes : Type 0
   Comes = Begins (first ∷ bytes) ⊎ Breaks (suc most) (first ∷ bytes)
 
   some_more : 0 < suc most
@@ -96,7 +96,7 @@ module _ (most first : ℕ) (bytes : List ℕ) where
     by_length None e = bad_there (size_refused (first ∷ more) first more refl long e)
     by_length (Some x) e = by_size x.0 x.1 e (nat_le x.0 input_limit) refl
 
-  comes : Comes
+  pub comes : Comes
   comes = go (nat_lt (length (first ∷ bytes)) (length_size first)) refl
     where
       go : (b : Bool) → nat_lt (length (first ∷ bytes)) (length_size first) ≡ b → Comes

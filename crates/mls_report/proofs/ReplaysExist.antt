@@ -17,12 +17,12 @@ use Rattle.mls_report.specs.declared.verdict.Verdict.TheVariants.{Yes, No}
 -- ---- reading to the end
 
 -- the bytes of an input are read, or so many of them
-record IsRead (all : List ℕ) : Type 0 where
-  bytes : List ℕ
-  left : List ℕ
-  reads : ReadsAll (Some all) (Some left) bytes
+pub record IsRead (all : List ℕ) : Type 0 where
+  pub bytes : List ℕ
+  pub left : List ℕ
+  pub reads : ReadsAll (Some all) (Some left) bytes
 
-read_input : (all : List ℕ) → IsRead all
+pub read_input : (all : List ℕ) → IsRead all
 read_input all =
     elim (fits_or_not all) [
       | inl le ↦ record { bytes = all; left = []; reads = record { taken = sym (append-nil all); bounded = omega (arith, le); whole = λ h. refl } }
@@ -39,12 +39,12 @@ read_input all =
     above : (xs : List ℕ) → (length xs ≤ input_limit → ⊥) → input_limit + 1 ≤ length xs
     above xs over = omega (arith, over)
 
-record IsHandedRead (all : Option (List ℕ)) : Type 0 where
-  bytes : Option (List ℕ)
-  left : Option (Option (List ℕ))
-  reads : ReadsHanded (option_map Some all) left bytes
+pub record IsHandedRead (all : Option (List ℕ)) : Type 0 where
+  pub bytes : Option (List ℕ)
+  pub left : Option (Option (List ℕ))
+  pub reads : ReadsHanded (option_map Some all) left bytes
 
-read_optional_tree : (all : Option (List ℕ)) → IsHandedRead all
+pub read_optional_tree : (all : Option (List ℕ)) → IsHandedRead all
 read_optional_tree None = record { bytes = None; left = None; reads = tt }
 read_optional_tree (Some all) = let r = read_input all in record { bytes = Some r.bytes; left = Some (Some r.left); reads = r.reads }
 

@@ -1,7 +1,8 @@
--- Something is found of any bytes, and a replay has a report, for any checker. Used by contracts.
+-- Something is found of any bytes, and `replay` and `signatures` have a report, for any checker and any receipts. Used
+-- by contracts.
 use Rattle.std.specs.Prelude.{List, ℕ, Option}
 use Rattle.mls_check.specs.Signatures.{VerifyFn}
-use Rattle.mls_report.specs.UniqueReports.{IsReplayReport}
+use Rattle.mls_report.specs.UniqueReports.{IsReplayReport, IsSignaturesReport}
 use Rattle.mls_report.specs.StartInputs.{IsStartFinding}
 use Rattle.mls_report.specs.ValidateTree.{IsTreeFinding}
 use Rattle.mls_report.specs.declared.finding.Finding.{Finding}
@@ -25,3 +26,10 @@ ReplayExists =
     (G : VerifyFn) (info_bytes : List ℕ) (tree_bytes : Option (List ℕ)) (log_bytes : List ℕ)
     → (text : List ℕ) × (verdict : Verdict)
     × IsReplayReport G info_bytes tree_bytes log_bytes text verdict
+
+-- The bytes of the inputs of `signatures` have a report, with a tree and a log or without.
+abbrev pub SignaturesExist : Type 0
+SignaturesExist =
+    (R : VerifyFn) (info_bytes : List ℕ) (tree_bytes log_bytes : Option (List ℕ))
+    → (text : List ℕ) × (verdict : Verdict)
+    × IsSignaturesReport R info_bytes tree_bytes log_bytes text verdict

@@ -1,4 +1,5 @@
--- The contracts of the steps of a start. Internal: no public contract uses this.
+-- What the steps of a start return and write. `written0` and `written1` are what the output holds before and after. Used
+-- by contracts.
 use Rattle.std.specs.Prelude.{List, [], ℕ, Option, ◌≡◌, ◌≢◌}
 use Rattle.std.specs.Io.KnownBytes.{Appends}
 use Rattle.mls_wire.specs.Devices.{AppendsPrefix}
@@ -16,30 +17,32 @@ use Rattle.mls_report.specs.declared.verdict.RunFault.TheVariants.{Read, Write, 
 use Rattle.mls_report.specs.declared.verdict.Verdict.{Verdict}
 use Rattle.mls_report.specs.declared.verdict.Verdict.TheVariants.{No}
 
--- Why no follower has started: a finding with this property, unless memory ran out.
+-- `Says P failure`: no follower has started, for a finding with this property, or because memory ran out.
 abbrev pub Says : (Finding → Type 0) → StartFailure → Type 0
 Says P (Found finding) = P finding
 Says P (Fault e) = e ≡ Memory
 
--- An input is not decodable: this is the finding, whatever the signature check means.
+-- `IsUnread info_bytes tree_bytes finding`: an input is not decodable, and this is the finding, whatever the signature
+-- check means.
 pub record IsUnread (info_bytes : List ℕ) (tree_bytes : Option (List ℕ)) (finding : Finding)
     : Type 0 where
   pub found : (G : VerifyFn) → IsStartFinding G info_bytes tree_bytes finding
   pub verdict : finding_verdict finding ≡ No
 
--- The line of a start that failed with this fault was written.
+-- `RefusesStart fault written0 written1 verdict`: the line of a start that failed with this fault was written.
 pub record RefusesStart (fault : StartFault) (written0 written1 : Option (List ℕ)) (verdict : Verdict)
     : Type 0 where
   pub own : fault ≢ starts.OutOfMemory
   pub wrote : Appends written0 written1 (finding_line (StartRefused fault))
   pub verdict_is : verdict ≡ No
 
--- A prefix of it was written.
+-- `RefusesInLine fault written0 written1`: a prefix of this line was written.
 pub record RefusesInLine (fault : StartFault) (written0 written1 : Option (List ℕ)) : Type 0 where
   pub own : fault ≢ starts.OutOfMemory
   pub wrote : AppendsPrefix written0 written1 (finding_line (StartRefused fault))
 
--- What was written of it, with this fault.
+-- `RefusesStartPart fault written0 written1 run`: what was written of this line if it was not written whole, by the
+-- fault `run` that is returned.
 abbrev pub RefusesStartPart : StartFault → Option (List ℕ) → Option (List ℕ) → RunFault → Type 0
 RefusesStartPart fault written0 written1 Read = ⊥
 RefusesStartPart fault written0 written1 Write = RefusesInLine fault written0 written1

@@ -4,11 +4,13 @@ use Rattle.mls_check.specs.Signatures.{VerifyFn}
 use Rattle.mls_follow.specs.State.{State}
 use Rattle.mls_report.specs.Finding.{finding_line}
 use Rattle.mls_report.specs.Replay.{ProcessedMessage, Follows, IsLogEnd, Replays, still_to_come}
+use Rattle.mls_report.specs.SignaturesReport.{HasSignatures, Signatures}
 use Rattle.mls_report.specs.StartInputs.{IsStarted, IsStartFinding}
 use Rattle.mls_report.specs.ValidateTree.{IsTreeFinding}
 use Rattle.mls_report.specs.declared.finding.Finding.{Finding}
 use Rattle.mls_report.specs.declared.finding.Finding.TheVariants.{ContextUnreadable, InfoUnreadable, TreeUnreadable}
 use Rattle.mls_report.specs.declared.verdict.Verdict.{Verdict}
+use Rattle.mls_signatures.specs.declared.signature_to_verify.SignatureToVerify.{SignatureToVerify}
 
 -- ---- what is found
 
@@ -79,4 +81,32 @@ ReplayIsUnique =
     (G : VerifyFn) (info_bytes : List ℕ) (tree_bytes : Option (List ℕ)) (log_bytes text other : List ℕ)
     (verdict more : Verdict) → IsReplayReport G info_bytes tree_bytes log_bytes text verdict
     → IsReplayReport G info_bytes tree_bytes log_bytes other more
+    → AreAlikeTexts text other × (verdict ≡ more)
+
+-- ---- the signatures to verify
+
+-- The bytes of a message and the state before it determine its signatures, or that the bytes are no message.
+abbrev pub MessageSignaturesAreUnique : Type 0
+MessageSignaturesAreUnique =
+    (s : State) (bytes : List ℕ) (wanted other : Option (List SignatureToVerify))
+    → HasSignatures s bytes wanted → HasSignatures s bytes other → wanted ≡ other
+
+-- `IsSignaturesReport R info_bytes tree_bytes log_bytes text verdict`: the report `signatures` over these bytes, with a
+-- tree and a log or without, has written this text, and has this verdict. `R` is the verification function of the
+-- receipts.
+pub record IsSignaturesReport (R : VerifyFn) (info_bytes : List ℕ) (tree_bytes log_bytes : Option (List ℕ))
+    (text : List ℕ) (verdict : Verdict) : Type 0 where
+  pub info_left : Option (List ℕ)
+  pub tree_left : Option (Option (List ℕ))
+  pub log_left : Option (Option (List ℕ))
+  pub before : List ℕ
+  pub signatures : Signatures R (Some info_bytes) info_left (option_map Some tree_bytes) tree_left
+      (option_map Some log_bytes) log_left (Some before) (Some (before ++ text)) verdict
+
+-- The bytes of its inputs and the meaning of the receipts determine what `signatures` writes, and its verdict.
+abbrev pub SignaturesAreUnique : Type 0
+SignaturesAreUnique =
+    (R : VerifyFn) (info_bytes : List ℕ) (tree_bytes log_bytes : Option (List ℕ)) (text other : List ℕ)
+    (verdict more : Verdict) → IsSignaturesReport R info_bytes tree_bytes log_bytes text verdict
+    → IsSignaturesReport R info_bytes tree_bytes log_bytes other more
     → AreAlikeTexts text other × (verdict ≡ more)

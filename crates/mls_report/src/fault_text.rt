@@ -26,8 +26,8 @@ fn wire_kind_text(alloc: Global, kind: WireFaultKind) -> Result<String, AllocErr
     String::from_str(alloc, name)
 }
 
-/// Returns why bytes are not decodable, and the offset.
-pub(crate) fn wire_fault_text(alloc: Global, fault: WireFault) -> Result<String, AllocError>
+/// Returns why bytes are not decodable, and the offset, as `Truncated 7`.
+pub fn wire_fault_text(alloc: Global, fault: WireFault) -> Result<String, AllocError>
     ensures { IfOk result (λ text. string_bytes text ≡ texts.wire_fault_text fault) }
 {
     let kind = wire_kind_text(alloc, fault.kind)?;
@@ -35,8 +35,8 @@ pub(crate) fn wire_fault_text(alloc: Global, fault: WireFault) -> Result<String,
     format!(in alloc; "{kind} {at}")
 }
 
-/// Returns why a ratchet tree is not decodable.
-pub(crate) fn node_fault_text(alloc: Global, fault: NodeFault) -> Result<String, AllocError>
+/// Returns why a ratchet tree (RFC 9420, 12.4.3.3) is not decodable: the fault's name, and its offset or place.
+pub fn node_fault_text(alloc: Global, fault: NodeFault) -> Result<String, AllocError>
     ensures { IfOk result (λ text. string_bytes text ≡ texts.node_fault_text fault) }
 {
     match fault {
@@ -49,8 +49,8 @@ pub(crate) fn node_fault_text(alloc: Global, fault: NodeFault) -> Result<String,
     }
 }
 
-/// Returns the first fault of a tree: number, name, and node index.
-pub(crate) fn tree_fault_text(alloc: Global, fault: TreeFault) -> Result<String, AllocError>
+/// Returns the first fault of a tree: number, name, and node index, as `4 KeyRepeated 12`.
+pub fn tree_fault_text(alloc: Global, fault: TreeFault) -> Result<String, AllocError>
     ensures { IfOk result (λ text. string_bytes text ≡ texts.tree_fault_text fault) }
 {
     match fault {
@@ -63,8 +63,8 @@ pub(crate) fn tree_fault_text(alloc: Global, fault: TreeFault) -> Result<String,
     }
 }
 
-/// Returns the first fault of the members: number, name, and leaf index.
-pub(crate) fn member_fault_text(alloc: Global, fault: MemberFault) -> Result<String, AllocError>
+/// Returns the first fault of the members: number, name, and leaf index, as `5 LeafSignature 3`.
+pub fn member_fault_text(alloc: Global, fault: MemberFault) -> Result<String, AllocError>
     ensures { IfOk result (λ text. string_bytes text ≡ texts.member_fault_text fault) }
 {
     match fault {
@@ -81,8 +81,8 @@ pub(crate) fn member_fault_text(alloc: Global, fault: MemberFault) -> Result<Str
     }
 }
 
-/// Returns the number of a fault of the members; 0 for `OutOfMemory`.
-pub(crate) fn member_number(fault: MemberFault) -> u8
+/// Returns the number of a fault of the members, from 1 to 5; 0 for `OutOfMemory`.
+pub fn member_number(fault: MemberFault) -> u8
     ensures { result ≡ texts.member_number fault }
 {
     match fault {
@@ -113,8 +113,8 @@ fn start_member_text(alloc: Global, fault: MemberFault) -> Result<String, AllocE
     format!(in alloc; "6 Member {fault}")
 }
 
-/// Returns why no follower can start: number and name.
-pub(crate) fn start_fault_text(alloc: Global, fault: StartFault) -> Result<String, AllocError>
+/// Returns why no follower can start: number and name, and those of a fault of the tree or of the members.
+pub fn start_fault_text(alloc: Global, fault: StartFault) -> Result<String, AllocError>
     ensures { IfOk result (λ text. string_bytes text ≡ texts.start_fault_text fault) }
 {
     match fault {

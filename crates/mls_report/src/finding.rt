@@ -20,18 +20,18 @@ use std::alloc::{AllocError, Global};
 
 /// What is reported of a follower that can start.
 #[derive(Clone, Copy)]
-pub(crate) struct Started {
+pub struct Started {
     /// The group's epoch.
-    pub(crate) epoch: u64,
+    pub epoch: u64,
     /// The number of members.
-    pub(crate) members: u32,
+    pub members: u32,
     /// The tree hash.
-    pub(crate) tree_hash: HashValue,
+    pub tree_hash: HashValue,
 }
 
 /// The finding about a group's inputs: the first that applies.
 #[derive(Clone, Copy)]
-pub(crate) enum Finding {
+pub enum Finding {
     /// The GroupContext is not decodable.
     ContextUnreadable(WireFault),
     /// The GroupInfo is not decodable.
@@ -86,7 +86,7 @@ fn started_text(alloc: Global, started: &Started) -> Result<String, AllocError>
 
 impl Finding {
     /// Returns the verdict: `Yes` for a valid tree and for a follower that can start.
-    pub(crate) fn verdict(&self) -> Verdict
+    pub fn verdict(&self) -> Verdict
         ensures { result ≡ findings.finding_verdict self.now }
     {
         match self {
@@ -95,8 +95,8 @@ impl Finding {
         }
     }
 
-    /// Returns the words of the finding.
-    fn text(&self, alloc: Global) -> Result<String, AllocError>
+    /// Returns the words of the finding: its kind, and then its detail, if it has one.
+    pub fn text(&self, alloc: Global) -> Result<String, AllocError>
         ensures { IfOk result (λ text. string_bytes text ≡ findings.finding_text self.now) }
     {
         match self {
@@ -137,8 +137,8 @@ impl Finding {
         }
     }
 
-    /// Returns the line of the finding.
-    fn line(&self, alloc: Global) -> Result<String, AllocError>
+    /// Returns the line of the finding: its words and a line feed.
+    pub fn line(&self, alloc: Global) -> Result<String, AllocError>
         ensures { IfOk result (λ text. string_bytes text ≡ findings.finding_line self.now) }
     {
         let text = self.text(alloc)?;
@@ -146,12 +146,13 @@ impl Finding {
     }
 }
 
-/// Writes the line of the finding and returns its verdict. `Memory` comes before anything is written.
-pub(crate) fn tell<K: Sink>(
-    alloc: Global,
-    finding: &Finding,
-    out: &mut K,
-) -> Result<Verdict, RunFault>
+/// Writes the line of the finding and returns its verdict.
+///
+/// # Errors
+///
+/// - `Memory` before anything is written.
+/// - `Write` if the output fails; then a prefix of the line may be written.
+pub fn tell<K: Sink>(alloc: Global, finding: &Finding, out: &mut K) -> Result<Verdict, RunFault>
     requires { K.is_failed out.old ≡ false }
     ensures told { IfOk result
         (λ verdict. Appends (K.written out.old) (K.written out.new)

@@ -1,8 +1,8 @@
 //! Properties of the reports' definitions. No caller needs to run these functions.
 
 ghost use Rattle.mls_report.specs.CoveredReports.{CoveredReportsReplay};
-ghost use Rattle.mls_report.specs.UniqueReports.{TreeFindingIsUnique, StartFindingIsUnique, StartIsUnique, LogIsUnique, ReplayIsUnique};
-ghost use Rattle.mls_report.specs.ReportsExist.{TreeFindingExists, StartFindingExists, ReplayExists};
+ghost use Rattle.mls_report.specs.UniqueReports.{TreeFindingIsUnique, StartFindingIsUnique, StartIsUnique, LogIsUnique, ReplayIsUnique, MessageSignaturesAreUnique, SignaturesAreUnique};
+ghost use Rattle.mls_report.specs.ReportsExist.{TreeFindingExists, StartFindingExists, ReplayExists, SignaturesExist};
 ghost use Rattle.mls_report.specs.ValidEpochs.{StartedEpochsAreValid, ReportedEpochsAreValid};
 
 /// Findings are determined by the bytes of the inputs and the meaning of the signature check, except for which fault is
@@ -21,12 +21,21 @@ pub fn replays_are_determined()
     ensures report { ReplayIsUnique }
 {}
 
-/// For any bytes and any meaning of the signature check there is a finding, and a replay has a report. So contracts
-/// that allow `Memory`, `Read` and `Write` never allow only these.
+/// The report `signatures` is determined by the bytes of its inputs and the meaning of the receipts, however the bytes
+/// are divided among reads: the signatures of each message, the text, and the verdict. Only which fault is named of an
+/// undecodable input is not.
+pub fn signatures_are_determined()
+    ensures messages { MessageSignaturesAreUnique }
+    ensures report { SignaturesAreUnique }
+{}
+
+/// For any bytes and any meaning of the signature check there is a finding, and `replay` and `signatures` have a report.
+/// So contracts that allow `Memory`, `Read` and `Write` never allow only these.
 pub fn reports_exist()
     ensures tree { TreeFindingExists }
     ensures start { StartFindingExists }
     ensures replay { ReplayExists }
+    ensures signatures { SignaturesExist }
 {}
 
 /// Each epoch that `validate` or `replay` reports has a tree that is valid by the GroupContext's tree hash, and valid

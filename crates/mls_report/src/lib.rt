@@ -3,26 +3,26 @@
 //! with the fault that ended it early.
 #![tactic(auto)]
 
-mod fault_text;
-mod finding;
+pub mod fault_text;
+pub mod finding;
 mod info_text;
 pub mod laws;
 mod message_text;
-mod read_inputs;
+pub mod read_inputs;
 mod read_to_end;
 mod replay;
-mod replay_text;
+pub mod replay_text;
 mod report;
 mod report_buffer;
 mod show;
 mod signature_log;
-mod signature_text;
+pub mod signature_text;
 mod signatures;
 mod tree_text;
 mod unreadable_receipts;
 mod validate;
 mod validate_tree;
-mod value_text;
+pub mod value_text;
 mod verdict;
 mod write;
 

@@ -17,7 +17,7 @@ use std::alloc::Global;
 
 /// Why no follower has started.
 #[derive(Clone, Copy)]
-pub(crate) enum StartFailure {
+pub enum StartFailure {
     /// The inputs are not good.
     Found(Finding),
     /// A fault ended the report.
@@ -45,15 +45,20 @@ pub(crate) fn read_optional_tree<T: Source>(
 
 /// The bytes of the inputs.
 #[derive(Drop)]
-pub(crate) struct InputBytes {
+pub struct InputBytes {
     /// Those of the GroupInfo.
-    pub(crate) info: Vec<u8>,
+    pub info: Vec<u8>,
     /// Those of the tree, if there is a file of it.
-    pub(crate) tree: Option<Vec<u8>>,
+    pub tree: Option<Vec<u8>>,
 }
 
-/// Reads the GroupInfo to its end, and then the tree, if there is a file of it.
-pub(crate) fn read_inputs_to_end<I: Source, T: Source>(
+/// Reads the GroupInfo to its end, and then the tree, if there is a file of it. Returns their bytes.
+///
+/// # Errors
+///
+/// - `Read` if an input fails. After a failed GroupInfo the tree is not read.
+/// - `Memory`.
+pub fn read_inputs_to_end<I: Source, T: Source>(
     alloc: Global,
     info: &mut I,
     tree: &mut Option<T>,
@@ -110,15 +115,49 @@ fn read_tree(alloc: Global, bytes: &Option<Vec<u8>>) -> Result<Option<PublicTree
 
 /// The decoded inputs.
 #[derive(Drop)]
-pub(crate) struct Inputs {
+pub struct Inputs {
     /// The GroupInfo.
-    pub(crate) info: GroupInfo,
+    pub info: GroupInfo,
     /// The tree, if there is a file of it.
-    pub(crate) tree: Option<PublicTree>,
+    pub tree: Option<PublicTree>,
 }
 
-/// Decodes the GroupInfo, and the tree if there is a file of it. Drops the bytes.
-pub(crate) fn read_inputs(
+/// Decodes the GroupInfo (RFC 9420, 12.4.3), and the tree if there is a file of it (12.4.3.3).
+///
+/// # Errors
+///
+/// - `Found` if the GroupInfo or else the tree is not decodable, or the message is not a GroupInfo.
+/// - `Fault` of `Memory`.
+pub fn decode_inputs(
+    alloc: Global,
+    info_bytes: &[u8],
+    tree_bytes: &Option<Vec<u8>>,
+) -> Result<Inputs, StartFailure>
+    ensures read { IfOk result
+        (λ inputs. IsReadAs info_bytes.now (option_map (λ v. v.items) tree_bytes.now)
+        inputs.info (option_map plain inputs.tree)) }
+    ensures unread { IfErr result
+        (Says (IsUnread info_bytes.now (option_map (λ v. v.items) tree_bytes.now))) }
+{
+    let info = read_info(alloc, info_bytes)?;
+    match read_tree(alloc, tree_bytes) {
+        Ok(tree) => Ok(Inputs { info, tree }),
+        Err(fault) => {
+            drop(info);
+            match fault {
+                NodeFault::OutOfMemory => Err(StartFailure::Fault(RunFault::Memory)),
+                _ => Err(StartFailure::Found(Finding::TreeUnreadable(fault))),
+            }
+        }
+    }
+}
+
+/// As [`decode_inputs`]. Drops the bytes.
+///
+/// # Errors
+///
+/// Those of [`decode_inputs`].
+pub fn read_inputs(
     alloc: Global,
     info_bytes: Vec<u8>,
     tree_bytes: Option<Vec<u8>>,
@@ -129,17 +168,7 @@ pub(crate) fn read_inputs(
     ensures unread { IfErr result
         (Says (IsUnread info_bytes.items (option_map (λ v. v.items) tree_bytes))) }
 {
-    let info = read_info(alloc, info_bytes.as_slice())?;
-    match read_tree(alloc, &tree_bytes) {
-        Ok(tree) => Ok(Inputs { info, tree }),
-        Err(fault) => {
-            drop(info);
-            match fault {
-                NodeFault::OutOfMemory => Err(StartFailure::Fault(RunFault::Memory)),
-                _ => Err(StartFailure::Found(Finding::TreeUnreadable(fault))),
-            }
-        }
-    }
+    decode_inputs(alloc, info_bytes.as_slice(), &tree_bytes)
 }
 
 /// Returns the finding for a start that failed.
@@ -154,8 +183,13 @@ pub(crate) fn refused_start(fault: StartFault) -> Result<Finding, RunFault>
     }
 }
 
-/// Writes the line of a start that failed.
-pub(crate) fn tell_refused<K: Sink>(
+/// Writes the line of a start that failed with this fault; the verdict is `No`.
+///
+/// # Errors
+///
+/// - `Memory` if the fault is `OutOfMemory`, or if an allocation fails; nothing is written.
+/// - `Write` if the output fails; then a prefix of the line may be written.
+pub fn tell_refused<K: Sink>(
     alloc: Global,
     fault: StartFault,
     out: &mut K,

@@ -28,8 +28,9 @@ fn receipt_text(alloc: Global, wanted: &SignatureToVerify) -> Result<String, All
     }
 }
 
-/// Returns the line of a needed signature.
-fn wanted_line(alloc: Global, wanted: &SignatureToVerify) -> Result<String, AllocError>
+/// Returns the line of a needed signature: its receipt or `-`, the suite, the key, the SignContent (RFC 9420, 5.1.2) and
+/// the signature.
+pub fn wanted_line(alloc: Global, wanted: &SignatureToVerify) -> Result<String, AllocError>
     ensures { IfOk result (λ text. string_bytes text ≡ lines.wanted_line wanted.now) }
 {
     let suite = wanted.suite;
@@ -41,7 +42,7 @@ fn wanted_line(alloc: Global, wanted: &SignatureToVerify) -> Result<String, Allo
 }
 
 /// Appends the line of a needed signature, unless `receipts` cover it.
-fn put_line<R: SignatureCheck>(
+pub fn put_line<R: SignatureCheck>(
     alloc: Global,
     text: &mut String,
     wanted: &SignatureToVerify,
@@ -59,8 +60,8 @@ fn put_line<R: SignatureCheck>(
     text.push_str(line.as_str())
 }
 
-/// Returns the lines of needed signatures that `receipts` don't cover.
-pub(crate) fn wanted_text<R: SignatureCheck>(
+/// Returns the lines of needed signatures that `receipts` don't cover, in the order of the list.
+pub fn wanted_text<R: SignatureCheck>(
     alloc: Global,
     wanted: &[SignatureToVerify],
     receipts: &R,

@@ -7,7 +7,7 @@ ghost use Rattle.mls_report.specs.ValueTexts.{hex_text, numbers_text};
 use std::alloc::{AllocError, Global};
 
 /// Returns bytes in lower-case hexadecimal, or `-` if there are none.
-pub(crate) fn hex_of(alloc: Global, bytes: &[u8]) -> Result<String, AllocError>
+pub fn hex_of(alloc: Global, bytes: &[u8]) -> Result<String, AllocError>
     ensures { IfOk result (λ text. string_bytes text ≡ hex_text bytes.now) }
 {
     if bytes.is_empty() {

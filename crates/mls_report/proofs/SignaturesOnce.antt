@@ -1,0 +1,155 @@
+-- What `signatures` writes is determined.
+use Rattle.std.proofs.Common.{◌≡◌, ◌∙◌, ℕ, List, [], ◌∷◌, ◌++◌, length, Option, Some, None, refl, sym, ap, subst, inl, inr, append_assoc}
+use Rattle.std.specs.Prelude.{option_map}
+use Rattle.std.specs.Io.KnownBytes.{Appends}
+use Rattle.mls_check.specs.Signatures.{VerifyFn}
+use Rattle.mls_follow.proofs.Answering.{one_message}
+use Rattle.mls_follow.specs.CoveredLogs.{all_good}
+use Rattle.mls_follow.specs.MessageSignatures.{message_signatures}
+use Rattle.mls_follow.specs.State.{State}
+use Rattle.mls_signatures.specs.SignaturesToVerify.{start_signatures}
+use Rattle.mls_signatures.specs.declared.signature_to_verify.SignatureToVerify.{SignatureToVerify}
+use Rattle.mls_report.proofs.FindingsOnce.{one_info}
+use Rattle.mls_report.proofs.InputsOnce.{written_is, one_input, one_decline, decline_or_start, one_opening}
+use Rattle.mls_report.proofs.TurnsOnce.{one_log}
+use Rattle.mls_report.specs.Finding.{finding_line}
+use Rattle.mls_report.specs.Replay.{ProcessedMessage}
+use Rattle.mls_report.specs.SignaturesReport.{HasSignatures, LoggedMessage, HaveSignatures, turns_of, log_lines, break_line, log_verdict, all_read, wanted_lines, TellsAsked, TellsLogIf, ReadsStartSignatures, DeclinesSignatures, TellsSignatures, Signatures}
+use Rattle.mls_report.specs.StartInputs.{IsInfo, ReadsAndStarts}
+use Rattle.mls_report.specs.UniqueReports.{AreAlikeTexts, EndsLog, MessageSignaturesAreUnique, SignaturesAreUnique}
+use Rattle.mls_report.specs.declared.verdict.Verdict.{Verdict}
+
+-- ---- the signatures of messages
+
+pub one_wanted : MessageSignaturesAreUnique
+one_wanted s bytes None None a b = refl
+one_wanted s bytes None (Some v) a b = absurd (a b.message b.spelled)
+one_wanted s bytes (Some w) None a b = absurd (b a.message a.spelled)
+one_wanted s bytes (Some w) (Some v) a b =
+    ap (λ (x : List SignatureToVerify). Some x)
+    (a.same ∙ ap (message_signatures s) (one_message a.message b.message bytes a.spelled b.spelled) ∙ sym b.same)
+
+head_is : (x y : ProcessedMessage) (xs ys : List ProcessedMessage) → x ∷ xs ≡ y ∷ ys → x ≡ y
+head_is x y xs ys e = cc
+
+tail_is : (x y : ProcessedMessage) (xs ys : List ProcessedMessage) → x ∷ xs ≡ y ∷ ys → xs ≡ ys
+tail_is x y xs ys e = cc
+
+-- messages that are processed alike have the same signatures
+one_asked : (s : State) (asked others : List LoggedMessage) → turns_of asked ≡ turns_of others → HaveSignatures s asked → HaveSignatures s others → asked ≡ others
+one_asked s [] [] e a b = refl
+one_asked s [] (y ∷ ys) e a b = absurd cc
+one_asked s (x ∷ xs) [] e a b = absurd cc
+one_asked s (x ∷ xs) (y ∷ ys) e a b =
+    let turn = head_is x.turn y.turn (turns_of xs) (turns_of ys) e in
+    let wanted = one_wanted s y.turn.bytes x.wanted y.wanted (subst (λ (t : ProcessedMessage). HasSignatures s t.bytes x.wanted) turn a.0) b.0 in
+    let rest = one_asked y.turn.state xs ys (tail_is x.turn y.turn (turns_of xs) (turns_of ys) e) (subst (λ (t : ProcessedMessage). HaveSignatures t.state xs) turn a.1) b.1 in
+    λ i. record { turn = turn i; wanted = wanted i } ∷ rest i
+
+-- ---- the lines of a log
+
+module _ (R : VerifyFn) (s : State) where
+  -- of a log, twice
+  module _ (log : List ℕ) (left behind : Option (List ℕ)) (w x y z : Option (List ℕ)) (v o : Verdict)
+      (a : TellsAsked R s (Some log) left w x v) (b : TellsAsked R s (Some log) behind y z o) where
+    one_told : (log_lines R 1 a.asked ++ break_line a.broken (length a.asked) ≡ log_lines R 1 b.asked ++ break_line b.broken (length b.asked)) × (v ≡ o)
+    one_told =
+        let ends : EndsLog all_good s (Some log) left (turns_of a.asked) a.broken = record { rest = a.rest; follows = a.asks.follows; log_end = a.log_end } in
+        let others : EndsLog all_good s (Some log) behind (turns_of b.asked) b.broken = record { rest = b.rest; follows = b.asks.follows; log_end = b.log_end } in
+        let same = one_log all_good s log left behind (turns_of a.asked) (turns_of b.asked) a.broken b.broken ends others in
+        let asked = one_asked s a.asked b.asked same.0 a.asks.wants b.asks.wants in
+        (λ i. log_lines R 1 (asked i) ++ break_line (same.1 i) (length (asked i)), a.verdict_is ∙ (λ i. log_verdict (same.1 i) (all_read (asked i))) ∙ sym b.verdict_is)
+
+  -- the same was written behind the start
+  one_behind : (log : Option (List ℕ)) (left behind : Option (Option (List ℕ))) (w x y z : Option (List ℕ)) (v o : Verdict)
+      → TellsLogIf R s (option_map Some log) left w x v → TellsLogIf R s (option_map Some log) behind y z o
+      → (more : List ℕ) × Appends w x more × Appends y z more × (v ≡ o)
+  one_behind None None None w x y z v o a b = ([], a.0, b.0, a.1 ∙ sym b.1)
+  one_behind None (Some l) behind w x y z v o a b = absurd a
+  one_behind None None (Some m) w x y z v o a b = absurd b
+  one_behind (Some log) None behind w x y z v o a b = absurd a
+  one_behind (Some log) (Some l) None w x y z v o a b = absurd b
+  one_behind (Some log) (Some l) (Some m) w x y z v o a b =
+      let same = one_told log l m w x y z v o a b in
+      (log_lines R 1 a.asked ++ break_line a.broken (length a.asked), a.wrote, subst (λ (lines : List ℕ). Appends y z lines) (sym same.0) b.wrote, same.1)
+
+-- what was written after two steps
+written_both : (before : List ℕ) (between : Option (List ℕ)) (text line more : List ℕ) → Appends (Some before) between line → Appends between (Some (before ++ text)) more → text ≡ line ++ more
+written_both before None text line more a b = absurd a
+written_both before (Some mid) text line more a b = written_is before text (line ++ more) (b ∙ ap (λ (x : List ℕ). x ++ more) a ∙ append_assoc before line more)
+
+-- ---- the report
+
+module _ (R : VerifyFn) (info_bytes : List ℕ) (tree_bytes log_bytes : Option (List ℕ)) where
+  abbrev Tree : Option (Option (List ℕ))
+  Tree = option_map Some tree_bytes
+
+  abbrev Log : Option (Option (List ℕ))
+  Log = option_map Some log_bytes
+
+  module _ (i j : Option (List ℕ)) (t u : Option (Option (List ℕ))) (l m : Option (Option (List ℕ))) (before after text other : List ℕ) (v o : Verdict) where
+    -- no follower starts, twice
+    both_decline : DeclinesSignatures (Some info_bytes) i Tree t Log l (Some before) (Some (before ++ text)) v
+        → DeclinesSignatures (Some info_bytes) j Tree u Log m (Some after) (Some (after ++ other)) o → AreAlikeTexts text other × (v ≡ o)
+    both_decline a b =
+        let alike = one_decline all_good info_bytes tree_bytes i j t u a.finding b.finding a.declines b.declines in
+        (inr (a.finding, b.finding, alike, written_is before text (finding_line a.finding) a.wrote, written_is after other (finding_line b.finding) b.wrote), a.verdict_is ∙ sym b.verdict_is)
+
+  -- a follower starts
+  opened : (i : Option (List ℕ)) (t : Option (Option (List ℕ))) (s : State) (wanted : List SignatureToVerify) → ReadsStartSignatures (Some info_bytes) i Tree t s wanted
+      → ReadsAndStarts all_good (Some info_bytes) i Tree t s
+  opened i t s wanted a = record {
+    info_bytes = a.info_bytes;
+    tree_bytes = a.tree_bytes;
+    both_read = a.both_read;
+    started = record { info = a.info; handed = a.handed; is_read = a.is_read; start = a.starts.start };
+  }
+
+  -- from one GroupInfo, and so with the same signatures
+  module _ (i j : Option (List ℕ)) (t u : Option (Option (List ℕ))) (s z : State) (wanted others : List SignatureToVerify)
+      (a : ReadsStartSignatures (Some info_bytes) i Tree t s wanted) (b : ReadsStartSignatures (Some info_bytes) j Tree u z others) where
+    one_state : s ≡ z
+    one_state = one_opening all_good info_bytes tree_bytes i j t u s z (opened i t s wanted a) (opened j u z others b)
+
+    same_info : a.info ≡ b.info
+    same_info =
+        let bytes = one_input info_bytes i j a.info_bytes b.info_bytes a.both_read.info b.both_read.info in
+        one_info b.info_bytes a.info b.info (subst (λ (x : List ℕ). IsInfo x a.info) bytes a.is_read.is_info) b.is_read.is_info
+
+    one_start_list : wanted ≡ others
+    one_start_list = a.starts.wanted_is ∙ (λ k. start_signatures (same_info k) (one_state k).tree) ∙ sym b.starts.wanted_is
+
+  module _ (i j : Option (List ℕ)) (t u : Option (Option (List ℕ))) (l m : Option (Option (List ℕ))) (before after text other : List ℕ) (v o : Verdict) where
+    -- a follower starts, twice
+    both_tell : TellsSignatures R (Some info_bytes) i Tree t Log l (Some before) (Some (before ++ text)) v
+        → TellsSignatures R (Some info_bytes) j Tree u Log m (Some after) (Some (after ++ other)) o → AreAlikeTexts text other × (v ≡ o)
+    both_tell a b =
+        let state = one_state i j t u a.state b.state a.wanted b.wanted a.opens b.opens in
+        let wanted = one_start_list i j t u a.state b.state a.wanted b.wanted a.opens b.opens in
+        let moved = subst (λ (s : State). TellsLogIf R s Log l a.between (Some (before ++ text)) v) state a.tells in
+        let tail = one_behind R b.state log_bytes l m a.between (Some (before ++ text)) b.between (Some (after ++ other)) v o moved b.tells in (
+          inl (written_both before a.between text (wanted_lines R a.wanted) tail.0 a.wrote tail.1
+              ∙ ap (λ (ws : List SignatureToVerify). wanted_lines R ws ++ tail.0) wanted
+              ∙ sym (written_both after b.between other (wanted_lines R b.wanted) tail.0 b.wrote tail.2)),
+          tail.3,
+        )
+
+  -- a follower starts, or none does
+  not_both : (i j : Option (List ℕ)) (t u : Option (Option (List ℕ))) (l m : Option (Option (List ℕ))) (w x y z : Option (List ℕ)) (v o : Verdict)
+      → DeclinesSignatures (Some info_bytes) i Tree t Log l w x v → TellsSignatures R (Some info_bytes) j Tree u Log m y z o → ⊥
+  not_both i j t u l m w x y z v o a b =
+      decline_or_start all_good info_bytes tree_bytes i j t u a.finding b.state a.declines (opened j u b.state b.wanted b.opens)
+
+  either : (i j : Option (List ℕ)) (t u : Option (Option (List ℕ))) (l m : Option (Option (List ℕ))) (before after text other : List ℕ) (v o : Verdict)
+      → Signatures R (Some info_bytes) i Tree t Log l (Some before) (Some (before ++ text)) v
+      → Signatures R (Some info_bytes) j Tree u Log m (Some after) (Some (after ++ other)) o → AreAlikeTexts text other × (v ≡ o)
+  either i j t u l m before after text other v o (inl a) (inl b) = both_decline i j t u l m before after text other v o a b
+  either i j t u l m before after text other v o (inl a) (inr b) =
+      absurd (not_both i j t u l m (Some before) (Some (before ++ text)) (Some after) (Some (after ++ other)) v o a b)
+  either i j t u l m before after text other v o (inr a) (inl b) =
+      absurd (not_both j i u t m l (Some after) (Some (after ++ other)) (Some before) (Some (before ++ text)) o v b a)
+  either i j t u l m before after text other v o (inr a) (inr b) = both_tell i j t u l m before after text other v o a b
+
+pub one_report : SignaturesAreUnique
+one_report R info_bytes tree_bytes log_bytes text other verdict more a b =
+    either R info_bytes tree_bytes log_bytes a.info_left b.info_left a.tree_left b.tree_left a.log_left b.log_left a.before b.before text other verdict more a.signatures b.signatures

@@ -1,0 +1,144 @@
+-- The answers to requests.
+use Rattle.std.proofs.Common.{◌≡◌, ◌∙◌, ℕ, List, [], Bool, true, false, Option, Some, None, Result, refl, sym, ap, subst, inl, inr}
+use Rattle.std.proofs.lemmas.Bool.{false≢true}
+use Rattle.mls_tree.specs.RatchetTree.{RatchetTree}
+use Rattle.mls_check.specs.Signatures.{VerifyFn}
+use Rattle.mls_msgs.specs.declared.message.Message.TheVariants as messages
+use Rattle.mls_msgs.specs.declared.profile.Profile.TheVariants.{Members}
+use Rattle.mls_msgs.proofs.Profiles.{messages_once}
+use Rattle.mls_signatures.specs.declared.signature_to_verify.SignatureToVerify.{SignatureToVerify}
+use Rattle.mls_follow.specs.Runs.{IsAnswer}
+use Rattle.mls_follow.specs.State.{State}
+use Rattle.mls_follow.specs.declared.refusal.Refusal.{Refusal}
+use Rattle.mls_follow.specs.declared.start_fault.StartFault.{StartFault}
+use Rattle.mls_follow.specs.declared.taken.Taken.{Taken}
+use Rattle.mls_report.specs.Finding.{finding_line}
+use Rattle.mls_report.specs.SignaturesReport.{HasSignatures}
+use Rattle.mls_report.specs.StartInputs.{IsHanded, IsHandedUnread, IsStarted, IsStartFinding}
+use Rattle.mls_report.specs.declared.finding.Finding.{Finding}
+use Rattle.mls_report.specs.declared.finding.Finding.TheVariants.{ContextUnreadable, InfoUnreadable, NotGroupInfo, TreeUnreadable, UnsupportedVersion, UnsupportedSuite, RequirementsUnreadable, TreeRefused, MembersRefused, StartRefused, TreeValid, Starts}
+use Rattle.mls_report.specs.declared.verdict.Verdict.TheVariants.{Yes, No}
+use Rattle.mls_gate.specs.Answers.{Outcome, Goes, Ends, Begins, Queries, Judges, Responds, Answers, message_query, ready_line, judged_line, broken_line}
+use Rattle.mls_gate.specs.GateSteps.{IsReadable, IsReady, Replies, AnswersIn, IsOutcome, Declines}
+use Rattle.mls_gate.specs.Phases.{Inputs, Phase, Opening, Following}
+use Rattle.mls_gate.specs.Requests.{request_of, having_learnt}
+use Rattle.mls_gate.specs.declared.request.Request.{Request}
+use Rattle.mls_gate.specs.declared.request.Request.TheVariants.{Learn, Begin, Query, Judge}
+
+-- ---- a start
+
+not_handed : (bytes : Option (List ℕ)) (t : Option RatchetTree) → IsHandedUnread bytes → IsHanded bytes t → ⊥
+not_handed None t a b = absurd a
+not_handed (Some bytes) None a b = absurd b
+not_handed (Some bytes) (Some t) a b = a b.nodes b.is_tree
+
+yes_no : Yes ≡ No → ⊥
+yes_no e = absurd cc
+
+-- of inputs that can be read only that a start is refused
+pub refused-only : (G : VerifyFn) (i : Inputs) (finding : Finding) → IsReadable i → Declines G i finding → (fault : StartFault) × (finding ≡ StartRefused fault)
+refused-only G i (StartRefused fault) r d = (fault, refl)
+refused-only G i (InfoUnreadable fault) r d = absurd (d.found (messages.GroupInfo r.info) r.is_read.is_info)
+refused-only G i NotGroupInfo r d =
+    let same : d.found.0 ≡ messages.GroupInfo r.info = messages_once Members d.found.0 (messages.GroupInfo r.info) i.info d.found.1.spelled r.is_read.is_info.spelled in
+    absurd (d.found.2 r.info same)
+refused-only G i (TreeUnreadable fault) r d = absurd (not_handed i.tree r.handed d.found.2 r.is_read.is_handed)
+refused-only G i (Starts started) r d = absurd (yes_no d.verdict)
+refused-only G i (ContextUnreadable fault) r d = absurd d.found
+refused-only G i UnsupportedVersion r d = absurd d.found
+refused-only G i UnsupportedSuite r d = absurd d.found
+refused-only G i RequirementsUnreadable r d = absurd d.found
+refused-only G i (TreeRefused fault) r d = absurd d.found
+refused-only G i (MembersRefused fault) r d = absurd d.found
+refused-only G i (TreeValid hash) r d = absurd d.found
+
+pub begun : (G : VerifyFn) (i : Inputs) (s : State) → IsStarted G i.info i.tree s → Replies (Begins i G) (ready_line s) false (Some (Following G s))
+begun G i s started = record { outcome = Goes (ready_line s) (Following G s); meets = inl (s, started, refl); is = (refl, refl, refl) }
+
+pub not-begun : (G : VerifyFn) (i : Inputs) (finding : Finding) (after : Option Phase) → IsReadable i → Declines G i finding
+    → Replies (Begins i G) (finding_line finding) true after
+not-begun G i finding after r d =
+    let only = refused-only G i finding r d in
+    record {
+      outcome = Ends (finding_line finding);
+      meets = inr (only.0, subst (IsStartFinding G i.info i.tree) only.1 d.found, ap (λ (f : Finding). Ends (finding_line f)) only.1);
+      is = (refl, refl);
+    }
+
+-- ---- a message
+
+pub queried : (G K : VerifyFn) (s t : State) (message : List ℕ) (wanted : Option (List SignatureToVerify)) (text : List ℕ) → HasSignatures s message wanted
+    → text ≡ message_query G wanted → K ≡ G → t ≡ s → Replies (Queries G s message) text false (Some (Following K t))
+queried G K s t message wanted text has e same stays = record {
+  outcome = Goes (message_query G wanted) (Following G s);
+  meets = (wanted, has, refl);
+  is = (e, refl, λ i. Some (Following (same i) (stays i)));
+}
+
+pub judged : (G K : VerifyFn) (s t : State) (message : List ℕ) (answer : Result Taken Refusal) (text : List ℕ) → IsAnswer G s message answer t
+    → text ≡ judged_line answer t → K ≡ G → Replies (Judges G s message) text false (Some (Following K t))
+judged G K s t message answer text is_answer e same = record {
+  outcome = Goes (judged_line answer t) (Following G t);
+  meets = (answer, t, is_answer, refl);
+  is = (e, refl, λ i. Some (Following (same i) t));
+}
+
+-- ---- what an answer leads to
+
+-- the gate goes on
+pub record GoesOn (now : Phase) (body text : List ℕ) (after : Option Phase) : Type 0 where
+  pub new : Phase
+  pub answers : Answers now body (Goes text new)
+  pub is : after ≡ Some new
+
+by_going : (now : Phase) (body text : List ℕ) (last : Bool) (after : Option Phase) (o : Outcome) → last ≡ false → Answers now body o → IsOutcome o text last after
+    → GoesOn now body text after
+by_going now body text last after (Goes told new) e meets is =
+    record { new = new; answers = subst (λ (t : List ℕ). Answers now body (Goes t new)) (sym is.0) meets; is = is.2 }
+by_going now body text last after (Ends told) e meets is = absurd (false≢true (sym e ∙ is.1))
+
+pub goes-on : (now : Phase) (body text : List ℕ) (last : Bool) (after : Option Phase) → last ≡ false → Replies (AnswersIn (Some now) body) text last after
+    → GoesOn now body text after
+goes-on now body text last after e r = by_going now body text last after r.outcome e r.meets r.is
+
+by_ending : (now : Phase) (body text : List ℕ) (last : Bool) (after : Option Phase) (o : Outcome) → last ≡ true → Answers now body o → IsOutcome o text last after
+    → Answers now body (Ends text)
+by_ending now body text last after (Ends told) e meets is = subst (λ (t : List ℕ). Answers now body (Ends t)) (sym is.0) meets
+by_ending now body text last after (Goes told new) e meets is = absurd (false≢true (sym is.1 ∙ e))
+
+pub ends-there : (now : Phase) (body text : List ℕ) (last : Bool) (after : Option Phase) → last ≡ true → Replies (AnswersIn (Some now) body) text last after
+    → Answers now body (Ends text)
+ends-there now body text last after e r = by_ending now body text last after r.outcome e r.meets r.is
+
+-- what the gate goes on to can answer the next record
+pub one_phase : (text told : List ℕ) (new phase : Phase) → Goes text new ≡ Goes told phase → phase ≡ new
+one_phase text told new phase e = cc
+
+pub no_end : {A : Type 0} (text told : List ℕ) (new : Phase) → Goes text new ≡ Ends told → A
+no_end text told new e = absurd cc
+
+ready-responds : (now new : Phase) (request : Option Request) (rest text : List ℕ) → IsReady (Some now) → Responds now request rest (Goes text new) → IsReady (Some new)
+ready-responds (Opening i G) new (Some Learn) rest text r a =
+    subst (λ (p : Phase). IsReady (Some p)) (one_phase text [] new (Opening i (having_learnt G rest)) a) r
+ready-responds (Opening i G) new (Some Begin) rest text r (inl a) =
+    subst (λ (p : Phase). IsReady (Some p)) (one_phase text (ready_line a.0) new (Following G a.0) a.2) tt
+ready-responds (Opening i G) new (Some Begin) rest text r (inr a) = no_end text (finding_line (StartRefused a.0)) new a.2
+ready-responds (Opening i G) new (Some Query) rest text r a = no_end text broken_line new a
+ready-responds (Opening i G) new (Some Judge) rest text r a = no_end text broken_line new a
+ready-responds (Opening i G) new None rest text r a = no_end text broken_line new a
+ready-responds (Following G s) new (Some Learn) rest text r a =
+    subst (λ (p : Phase). IsReady (Some p)) (one_phase text [] new (Following (having_learnt G rest) s) a) tt
+ready-responds (Following G s) new (Some Begin) rest text r a = no_end text broken_line new a
+ready-responds (Following G s) new (Some Query) rest text r a =
+    subst (λ (p : Phase). IsReady (Some p)) (one_phase text (message_query G a.0) new (Following G s) a.2) tt
+ready-responds (Following G s) new (Some Judge) rest text r a =
+    subst (λ (p : Phase). IsReady (Some p)) (one_phase text (judged_line a.0 a.1) new (Following G a.1) a.3) tt
+ready-responds (Following G s) new None rest text r a = no_end text broken_line new a
+
+pub ready-goes : (now new : Phase) (body text : List ℕ) → IsReady (Some now) → Answers now body (Goes text new) → IsReady (Some new)
+ready-goes now new body text r a = ready-responds now new (request_of body) _ text r a
+
+-- a gate that has not ended
+pub there : (o : Option Phase) → IsReady o → (p : Phase) × (o ≡ Some p)
+there None r = absurd r
+there (Some p) r = (p, refl)

@@ -1,0 +1,260 @@
+-- A gate has a report, whatever the bytes of its inputs.
+use Rattle.std.proofs.Common.{◌≡◌, ◌≢◌, ◌∙◌, ℕ, zero, suc, List, [], ◌∷◌, ◌++◌, drop, Option, Some, None, Result, Ok, Err, refl, sym, ap, subst, inl, inr, arith, append_assoc}
+use Rattle.std.specs.Prelude.{option_map}
+use Rattle.mls_check.specs.Signatures.{VerifyFn}
+use Rattle.mls_follow.specs.CoveredLogs.{all_good}
+use Rattle.mls_follow.specs.MessageSignatures.{message_signatures}
+use Rattle.mls_follow.specs.Runs.{IsAnswer, IsAnswered}
+use Rattle.mls_follow.specs.State.{State}
+use Rattle.mls_follow.specs.declared.refusal.Refusal.{Refusal}
+use Rattle.mls_follow.specs.declared.refusal.Refusal.TheVariants.{OutOfMemory}
+use Rattle.mls_follow.specs.declared.taken.Taken.{Taken}
+use Rattle.mls_follow.proofs.RisingRuns.{rising_answered}
+use Rattle.mls_signatures.specs.SignaturesToVerify.{start_signatures}
+use Rattle.mls_signatures.specs.declared.signature_to_verify.SignatureToVerify.{SignatureToVerify}
+use Rattle.mls_report.specs.Finding.{finding_line}
+use Rattle.mls_report.specs.SignaturesReport.{HasSignatures}
+use Rattle.mls_report.specs.StartInputs.{ReadsBoth, IsStarted, IsStartFinding}
+use Rattle.mls_report.specs.declared.finding.Finding.TheVariants.{StartRefused}
+use Rattle.mls_report.specs.declared.verdict.Verdict.{Verdict}
+use Rattle.mls_report.specs.declared.verdict.Verdict.TheVariants.{No}
+use Rattle.mls_report.proofs.FindingsExist.{begun}
+use Rattle.mls_report.proofs.LogsExist.{Begins, Breaks, comes}
+use Rattle.mls_report.proofs.ReplaysExist.{read_input, read_optional_tree}
+use Rattle.mls_gate.specs.Answers as specs
+use Rattle.mls_gate.specs.Answers.{Outcome, Goes, Ends, Answers, Responds, query_text, message_query, judged_line, ready_line, broken_line}
+use Rattle.mls_gate.specs.GateReport.{Turn, phase_after, answers, record_limit, IsEnding}
+use Rattle.mls_gate.specs.GateReports.{GateExists}
+use Rattle.mls_gate.specs.GateRuns.{HasStarted}
+use Rattle.mls_gate.specs.GateSteps.{IsReadable}
+use Rattle.mls_gate.specs.Phases.{Inputs, Phase, Opening, Following, end_verdict}
+use Rattle.mls_gate.specs.Requests.{request_of, having_learnt}
+use Rattle.mls_gate.specs.declared.request.Request.{Request}
+use Rattle.mls_gate.specs.declared.request.Request.TheVariants.{Learn, Begin, Query, Judge}
+use Rattle.mls_gate.proofs.Answering.{refused-only}
+use Rattle.mls_gate.proofs.RecordsOnce.{RecordLines}
+use Rattle.mls_gate.proofs.Rising.{Reached, reached-none, reached-on}
+
+-- ---- a message
+
+own : (e : Refusal) → (◌≡◌ {A = Result Taken Refusal} (Err e) (Err OutOfMemory) → ⊥) → e ≢ OutOfMemory
+own e memory same = memory (ap Err same)
+
+-- a message that is processed has signatures, or it is none
+some_wanted : (G : VerifyFn) (s : State) (bytes : List ℕ) (answer : Result Taken Refusal) (new : State) → IsAnswer G s bytes answer new
+    → (wanted : Option (List SignatureToVerify)) × HasSignatures s bytes wanted
+some_wanted G s bytes (Ok taken) new h =
+    let message = h.takes.0 in
+    (Some (message_signatures s message.message), record { message = message.message; spelled = message.spelled; same = refl })
+some_wanted G s bytes (Err e) new h =
+    elim (h.takes.1 (own e h.memory)) [
+      | inl none ↦ (None, none.1)
+      | inr message ↦ (Some (message_signatures s message.message), record { message = message.message; spelled = message.spelled; same = refl })
+    ]
+
+-- ---- a record
+
+module _ (i : Inputs) (G : VerifyFn) (readable : IsReadable i) where
+  abbrev Here : Phase → Type 0
+  Here = Reached i G
+
+  -- there is an answer to any message
+  some_answer : (K : VerifyFn) (s : State) (bytes : List ℕ) → HasStarted i G K s → IsAnswered K s bytes
+  some_answer K s bytes h =
+      subst (λ (M : VerifyFn). IsAnswered M s bytes) h.run.meaning
+      (rising_answered h.known h.started.info h.started.handed h.first s h.run.events bytes h.started.start h.run.rises)
+
+  some_begin : (j : Inputs) (K : VerifyFn) → IsReadable j → (o : Outcome) × specs.Begins j K o
+  some_begin j K r =
+      elim (begun K j.info j.tree) [
+        | inl s ↦ (Goes (ready_line s.0) (Following K s.0), inl (s.0, s.1, refl))
+        | inr f ↦
+            (let only = refused-only K j f.0 r (record { found = f.1; verdict = f.2 }) in
+            (Ends (finding_line (StartRefused only.0)), inr (only.0, subst (IsStartFinding K j.info j.tree) only.1 f.1, refl)))
+      ]
+
+  some_response : (p : Phase) (request : Option Request) (rest : List ℕ) → Here p → (o : Outcome) × Responds p request rest o
+  some_response (Opening j K) (Some Learn) rest r = (Goes [] (Opening j (having_learnt K rest)), refl)
+  some_response (Opening j K) (Some Begin) rest r = some_begin j K (subst IsReadable (sym r.0) readable)
+  some_response (Opening j K) (Some Query) rest r = (Ends broken_line, refl)
+  some_response (Opening j K) (Some Judge) rest r = (Ends broken_line, refl)
+  some_response (Opening j K) None rest r = (Ends broken_line, refl)
+  some_response (Following K s) (Some Learn) rest r = (Goes [] (Following (having_learnt K rest) s), refl)
+  some_response (Following K s) (Some Begin) rest r = (Ends broken_line, refl)
+  some_response (Following K s) (Some Query) rest r =
+      let answer = some_answer K s rest r in
+      let wanted = some_wanted K s rest answer.0 answer.1 answer.2 in
+      (Goes (message_query K wanted.0) (Following K s), (wanted.0, wanted.1, refl))
+  some_response (Following K s) (Some Judge) rest r =
+      let answer = some_answer K s rest r in
+      (Goes (judged_line answer.0 answer.1) (Following K answer.1), (answer.0, answer.1, answer.2, refl))
+  some_response (Following K s) None rest r = (Ends broken_line, refl)
+
+  -- ---- all records
+
+  record IsServed (most : ℕ) (p : Phase) (all : List ℕ) : Type 0 where
+    turns : List Turn
+    text : List ℕ
+    verdict : Verdict
+    lines : RecordLines most p all turns text verdict
+
+  none_served : (most : ℕ) (p : Phase) → IsServed most p []
+  none_served most p = record {
+    turns = [];
+    text = [];
+    verdict = end_verdict p;
+    lines = record {
+      answered = tt;
+      bounded = omega arith;
+      records = [];
+      are_records = refl;
+      rest = [];
+      left = [];
+      read = refl;
+      ending = inl (record { nothing_read = refl; at_end = refl; no_text = refl; verdict_is = refl });
+    };
+  }
+
+  last_served : (most : ℕ) (p : Phase) (all rest left text : List ℕ) (verdict : Verdict) → all ≡ rest ++ left → IsEnding p most rest (Some left) text verdict
+      → IsServed most p all
+  last_served most p all rest left text verdict e ending = record {
+    turns = [];
+    text = text;
+    verdict = verdict;
+    lines = record {
+      answered = tt;
+      bounded = omega arith;
+      records = [];
+      are_records = refl;
+      rest = rest;
+      left = left;
+      read = e;
+      ending = subst (λ (n : ℕ). IsEnding p n rest (Some left) text verdict) (omega arith) ending;
+    };
+  }
+
+  breaks_served : (most : ℕ) (p : Phase) (all : List ℕ) → Breaks most all → IsServed most p all
+  breaks_served most p all b =
+      last_served most p all b.rest b.left broken_line No b.log_is (inr (inl (record { broken = b.is_break; text_is = refl; verdict_is = refl })))
+
+  -- one record, and what is answered behind it
+  one_more : (most : ℕ) (p : Phase) (all : List ℕ) (n : Begins all) (text : List ℕ) (new : Phase) → Answers p n.body (Goes text new) → IsServed most new n.after
+      → IsServed (suc most) p all
+  one_more most p all n text new answer rest =
+      let turn : Turn = record { body = n.body; text = text; phase = new } in
+      let behind = rest.lines in
+      let fewer = behind.bounded in
+      record {
+        turns = turn ∷ rest.turns;
+        text = rest.text;
+        verdict = rest.verdict;
+        lines = record {
+          answered = (answer, behind.answered);
+          bounded = omega (arith, fewer);
+          records = n.read ++ behind.records;
+          are_records = (n.read, behind.records, n.is_record, behind.are_records, refl);
+          rest = behind.rest;
+          left = behind.left;
+          read =
+              n.log_is
+              ∙ ap (λ (x : List ℕ). n.read ++ x) behind.read
+              ∙ sym (append_assoc n.read (behind.records ++ behind.rest) behind.left)
+              ∙ ap (λ (x : List ℕ). x ++ behind.left) (sym (append_assoc n.read behind.records behind.rest));
+          ending = subst (λ (k : ℕ). IsEnding (phase_after new rest.turns) k behind.rest (Some behind.left) rest.text rest.verdict) (omega (arith, fewer)) behind.ending;
+        };
+      }
+
+  last_record : (most : ℕ) (p : Phase) (all : List ℕ) (n : Begins all) (text : List ℕ) → Answers p n.body (Ends text) → IsServed (suc most) p all
+  last_record most p all n text answer =
+      last_served (suc most) p all n.read n.after text No n.log_is
+      (inr (inr (record { body = n.body; allowed = omega arith; is_record = n.is_record; answers = answer; verdict_is = refl })))
+
+  by_outcome : (most : ℕ) (p : Phase) (all : List ℕ) → Here p → (n : Begins all) (o : Outcome) → Answers p n.body o
+      → ((new : Phase) → Here new → IsServed most new n.after) → IsServed (suc most) p all
+  by_outcome most p all r n (Goes text new) answer rest =
+      one_more most p all n text new answer (rest new (reached-on i G p new n.body text r answer))
+  by_outcome most p all r n (Ends text) answer rest = last_record most p all n text answer
+
+  served : (most : ℕ) (p : Phase) (all : List ℕ) → Here p → IsServed most p all
+  served most p [] r = none_served most p
+  served zero p (first ∷ bytes) r =
+      breaks_served zero p (first ∷ bytes) (record { rest = first ∷ []; left = bytes; is_break = inl (refl, refl); log_is = refl })
+  served (suc most) p (first ∷ bytes) r =
+      elim (comes most first bytes) [
+        | inl n ↦
+            (let answer = some_response p (request_of n.body) (drop 1 n.body) r in
+            by_outcome most p (first ∷ bytes) r n answer.0 answer.1 (λ new here. served most new n.after here))
+        | inr b ↦ breaks_served (suc most) p (first ∷ bytes) b
+      ]
+
+-- ---- the report
+
+pub some_gate : GateExists
+some_gate G info_bytes tree_bytes records =
+    let info = read_input info_bytes in
+    let tree = read_optional_tree tree_bytes in
+    let i : Inputs = record { info = info.bytes; tree = tree.bytes } in
+    let both : ReadsBoth (Some info_bytes) (Some info.left) (option_map Some tree_bytes) tree.left info.bytes tree.bytes = record { info = info.reads; tree = tree.reads } in
+    elim (begun all_good info.bytes tree.bytes) [
+      | inl s ↦
+          (let started : IsStarted all_good info.bytes tree.bytes s.0 = s.1 in
+          let readable : IsReadable i = record { info = started.info; handed = started.handed; is_read = started.is_read } in
+          let wanted = start_signatures started.info s.0.tree in
+          let all : IsServed i G readable record_limit (Opening i G) records = served i G readable record_limit (Opening i G) records (reached-none i G) in (
+            query_text G wanted ++ (answers all.turns ++ all.text),
+            all.verdict,
+            record {
+              info_left = Some info.left;
+              tree_left = tree.left;
+              records_left = Some all.lines.left;
+              before = [];
+              gates = inr (record {
+                i = i;
+                wanted = wanted;
+                opens = record {
+                  both_read = both;
+                  can_start = record {
+                    info = started.info;
+                    handed = started.handed;
+                    is_read = started.is_read;
+                    state = s.0;
+                    has_signatures = record { start = started.start; wanted_is = refl };
+                  };
+                };
+                between = Some (query_text G wanted);
+                wrote = refl;
+                tells = record {
+                  turns = all.turns;
+                  rest = all.lines.rest;
+                  text = all.text;
+                  serves = record {
+                    answered = all.lines.answered;
+                    bounded = all.lines.bounded;
+                    records = all.lines.records;
+                    are_records = all.lines.are_records;
+                    all_read = all.lines.read;
+                  };
+                  ending = all.lines.ending;
+                  wrote = refl;
+                };
+              });
+            },
+          ))
+      | inr f ↦ (
+        finding_line f.0,
+        No,
+        record {
+          info_left = Some info.left;
+          tree_left = tree.left;
+          records_left = Some records;
+          before = [];
+          gates = inl (record {
+            finding = f.0;
+            declines = record { info_bytes = info.bytes; tree_bytes = tree.bytes; both_read = both; found = f.1; verdict = f.2 };
+            unread = refl;
+            wrote = refl;
+            verdict_is = refl;
+          });
+        },
+      )
+    ]

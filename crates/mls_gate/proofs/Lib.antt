@@ -1,0 +1,10 @@
+pub mod Learnt
+pub mod Starting
+pub mod Answering
+pub mod Replying
+pub mod Serving
+pub mod Rising
+pub mod AnswersOnce
+pub mod RecordsOnce
+pub mod GateOnce
+pub mod GateExists

@@ -1,0 +1,161 @@
+-- The records of a gate are a rising run of its follower.
+use Rattle.std.proofs.Common.{◌≡◌, ◌∙◌, ℕ, zero, suc, ◌/◌, List, [], ◌∷◌, ◌++◌, length, take, drop, Option, Some, None, Result, refl, sym, subst, inl, inr}
+use Rattle.mls_check.specs.ReceiptSets.{with_receipt}
+use Rattle.mls_check.specs.Signatures.{VerifyFn, Extends}
+use Rattle.mls_check.proofs.ReceiptSets.{with_receipt_extends}
+use Rattle.mls_follow.specs.RisingRuns.{Event, IsRisingRun, last_meaning}
+use Rattle.mls_follow.specs.RisingRuns.Event.{Received, Learned}
+use Rattle.mls_follow.specs.Runs.{Call, Takes, IsAnswer}
+use Rattle.mls_follow.specs.State.{State}
+use Rattle.mls_follow.specs.Validity.{IsValidState}
+use Rattle.mls_follow.specs.declared.refusal.Refusal.{Refusal}
+use Rattle.mls_follow.specs.declared.taken.Taken.{Taken}
+use Rattle.mls_follow.proofs.CoveredLogs.{covered_answers}
+use Rattle.mls_follow.proofs.RisingRuns.{rising_follower_valid}
+use Rattle.mls_report.specs.Finding.{finding_line}
+use Rattle.mls_report.specs.StartInputs.{IsStarted}
+use Rattle.mls_report.specs.declared.finding.Finding.TheVariants.{StartRefused}
+use Rattle.mls_gate.specs.Answers.{Goes, Answers, Responds, broken_line, judged_line, message_query, ready_line}
+use Rattle.mls_gate.specs.GateReport.{Turn, AreAnswered, phase_after}
+use Rattle.mls_gate.specs.GateRuns.{HasStarted, GatesRise, GatesAreValid, GateAnswersAreTrusted}
+use Rattle.mls_gate.specs.Phases.{Inputs, Phase, Opening, Following}
+use Rattle.mls_gate.specs.Requests.{request_of, with_receipts, having_learnt}
+use Rattle.mls_gate.specs.declared.request.Request.{Request}
+use Rattle.mls_gate.specs.declared.request.Request.TheVariants.{Learn, Begin, Query, Judge}
+use Rattle.mls_gate.proofs.Answering.{one_phase, no_end}
+
+-- ---- learning extends
+
+extends_itself : (G : VerifyFn) → Extends G G
+extends_itself G suite key content signature e = e
+
+extends_through : (G H K : VerifyFn) → Extends G H → Extends H K → Extends G K
+extends_through G H K f g suite key content signature e = g suite key content signature (f suite key content signature e)
+
+receipts_extend : (n : ℕ) (G : VerifyFn) (bytes : List ℕ) → Extends G (with_receipts n G bytes)
+receipts_extend zero G bytes = extends_itself G
+receipts_extend (suc n) G bytes =
+    extends_through G (with_receipt G (take 32 bytes)) (with_receipts (suc n) G bytes) (with_receipt_extends G (take 32 bytes))
+    (receipts_extend n (with_receipt G (take 32 bytes)) (drop 32 bytes))
+
+learnt_extends : (G : VerifyFn) (bytes : List ℕ) → Extends G (having_learnt G bytes)
+learnt_extends G bytes = receipts_extend (length bytes / 32) G bytes
+
+-- ---- one event more
+
+after_message : (G : VerifyFn) (s : State) (events : List Event) (mid new : State) (call : Call) → IsRisingRun G s events mid
+    → Takes (last_meaning G events) mid call.bytes call.answer new → IsRisingRun G s (events ++ Received call ∷ []) new
+after_message G s [] mid new call h takes = (new, subst (λ (t : State). Takes G t call.bytes call.answer new) h takes, refl)
+after_message G s (Received c ∷ events) mid new call h takes = (h.0, h.1, after_message G h.0 events mid new call h.2 takes)
+after_message G s (Learned K ∷ events) mid new call h takes = (h.0, after_message K s events mid new call h.1 takes)
+
+after_learning : (G : VerifyFn) (s : State) (events : List Event) (new : State) (K : VerifyFn) → IsRisingRun G s events new
+    → Extends (last_meaning G events) K → IsRisingRun G s (events ++ Learned K ∷ []) new
+after_learning G s [] new K h more = (more, h)
+after_learning G s (Received c ∷ events) new K h more = (h.0, h.1, after_learning G h.0 events new K h.2 more)
+after_learning G s (Learned L ∷ events) new K h more = (h.0, after_learning L s events new K h.1 more)
+
+meaning_message : (G : VerifyFn) (events : List Event) (call : Call) → last_meaning G (events ++ Received call ∷ []) ≡ last_meaning G events
+meaning_message G [] call = refl
+meaning_message G (Received c ∷ events) call = meaning_message G events call
+meaning_message G (Learned K ∷ events) call = meaning_message K events call
+
+meaning_learnt : (G : VerifyFn) (events : List Event) (K : VerifyFn) → last_meaning G (events ++ Learned K ∷ []) ≡ K
+meaning_learnt G [] K = refl
+meaning_learnt G (Received c ∷ events) K = meaning_learnt G events K
+meaning_learnt G (Learned L ∷ events) K = meaning_learnt L events K
+
+-- ---- the phases that a gate comes to
+
+module _ (i : Inputs) (G : VerifyFn) where
+  abbrev pub Reached : Phase → Type 0
+  Reached (Opening j K) = (j ≡ i) × Extends G K
+  Reached (Following K s) = HasStarted i G K s
+
+  still_opening : (j : Inputs) (K : VerifyFn) (rest : List ℕ) → Reached (Opening j K) → Reached (Opening j (having_learnt K rest))
+  still_opening j K rest r = (r.0, extends_through G K (having_learnt K rest) r.1 (learnt_extends K rest))
+
+  starts : (j : Inputs) (K : VerifyFn) (s : State) → Reached (Opening j K) → IsStarted K j.info j.tree s → Reached (Following K s)
+  starts j K s r started = record {
+    known = K;
+    extends = r.1;
+    first = s;
+    started = subst (λ (x : Inputs). IsStarted K x.info x.tree s) r.0 started;
+    run = record { events = []; rises = refl; meaning = refl };
+  }
+
+  learns : (K : VerifyFn) (s : State) (rest : List ℕ) → Reached (Following K s) → Reached (Following (having_learnt K rest) s)
+  learns K s rest r = record {
+    known = r.known;
+    extends = r.extends;
+    first = r.first;
+    started = r.started;
+    run = record {
+      events = r.run.events ++ Learned (having_learnt K rest) ∷ [];
+      rises = after_learning r.known r.first r.run.events s (having_learnt K rest) r.run.rises
+          (subst (λ (M : VerifyFn). Extends M (having_learnt K rest)) (sym r.run.meaning) (learnt_extends K rest));
+      meaning = meaning_learnt r.known r.run.events (having_learnt K rest);
+    };
+  }
+
+  takes : (K : VerifyFn) (s new : State) (message : List ℕ) (answer : Result Taken Refusal) → Reached (Following K s) → IsAnswer K s message answer new
+      → Reached (Following K new)
+  takes K s new message answer r h =
+      let call : Call = record { bytes = message; answer = answer } in
+      record {
+        known = r.known;
+        extends = r.extends;
+        first = r.first;
+        started = r.started;
+        run = record {
+          events = r.run.events ++ Received call ∷ [];
+          rises = after_message r.known r.first r.run.events s new call r.run.rises
+              (subst (λ (M : VerifyFn). Takes M s message answer new) (sym r.run.meaning) h.takes);
+          meaning = meaning_message r.known r.run.events call ∙ r.run.meaning;
+        };
+      }
+
+  by_request : (now new : Phase) (request : Option Request) (rest text : List ℕ) → Reached now → Responds now request rest (Goes text new) → Reached new
+  by_request (Opening j K) new (Some Learn) rest text r a =
+      subst Reached (one_phase text [] new (Opening j (having_learnt K rest)) a) (still_opening j K rest r)
+  by_request (Opening j K) new (Some Begin) rest text r (inl a) =
+      subst Reached (one_phase text (ready_line a.0) new (Following K a.0) a.2) (starts j K a.0 r a.1)
+  by_request (Opening j K) new (Some Begin) rest text r (inr a) = no_end text (finding_line (StartRefused a.0)) new a.2
+  by_request (Opening j K) new (Some Query) rest text r a = no_end text broken_line new a
+  by_request (Opening j K) new (Some Judge) rest text r a = no_end text broken_line new a
+  by_request (Opening j K) new None rest text r a = no_end text broken_line new a
+  by_request (Following K s) new (Some Learn) rest text r a =
+      subst Reached (one_phase text [] new (Following (having_learnt K rest) s) a) (learns K s rest r)
+  by_request (Following K s) new (Some Begin) rest text r a = no_end text broken_line new a
+  by_request (Following K s) new (Some Query) rest text r a =
+      subst Reached (one_phase text (message_query K a.0) new (Following K s) a.2) r
+  by_request (Following K s) new (Some Judge) rest text r a =
+      subst Reached (one_phase text (judged_line a.0 a.1) new (Following K a.1) a.3) (takes K s a.1 rest a.0 r a.2)
+  by_request (Following K s) new None rest text r a = no_end text broken_line new a
+
+  pub reached-on : (now new : Phase) (body text : List ℕ) → Reached now → Answers now body (Goes text new) → Reached new
+  reached-on now new body text r a = by_request now new (request_of body) (drop 1 body) text r a
+
+  reached-all : (now : Phase) (turns : List Turn) → Reached now → AreAnswered now turns → Reached (phase_after now turns)
+  reached-all now [] r a = r
+  reached-all now (turn ∷ turns) r a = reached-all turn.phase turns (reached-on now turn.phase turn.body turn.text r a.0) a.1
+
+  pub reached-none : Reached (Opening i G)
+  reached-none = (refl, extends_itself G)
+
+  pub has_started : (turns : List Turn) (K : VerifyFn) (s : State) → AreAnswered (Opening i G) turns → phase_after (Opening i G) turns ≡ Following K s → HasStarted i G K s
+  has_started turns K s a e = subst Reached e (reached-all (Opening i G) turns reached-none a)
+
+pub gates_rise : GatesRise
+gates_rise i G K turns s a e = has_started i G turns K s a e
+
+pub started_valid : (i : Inputs) (G K : VerifyFn) (s : State) → HasStarted i G K s → IsValidState K s
+started_valid i G K s h =
+    subst (λ (M : VerifyFn). IsValidState M s) h.run.meaning
+    (rising_follower_valid h.known h.started.info h.started.handed h.first s h.run.events h.started.start h.run.rises)
+
+pub gates_valid : GatesAreValid
+gates_valid i G K turns s a e = started_valid i G K s (has_started i G turns K s a e)
+
+pub gates_trusted : GateAnswersAreTrusted
+gates_trusted i G K turns s new bytes answer a e covers = covered_answers K s bytes answer new (gates_valid i G K turns s a e) covers

@@ -1,0 +1,155 @@
+-- The answer to a record of the gate's input: its lines, and the phase after it. `G` is the verification function of
+-- what was learnt so far. Used by contracts.
+use Rattle.std.specs.Prelude.{◌≡◌, ◌⊎◌, ℕ, ◌+◌, List, [], ◌∷◌, ◌++◌, Bool, codes, drop, Option, Some, None, Result, Ok, Err, if◌then◌else◌}
+use Rattle.std.specs.Fmt.{decimal}
+use Rattle.mls_tree.specs.Tree.{member_count}
+use Rattle.mls_check.specs.Signatures.{VerifyFn}
+use Rattle.mls_signatures.specs.declared.signature_to_verify.SignatureToVerify.{SignatureToVerify}
+use Rattle.mls_follow.specs.RefusalNumbers.{number_of}
+use Rattle.mls_follow.specs.Runs.{IsAnswer}
+use Rattle.mls_follow.specs.State.{State}
+use Rattle.mls_follow.specs.declared.refusal.Refusal.{Refusal}
+use Rattle.mls_follow.specs.declared.refusal.Refusal.TheVariants as refusals
+use Rattle.mls_follow.specs.declared.start_fault.StartFault.{StartFault}
+use Rattle.mls_follow.specs.declared.taken.Taken.{Taken}
+use Rattle.mls_follow.specs.declared.taken.Taken.TheVariants.{Proposal, Commit}
+use Rattle.mls_report.specs.FaultText.{member_fault_text}
+use Rattle.mls_report.specs.Finding.{finding_line}
+use Rattle.mls_report.specs.SignaturesReport.{HasSignatures, wanted_line}
+use Rattle.mls_report.specs.StartInputs.{IsStarted, IsStartFinding}
+use Rattle.mls_report.specs.ValueTexts.{hex_text}
+use Rattle.mls_report.specs.declared.finding.Finding.TheVariants.{StartRefused}
+use Rattle.mls_gate.specs.Phases.{Inputs, Phase, Opening, Following}
+use Rattle.mls_gate.specs.Requests.{request_of, having_learnt}
+use Rattle.mls_gate.specs.declared.request.Request.{Request}
+use Rattle.mls_gate.specs.declared.request.Request.TheVariants.{Learn, Begin, Query, Judge}
+
+-- ---- lines
+
+-- `is_known G w`: `G` accepts the signature.
+abbrev pub is_known : VerifyFn → SignatureToVerify → Bool
+is_known G w = G w.suite w.key w.content w.signature
+
+-- `verify_line G w` is the line of a signature, `verify` and the line of `signatures`, unless `G` accepts it.
+abbrev pub verify_line : VerifyFn → SignatureToVerify → List ℕ
+verify_line G w = if is_known G w then [] else codes "verify " ++ wanted_line w
+
+-- `verify_lines G wanted` is the lines of the signatures of a list that `G` does not accept.
+abbrev pub verify_lines : VerifyFn → List SignatureToVerify → List ℕ
+verify_lines G [] = []
+verify_lines G (w ∷ wanted) = verify_line G w ++ verify_lines G wanted
+
+-- `unknown_one G w` is 0 if `G` accepts the signature, else 1.
+abbrev pub unknown_one : VerifyFn → SignatureToVerify → ℕ
+unknown_one G w = if is_known G w then 0 else 1
+
+-- `unknown_count G wanted` is how many signatures of a list `G` does not accept.
+abbrev pub unknown_count : VerifyFn → List SignatureToVerify → ℕ
+unknown_count G [] = 0
+unknown_count G (w ∷ wanted) = unknown_one G w + unknown_count G wanted
+
+-- `query_text G wanted` is these lines, and a last one with their number.
+abbrev pub query_text : VerifyFn → List SignatureToVerify → List ℕ
+query_text G wanted =
+    verify_lines G wanted ++ (codes "queried " ++ (decimal (unknown_count G wanted) ++ codes "\n"))
+
+-- `message_query G wanted` is the answer to a query. Bytes that are no message have no signature.
+abbrev pub message_query : VerifyFn → Option (List SignatureToVerify) → List ℕ
+message_query G None = query_text G []
+message_query G (Some wanted) = query_text G wanted
+
+-- `ready_line s` is the line of a follower that has started: its epoch, its number of members, and its tree hash
+-- (RFC 9420, 8.1).
+abbrev pub ready_line : State → List ℕ
+ready_line s =
+    codes "ready epoch " ++ (decimal s.context.epoch
+    ++ (codes " members " ++ (decimal (member_count s.tree)
+    ++ (codes " tree " ++ (hex_text s.context.tree_hash ++ codes "\n")))))
+
+-- `refusal_name e` is the name of a refusal (docs/FORMATS.md).
+abbrev pub refusal_name : Refusal → List ℕ
+refusal_name refusals.Malformed = codes "Malformed"
+refusal_name refusals.NotPublic = codes "NotPublic"
+refusal_name refusals.WrongGroup = codes "WrongGroup"
+refusal_name refusals.WrongEpoch = codes "WrongEpoch"
+refusal_name refusals.SenderNotMember = codes "SenderNotMember"
+refusal_name refusals.NotHandshake = codes "NotHandshake"
+refusal_name refusals.BadSignature = codes "BadSignature"
+refusal_name refusals.KnownProposal = codes "KnownProposal"
+refusal_name refusals.AddInvalid = codes "AddInvalid"
+refusal_name refusals.UpdateInvalid = codes "UpdateInvalid"
+refusal_name refusals.RemoveInvalid = codes "RemoveInvalid"
+refusal_name refusals.LastEpoch = codes "LastEpoch"
+refusal_name refusals.UnknownReference = codes "UnknownReference"
+refusal_name refusals.UpdateByCommitter = codes "UpdateByCommitter"
+refusal_name refusals.RemovesCommitter = codes "RemovesCommitter"
+refusal_name refusals.SameLeafTwice = codes "SameLeafTwice"
+refusal_name refusals.PathMissing = codes "PathMissing"
+refusal_name refusals.TooManyLeaves = codes "TooManyLeaves"
+refusal_name refusals.PathLength = codes "PathLength"
+refusal_name refusals.PathSource = codes "PathSource"
+refusal_name refusals.PathKeyUsed = codes "PathKeyUsed"
+refusal_name refusals.CiphertextCount = codes "CiphertextCount"
+refusal_name refusals.PathParentHash = codes "PathParentHash"
+refusal_name refusals.KeyRepeated = codes "KeyRepeated"
+refusal_name (refusals.Member fault) = codes "Member " ++ member_fault_text fault
+refusal_name refusals.TwoContextExtensions = codes "TwoContextExtensions"
+refusal_name refusals.ContextExtensionsInvalid = codes "ContextExtensionsInvalid"
+refusal_name refusals.OutOfMemory = codes "OutOfMemory"
+
+-- `judged_line answer s` is the line of a message that was judged: the reference of a proposal (RFC 9420, 5.2); of a
+-- commit the epoch that it begins, and the tree hash and the confirmed transcript hash of that epoch (8.1); or the
+-- number and the name of the refusal, and for 25 those of the fault of the leaf node.
+abbrev pub judged_line : Result Taken Refusal → State → List ℕ
+judged_line (Ok (Proposal reference)) s = codes "accepted proposal " ++ (hex_text reference ++ codes "\n")
+judged_line (Ok (Commit epoch)) s =
+    codes "accepted commit " ++ (decimal epoch
+    ++ (codes " " ++ (hex_text s.context.tree_hash
+    ++ (codes " " ++ (hex_text s.context.confirmed ++ codes "\n")))))
+judged_line (Err e) s = codes "refused " ++ (decimal (number_of e) ++ (codes " " ++ (refusal_name e ++ codes "\n")))
+
+-- `broken_line` is the line of a record that is none, or asks for nothing that the phase has an answer to.
+abbrev pub broken_line : List ℕ
+broken_line = codes "broken\n"
+
+-- ---- answers
+
+-- `Goes text phase`: this text is written, and the gate goes on in the phase. `Ends text`: this text is written, and
+-- the gate ends with the verdict No.
+pub data Outcome : Type 0 where
+  Goes : List ℕ → Phase → Outcome
+  Ends : List ℕ → Outcome
+
+-- `Begins i G outcome`: a follower starts from the inputs, and the gate goes on with it; or none does, and the gate ends
+-- with the line of `validate`.
+abbrev pub Begins : Inputs → VerifyFn → Outcome → Type 0
+Begins i G outcome =
+    ((s : State) × IsStarted G i.info i.tree s × (outcome ≡ Goes (ready_line s) (Following G s)))
+    ⊎ ((fault : StartFault) × IsStartFinding G i.info i.tree (StartRefused fault)
+    × (outcome ≡ Ends (finding_line (StartRefused fault))))
+
+-- `Queries G s message outcome`: the signatures of the message that `G` does not accept are listed. Nothing changes.
+abbrev pub Queries : VerifyFn → State → List ℕ → Outcome → Type 0
+Queries G s message outcome =
+    (wanted : Option (List SignatureToVerify)) × HasSignatures s message wanted
+    × (outcome ≡ Goes (message_query G wanted) (Following G s))
+
+-- `Judges G s message outcome`: the follower processes the message.
+abbrev pub Judges : VerifyFn → State → List ℕ → Outcome → Type 0
+Judges G s message outcome =
+    (answer : Result Taken Refusal) × (new : State) × IsAnswer G s message answer new
+    × (outcome ≡ Goes (judged_line answer new) (Following G new))
+
+-- `Responds phase request rest outcome`: the outcome of a request in a phase. `rest` is the record's body after its
+-- letter.
+abbrev pub Responds : Phase → Option Request → List ℕ → Outcome → Type 0
+Responds (Opening i G) (Some Learn) rest outcome = outcome ≡ Goes [] (Opening i (having_learnt G rest))
+Responds (Opening i G) (Some Begin) rest outcome = Begins i G outcome
+Responds (Following G s) (Some Learn) rest outcome = outcome ≡ Goes [] (Following (having_learnt G rest) s)
+Responds (Following G s) (Some Query) rest outcome = Queries G s rest outcome
+Responds (Following G s) (Some Judge) rest outcome = Judges G s rest outcome
+Responds _ _ rest outcome = outcome ≡ Ends broken_line
+
+-- `Answers phase body outcome`: the outcome of a record with this body in a phase.
+abbrev pub Answers : Phase → List ℕ → Outcome → Type 0
+Answers phase body outcome = Responds phase (request_of body) (drop 1 body) outcome

@@ -1,0 +1,236 @@
+-- The report `gate`: the signatures of the start, and then an answer to each record of the input, before the next one
+-- is read. `records0` and `records1` are what the input has left before and after, `written0` and `written1` what the
+-- output holds; the other arguments are as in the report `replay`. Used by contracts.
+use Rattle.std.specs.Prelude.{◌≡◌, ◌⊎◌, ℕ, ◌-◌, ◌≤◌, ◌<◌, List, [], ◌∷◌, ◌++◌, length, map, Option}
+use Rattle.std.specs.Io.KnownBytes.{Appends, Consumes, IsAtEnd}
+use Rattle.mls_wire.specs.Devices.{AppendsPrefix}
+use Rattle.mls_wire.specs.Logs.{IsRecord, IsBrokenAt, IsIncomplete}
+use Rattle.mls_tree.specs.RatchetTree.{RatchetTree}
+use Rattle.mls_check.specs.Signatures.{VerifyFn}
+use Rattle.mls_msgs.specs.declared.group_info.GroupInfo.{GroupInfo}
+use Rattle.mls_signatures.specs.declared.signature_to_verify.SignatureToVerify.{SignatureToVerify}
+use Rattle.mls_follow.specs.CoveredLogs.{all_good}
+use Rattle.mls_follow.specs.State.{State}
+use Rattle.mls_report.specs.Replay.{AreRecords, IsLeftOver, TellsNothing, StopsInDecline, TellsDecline}
+use Rattle.mls_report.specs.SignaturesReport.{StartHasSignatures}
+use Rattle.mls_report.specs.StartInputs.{IsReadAs, ReadsBoth}
+use Rattle.mls_report.specs.declared.verdict.RunFault.{RunFault}
+use Rattle.mls_report.specs.declared.verdict.RunFault.TheVariants.{Read, Write, Memory}
+use Rattle.mls_report.specs.declared.verdict.Verdict.{Verdict}
+use Rattle.mls_report.specs.declared.verdict.Verdict.TheVariants.{No}
+use Rattle.mls_gate.specs.Answers.{Answers, Goes, Ends, query_text, broken_line}
+use Rattle.mls_gate.specs.Phases.{Inputs, Phase, Opening, end_verdict}
+
+-- The most records of an input: a limit of this library.
+abbrev pub record_limit : ℕ
+record_limit = 4294967295
+
+-- ---- the records, and their answers
+
+-- A record that was answered: its body, the text of its answer, and the phase after it.
+pub record Turn : Type 0 where
+  pub body : List ℕ
+  pub text : List ℕ
+  pub phase : Phase
+
+-- `AreAnswered phase turns`: the records are answered one after the other, from the phase on.
+abbrev pub AreAnswered : Phase → List Turn → Type 0
+AreAnswered phase [] = Unit {0}
+AreAnswered phase (turn ∷ turns) = Answers phase turn.body (Goes turn.text turn.phase) × AreAnswered turn.phase turns
+
+-- `phase_after phase turns` is the phase after the records.
+abbrev pub phase_after : Phase → List Turn → Phase
+phase_after phase [] = phase
+phase_after phase (turn ∷ turns) = phase_after turn.phase turns
+
+-- `answers turns` is the text of the answers.
+abbrev pub answers : List Turn → List ℕ
+answers [] = []
+answers (turn ∷ turns) = turn.text ++ answers turns
+
+-- `still_to_come turns` is how many records may still come.
+abbrev pub still_to_come : List Turn → ℕ
+still_to_come turns = record_limit - length turns
+
+-- `Serves phase records0 records1 turns rest`: the records that were read are answered, from the phase on. After them
+-- the bytes `rest` were read.
+pub record Serves (phase : Phase) (records0 records1 : Option (List ℕ)) (turns : List Turn) (rest : List ℕ)
+    : Type 0 where
+  pub answered : AreAnswered phase turns
+  pub bounded : length turns ≤ record_limit
+  pub records : List ℕ
+  pub are_records : AreRecords (map (λ turn. turn.body) turns) records
+  pub all_read : Consumes records0 records1 (records ++ rest)
+
+-- ---- how the gate ends
+
+-- `EndsBetween phase rest left text verdict`: the input has ended between two records.
+pub record EndsBetween (phase : Phase) (rest : List ℕ) (left : Option (List ℕ)) (text : List ℕ) (verdict : Verdict)
+    : Type 0 where
+  pub nothing_read : rest ≡ []
+  pub at_end : IsAtEnd left
+  pub no_text : text ≡ []
+  pub verdict_is : verdict ≡ end_verdict phase
+
+-- `EndsBroken most rest left text verdict`: the next bytes are no record.
+pub record EndsBroken (most : ℕ) (rest : List ℕ) (left : Option (List ℕ)) (text : List ℕ) (verdict : Verdict)
+    : Type 0 where
+  pub broken : IsBrokenAt most rest left
+  pub text_is : text ≡ broken_line
+  pub verdict_is : verdict ≡ No
+
+-- `EndsAnswering phase most rest text verdict`: the answer to the next record ends the gate.
+pub record EndsAnswering (phase : Phase) (most : ℕ) (rest text : List ℕ) (verdict : Verdict) : Type 0 where
+  pub body : List ℕ
+  pub allowed : 0 < most
+  pub is_record : IsRecord rest body
+  pub answers : Answers phase body (Ends text)
+  pub verdict_is : verdict ≡ No
+
+-- `IsEnding phase most rest left text verdict`: the gate ends with this text and this verdict. `most` records may still
+-- come, and the bytes `rest` were read after the last one that was answered.
+abbrev pub IsEnding : Phase → ℕ → List ℕ → Option (List ℕ) → List ℕ → Verdict → Type 0
+IsEnding phase most rest left text verdict =
+    EndsBetween phase rest left text verdict
+    ⊎ (EndsBroken most rest left text verdict ⊎ EndsAnswering phase most rest text verdict)
+
+-- ---- the report of the records
+
+-- `TellsRecords phase records0 records1 written0 written1 verdict`: each record was answered, and the gate has ended.
+pub record TellsRecords (phase : Phase) (records0 records1 written0 written1 : Option (List ℕ)) (verdict : Verdict)
+    : Type 0 where
+  pub turns : List Turn
+  pub rest : List ℕ
+  pub text : List ℕ
+  pub serves : Serves phase records0 records1 turns rest
+  pub ending : IsEnding (phase_after phase turns) (still_to_come turns) rest records1 text verdict
+  pub wrote : Appends written0 written1 (answers turns ++ text)
+
+-- `StopsReading phase records0 records1 written0 written1`: the input failed. Each whole record that was read was
+-- answered, and the bytes after these determine nothing more.
+pub record StopsReading (phase : Phase) (records0 records1 written0 written1 : Option (List ℕ)) : Type 0 where
+  pub turns : List Turn
+  pub rest : List ℕ
+  pub serves : Serves phase records0 records1 turns rest
+  pub undecided : IsIncomplete (still_to_come turns) rest
+  pub wrote : Appends written0 written1 (answers turns)
+
+-- `StopsInAnswer phase records0 records1 written0 written1`: the output failed in the answer to the last record that was
+-- read. Nothing was read after that record.
+pub record StopsInAnswer (phase : Phase) (records0 records1 written0 written1 : Option (List ℕ)) : Type 0 where
+  pub turns : List Turn
+  pub last : Turn
+  pub serves : Serves phase records0 records1 (turns ++ last ∷ []) []
+  pub part : List ℕ
+  pub more : List ℕ
+  pub text_is : last.text ≡ part ++ more
+  pub wrote : Appends written0 written1 (answers turns ++ part)
+
+-- `StopsInEnding phase records0 records1 written0 written1`: the output failed in the last text.
+pub record StopsInEnding (phase : Phase) (records0 records1 written0 written1 : Option (List ℕ)) : Type 0 where
+  pub turns : List Turn
+  pub rest : List ℕ
+  pub text : List ℕ
+  pub verdict : Verdict
+  pub serves : Serves phase records0 records1 turns rest
+  pub ending : IsEnding (phase_after phase turns) (still_to_come turns) rest records1 text verdict
+  pub part : List ℕ
+  pub more : List ℕ
+  pub text_is : text ≡ part ++ more
+  pub wrote : Appends written0 written1 (answers turns ++ part)
+
+-- `StopsWithoutMemory phase records0 records1 written0 written1`: memory ran out. Each record that was read was
+-- answered, except the one at which it ran out.
+pub record StopsWithoutMemory (phase : Phase) (records0 records1 written0 written1 : Option (List ℕ)) : Type 0 where
+  pub turns : List Turn
+  pub rest : List ℕ
+  pub serves : Serves phase records0 records1 turns rest
+  pub left_over : IsLeftOver (still_to_come turns) rest records1
+  pub wrote : Appends written0 written1 (answers turns)
+
+-- `RecordsPart phase records0 records1 written0 written1 fault`: what was written if not each record was answered, by
+-- the fault that is returned.
+abbrev pub RecordsPart : Phase → Option (List ℕ) → Option (List ℕ) → Option (List ℕ) → Option (List ℕ) → RunFault
+    → Type 0
+RecordsPart phase records0 records1 written0 written1 Read = StopsReading phase records0 records1 written0 written1
+RecordsPart phase records0 records1 written0 written1 Write =
+    StopsInAnswer phase records0 records1 written0 written1 ⊎ StopsInEnding phase records0 records1 written0 written1
+RecordsPart phase records0 records1 written0 written1 Memory =
+    StopsWithoutMemory phase records0 records1 written0 written1
+
+-- ---- the whole report
+
+-- `CanStart i wanted`: a follower starts from the inputs, each signature being good, and the start has these
+-- signatures.
+pub record CanStart (i : Inputs) (wanted : List SignatureToVerify) : Type 0 where
+  pub info : GroupInfo
+  pub handed : Option RatchetTree
+  pub is_read : IsReadAs i.info i.tree info handed
+  pub state : State
+  pub has_signatures : StartHasSignatures info handed state wanted
+
+-- `ReadsStart info0 info1 tree0 tree1 i wanted`: both were read, and a follower starts from them so.
+pub record ReadsStart (info0 info1 : Option (List ℕ)) (tree0 tree1 : Option (Option (List ℕ))) (i : Inputs)
+    (wanted : List SignatureToVerify) : Type 0 where
+  pub both_read : ReadsBoth info0 info1 tree0 tree1 i.info i.tree
+  pub can_start : CanStart i wanted
+
+-- `TellsGate G ..`: the signatures of the start that `G` does not accept were listed, and the records answered.
+pub record TellsGate (G : VerifyFn) (info0 info1 : Option (List ℕ)) (tree0 tree1 : Option (Option (List ℕ)))
+    (records0 records1 written0 written1 : Option (List ℕ)) (verdict : Verdict) : Type 0 where
+  pub i : Inputs
+  pub wanted : List SignatureToVerify
+  pub opens : ReadsStart info0 info1 tree0 tree1 i wanted
+  pub between : Option (List ℕ)
+  pub wrote : Appends written0 between (query_text G wanted)
+  pub tells : TellsRecords (Opening i G) records0 records1 between written1 verdict
+
+-- `Gates G ..`: the report was written whole. Either no follower starts although each signature is good, no record was
+-- read and one line says why; or the records were answered.
+abbrev pub Gates : VerifyFn → Option (List ℕ) → Option (List ℕ) → Option (Option (List ℕ)) → Option (Option (List ℕ))
+    → Option (List ℕ) → Option (List ℕ) → Option (List ℕ) → Option (List ℕ) → Verdict → Type 0
+Gates G info0 info1 tree0 tree1 records0 records1 written0 written1 verdict =
+    TellsDecline all_good info0 info1 tree0 tree1 records0 records1 written0 written1 verdict
+    ⊎ TellsGate G info0 info1 tree0 tree1 records0 records1 written0 written1 verdict
+
+-- ---- a part of the report
+
+-- `StopsInQuery G ..`: the output failed in the lines of the start, before a record was read.
+pub record StopsInQuery (G : VerifyFn) (info0 info1 : Option (List ℕ)) (tree0 tree1 : Option (Option (List ℕ)))
+    (records0 records1 written0 written1 : Option (List ℕ)) : Type 0 where
+  pub i : Inputs
+  pub wanted : List SignatureToVerify
+  pub opens : ReadsStart info0 info1 tree0 tree1 i wanted
+  pub unread : records1 ≡ records0
+  pub wrote : AppendsPrefix written0 written1 (query_text G wanted)
+
+-- `GateBefore G .. fault`: no record was read, by the fault that is returned.
+abbrev pub GateBefore : VerifyFn → Option (List ℕ) → Option (List ℕ) → Option (Option (List ℕ))
+    → Option (Option (List ℕ)) → Option (List ℕ) → Option (List ℕ) → Option (List ℕ) → Option (List ℕ) → RunFault
+    → Type 0
+GateBefore G info0 info1 tree0 tree1 records0 records1 written0 written1 Read =
+    TellsNothing records0 records1 written0 written1
+GateBefore G info0 info1 tree0 tree1 records0 records1 written0 written1 Write =
+    StopsInDecline all_good info0 info1 tree0 tree1 records0 records1 written0 written1
+    ⊎ StopsInQuery G info0 info1 tree0 tree1 records0 records1 written0 written1
+GateBefore G info0 info1 tree0 tree1 records0 records1 written0 written1 Memory =
+    TellsNothing records0 records1 written0 written1
+
+-- `GateAfter G .. fault`: the lines of the start were written, and not each record was answered.
+pub record GateAfter (G : VerifyFn) (info0 info1 : Option (List ℕ)) (tree0 tree1 : Option (Option (List ℕ)))
+    (records0 records1 written0 written1 : Option (List ℕ)) (fault : RunFault) : Type 0 where
+  pub i : Inputs
+  pub wanted : List SignatureToVerify
+  pub opens : ReadsStart info0 info1 tree0 tree1 i wanted
+  pub between : Option (List ℕ)
+  pub wrote : Appends written0 between (query_text G wanted)
+  pub tells : RecordsPart (Opening i G) records0 records1 between written1 fault
+
+-- `GatesPart G .. fault`: what was written if the report was not written whole, by the fault that is returned. It is a
+-- prefix of what the bytes that were read determine.
+abbrev pub GatesPart : VerifyFn → Option (List ℕ) → Option (List ℕ) → Option (Option (List ℕ))
+    → Option (Option (List ℕ)) → Option (List ℕ) → Option (List ℕ) → Option (List ℕ) → Option (List ℕ) → RunFault
+    → Type 0
+GatesPart G info0 info1 tree0 tree1 records0 records1 written0 written1 fault =
+    GateBefore G info0 info1 tree0 tree1 records0 records1 written0 written1 fault
+    ⊎ GateAfter G info0 info1 tree0 tree1 records0 records1 written0 written1 fault

@@ -1,0 +1,49 @@
+-- What the records of a gate do to its follower: a run in which the checker learns (own rule). Used by contracts.
+use Rattle.std.specs.Prelude.{◌≡◌, ◌↔◌, ℕ, List, Result}
+use Rattle.mls_check.specs.Signatures.{VerifyFn, Extends}
+use Rattle.mls_follow.specs.CoveredLogs.{all_good, CoversMessage}
+use Rattle.mls_follow.specs.RisingRuns.{Event, IsRisingRun, last_meaning}
+use Rattle.mls_follow.specs.Runs.{IsAnswer}
+use Rattle.mls_follow.specs.State.{State}
+use Rattle.mls_follow.specs.Validity.{IsValidState}
+use Rattle.mls_follow.specs.declared.refusal.Refusal.{Refusal}
+use Rattle.mls_follow.specs.declared.taken.Taken.{Taken}
+use Rattle.mls_report.specs.StartInputs.{IsStarted}
+use Rattle.mls_gate.specs.GateReport.{Turn, AreAnswered, phase_after}
+use Rattle.mls_gate.specs.Phases.{Inputs, Opening, Following}
+
+-- `IsRun G first K last`: a rising run leads from one state to another, and its verification function is `G` before it
+-- and `K` after it.
+pub record IsRun (G : VerifyFn) (first : State) (K : VerifyFn) (last : State) : Type 0 where
+  pub events : List Event
+  pub rises : IsRisingRun G first events last
+  pub meaning : last_meaning G events ≡ K
+
+-- `HasStarted i G K s`: a follower has started from the inputs by what was learnt then, which extends `G`, and a rising
+-- run led from there to the state `s`, with `K` at last.
+pub record HasStarted (i : Inputs) (G K : VerifyFn) (s : State) : Type 0 where
+  pub known : VerifyFn
+  pub extends : Extends G known
+  pub first : State
+  pub started : IsStarted known i.info i.tree first
+  pub run : IsRun known first K s
+
+-- A gate that follows has started a follower, and its records are a rising run of it.
+abbrev pub GatesRise : Type 0
+GatesRise =
+    (i : Inputs) (G K : VerifyFn) (turns : List Turn) (s : State) → AreAnswered (Opening i G) turns
+    → phase_after (Opening i G) turns ≡ Following K s → HasStarted i G K s
+
+-- The follower's state is valid by what was learnt so far.
+abbrev pub GatesAreValid : Type 0
+GatesAreValid =
+    (i : Inputs) (G K : VerifyFn) (turns : List Turn) (s : State) → AreAnswered (Opening i G) turns
+    → phase_after (Opening i G) turns ≡ Following K s → IsValidState K s
+
+-- If each signature of a message was learnt, its answer and the state after it are those as if every signature were
+-- good.
+abbrev pub GateAnswersAreTrusted : Type 0
+GateAnswersAreTrusted =
+    (i : Inputs) (G K : VerifyFn) (turns : List Turn) (s new : State) (bytes : List ℕ) (answer : Result Taken Refusal)
+    → AreAnswered (Opening i G) turns → phase_after (Opening i G) turns ≡ Following K s → CoversMessage K s bytes
+    → IsAnswer K s bytes answer new ↔ IsAnswer all_good s bytes answer new

@@ -1,0 +1,7 @@
+pub mod Requests
+pub mod Phases
+pub mod Answers
+pub mod GateReport
+pub mod GateReports
+pub mod GateRuns
+pub mod GateSteps

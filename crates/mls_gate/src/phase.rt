@@ -1,0 +1,274 @@
+//! What the gate is at between two records, and how it answers one.
+
+ghost use Rattle.std.specs.Prelude.{◌≡◌, ℕ, List, Some, [], false, true, IfOk, IfErr, string_bytes};
+ghost use Rattle.mls_follow.specs.FollowerModel.{checker_of, state_of};
+ghost use Rattle.mls_report.specs.Finding.{finding_line};
+ghost use Rattle.mls_gate.specs.Answers as answers;
+ghost use Rattle.mls_gate.specs.Answers.{broken_line, Begins, Judges, Queries};
+ghost use Rattle.mls_gate.specs.GateSteps.{inputs_of, phase_of, IsReadable, verdict_at, IsReady, RespondsIn, AnswersIn, Replies};
+ghost use Rattle.mls_gate.specs.Phases.{Following};
+
+use crate::learning::{learn_in_follower, learn_receipts};
+use crate::lines::{judged_line, query_text, ready_line};
+use crate::opening::started;
+use crate::request::{Request, request_of};
+use mls_check::{LearningCheck, OutOfMemory, SignatureCheck};
+use mls_follow::{Follower, Refusal, SignatureListFault};
+use mls_report::finding::Finding;
+use mls_report::read_inputs::{InputBytes, StartFailure};
+use mls_report::{RunFault, Verdict};
+use mls_signatures::SignatureToVerify;
+use std::alloc::Global;
+use std::mem;
+
+/// What the gate is at.
+#[derive(Drop)]
+pub(crate) enum GatePhase<C: SignatureCheck> {
+    /// No follower has started: the bytes of the inputs, and what was learnt.
+    Opening { inputs: InputBytes, checker: C },
+    /// A follower has started.
+    Following(Follower<C>),
+    /// The gate has ended.
+    Over,
+}
+
+/// The answer to a record: its lines, and whether they end the gate.
+#[derive(Drop)]
+pub(crate) struct Answer {
+    pub(crate) text: String,
+    pub(crate) is_last: bool,
+}
+
+/// Returns the answer to a record that has none in the phase. It ends the gate.
+fn broken(alloc: Global) -> Result<Answer, RunFault>
+    ensures text { IfOk result (λ a. string_bytes a.text ≡ broken_line) }
+    ensures last { IfOk result (λ a. a.is_last ≡ true) }
+    ensures memory { IfErr result (λ e. e ≡ RunFault.Memory) }
+{
+    Ok(Answer {
+        text: String::from_str(alloc, "broken\n")?,
+        is_last: true,
+    })
+}
+
+/// Returns the answer that has no lines.
+fn silence(alloc: Global) -> Answer
+    ensures text { string_bytes result.text ≡ [] }
+    ensures last { result.is_last ≡ false }
+{
+    Answer {
+        text: String::new(alloc),
+        is_last: false,
+    }
+}
+
+/// Returns the answer to a start that was refused. It ends the gate.
+fn declined(alloc: Global, finding: &Finding) -> Result<Answer, RunFault>
+    ensures text { IfOk result (λ a. string_bytes a.text ≡ finding_line finding.now) }
+    ensures last { IfOk result (λ a. a.is_last ≡ true) }
+    ensures memory { IfErr result (λ e. e ≡ RunFault.Memory) }
+{
+    Ok(Answer {
+        text: finding.line(alloc)?,
+        is_last: true,
+    })
+}
+
+/// Returns the answer to a query of a message with these signatures.
+fn queried<C: SignatureCheck>(
+    alloc: Global,
+    wanted: &[SignatureToVerify],
+    checker: &C,
+) -> Result<Answer, RunFault>
+    ensures text { IfOk result
+        (λ a. string_bytes a.text ≡ answers.query_text (C.meaning checker.now) wanted.now) }
+    ensures last { IfOk result (λ a. a.is_last ≡ false) }
+    ensures memory { IfErr result (λ e. e ≡ RunFault.Memory) }
+{
+    Ok(Answer {
+        text: query_text(alloc, wanted, checker)?,
+        is_last: false,
+    })
+}
+
+/// Returns the answer to a query: the signatures of the message that the checker does not accept.
+fn query_message<C: SignatureCheck>(
+    alloc: Global,
+    follower: &mut Follower<C>,
+    message: &[u8],
+) -> Result<Answer, RunFault>
+    ensures replied { IfOk result (λ a. Replies
+        (Queries (C.meaning (checker_of follower.old)) (state_of follower.old) message.now)
+        (string_bytes a.text) a.is_last
+        (Some (Following (C.meaning (checker_of follower.new)) (state_of follower.new)))) }
+    ensures memory { IfErr result (λ e. e ≡ RunFault.Memory) }
+{
+    match follower.wanted(message) {
+        Ok(wanted) => {
+            let answer = queried(alloc, wanted.as_slice(), follower.checker());
+            drop(wanted);
+            answer
+        }
+        Err(SignatureListFault::Malformed) => queried(alloc, &[], follower.checker()),
+        Err(SignatureListFault::OutOfMemory) => Err(RunFault::Memory),
+    }
+}
+
+/// Processes a message, and returns the answer to it.
+fn judge_message<C: SignatureCheck>(
+    alloc: Global,
+    follower: &mut Follower<C>,
+    message: &[u8],
+) -> Result<Answer, RunFault>
+    ensures replied { IfOk result (λ a. Replies
+        (Judges (C.meaning (checker_of follower.old)) (state_of follower.old) message.now)
+        (string_bytes a.text) a.is_last
+        (Some (Following (C.meaning (checker_of follower.new)) (state_of follower.new)))) }
+    ensures memory { IfErr result (λ e. e ≡ RunFault.Memory) }
+{
+    let answer = follower.take(message);
+    if let Err(Refusal::OutOfMemory) = answer {
+        return Err(RunFault::Memory);
+    }
+    Ok(Answer {
+        text: judged_line(alloc, &answer, follower)?,
+        is_last: false,
+    })
+}
+
+impl<C: LearningCheck> GatePhase<C> {
+    /// Learns receipts.
+    fn learn(&mut self, alloc: Global, receipts: &[u8]) -> Result<Answer, RunFault>
+        ensures answered { IfOk result (λ a. Replies
+            (RespondsIn (phase_of C.meaning self.old) (Some Request.Learn) receipts.now)
+            (string_bytes a.text) a.is_last (phase_of C.meaning self.new)) }
+        ensures memory { IfErr result (λ e. e ≡ RunFault.Memory) }
+    {
+        match self {
+            GatePhase::Opening { inputs: _, checker } => match learn_receipts(checker, receipts) {
+                Ok(()) => Ok(silence(alloc)),
+                Err(OutOfMemory) => Err(RunFault::Memory),
+            },
+            GatePhase::Following(follower) => match learn_in_follower(follower, receipts) {
+                Ok(()) => Ok(silence(alloc)),
+                Err(OutOfMemory) => Err(RunFault::Memory),
+            },
+            GatePhase::Over => broken(alloc),
+        }
+    }
+
+    /// Starts the follower from the bytes of the inputs, by what the checker has learnt.
+    fn begin_from(
+        &mut self,
+        alloc: Global,
+        inputs: InputBytes,
+        checker: C,
+    ) -> Result<Answer, RunFault>
+        requires { IsReadable (inputs_of inputs) }
+        ensures answered { IfOk result (λ a. Replies
+            (Begins (inputs_of inputs) (C.meaning checker))
+            (string_bytes a.text) a.is_last (phase_of C.meaning self.new)) }
+        ensures memory { IfErr result (λ e. e ≡ RunFault.Memory) }
+    {
+        let outcome = started(alloc, &inputs, checker);
+        drop(inputs);
+        match outcome {
+            Ok(follower) => {
+                let text = ready_line(alloc, &follower);
+                *self = GatePhase::Following(follower);
+                Ok(Answer {
+                    text: text?,
+                    is_last: false,
+                })
+            }
+            Err(StartFailure::Found(finding)) => declined(alloc, &finding),
+            Err(StartFailure::Fault(fault)) => Err(fault),
+        }
+    }
+
+    /// Starts the follower, if none has started.
+    fn begin(&mut self, alloc: Global) -> Result<Answer, RunFault>
+        requires { IsReady (phase_of C.meaning self.old) }
+        ensures answered { (rest : List ℕ) → IfOk result (λ a. Replies
+            (RespondsIn (phase_of C.meaning self.old) (Some Request.Begin) rest)
+            (string_bytes a.text) a.is_last (phase_of C.meaning self.new)) }
+        ensures memory { IfErr result (λ e. e ≡ RunFault.Memory) }
+    {
+        match mem::replace(self, GatePhase::Over) {
+            GatePhase::Opening { inputs, checker } => self.begin_from(alloc, inputs, checker),
+            GatePhase::Following(follower) => {
+                drop(follower);
+                broken(alloc)
+            }
+            GatePhase::Over => broken(alloc),
+        }
+    }
+
+    /// Answers which signatures of a message are not known to be good.
+    fn query(&mut self, alloc: Global, message: &[u8]) -> Result<Answer, RunFault>
+        ensures answered { IfOk result (λ a. Replies
+            (RespondsIn (phase_of C.meaning self.old) (Some Request.Query) message.now)
+            (string_bytes a.text) a.is_last (phase_of C.meaning self.new)) }
+        ensures memory { IfErr result (λ e. e ≡ RunFault.Memory) }
+    {
+        match self {
+            GatePhase::Following(follower) => query_message(alloc, follower, message),
+            GatePhase::Opening { .. } => broken(alloc),
+            GatePhase::Over => broken(alloc),
+        }
+    }
+
+    /// Answers what came of a message.
+    fn judge(&mut self, alloc: Global, message: &[u8]) -> Result<Answer, RunFault>
+        ensures answered { IfOk result (λ a. Replies
+            (RespondsIn (phase_of C.meaning self.old) (Some Request.Judge) message.now)
+            (string_bytes a.text) a.is_last (phase_of C.meaning self.new)) }
+        ensures memory { IfErr result (λ e. e ≡ RunFault.Memory) }
+    {
+        match self {
+            GatePhase::Following(follower) => judge_message(alloc, follower, message),
+            GatePhase::Opening { .. } => broken(alloc),
+            GatePhase::Over => broken(alloc),
+        }
+    }
+
+    /// Answers a request. `rest` is the record's body after its letter.
+    fn respond(&mut self, alloc: Global, request: Request, rest: &[u8]) -> Result<Answer, RunFault>
+        requires { IsReady (phase_of C.meaning self.old) }
+        ensures answered { IfOk result (λ a. Replies
+            (RespondsIn (phase_of C.meaning self.old) (Some request) rest.now)
+            (string_bytes a.text) a.is_last (phase_of C.meaning self.new)) }
+        ensures memory { IfErr result (λ e. e ≡ RunFault.Memory) }
+    {
+        match request {
+            Request::Learn => self.learn(alloc, rest),
+            Request::Begin => self.begin(alloc),
+            Request::Query => self.query(alloc, rest),
+            Request::Judge => self.judge(alloc, rest),
+        }
+    }
+
+    /// Answers a record with this body.
+    pub(crate) fn answer(&mut self, alloc: Global, body: &[u8]) -> Result<Answer, RunFault>
+        requires { IsReady (phase_of C.meaning self.old) }
+        ensures answered { IfOk result (λ a. Replies
+            (AnswersIn (phase_of C.meaning self.old) body.now)
+            (string_bytes a.text) a.is_last (phase_of C.meaning self.new)) }
+        ensures memory { IfErr result (λ e. e ≡ RunFault.Memory) }
+    {
+        match request_of(body) {
+            Some(request) => self.respond(alloc, request, &body[1..]),
+            None => broken(alloc),
+        }
+    }
+
+    /// Returns the verdict if the input ends between two records.
+    pub(crate) fn end_verdict(&self) -> Verdict
+        ensures { result ≡ verdict_at (phase_of C.meaning self.now) }
+    {
+        match self {
+            GatePhase::Following(_) => Verdict::Yes,
+            _ => Verdict::No,
+        }
+    }
+}

@@ -20,7 +20,7 @@ needed_rule name = record (file_rule name) { required = true }
 abbrev pub flag_rule : Text → Rule
 flag_rule name = record (new_rule name) { long = Some name; action = Some SetTrue }
 
--- `with_checker app` adds the options `--trust` and `--receipts FILE`, one of which has to be given.
+-- `with_checker app` adds the options `--trust` and `--receipts FILE`.
 abbrev pub with_checker : App → App
 with_checker a = with_rule (with_rule a (flag_rule (codes "trust"))) (file_rule (codes "receipts"))
 
@@ -68,6 +68,14 @@ signatures_app =
     (file_rule (codes "log")))
     (file_rule (codes "receipts"))
 
+-- `gate --info FILE [--tree FILE]`, and at most one of `--trust` and `--receipts FILE`
+abbrev pub gate_app : App
+gate_app =
+    with_checker (with_rule (with_rule
+    (new_app (codes "gate"))
+    (needed_rule (codes "info")))
+    (file_rule (codes "tree")))
+
 -- `check KIND FILE`
 abbrev pub check_app : App
 check_app =
@@ -85,11 +93,12 @@ bare_app =
 -- The program with its subcommands.
 abbrev pub mlscheck_app : App
 mlscheck_app =
-    with_subcommand (with_subcommand (with_subcommand
+    with_subcommand (with_subcommand (with_subcommand (with_subcommand
     (with_subcommand (with_subcommand (with_subcommand bare_app
     show_app.top)
     validate_tree_app.top)
     validate_app.top)
     replay_app.top)
     signatures_app.top)
+    gate_app.top)
     check_app.top

@@ -1,16 +1,17 @@
 -- How a command is executed: which file is read for which input, and what is reported. F is what opens files, G the
 -- verification function of the checker. In which order files are opened, and that no other file is, is no clause. Used
 -- by contracts.
-use Rattle.std.specs.Prelude.{ℕ, List, [], true, Option, option_map, Err, IfOk, IfErr, OnErr, ◌≡◌, ◌↔◌, ◌⊎◌}
+use Rattle.std.specs.Prelude.{ℕ, List, [], codes, true, Option, option_map, Err, IfOk, IfErr, OnErr, ◌≡◌, ◌↔◌, ◌⊎◌}
 use Rattle.std.specs.Io.KnownBytes.{Appends}
 use Rattle.mls_check.specs.Signatures.{VerifyFn}
 use Rattle.mls_cli.specs.Files.{Opener, Opens, OpensNamed, IsOpened, CannotOpen, CannotOpenNamed}
 use Rattle.mls_cli.specs.ProgramCheckers.{IsJudgedBy}
 use Rattle.mls_cli.specs.ReportResult.{Outcome}
 use Rattle.mls_cli.specs.declared.order.CheckedReport.{CheckedReport}
-use Rattle.mls_cli.specs.declared.order.CheckedReport.TheVariants.{ValidateTree, Validate, Replay, Signatures}
+use Rattle.mls_cli.specs.declared.order.CheckedReport.TheVariants.{ValidateTree, Validate, Replay, Signatures, Gate}
 use Rattle.mls_cli.specs.declared.order.Order.{Order}
 use Rattle.mls_cli.specs.declared.order.Order.TheVariants.{Show, Judged, Check}
+use Rattle.mls_gate.specs.GateReport.{Gates, GatesPart}
 use Rattle.mls_msgs.specs.declared.profile.Profile.{Profile}
 use Rattle.mls_report.specs.Replay.{Replays, ReplaysPart}
 use Rattle.mls_report.specs.Show.{Shows, ShowsPart}
@@ -23,6 +24,10 @@ use Rattle.mls_report.specs.declared.verdict.RunFault.TheVariants.{Read, Memory}
 use Rattle.mls_report.specs.declared.show.ShowKind.{ShowKind}
 use Rattle.mls_vectors.specs.CheckReport.{Checks, ChecksPart}
 use Rattle.mls_vectors.specs.declared.check.CheckKind.{CheckKind}
+
+-- `stdin` is the name of standard input.
+abbrev pub stdin : List ℕ
+stdin = codes "-"
 
 module _ {File : Type 0} (F : Opener File) where
   -- `RunsShow profile k name written0 written1 outcome`: the report `show` of a file of this name.
@@ -158,6 +163,40 @@ module _ {File : Type 0} (F : Opener File) where
       ⊎ ((Opens F info × OpensNamed F tree × CannotOpenNamed F log written0 written1 outcome)
       ⊎ RunsSignatures G info tree log written0 written1 outcome))
 
+  -- `RunsGate G info tree ..`: the report `gate` of files with these names and of standard input, which has the records.
+  -- The file of the tree is optional.
+  pub record RunsGate (G : VerifyFn) (info : List ℕ) (tree : Option (List ℕ))
+      (written0 written1 : Option (List ℕ)) (outcome : Outcome) : Type 0 where
+    pub info_opened : File
+    pub info_ended : File
+    pub tree_opened : Option File
+    pub tree_ended : Option File
+    pub records_opened : File
+    pub records_ended : File
+    pub info_given : F.gives info info_opened
+    pub tree_given : IsOpened F tree tree_opened
+    pub records_given : F.gives stdin records_opened
+    pub told : IfOk outcome (Gates G (F.left info_opened) (F.left info_ended)
+        (option_map F.left tree_opened) (option_map F.left tree_ended)
+        (F.left records_opened) (F.left records_ended) written0 written1)
+    pub part : IfErr outcome (GatesPart G (F.left info_opened) (F.left info_ended)
+        (option_map F.left tree_opened) (option_map F.left tree_ended)
+        (F.left records_opened) (F.left records_ended) written0 written1)
+    pub failed : (outcome ≡ Err Read)
+        ↔ ((F.is_failed info_ended ≡ true)
+        ⊎ ((has_failed (option_map F.is_failed tree_ended) ≡ true)
+        ⊎ (F.is_failed records_ended ≡ true)))
+
+  -- `CarriesGate G info tree ..`: the command `gate` was executed, or a file cannot be opened. G is the verification
+  -- function of what is known to be good at first.
+  abbrev pub CarriesGate : VerifyFn → List ℕ → Option (List ℕ) → Option (List ℕ)
+      → Option (List ℕ) → Outcome → Type 0
+  CarriesGate G info tree written0 written1 outcome =
+      CannotOpen F info written0 written1 outcome
+      ⊎ ((Opens F info × CannotOpenNamed F tree written0 written1 outcome)
+      ⊎ ((Opens F info × OpensNamed F tree × CannotOpen F stdin written0 written1 outcome)
+      ⊎ RunsGate G info tree written0 written1 outcome))
+
   -- `RunsCheck k name ..`: the report `check` of a file with this name.
   pub record RunsCheck (k : CheckKind) (name : List ℕ) (written0 written1 : Option (List ℕ))
       (outcome : Outcome) : Type 0 where
@@ -186,6 +225,8 @@ module _ {File : Type 0} (F : Opener File) where
       CarriesReplay G info tree log written0 written1 outcome
   CarriesReport G (Signatures info tree log) written0 written1 outcome =
       CarriesSignatures G info tree log written0 written1 outcome
+  CarriesReport G (Gate info tree) written0 written1 outcome =
+      CarriesGate G info tree written0 written1 outcome
 
   -- `ExecutesOrder order ..`: a command was executed.
   abbrev pub ExecutesOrder : Order → Option (List ℕ) → Option (List ℕ) → Outcome → Type 0

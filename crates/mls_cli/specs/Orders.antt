@@ -58,6 +58,21 @@ IsCheck rows k file =
     (first_of (codes "KIND") rows ≡ Some (check_kind_text k))
     × (first_of (codes "FILE") rows ≡ Some file)
 
+-- `is_stdin file`: the file is standard input.
+abbrev pub is_stdin : Option Text → Bool
+is_stdin None = false
+is_stdin (Some name) = bytes_eq name (codes "-")
+
+-- `stdin_at rows id` is 1 if the argument of this name is standard input, else 0.
+abbrev pub stdin_at : List Row → Text → ℕ
+stdin_at rows id = one_if (is_stdin (first_of id rows))
+
+-- `stdin_count rows` is how many of the files are standard input.
+unfoldable pub stdin_count : List Row → ℕ
+stdin_count rows =
+    stdin_at rows (codes "FILE") + stdin_at rows (codes "context") + stdin_at rows (codes "info")
+    + stdin_at rows (codes "tree") + stdin_at rows (codes "log") + stdin_at rows (codes "receipts")
+
 -- `IsChecker trust receipts c`: exactly one of `--trust` and `--receipts` is given, and `c` is the choice.
 abbrev pub IsChecker : Option Text → Option Text → CheckerChoice → Type 0
 IsChecker trust receipts checker.Trust = (trust ≡ Some (codes "true")) × (receipts ≡ None)
@@ -70,6 +85,11 @@ abbrev pub SelectsReceipts : Option Text → CheckerChoice → Type 0
 SelectsReceipts receipts checker.Trust = ⊥
 SelectsReceipts receipts (checker.Receipts file) = receipts ≡ Some file
 SelectsReceipts receipts checker.Nobody = receipts ≡ None
+
+-- `IsFirstChecker trust receipts c`: at most one of `--trust` and `--receipts` is given, and `c` is the choice.
+abbrev pub IsFirstChecker : Option Text → Option Text → CheckerChoice → Type 0
+IsFirstChecker trust receipts checker.Nobody = (trust ≢ Some (codes "true")) × (receipts ≡ None)
+IsFirstChecker trust receipts c = IsChecker trust receipts c
 
 -- `IsValidateTree rows context tree c`: these are the options of `validate-tree`.
 abbrev pub IsValidateTree : List Row → Text → Text → CheckerChoice → Type 0
@@ -94,6 +114,12 @@ IsSignatures rows info tree log c =
     (first_of (codes "info") rows ≡ Some info) × (first_of (codes "tree") rows ≡ tree)
     × (first_of (codes "log") rows ≡ log) × SelectsReceipts (first_of (codes "receipts") rows) c
 
+-- `IsGate rows info tree c`: these are the options of `gate`. Neither file is standard input, which has the records.
+abbrev pub IsGate : List Row → Text → Option Text → CheckerChoice → Type 0
+IsGate rows info tree c =
+    (first_of (codes "info") rows ≡ Some info) × (first_of (codes "tree") rows ≡ tree)
+    × IsFirstChecker (first_of (codes "trust") rows) (first_of (codes "receipts") rows) c × (stdin_count rows ≡ 0)
+
 -- `IsJudgedReport found report c`: this is the report that clap found, with this choice of a checker.
 abbrev pub IsJudgedReport : Option (Text × List Row) → CheckedReport → CheckerChoice → Type 0
 IsJudgedReport found (report.ValidateTree context tree) c =
@@ -106,6 +132,8 @@ IsJudgedReport found (report.Replay info tree log) c =
 IsJudgedReport found (report.Signatures info tree log) c =
     (rows : List Row) × (found ≡ Some (codes "signatures", rows))
     × IsSignatures rows info tree log c
+IsJudgedReport found (report.Gate info tree) c =
+    (rows : List Row) × (found ≡ Some (codes "gate", rows)) × IsGate rows info tree c
 
 -- `IsOrder found order`: this is the command that clap found: a subcommand's name, and the values of its arguments.
 abbrev pub IsOrder : Option (Text × List Row) → Order → Type 0
@@ -114,21 +142,6 @@ IsOrder found (order.Show profile k file) =
 IsOrder found (order.Judged r c) = IsJudgedReport found r c
 IsOrder found (order.Check k file) =
     (rows : List Row) × (found ≡ Some (codes "check", rows)) × IsCheck rows k file
-
--- `is_stdin file`: the file is standard input.
-abbrev pub is_stdin : Option Text → Bool
-is_stdin None = false
-is_stdin (Some name) = bytes_eq name (codes "-")
-
--- `stdin_at rows id` is 1 if the argument of this name is standard input, else 0.
-abbrev pub stdin_at : List Row → Text → ℕ
-stdin_at rows id = one_if (is_stdin (first_of id rows))
-
--- `stdin_count rows` is how many of the files are standard input.
-unfoldable pub stdin_count : List Row → ℕ
-stdin_count rows =
-    stdin_at rows (codes "FILE") + stdin_at rows (codes "context") + stdin_at rows (codes "info")
-    + stdin_at rows (codes "tree") + stdin_at rows (codes "log") + stdin_at rows (codes "receipts")
 
 -- `IsGiven found order`: this is the command that clap found, and at most one of its files is standard input.
 abbrev pub IsGiven : Option (Text × List Row) → Order → Type 0

@@ -15,11 +15,10 @@ use Rattle.mls_report.specs.UnreadableReceipts.{TellsReceipts, receipts_line}
 use Rattle.mls_report.specs.declared.verdict.RunFault.{RunFault}
 use Rattle.mls_report.specs.declared.verdict.RunFault.TheVariants.{Read, Memory}
 
--- `checker_verify c` is the verification function: it accepts each signature, or those that have a receipt, or none.
+-- `checker_verify c` is the verification function: it accepts each signature, or those that have a receipt.
 abbrev pub checker_verify : ProgramChecker → VerifyFn
 checker_verify judge.All = λ suite key content signature. true
-checker_verify (judge.Listed digests) = listed digests
-checker_verify judge.Nobody = λ suite key content signature. false
+checker_verify (judge.Known digests) = listed digests
 
 module _ {File : Type 0} (F : Opener File) where
   -- `IsListed name G`: the receipts file was read, and `G` accepts the signatures that it lists.
@@ -40,7 +39,7 @@ module _ {File : Type 0} (F : Opener File) where
   abbrev pub IsMeaning : CheckerChoice → VerifyFn → Type 0
   IsMeaning checker.Trust G = G ≡ (λ suite key content signature. true)
   IsMeaning (checker.Receipts name) G = IsListed name G
-  IsMeaning checker.Nobody G = G ≡ (λ suite key content signature. false)
+  IsMeaning checker.Nobody G = G ≡ listed []
 
   -- `CannotReadReceipts c fault`: the receipts file cannot be read.
   abbrev pub CannotReadReceipts : CheckerChoice → RunFault → Type 0

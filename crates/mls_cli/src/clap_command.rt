@@ -4,7 +4,7 @@ ghost use Rattle.std.specs.Prelude.{◌≡◌, IfOk, false, codes};
 ghost use Rattle.clap.specs.Words.{App, app_of, new_app, rule_of, with_rule, with_subcommand};
 ghost use Rattle.clap.specs.declared.builder.command.Command.TheViews.{out-Command as fields_of};
 ghost use Rattle.mls_cli.specs.ClapCommands as specs;
-ghost use Rattle.mls_cli.specs.ClapCommands.{word_rule, file_rule, needed_rule, flag_rule, show_app, validate_tree_app, validate_app, replay_app, signatures_app, check_app, bare_app, mlscheck_app};
+ghost use Rattle.mls_cli.specs.ClapCommands.{word_rule, file_rule, needed_rule, flag_rule, show_app, validate_tree_app, validate_app, replay_app, signatures_app, gate_app, check_app, bare_app, mlscheck_app};
 
 use clap::{Arg, ArgAction, Command};
 use std::alloc::{AllocError, Global};
@@ -27,6 +27,9 @@ Example:
 
 /// The heading of `--trust` and `--receipts` in help.
 const SIGNATURES: &str = "Signatures (give one of these)";
+
+/// The same where neither need be given.
+const KNOWN_SIGNATURES: &str = "Signatures (give one of these, or none)";
 
 const SHOW_HELP: &str = "\
 Example:
@@ -56,6 +59,18 @@ party has accepted, or from which bad ones are struck after a first replay.
 Example:
   mlscheck signatures --info examples/real/epoch-1.info \\
       --log examples/real/handshakes.log";
+
+const GATE_HELP: &str = "\
+Standard input is a sequence of records, each a letter and what belongs to it,
+behind its length; each is answered before the next is read:
+  r RECEIPTS  these signatures are good (32 bytes each); no answer
+  b           begin with the signatures that are known to be good
+  q MESSAGE   print the signatures of the message that are not known to be good
+  m MESSAGE   process the message
+Without --trust and --receipts no signature is known to be good at first.
+
+Example:
+  mlscheck gate --info examples/one-leaf.info --trust < /dev/null";
 
 const CHECK_HELP: &str = "\
 Example:
@@ -153,16 +168,20 @@ fn show_command<'a>(alloc: Global) -> Result<Command<'a>, AllocError>
     with(command, valued(alloc, "profile", "PROFILE", help))
 }
 
-/// Adds `--trust` and `--receipts FILE` to the command, in a group of help that says to give one.
-fn with_checker<'a>(alloc: Global, command: Command<'a>) -> Result<Command<'a>, AllocError>
+/// Adds `--trust` and `--receipts FILE` to the command, in a group of help with this heading.
+fn with_checker<'a>(
+    alloc: Global,
+    command: Command<'a>,
+    heading: &'a str,
+) -> Result<Command<'a>, AllocError>
     requires { (fields_of command).has_globals ≡ false }
     ensures app { IfOk result (λ r. app_of r ≡ specs.with_checker (app_of command.entry)) }
     ensures own { IfOk result (λ r. (fields_of r).has_globals ≡ false) }
 {
     let trust = flag(alloc, "trust", "Takes every signature as good");
-    let command = with(command, trust.help_heading(SIGNATURES))?;
+    let command = with(command, trust.help_heading(heading))?;
     let receipts = file(alloc, "receipts", "The path of the list of good signatures");
-    with(command, receipts.help_heading(SIGNATURES))
+    with(command, receipts.help_heading(heading))
 }
 
 /// `validate-tree --context FILE --tree FILE`, and one of `--trust` and `--receipts FILE`.
@@ -176,7 +195,7 @@ fn validate_tree_command<'a>(alloc: Global) -> Result<Command<'a>, AllocError>
     let command = with(command, context)?;
     let tree = needed(alloc, "tree", "The ratchet tree's path");
     let command = with(command, tree)?;
-    with_checker(alloc, command)
+    with_checker(alloc, command, SIGNATURES)
 }
 
 /// Adds the files of a group's start to the command: its GroupInfo, and its tree.
@@ -205,7 +224,7 @@ fn validate_command<'a>(alloc: Global) -> Result<Command<'a>, AllocError>
     let about = "Checks a group as its info shows it";
     let command = titled(alloc, "validate", about, VALIDATE_HELP);
     let command = with_start(alloc, command)?;
-    with_checker(alloc, command)
+    with_checker(alloc, command, SIGNATURES)
 }
 
 /// `replay --info FILE [--tree FILE] --log FILE`, and one of `--trust` and `--receipts FILE`.
@@ -222,7 +241,7 @@ fn replay_command<'a>(alloc: Global) -> Result<Command<'a>, AllocError>
         "The path of the handshakes, each behind its length",
     );
     let command = with(command, log)?;
-    with_checker(alloc, command)
+    with_checker(alloc, command, SIGNATURES)
 }
 
 /// `signatures --info FILE [--tree FILE] [--log FILE] [--receipts FILE]`.
@@ -241,6 +260,17 @@ fn signatures_command<'a>(alloc: Global) -> Result<Command<'a>, AllocError>
     let command = with(command, log)?;
     let receipts = file(alloc, "receipts", "The path of the list of good signatures");
     with(command, receipts)
+}
+
+/// `gate --info FILE [--tree FILE]`, and at most one of `--trust` and `--receipts FILE`.
+fn gate_command<'a>(alloc: Global) -> Result<Command<'a>, AllocError>
+    ensures app { IfOk result (λ c. app_of c ≡ gate_app) }
+    ensures own { IfOk result (λ c. (fields_of c).has_globals ≡ false) }
+{
+    let about = "Follows a group live, and says which signatures to verify";
+    let command = titled(alloc, "gate", about, GATE_HELP);
+    let command = with_start(alloc, command)?;
+    with_checker(alloc, command, KNOWN_SIGNATURES)
 }
 
 /// `check KIND FILE`.
@@ -303,5 +333,6 @@ pub(crate) fn mlscheck_command<'a>(alloc: Global) -> Result<Command<'a>, AllocEr
     let command = with_command(command, validate_command(alloc))?;
     let command = with_command(command, replay_command(alloc))?;
     let command = with_command(command, signatures_command(alloc))?;
+    let command = with_command(command, gate_command(alloc))?;
     with_command(command, check_command(alloc))
 }

@@ -1,7 +1,7 @@
 //! Executing a command: the files that it names are opened, and its report is made of them.
 
 ghost use Rattle.std.specs.Prelude.{◌≡◌, ◌↔◌, ◌⊎◌, false, true, None, Err, option_map, IfSome};
-ghost use Rattle.mls_cli.specs.Execution.{ExecutesOrder, CarriesReport, CarriesShow, CarriesValidateTree, CarriesValidate, CarriesReplay, CarriesSignatures, CarriesCheck};
+ghost use Rattle.mls_cli.specs.Execution.{ExecutesOrder, CarriesReport, CarriesShow, CarriesValidateTree, CarriesValidate, CarriesReplay, CarriesSignatures, CarriesGate, CarriesCheck};
 ghost use Rattle.mls_cli.specs.Files.{opener, IsOpened, NamedFileIsMissing};
 ghost use Rattle.mls_cli.specs.ProgramCheckers.{checker_verify, IsJudgedBy, EndsUnread, EndsRefused};
 ghost use Rattle.mls_report.specs.StartInputs.{has_failed};
@@ -12,6 +12,7 @@ use crate::files::Files;
 use crate::load_checker::read_judge;
 use crate::order::{CheckedReport, CheckerChoice, Order};
 use crate::program_checker::{CheckerFault, ProgramChecker};
+use mls_gate::run_gate;
 use mls_msgs::Profile;
 use mls_report::{
     RunFault, ShowKind, Verdict, run_replay, run_show_in, run_signatures, run_unreadable_receipts,
@@ -184,6 +185,33 @@ fn signatures<F: Files, K: Sink>(
     run_signatures(alloc, &mut info, &mut tree, &mut log, receipts, out)
 }
 
+/// Answers the records of standard input, one after the other.
+fn gate<F: Files, K: Sink>(
+    alloc: Global,
+    info: &FileName,
+    tree: &Option<FileName>,
+    files: &F,
+    checker: ProgramChecker,
+    out: &mut K,
+) -> Result<Verdict, RunFault>
+    requires { K.is_failed out.old ≡ false }
+    ensures carried { CarriesGate
+        (opener (F.gives files.now) (F.lacks files.now) F.File.left F.File.is_failed)
+        (checker_verify checker) info.now tree.now (K.written out.old) (K.written out.new) result }
+    ensures write { (result ≡ Err RunFault.Write) ↔ (K.is_failed out.new ≡ true) }
+{
+    let Some(mut info) = files.open(info.as_str()) else {
+        return Err(RunFault::Read);
+    };
+    let Some(mut tree) = open_named(tree, files) else {
+        return Err(RunFault::Read);
+    };
+    let Some(mut records) = files.open("-") else {
+        return Err(RunFault::Read);
+    };
+    run_gate(alloc, &mut info, &mut tree, &mut records, checker, out)
+}
+
 /// Says why there is no checker.
 fn refuse<F: Files, K: Sink>(
     alloc: Global,
@@ -233,6 +261,7 @@ fn report_by<F: Files, K: Sink>(
         CheckedReport::Signatures { info, tree, log } => {
             signatures(alloc, info, tree, log, files, &judge, out)
         }
+        CheckedReport::Gate { info, tree } => gate(alloc, info, tree, files, judge, out),
     }
 }
 
@@ -270,8 +299,8 @@ fn judged<F: Files, K: Sink>(
 /// # Errors
 ///
 /// `Read` if a file cannot be opened, and then nothing is written, or if one fails; `Write` if the output fails;
-/// `Memory`. A prefix of the report may have been written, except if memory runs out in a report other than `replay`
-/// and `signatures`.
+/// `Memory`. A prefix of the report may have been written, except if memory runs out in a report other than `replay`,
+/// `signatures` and `gate`.
 pub fn execute_order<F: Files, K: Sink>(
     alloc: Global,
     order: &Order,

@@ -4,13 +4,13 @@ ghost use Rattle.std.specs.Prelude.{◌≡◌, ◌↔◌, false, true, IfOk, IfE
 ghost use Rattle.mls_cli.specs.Files.{opener, ReadsFile, CannotReadFile};
 ghost use Rattle.mls_cli.specs.ProgramCheckers.{checker_verify, IsMeaning, IsListed, IsUnlisted};
 ghost use Rattle.mls_cli.specs.CheckerFaults.{IsJudgeFault};
-ghost use Rattle.mls_cli.specs.declared.order.CheckerChoice.TheVariants.{Receipts};
+ghost use Rattle.mls_cli.specs.declared.order.CheckerChoice.TheVariants as choices;
 
 use crate::file_name::FileName;
 use crate::files::Files;
 use crate::order::CheckerChoice;
 use crate::program_checker::{CheckerFault, ProgramChecker};
-use mls_check::Listed;
+use mls_check::Receipts;
 use mls_report::{RunFault, read_all};
 use std::alloc::Global;
 
@@ -37,17 +37,17 @@ fn read_listed<F: Files>(
 ) -> Result<ProgramChecker, CheckerFault>
     ensures judge { IfOk result (λ judge. IsMeaning
         (opener (F.gives files.now) (F.lacks files.now) F.File.left F.File.is_failed)
-        (Receipts file.now) (checker_verify judge)) }
+        (choices.Receipts file.now) (checker_verify judge)) }
     ensures fault { IfErr result (IsJudgeFault
         (opener (F.gives files.now) (F.lacks files.now) F.File.left F.File.is_failed)
-        (Receipts file.now)) }
+        (choices.Receipts file.now)) }
 {
     let bytes = match read_file(alloc, file, files) {
         Ok(bytes) => bytes,
         Err(fault) => return Err(CheckerFault::Lost(fault)),
     };
-    match Listed::read(alloc, bytes.as_slice()) {
-        Ok(listed) => Ok(ProgramChecker::Listed(listed)),
+    match Receipts::read(alloc, bytes.as_slice()) {
+        Ok(receipts) => Ok(ProgramChecker::Known(receipts)),
         Err(fault) => Err(CheckerFault::Refused(fault)),
     }
 }
@@ -68,6 +68,6 @@ pub(crate) fn read_judge<F: Files>(
     match checker {
         CheckerChoice::Trust => Ok(ProgramChecker::All),
         CheckerChoice::Receipts(file) => read_listed(alloc, file, files),
-        CheckerChoice::Nobody => Ok(ProgramChecker::Nobody),
+        CheckerChoice::Nobody => Ok(ProgramChecker::Known(Receipts::new(alloc))),
     }
 }

@@ -17,7 +17,7 @@ pub enum CheckerChoice {
     Trust,
     /// `--receipts FILE`: it accepts those that the file lists.
     Receipts(FileName),
-    /// Neither, in `signatures`: it accepts none.
+    /// Neither, in `signatures` and `gate`: it accepts none, as long as it learns none.
     Nobody,
 }
 
@@ -56,6 +56,13 @@ pub enum CheckedReport {
         /// The file of the log, if one is named.
         log: Option<FileName>,
     },
+    /// `gate`: answer the records of standard input, one after the other.
+    Gate {
+        /// The file of the GroupInfo.
+        info: FileName,
+        /// The file of the ratchet tree, if one is named.
+        tree: Option<FileName>,
+    },
 }
 
 /// What the program is to do.
@@ -70,7 +77,7 @@ pub enum Order {
         /// The file.
         file: FileName,
     },
-    /// `validate-tree`, `validate`, `replay` or `signatures`.
+    /// `validate-tree`, `validate`, `replay`, `signatures` or `gate`.
     Judged {
         /// Which of them, and its files.
         report: CheckedReport,

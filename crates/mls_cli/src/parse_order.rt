@@ -3,7 +3,7 @@
 ghost use Rattle.std.specs.Prelude.{◌≡◌, ◌≢◌, ◌↔◌, ◌⊎◌, IsTrue, IfOk, IfErr, codes, Some, option_map, map, string_bytes};
 ghost use Rattle.clap.specs.Values.{kind_of};
 ghost use Rattle.clap.specs.Words.{first_of, rows_of, found_of, subcommand_rows_of};
-ghost use Rattle.mls_cli.specs.Orders.{IsProfile, IsChecker, SelectsReceipts, IsOrder, IsGiven, IsOrderOf, stdin_count, IsHelp, IsUsage, AsksForHelp, AsksForHelpAlone, Refuses, kind_text, check_kind_text};
+ghost use Rattle.mls_cli.specs.Orders.{IsProfile, IsChecker, IsFirstChecker, SelectsReceipts, IsOrder, IsGiven, IsOrderOf, stdin_count, IsHelp, IsUsage, AsksForHelp, AsksForHelpAlone, Refuses, kind_text, check_kind_text};
 ghost use Rattle.mls_cli.specs.Orders as specs;
 
 use crate::clap_command::mlscheck_command;
@@ -232,6 +232,41 @@ fn signatures_order(alloc: Global, matches: &ArgMatches<'_>) -> Result<Order, Or
     Ok(Order::Judged { report, checker })
 }
 
+/// Returns the checker of `gate`: that of at most one of the two options, else one that accepts none.
+fn first_checker(alloc: Global, matches: &ArgMatches<'_>) -> Result<CheckerChoice, OrderFault>
+    ensures checker { IfOk result
+        (IsFirstChecker (first_of (codes "trust") (rows_of (found_of matches.now)))
+        (first_of (codes "receipts") (rows_of (found_of matches.now)))) }
+    ensures refused { IfErr result
+        (Refuses (IsFirstChecker (first_of (codes "trust") (rows_of (found_of matches.now)))
+        (first_of (codes "receipts") (rows_of (found_of matches.now))))) }
+    ensures own { IfErr result (λ e. IsHelp e → ⊥) }
+{
+    match (is_trusted(matches), value(matches, "receipts")) {
+        (true, None) => Ok(CheckerChoice::Trust),
+        (false, Some(file)) => Ok(CheckerChoice::Receipts(FileName::new(alloc, file)?)),
+        (false, None) => Ok(CheckerChoice::Nobody),
+        (true, Some(_)) => Err(usage(alloc, "usage: give one of --trust and --receipts\n")),
+    }
+}
+
+/// Returns the command `gate`. None of its files is standard input.
+fn gate_order(alloc: Global, matches: &ArgMatches<'_>) -> Result<Order, OrderFault>
+    ensures order { IfOk result (IsOrder (Some (codes "gate", rows_of (found_of matches.now)))) }
+    ensures refused { IfErr result
+        (Refuses (IsOrder (Some (codes "gate", rows_of (found_of matches.now))))) }
+    ensures own { IfErr result (λ e. IsHelp e → ⊥) }
+{
+    if stdin_count(matches) > 0 {
+        return Err(usage(alloc, "usage: standard input has the records of the gate\n"));
+    }
+    let checker = first_checker(alloc, matches)?;
+    let info = file_of(alloc, matches, "info")?;
+    let tree = optional_file_of(alloc, matches, "tree")?;
+    let report = CheckedReport::Gate { info, tree };
+    Ok(Order::Judged { report, checker })
+}
+
 /// Returns the kind of `check`.
 fn check_kind(alloc: Global, matches: &ArgMatches<'_>) -> Result<CheckKind, OrderFault>
     ensures kind { IfOk result
@@ -287,6 +322,7 @@ fn named_order(alloc: Global, name: &str, matches: &ArgMatches<'_>) -> Result<Or
         "validate" => validate_order(alloc, matches),
         "replay" => replay_order(alloc, matches),
         "signatures" => signatures_order(alloc, matches),
+        "gate" => gate_order(alloc, matches),
         "check" => check_order(alloc, matches),
         _ => Err(usage(alloc, "usage: no such command\n")),
     }

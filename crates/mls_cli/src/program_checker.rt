@@ -1,6 +1,6 @@
 //! The checker of a report.
 
-use mls_check::{Listed, ReceiptsFault, SignatureCheck};
+use mls_check::{LearningCheck, OutOfMemory, Receipts, ReceiptsFault, SignatureCheck};
 use mls_report::RunFault;
 
 /// A checker of the program, once the receipts file is read.
@@ -8,10 +8,8 @@ use mls_report::RunFault;
 pub enum ProgramChecker {
     /// Accepts each signature.
     All,
-    /// Accepts those that have a receipt.
-    Listed(Listed),
-    /// Accepts none.
-    Nobody,
+    /// Accepts those that have a receipt in the set.
+    Known(Receipts),
 }
 
 impl SignatureCheck for ProgramChecker {
@@ -22,8 +20,16 @@ impl SignatureCheck for ProgramChecker {
     fn good(&self, suite: u16, key: &[u8], content: &[u8], signature: &[u8]) -> bool {
         match self {
             ProgramChecker::All => true,
-            ProgramChecker::Listed(listed) => listed.good(suite, key, content, signature),
-            ProgramChecker::Nobody => false,
+            ProgramChecker::Known(receipts) => receipts.good(suite, key, content, signature),
+        }
+    }
+}
+
+impl LearningCheck for ProgramChecker {
+    fn learn_receipt(&mut self, digest: [u8; 32]) -> Result<(), OutOfMemory> {
+        match self {
+            ProgramChecker::All => Ok(()),
+            ProgramChecker::Known(receipts) => receipts.learn_receipt(digest),
         }
     }
 }

@@ -1,0 +1,19 @@
+use Rattle.std.proofs.Common.{inr, rules}
+use Rattle.mls_cli.proofs.execution.gate.Goals as goal
+
+pub returns-clause-carried : goal.returns-clause-carried
+returns-clause-carried g c =
+    inr (inr (inr (record {
+      info_opened = c.in-Some.info;
+      info_ended = c.run_gate.new.info;
+      tree_opened = c.in-Some-open_named.tree;
+      tree_ended = c.run_gate.new.tree;
+      records_opened = c.in-Some-open.records;
+      records_ended = c.run_gate.new.records;
+      info_given = search rules;
+      tree_given = c.in-Some-open_named.ensures.given;
+      records_given = search rules;
+      told = c.run_gate.ensures.told;
+      part = c.run_gate.ensures.part;
+      failed = c.run_gate.ensures.read;
+    })))

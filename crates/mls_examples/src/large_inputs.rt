@@ -2,7 +2,7 @@
 //! bytes of a vector's body (RFC 9420, 2.1.2).
 
 use crate::support::{bytes, expect_text};
-use mls_check::{Listed, Trusting, signed};
+use mls_check::{Receipts, Trusting, signed};
 use mls_cli::{CheckKind, ShowKind, run_check, run_show};
 use mls_msgs::{Message, decode_message};
 use mls_nodes::{decode_context, decode_ratchet_tree};
@@ -69,7 +69,7 @@ fn other_inputs_over_the_limit(rt: HostRuntime) -> Result<(), Fail> {
     // Why receipts of such a size can't be read.
     let size = over;
     let input = private_message(alloc, size)?;
-    let fault = Listed::read(alloc, input.as_slice()).err();
+    let fault = Receipts::read(alloc, input.as_slice()).err();
     let found = format!(in alloc; "{}", fault.ok_or("a fault")?)?;
     expect_text(&rt, found, receipts);
     Ok(())

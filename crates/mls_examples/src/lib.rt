@@ -10,6 +10,8 @@
 #[cfg(test)]
 mod devices;
 #[cfg(test)]
+mod gate_devices;
+#[cfg(test)]
 mod journals;
 #[cfg(test)]
 mod kept_hashes;
@@ -21,6 +23,8 @@ mod limits;
 mod replay_devices;
 #[cfg(test)]
 mod report_devices;
+#[cfg(test)]
+mod stored_states;
 #[cfg(test)]
 mod support;
 #[cfg(test)]

@@ -1,8 +1,11 @@
 //! The largest group: the most members that a tree holds, which is this library's own limit.
 
-use crate::support::{bytes, expect_text, key_package};
+use crate::support::{bytes, expect_text, key_package, suite, text};
 use mls_apply::{Applied, Leaves, PendingProposals, apply_list, resolve_list};
-use mls_msgs::Commit;
+use mls_check::Trusting;
+use mls_follow::{Follower, Refusal};
+use mls_hash::tree_hash;
+use mls_msgs::{Commit, GroupInfo, Message, decode_message};
 use mls_nodes::decode_leaf;
 use mls_tree::PublicTree;
 use mls_wire::read_all_of;
@@ -110,6 +113,75 @@ fn a_full_group_adds_whom_it_has_room_for(rt: HostRuntime) -> Result<(), Fail> {
         "{too_many}; 1048576 1048576 [5]; {too_many}; {too_many}; a leaf is not set; "
     )?;
     expect_text(&rt, at_the_limit(rt.alloc(), 0, &rows)?, wanted.as_str());
+    Ok(())
+}
+
+/// A tree with the most leaves, each of a member with keys of its own, which are four bytes, and a basic credential.
+fn full_tree(alloc: Global) -> Result<PublicTree, Fail> {
+    let mut tree = PublicTree::blank(alloc, MOST)?;
+    for index in 0..MOST {
+        let leaf = format!(in alloc; "04{index:08x}04{index:08x}00010000000000020001020000")?;
+        let leaf = bytes(alloc, leaf.as_str())?;
+        let node = decode_leaf(alloc, leaf.as_slice())?;
+        tree.set_leaf(index, Some(Box::new(alloc, node)?))?;
+    }
+    Ok(tree)
+}
+
+/// A GroupInfo of epoch 0, signed by member 0, without a tree, of a group with this tree hash.
+fn info_with(alloc: Global, tree_hash: &str) -> Result<GroupInfo, Fail> {
+    let info = format!(in alloc;
+        "00010004000100010147000000000000000020{tree_hash}00000001e00000000001c4"
+    )?;
+    match decode_message(alloc, bytes(alloc, info.as_str())?.as_slice())? {
+        Message::GroupInfo(info) => Ok(info),
+        _ => Err(Fail::from("another message")),
+    }
+}
+
+/// A commit of member 0 in epoch 0 that adds one member, without a path.
+fn adding_message(alloc: Global) -> Result<Vec<u8>, Fail> {
+    let list = vector(alloc, adds_of(alloc, &[1])?.as_str())?;
+    let message = format!(in alloc;
+        "000100010147000000000000000001000000000003{list}0001c601e101c5"
+    )?;
+    bytes(alloc, message.as_str())
+}
+
+/// The GroupInfo of the group of a tree.
+fn info_of(alloc: Global, tree: &PublicTree) -> Result<GroupInfo, Fail> {
+    let root = tree.leaf_count().saturating_sub(1);
+    let hash = tree_hash(alloc, suite()?, tree, root)?;
+    info_with(alloc, text(alloc, hash.as_slice())?.as_str())
+}
+
+/// A follower of the largest group.
+fn full_follower(alloc: Global) -> Result<Follower<Trusting>, Fail> {
+    let tree = full_tree(alloc)?;
+    match info_of(alloc, &tree) {
+        Ok(info) => match Follower::start(alloc, info, Some(tree), Trusting) {
+            Ok(follower) => Ok(follower),
+            Err(refused) => {
+                drop(refused);
+                Err(Fail::from("a start"))
+            }
+        },
+        Err(fail) => {
+            drop(tree);
+            Err(fail)
+        }
+    }
+}
+
+/// A follower of the largest group refuses an Add for want of leaves (own limit), and is as it was: it refuses it again.
+#[test]
+fn a_full_group_refuses_an_add(rt: HostRuntime) -> Result<(), Fail> {
+    let message = adding_message(rt.alloc())?;
+    let mut follower = full_follower(rt.alloc())?;
+    for _ in 0..2 {
+        assert!(rt; follower.take(message.as_slice()) == Err(Refusal::TooManyLeaves));
+    }
+    assert!(rt; follower.context().epoch == 0);
     Ok(())
 }
 

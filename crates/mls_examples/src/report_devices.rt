@@ -2,7 +2,7 @@
 
 use crate::replay_devices::LOG;
 use crate::support::{GROUP_INFO, TREE, bytes, expect_text};
-use mls_check::{Listed, ReceiptsFault, Trusting};
+use mls_check::{Receipts, ReceiptsFault, Trusting};
 use mls_cli::{
     CheckKind, Files, RunFault, ShowKind, Verdict, read_all, run_check, run_program, run_replay,
     run_show, run_signatures, run_unreadable_receipts, run_validate_tree, status_of,
@@ -192,7 +192,7 @@ fn devices_of_signatures_that_fail(rt: HostRuntime) -> Result<(), Fail> {
     let mut tree: Option<MemorySource> = None;
     let mut log: Option<MemorySource> = None;
     let mut out = MemorySink::new(alloc, 10, 30, None)?;
-    let receipts = Listed::read(alloc, b"")?;
+    let receipts = Receipts::new(alloc);
     let outcome = run_signatures(alloc, &mut info, &mut tree, &mut log, &receipts, &mut out);
     expect_text(&rt, said(alloc, outcome, &out)?, "584cca8421: write");
     Ok(())

@@ -2,7 +2,7 @@
 
 use crate::group::{LEAVES, RECEIPTS, SIGNED_START};
 use crate::told::{Stop, Told, have};
-use mls_check::{Listed, ReceiptsFault, SignatureCheck};
+use mls_check::{Receipts, ReceiptsFault, SignatureCheck};
 use mls_msgs::{Message, Profile, decode_message_in, encode_message};
 use mls_wire::CodecFault;
 use std::alloc::Global;
@@ -36,7 +36,7 @@ pub(crate) fn read_message(alloc: Global, profile: Profile, message: &str) -> Re
 }
 
 /// Returns whether the signature of a leaf node is good.
-fn is_good(alloc: Global, listed: &Listed, leaf: &str, member: u8) -> Result<bool, Stop> {
+fn is_good(alloc: Global, listed: &Receipts, leaf: &str, member: u8) -> Result<bool, Stop> {
     let tbs = leaf.get(..74).unwrap_or(leaf);
     let content = have(format!(in alloc; "{SIGNED_START}{tbs}"))?;
     let content = have(hex::decode(alloc, content.as_str()))?;
@@ -50,7 +50,7 @@ fn is_good(alloc: Global, listed: &Listed, leaf: &str, member: u8) -> Result<boo
 fn listed_text(
     alloc: Global,
     was_refused: bool,
-    answer: Result<Listed, ReceiptsFault>,
+    answer: Result<Receipts, ReceiptsFault>,
 ) -> Result<Told, Stop> {
     let Ok(listed) = answer else {
         return Err(Stop::NotRead);
@@ -64,9 +64,9 @@ fn listed_text(
 
 /// Reads a receipts file of two lines.
 pub(crate) fn read_receipts(alloc: Global) -> Result<Told, Stop> {
-    match Listed::read(alloc, RECEIPTS.as_bytes()) {
+    match Receipts::read(alloc, RECEIPTS.as_bytes()) {
         Err(ReceiptsFault::OutOfMemory) => {
-            let again = Listed::read(alloc, RECEIPTS.as_bytes());
+            let again = Receipts::read(alloc, RECEIPTS.as_bytes());
             listed_text(alloc, true, again)
         }
         answer => listed_text(alloc, false, answer),

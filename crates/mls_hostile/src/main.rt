@@ -70,7 +70,7 @@ const CALLS: &[(&str, Call, &str)] = &[
         Call::FullMessage(FULL_COMMIT),
         FULL_COMMIT,
     ),
-    ("Listed::read", Call::Receipts, "true true false"),
+    ("Receipts::read", Call::Receipts, "true true false"),
     ("validate_tree", Call::Validate(Validator::Tree), "yes"),
     (
         "validate_members",
@@ -124,6 +124,7 @@ const CALLS: &[(&str, Call, &str)] = &[
         Call::Report(Report::Signatures),
         "no, 1821 bytes",
     ),
+    ("run_gate", Call::Report(Report::Gate), "no, 2046 bytes"),
 ];
 
 /// Makes a call.

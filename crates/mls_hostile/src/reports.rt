@@ -1,11 +1,12 @@
 //! Reports over devices in memory.
 
 use crate::group::{
-    CHECKED, GROUP_INFO, LOG, REPLAYED, SIGNATURES, TREE, TREE_CONTEXT, VALIDATED, VALIDATED_TREE,
-    VECTORS,
+    CHECKED, GATE_RECORDS, GATED, GROUP_INFO, LOG, REPLAYED, SIGNATURES, TREE, TREE_CONTEXT,
+    VALIDATED, VALIDATED_TREE, VECTORS,
 };
 use crate::told::{Stop, Told, have};
-use mls_check::{Listed, Trusting};
+use mls_check::{Receipts, Trusting};
+use mls_gate::run_gate;
 use mls_report::{RunFault, Verdict, run_replay, run_signatures, run_validate, run_validate_tree};
 use mls_vectors::{CheckKind, run_check};
 use mls_wire::{MemorySink, MemorySource};
@@ -24,6 +25,8 @@ pub(crate) enum Report {
     ValidateTree,
     /// `signatures` of the group of member 0 alone and of the log, with no receipts.
     Signatures,
+    /// `gate` of the group of member 0 alone and of records, with no receipts at first.
+    Gate,
 }
 
 /// How a report ends, and what is written then.
@@ -83,13 +86,28 @@ fn signatures_ended(alloc: Global) -> Result<Ended, Stop> {
     let Ok(mut out) = MemorySink::new(alloc, 2000, 40, None) else {
         return Err(Stop::Memory);
     };
-    let receipts = have(Listed::read(alloc, b""))?;
+    let receipts = Receipts::new(alloc);
     let info = have(hex::decode(alloc, GROUP_INFO))?;
     let log = have(hex::decode(alloc, LOG))?;
     let mut info = MemorySource::new(info.as_slice(), 40, None);
     let mut tree: Option<MemorySource> = None;
     let mut log = Some(MemorySource::new(log.as_slice(), 40, None));
     let outcome = run_signatures(alloc, &mut info, &mut tree, &mut log, &receipts, &mut out);
+    Ok((outcome, out))
+}
+
+/// Returns how `gate` ends.
+fn gate_ended(alloc: Global) -> Result<Ended, Stop> {
+    let Ok(mut out) = MemorySink::new(alloc, 3000, 40, None) else {
+        return Err(Stop::Memory);
+    };
+    let info = have(hex::decode(alloc, GROUP_INFO))?;
+    let records = have(hex::decode(alloc, GATE_RECORDS))?;
+    let mut info = MemorySource::new(info.as_slice(), 40, None);
+    let mut tree: Option<MemorySource> = None;
+    let mut records = MemorySource::new(records.as_slice(), 40, None);
+    let known = Receipts::new(alloc);
+    let outcome = run_gate(alloc, &mut info, &mut tree, &mut records, known, &mut out);
     Ok((outcome, out))
 }
 
@@ -101,6 +119,7 @@ fn ended(alloc: Global, report: Report) -> Result<Ended, Stop> {
         Report::Validate => validate_ended(alloc),
         Report::ValidateTree => validate_tree_ended(alloc),
         Report::Signatures => signatures_ended(alloc),
+        Report::Gate => gate_ended(alloc),
     }
 }
 
@@ -112,6 +131,7 @@ fn usual(report: Report) -> (&'static str, &'static str) {
         Report::Validate => ("yes", VALIDATED),
         Report::ValidateTree => ("yes", VALIDATED_TREE),
         Report::Signatures => ("no", SIGNATURES),
+        Report::Gate => ("no", GATED),
     }
 }
 
@@ -123,7 +143,7 @@ pub(crate) fn tell_report(alloc: Global, report: Report) -> Result<Told, Stop> {
     let was_refused = matches!(outcome, Err(RunFault::Memory));
     if was_refused {
         let front = match report {
-            Report::Replay | Report::Signatures => usual_text.as_bytes(),
+            Report::Replay | Report::Signatures | Report::Gate => usual_text.as_bytes(),
             Report::Check | Report::Validate | Report::ValidateTree => b"",
         };
         if !front.starts_with(out.bytes()) {

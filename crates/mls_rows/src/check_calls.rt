@@ -5,7 +5,7 @@ use crate::fault::RowFault;
 use crate::hash_calls::suite_at;
 use crate::row::{Row, have};
 use mls_check::{
-    Listed, MemberFault, SignatureCheck, SortedRequirements, TreeFault, Trusting,
+    MemberFault, Receipts, SignatureCheck, SortedRequirements, TreeFault, Trusting,
     has_distinct_keys, is_leaf_signed, signed, validate_members, validate_tree,
 };
 use mls_hash::{Suite, fill_hashes, parent_hash_of};
@@ -178,8 +178,7 @@ fn first_failing(
 ) -> Result<Option<u32>, RowFault> {
     let rule = rule_at(row, 1)?;
     let indices = row.numbers(5)?;
-    let checker = Listed::read(row.alloc, b"");
-    let checker = have(checker)?;
+    let checker = Receipts::new(row.alloc);
     let tree = row.tree(4)?;
     let found = match SortedRequirements::new(row.alloc, required) {
         Ok(sorted) => {
@@ -279,7 +278,7 @@ pub(crate) fn listed(row: &Row) -> Result<CallResult, RowFault> {
     let key = row.bytes(3)?;
     let content = row.bytes(4)?;
     let signature = row.bytes(5)?;
-    match Listed::read(row.alloc, file.as_slice()) {
+    match Receipts::read(row.alloc, file.as_slice()) {
         Ok(listed) => {
             let found = listed.good(
                 suite,

@@ -5,7 +5,7 @@ use crate::fault::RowFault;
 use crate::row::Row;
 use crate::state::brief_state;
 use crate::stories::{started, taken_text};
-use mls_check::{Listed, SignatureCheck, Trusting};
+use mls_check::{Receipts, SignatureCheck, Trusting};
 use mls_follow::{Follower, Refusal};
 use mls_msgs::decode_message;
 use mls_nodes::{NodeFault, decode_leaf, decode_ratchet_tree};
@@ -101,13 +101,13 @@ fn accepted<C: SignatureCheck>(
 }
 
 /// Whether a follower accepts the message of a field.
-fn accepts(row: &Row, follower: &mut Follower<Listed>, at: usize) -> Result<bool, RowFault> {
+fn accepts(row: &Row, follower: &mut Follower<Receipts>, at: usize) -> Result<bool, RowFault> {
     let message = row.bytes(at)?;
     Ok(follower.take(message.as_slice()).is_ok())
 }
 
 /// Has a follower accept the messages of the fields from the third to the last but two.
-fn accept_first(row: &Row, follower: &mut Follower<Listed>) -> Result<(), RowFault> {
+fn accept_first(row: &Row, follower: &mut Follower<Receipts>) -> Result<(), RowFault> {
     for at in 3..row.len().saturating_sub(1) {
         if !accepts(row, follower, at)? {
             return Err(RowFault::Field(at, "a message that is accepted"));
@@ -117,7 +117,7 @@ fn accept_first(row: &Row, follower: &mut Follower<Listed>) -> Result<(), RowFau
 }
 
 /// A follower that has accepted the messages of the fields from the third to the last but two.
-fn ready(row: &Row) -> Result<Follower<Listed>, RowFault> {
+fn ready(row: &Row) -> Result<Follower<Receipts>, RowFault> {
     let mut follower = started(row, row.receipts(2)?)?;
     match accept_first(row, &mut follower) {
         Ok(()) => Ok(follower),
@@ -131,7 +131,7 @@ fn ready(row: &Row) -> Result<Follower<Listed>, RowFault> {
 /// Whether a message is accepted with the result of the unchanged one. The follower is then replaced by another one that is ready.
 fn is_accepted(
     row: &Row,
-    follower: &mut Follower<Listed>,
+    follower: &mut Follower<Receipts>,
     message: &[u8],
     unchanged: &str,
 ) -> Result<bool, RowFault> {
@@ -149,7 +149,7 @@ fn is_accepted(
 /// How many bits of a byte can be changed so that the message is accepted all the same.
 fn unchecked_bits(
     row: &Row,
-    follower: &mut Follower<Listed>,
+    follower: &mut Follower<Receipts>,
     message: &mut Vec<u8>,
     at: usize,
     unchanged: &str,
@@ -176,7 +176,7 @@ fn flip(message: &mut Vec<u8>, at: usize, bit: u8) {
 /// Those of the bytes from `first` to before `end` of which no bit is checked.
 fn unchecked_bytes(
     row: &Row,
-    follower: &mut Follower<Listed>,
+    follower: &mut Follower<Receipts>,
     message: &mut Vec<u8>,
     ends: (usize, usize),
     unchanged: &str,

@@ -6,7 +6,7 @@ use crate::bytes::bytes_of;
 use crate::fault::RowFault;
 use crate::names::Names;
 use crate::token::Token;
-use mls_check::Listed;
+use mls_check::Receipts;
 use mls_tree::PublicTree;
 use mls_wire::{Decode, Opaque, read_all_of};
 use std::alloc::Global;
@@ -228,13 +228,13 @@ impl<'a> Row<'a> {
     }
 
     /// A field that is the receipts of good signatures, each of 32 bytes.
-    pub(crate) fn receipts(&self, at: usize) -> Result<Listed, RowFault> {
+    pub(crate) fn receipts(&self, at: usize) -> Result<Receipts, RowFault> {
         let mut lines = String::new(self.alloc);
         for receipt in self.bytes(at)?.as_slice().chunks(32) {
             lines.push_str(hex::encode(self.alloc, receipt)?.as_str())?;
             lines.push('\n')?;
         }
-        match Listed::read(self.alloc, lines.as_str().as_bytes()) {
+        match Receipts::read(self.alloc, lines.as_str().as_bytes()) {
             Ok(listed) => Ok(listed),
             Err(_) => Err(RowFault::Field(at, "receipts")),
         }

@@ -221,6 +221,10 @@ fn report_text(alloc: Global, report: &CheckedReport, receipts: &str) -> Result<
             let (info, tree, log) = (info.as_str(), file_name(tree), file_name(log));
             Ok(format!(in alloc; "signatures {info} {tree} {log} {receipts}")?)
         }
+        CheckedReport::Gate { info, tree } => {
+            let (info, tree) = (info.as_str(), file_name(tree));
+            Ok(format!(in alloc; "gate {info} {tree} {receipts}")?)
+        }
     }
 }
 

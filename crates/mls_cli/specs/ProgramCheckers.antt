@@ -1,5 +1,5 @@
 -- The checker of a report, and how a report ends without one. Used by contracts.
-use Rattle.std.specs.Prelude.{ℕ, List, [], true, false, Option, Err, IfOk, OnErr, ◌≡◌, ◌≢◌, ◌⊎◌}
+use Rattle.std.specs.Prelude.{ℕ, List, [], true, Option, Err, IfOk, OnErr, ◌≡◌, ◌≢◌, ◌⊎◌}
 use Rattle.std.specs.Io.KnownBytes.{Appends}
 use Rattle.mls_wire.specs.Devices.{AppendsPrefix}
 use Rattle.mls_check.specs.Receipts.{listed, IsReceipts, IsReceiptsFault}

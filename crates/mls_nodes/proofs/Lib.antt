@@ -1,5 +1,6 @@
 pub mod Entries
 pub mod Limits
+mod SortedLists
 pub mod Trimming
 pub mod Lengths
 pub mod Drafted

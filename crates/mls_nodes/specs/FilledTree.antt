@@ -1,4 +1,4 @@
--- What filling up gives: a full tree, the least one that has room, with the entries at its front. Internal: no public
+-- A filled tree: the smallest full tree that has capacity for the entries, with the entries at its front. Internal: no public
 -- contract uses this.
 use Rattle.std.proofs.Common.{◌≡◌, ℕ, zero, suc, ◌+◌, ◌-◌, ◌*◌, ◌^◌, ◌≤◌, ◌<◌, true, leb, List, [], ◌∷◌, ◌++◌, length, take, drop, replicate, slice_get, Option, Some, None, All, refl, sym, ap, ◌∙◌, arith, length-append, inl, inr}
 use Rattle.std.proofs.lemmas.Bool.{cond_both, leb-true, leb-false, le-leb, lt-leb, cases_lt}

@@ -9,7 +9,7 @@ use Rattle.mls_nodes.specs.NodeModel.{NodeValue}
 use Rattle.mls_nodes.specs.Layout.{node}
 use Rattle.mls_nodes.specs.RatchetTreeEncoding.{is_placed, IsFirstMisplaced}
 
--- What a call that judges node indices returned.
+-- The result of a call that checks node indices.
 abbrev pub FitsPlaces : {A : Type 0} → List (Option NodeValue) → Result A NodeFault → Type 0
 FitsPlaces nodes (Ok x) = is_placed nodes ≡ true
 FitsPlaces nodes (Err (faults.WrongNodeKind place)) = IsFirstMisplaced nodes place

@@ -1,6 +1,9 @@
 //! Lists of unmerged leaves (RFC 9420, 4.1.1 and 7.1).
 
-ghost use Rattle.std.specs.Prelude.{◌≡◌, ◌≤◌, ◌<◌, insert, length, remove, slice_index_or, MatchResult, OnErr, OnOk};
+ghost use Rattle.std.specs.Prelude.{◌≡◌, ◌==◌, ◌≤◌, ◌<◌, insert, length, nat_le, position, remove, slice_index_or, MatchResult, OnErr, OnOk};
+ghost use Rattle.std.specs.Bool.{OnTrue};
+ghost use Rattle.std.specs.List.{position_or_len};
+ghost use Rattle.std.specs.List.Sorted.{IsNonDecreasing};
 ghost use Rattle.mls_nodes.specs.Limits.{leaf_limit};
 
 use mls_wire::{
@@ -16,17 +19,57 @@ pub const MAX_UNMERGED: usize = 1048576;
 #[derive(Debug, Drop)]
 pub struct Unmerged {
     leaves: Items<u32>,
+    /// If true, no leaf is less than the one before it, so a binary search finds a leaf. Lists of valid trees are sorted.
+    /// Other lists keep their order, and are searched from the first leaf on.
+    is_sorted: bool,
 }
 
 impl Model for Unmerged {
     ghost use Rattle.std.specs.Prelude.{ℕ, ◌≤◌, List, length};
+    ghost use Rattle.std.specs.Bool.{OnTrue};
+    ghost use Rattle.std.specs.List.Sorted.{IsNonDecreasing};
     ghost use Rattle.mls_nodes.specs.Limits.{leaf_limit};
 
     ghost Value = { List ℕ };
 
     ghost view = { λ a. a.leaves };
 
-    ghost invariant = { λ a. length a.leaves ≤ leaf_limit };
+    ghost invariant = { λ a. (length a.leaves ≤ leaf_limit) × OnTrue a.is_sorted (IsNonDecreasing a.leaves) };
+}
+
+/// Returns whether a leaf may be inserted at a position of a sorted list, so that it stays sorted.
+fn is_between(leaves: &[u32], index: usize, leaf: u32) -> bool
+    requires { index ≤ length leaves.now }
+    ensures { OnTrue result (IsNonDecreasing leaves.now → IsNonDecreasing (insert leaves.now index leaf)) }
+{
+    if index > 0 && leaves[index - 1] > leaf {
+        return false;
+    }
+    index == leaves.len() || leaf <= leaves[index]
+}
+
+/// Returns the position of the first leaf that is not less than `leaf`, or the length of the list.
+fn first_not_less(leaves: &[u32], leaf: u32) -> usize
+    ensures { result ≡ position_or_len (λ x. nat_le leaf x) leaves.now }
+{
+    for (index, item) in leaves.iter().enumerate() {
+        if *item >= leaf {
+            return index;
+        }
+    }
+    leaves.len()
+}
+
+/// Returns the position of the first entry that is `leaf`.
+fn first_equal(leaves: &[u32], leaf: u32) -> Option<usize>
+    ensures { result ≡ position (λ x. x == leaf) leaves.now }
+{
+    for (index, item) in leaves.iter().enumerate() {
+        if *item == leaf {
+            return Some(index);
+        }
+    }
+    None
 }
 
 impl Unmerged {
@@ -39,8 +82,10 @@ impl Unmerged {
         if leaves.len() > MAX_UNMERGED {
             return Err(leaves);
         }
+        let is_sorted = leaves.as_slice().is_sorted();
         Ok(Unmerged {
             leaves: Items::new(leaves)?,
+            is_sorted,
         })
     }
 
@@ -59,9 +104,43 @@ impl Unmerged {
         ensures ok { OnOk result (self.new ≡ insert self.old index leaf) }
         ensures err { OnErr result (self.new ≡ self.old) }
     {
+        let is_sorted = self.is_sorted && is_between(self.leaves.as_slice(), index, leaf);
         match self.leaves.insert(index, leaf) {
-            Ok(()) => Ok(()),
+            Ok(()) => {
+                self.is_sorted = is_sorted;
+                Ok(())
+            }
             Err(_) => Err(AllocError),
+        }
+    }
+
+    /// Returns the position of the first leaf that is not less than `leaf`, or the length of the list. Takes logarithmic
+    /// time if no leaf of the list is less than the one before it, else linear time.
+    pub fn insertion_point(&self, leaf: u32) -> usize
+        ensures { result ≡ position_or_len (λ x. nat_le leaf x) self.now }
+    {
+        let leaves = self.leaves.as_slice();
+        if self.is_sorted {
+            leaves.partition_point(|x| *x < leaf)
+        } else {
+            first_not_less(leaves, leaf)
+        }
+    }
+
+    /// Returns the position of the first entry that is `leaf`. `None` if the list does not have it. Takes logarithmic
+    /// time if no leaf of the list is less than the one before it, else linear time.
+    pub fn position(&self, leaf: u32) -> Option<usize>
+        ensures { result ≡ position (λ x. x == leaf) self.now }
+    {
+        let leaves = self.leaves.as_slice();
+        if !self.is_sorted {
+            return first_equal(leaves, leaf);
+        }
+        let at = self.insertion_point(leaf);
+        if at < leaves.len() && leaves[at] == leaf {
+            Some(at)
+        } else {
+            None
         }
     }
 
@@ -96,7 +175,8 @@ impl Decode for Unmerged {
             }));
         }
         *reader = ahead;
-        Ok(Unmerged { leaves })
+        let is_sorted = leaves.as_slice().is_sorted();
+        Ok(Unmerged { leaves, is_sorted })
     }
 
     ghost exact = { unmerged_exact };
@@ -118,6 +198,7 @@ impl TryClone for Unmerged {
     fn try_clone(&self, alloc: Global) -> Result<Unmerged, CodecFault> {
         Ok(Unmerged {
             leaves: self.leaves.try_clone(alloc)?,
+            is_sorted: self.is_sorted,
         })
     }
 }

@@ -1,11 +1,11 @@
 -- A number that enters a list and leaves it again, and the parents above a leaf whose lists can take it.
-use Rattle.std.proofs.Common.{◌≡◌, ◌≢◌, ℕ, zero, suc, ◌+◌, ◌*◌, ◌-◌, ◌<◌, List, [], ◌∷◌, ◌++◌, length, take, drop, get_or, Option, Some, None, refl, sym, ap, ◌∙◌, subst, inl, inr, arith, unwrap_or}
-use Rattle.std.specs.Prelude.{All, Bool, true, false, ◌==◌, if◌then◌else◌, ◌||◌, nat_lt, remove, slice_get}
+use Rattle.std.proofs.Common.{◌≡◌, ◌≢◌, ℕ, suc, ◌+◌, ◌*◌, ◌-◌, ◌<◌, List, [], ◌∷◌, ◌++◌, length, take, drop, Option, Some, None, refl, sym, ap, ◌∙◌, subst, inl, inr, arith, unwrap_or, append_assoc}
+use Rattle.std.specs.Prelude.{All, Bool, true, false, not, cond, ◌==◌, if◌then◌else◌, ◌||◌, ◌≤◌, nat_le, nat_lt, insert, is_some, position, remove, slice_get}
 use Rattle.std.specs.Prelude.{Result, Ok, Err, OnOk, OnErr, IfOk}
 use Rattle.std.specs.Bool.{OnTrue, OnFalse}
 use Rattle.mls_nodes.specs.Limits.{leaf_limit}
-use Rattle.std.specs.List.{list_any}
-use Rattle.std.proofs.lemmas.Bool.{cases_lt, cases_order}
+use Rattle.std.specs.List.{list_any, position_or_len}
+use Rattle.std.proofs.lemmas.Bool.{cases_Bool, cases_lt, cases_order}
 use Rattle.std.proofs.lemmas.Bool.Decides.{nat_tests}
 use Rattle.std.proofs.lemmas.List.Elements.{All-nil, All-push, All-weaker}
 use Rattle.mls_nodes.specs.declared.parent.ParentNode.{ParentNode}
@@ -13,7 +13,7 @@ use Rattle.mls_tree.specs.Tree.{Tree, leaf, branch, leaf_count, listing, parent_
 use Rattle.mls_tree.specs.TreeOperations.{put_parent, change_parent, insert_before, insert_number, without_number, with_unmerged, is_overfilled, is_overfilled_above}
 use Rattle.mls_tree.specs.NodeView.{parent_of}
 use Rattle.mls_tree.specs.Paths.{direct_path}
-use Rattle.mls_tree.proofs.Choices.{below, from, here, before, after, same, other}
+use Rattle.mls_tree.proofs.Choices.{below, from, is_less, here, before, after, same}
 use Rattle.mls_tree.proofs.Trees.{leaf_count-positive}
 use Rattle.mls_tree.proofs.Arrays.{slice_get-set_same, slice_get-set_other}
 use Rattle.mls_tree.proofs.Positions.{node_at-listing, parent_place-listing}
@@ -40,19 +40,90 @@ entered-left i (x ∷ xs) none =
     let h = any-none (x == i) (list_any (λ x. x == i) xs) none in
     left-again i x xs (nat_lt x i) h.0 (entered-left i xs h.1)
 
--- the entries before an index are others
-left-next : (n : ℕ) (xs : List ℕ) (i : ℕ) → i < length xs → get_or xs i 0 ≢ n → take i xs ++ without_number n (drop i xs) ≡ take (suc i) xs ++ without_number n (drop (suc i) xs)
-left-next n [] i l h = absurd (omega (arith, l))
-left-next n (x ∷ xs) zero l h = other x n xs (x ∷ without_number n xs) h
-left-next n (x ∷ xs) (suc i) l h = ap (λ ys. x ∷ ys) (left-next n xs i (omega (arith, l)) h)
+-- ---- the first entry that passes a test
 
-pub left-more : (n : ℕ) (xs : List ℕ) (i : ℕ) → i < length xs → get_or xs i 0 ≢ n → take i xs ++ without_number n (drop i xs) ≡ take (i + 1) xs ++ without_number n (drop (i + 1) xs)
-left-more n xs i l h = let next : suc i ≡ i + 1 = omega arith in left-next n xs i l h ∙ ap (λ k. take k xs ++ without_number n (drop k xs)) next
+less_by_one : (a b c d : ℕ) → c ≡ suc a → d ≡ suc b → nat_lt a b ≡ nat_lt c d
+less_by_one a b c d e f = grind (arith, nat_tests)
 
-pub left-found : (n : ℕ) (xs : List ℕ) (i : ℕ) → i < length xs → get_or xs i 0 ≡ n → take i xs ++ without_number n (drop i xs) ≡ remove xs i
-left-found n [] i l h = absurd (omega (arith, l))
-left-found n (x ∷ xs) zero l h = same x n xs (x ∷ without_number n xs) h
-left-found n (x ∷ xs) (suc i) l h = ap (λ ys. x ∷ ys) (left-found n xs i (omega (arith, l)) h)
+is_some-by : (b : Bool) (i : ℕ) → is_some (cond b (Some i) None) ≡ b
+is_some-by true i = refl
+is_some-by false i = refl
+
+some-by : (b : Bool) (i j : ℕ) → cond b (Some i) None ≡ Some j → i ≡ j
+some-by true i j e = cc
+some-by false i j e = absurd cc
+
+none-by : (b : Bool) (i : ℕ) → cond b (Some i) None ≡ None → b ≡ false
+none-by true i e = absurd cc
+none-by false i e = refl
+
+module _ (p : ℕ → Bool) where
+  first-here : (x : ℕ) (xs : List ℕ) → p x ≡ true → position_or_len p (x ∷ xs) ≡ 0
+  first-here x xs e = ap (λ (b : Bool). cond (not b) (1 + position_or_len p xs) 0) e
+
+  first-later : (x : ℕ) (xs : List ℕ) → p x ≡ false → position_or_len p (x ∷ xs) ≡ suc (position_or_len p xs)
+  first-later x xs e = let next : 1 + position_or_len p xs ≡ suc (position_or_len p xs) = omega arith in ap (λ (b : Bool). cond (not b) (1 + position_or_len p xs) 0) e ∙ next
+
+  any-first : (xs : List ℕ) → list_any p xs ≡ nat_lt (position_or_len p xs) (length xs)
+  any-first [] = refl
+  any-first (x ∷ xs) =
+      elim (cases_Bool (p x)) [
+        | inl e ↦ ap (λ (b : Bool). b || list_any p xs) e ∙ sym (is_less (position_or_len p (x ∷ xs)) (suc (length xs)) (omega (arith, first-here x xs e)))
+        | inr e ↦ ap (λ (b : Bool). b || list_any p xs) e ∙ any-first xs ∙ less_by_one _ _ _ _ (first-later x xs e) refl
+      ]
+
+  is_some-position : (xs : List ℕ) → is_some (position p xs) ≡ list_any p xs
+  is_some-position xs = is_some-by _ _ ∙ sym (any-first xs)
+
+-- whether a list has a number, by the position that was found
+pub has-number : (n : ℕ) (xs : List ℕ) (o : Option ℕ) (b : Bool) → o ≡ position (λ x. x == n) xs → is_some o ≡ b → list_any (λ x. x == n) xs ≡ b
+has-number n xs o b e f = sym (is_some-position (λ x. x == n) xs) ∙ ap (λ (q : Option ℕ). is_some q) (sym e) ∙ f
+
+-- a number goes before the first entry that is not less
+pub before-first : (n : ℕ) (xs : List ℕ) → insert_before n xs ≡ insert xs (position_or_len (λ x. nat_le n x) xs) n
+before-first n [] = refl
+before-first n (x ∷ xs) =
+    let test = λ (y : ℕ). nat_le n y in
+    elim (cases_lt x n) [
+      | inl lt ↦ below x n (x ∷ insert_before n xs) (n ∷ x ∷ xs) lt ∙ ap (λ ys. x ∷ ys) (before-first n xs) ∙ sym (ap (λ k. insert (x ∷ xs) k n) (first-later test x xs (less_fails n x lt)))
+      | inr ge ↦ from x n (x ∷ insert_before n xs) (n ∷ x ∷ xs) ge ∙ sym (ap (λ k. insert (x ∷ xs) k n) (first-here test x xs (rest_passes n x ge)))
+    ]
+  where
+    less_fails : (a b : ℕ) → b < a → nat_le a b ≡ false
+    less_fails a b l = grind (arith, nat_tests)
+
+    rest_passes : (a b : ℕ) → a ≤ b → nat_le a b ≡ true
+    rest_passes a b l = grind (arith, nat_tests)
+
+-- a list that is made of its entries that are less, the number, and the others
+pub made-before : (n : ℕ) (xs ys : List ℕ) (i : ℕ) (less others start front long whole : List ℕ) → ys ≡ xs → i ≡ position_or_len (λ x. nat_le n x) xs
+    → less ≡ take i ys → others ≡ drop i ys → start ≡ [] → front ≡ start ++ less → long ≡ front ++ n ∷ [] → whole ≡ long ++ others → whole ≡ insert_before n xs
+made-before n xs ys i less others start front long whole same at is_less is_others is_start is_front is_long is_whole =
+    let begun : front ≡ take i ys = is_front ∙ ap (λ (zs : List ℕ). zs ++ less) is_start ∙ is_less in
+    is_whole ∙ (λ j. is_long j ++ is_others j) ∙ append_assoc front (n ∷ []) (drop i ys) ∙ (λ j. begun j ++ n ∷ drop i ys)
+    ∙ ap (λ (zs : List ℕ). insert zs i n) same ∙ ap (λ k. insert xs k n) at ∙ sym (before-first n xs)
+
+-- the first entry that is equal leaves
+without-first : (n : ℕ) (xs : List ℕ) → without_number n xs ≡ remove xs (position_or_len (λ x. x == n) xs)
+without-first n [] = refl
+without-first n (x ∷ xs) =
+    let test = λ (y : ℕ). y == n in
+    elim (cases_Bool (x == n)) [
+      | inl e ↦ ap (λ (b : Bool). if b then xs else x ∷ without_number n xs) e ∙ sym (ap (λ k. remove (x ∷ xs) k) (first-here test x xs e))
+      | inr e ↦ ap (λ (b : Bool). if b then xs else x ∷ without_number n xs) e ∙ ap (λ ys. x ∷ ys) (without-first n xs) ∙ sym (ap (λ k. remove (x ∷ xs) k) (first-later test x xs e))
+    ]
+
+without-absent : (n : ℕ) (xs : List ℕ) → list_any (λ x. x == n) xs ≡ false → without_number n xs ≡ xs
+without-absent n [] none = refl
+without-absent n (x ∷ xs) none =
+    let h = any-none (x == n) (list_any (λ x. x == n) xs) none in
+    ap (λ (b : Bool). if b then xs else x ∷ without_number n xs) h.0 ∙ ap (λ ys. x ∷ ys) (without-absent n xs h.1)
+
+pub without-at : (n : ℕ) (xs : List ℕ) (i : ℕ) → position (λ x. x == n) xs ≡ Some i → without_number n xs ≡ remove xs i
+without-at n xs i e = without-first n xs ∙ ap (λ k. remove xs k) (some-by _ _ _ e)
+
+pub without-none : (n : ℕ) (xs : List ℕ) → position (λ x. x == n) xs ≡ None → without_number n xs ≡ xs
+without-none n xs e = without-absent n xs (any-first (λ x. x == n) xs ∙ none-by _ _ e)
 
 -- ---- a parent that is put twice, and read
 

@@ -1,5 +1,5 @@
 -- The new lists of the parents above a leaf: made from the lowest up, and taken from the top down.
-use Rattle.std.proofs.Common.{◌≡◌, ◌≢◌, ℕ, zero, suc, ◌+◌, ◌*◌, ◌-◌, ◌<◌, ◌≤◌, List, [], ◌∷◌, ◌++◌, Option, Some, None, refl, sym, ap, ◌∙◌, subst, arith, append_assoc, option_to_list, length, take, drop, get_or, inl, inr, not, ltb-false}
+use Rattle.std.proofs.Common.{◌≡◌, ◌≢◌, ℕ, suc, ◌+◌, ◌*◌, ◌-◌, ◌<◌, ◌≤◌, List, [], ◌∷◌, ◌++◌, Option, Some, None, refl, sym, ap, ◌∙◌, subst, arith, append_assoc, option_to_list, length, inl, inr, not, ltb-false}
 use Rattle.std.specs.Prelude.{slice_get, slice_set}
 use Rattle.mls_nodes.specs.declared.parent.ParentNode.{ParentNode}
 use Rattle.mls_nodes.specs.declared.node.Node.{Node}
@@ -89,7 +89,7 @@ insert_before-either : (i x : ℕ) (xs : List ℕ) (b : Bool) → length (insert
 insert_before-either i x xs true ih = ap (λ n. suc n) ih
 insert_before-either i x xs false ih = refl
 
-insert_before-length : (i : ℕ) (xs : List ℕ) → length (insert_before i xs) ≡ suc (length xs)
+pub insert_before-length : (i : ℕ) (xs : List ℕ) → length (insert_before i xs) ≡ suc (length xs)
 insert_before-length i [] = refl
 insert_before-length i (x ∷ xs) = insert_before-either i x xs (nat_lt x i) (insert_before-length i xs)
 
@@ -100,7 +100,7 @@ insert_number-absent i xs e = ap (λ (b : Bool). length (if b then xs else inser
 pub is_overfilled-room : (i : ℕ) (p : ParentNode) → is_overfilled i (Some p) ≡ false → length (insert_number i p.unmerged) ≤ 1048576
 is_overfilled-room i p e = ltb-false 1048576 (length (insert_number i p.unmerged)) e
 
-insert_number-present : (i : ℕ) (xs : List ℕ) → list_any (λ x. x == i) xs ≡ true → insert_number i xs ≡ xs
+pub insert_number-present : (i : ℕ) (xs : List ℕ) → list_any (λ x. x == i) xs ≡ true → insert_number i xs ≡ xs
 insert_number-present i xs e = ap (λ (b : Bool). if b then xs else insert_before i xs) e
 
 -- of a full list it is full of others, of a shorter one it isn't
@@ -198,14 +198,3 @@ module _ (xs : List (Option Node)) (first half level : ℕ) (deep : level ≢ 0)
 -- the parent that was written
 pub written-part : (i : ℕ) (p : Option ParentNode) (q : Option ParentNode) (b : Option (List ℕ)) → q ≡ with_new_list p b → b ≡ new_list i p → q ≡ with_unmerged i p
 written-part i p q b e f = e ∙ ap (λ v. with_new_list p v) f ∙ with_new_list-made i p
-
--- ---- where a number goes
-
-before-next : (n : ℕ) (xs : List ℕ) (i : ℕ) → i < length xs → get_or xs i 0 < n → take i xs ++ insert_before n (drop i xs) ≡ take (suc i) xs ++ insert_before n (drop (suc i) xs)
-before-next n [] i l h = absurd (omega (arith, l))
-before-next n (x ∷ xs) zero l h = below x n (x ∷ insert_before n xs) (n ∷ x ∷ xs) h
-before-next n (x ∷ xs) (suc i) l h = ap (λ ys. x ∷ ys) (before-next n xs i (omega (arith, l)) h)
-
--- one more number at the front is less
-pub before-more : (n : ℕ) (xs : List ℕ) (i : ℕ) → i < length xs → get_or xs i 0 < n → take i xs ++ insert_before n (drop i xs) ≡ take (i + 1) xs ++ insert_before n (drop (i + 1) xs)
-before-more n xs i l h = let next : suc i ≡ i + 1 = omega arith in before-next n xs i l h ∙ ap (λ k. take k xs ++ insert_before n (drop k xs)) next

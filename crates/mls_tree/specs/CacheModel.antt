@@ -1,4 +1,4 @@
--- What is seen of the cells that a tree may have. For the code alone.
+-- The model of a tree's optional cache of tree hashes (RFC 9420, 7.8). Internal: no public contract uses this.
 use Rattle.std.specs.Prelude.{◌≡◌, ℕ, ◌+◌, ◌*◌, ◌<◌, List, [], Option, Some, None, length}
 use Rattle.mls_tree.specs.Tree.{leaves_at}
 use Rattle.mls_tree.specs.HashLists.{CanExtend}
@@ -25,12 +25,12 @@ abbrev pub HasCapacity : Option Cells → Type 0
 HasCapacity None = Unit {0}
 HasCapacity (Some c) = CanExtend c.hashes
 
--- there are more cells than this, where there are any
+-- `HasMoreThan count cells`: if there is a cache, it has more than `count` slots.
 abbrev pub HasMoreThan : ℕ → Option Cells → Type 0
 HasMoreThan n None = Unit {0}
 HasMoreThan n (Some c) = n < length c.hashes.items
 
--- there are more of the others, where there are any of both
+-- `AreFewer cells whole`: if there are both caches, `whole` has more slots than `cells`.
 abbrev pub AreFewer : Option Cells → Option Cells → Type 0
 AreFewer None whole = Unit {0}
 AreFewer (Some c) whole = HasMoreThan (length c.hashes.items) whole

@@ -10,7 +10,7 @@ abbrev pub AreCountsIn : Option Counts → Tree → Type 0
 AreCountsIn None t = Unit {0}
 AreCountsIn (Some c) t = (length c.list.items + 1 ≡ leaf_count t) × AreCounts 0 t c.list.items
 
--- `AreBesideIn counts t i`: the counts are right but for the parents above leaf i.
+-- `AreBesideIn counts t i`: the counts are right, except those of the parents above leaf i.
 abbrev pub AreBesideIn : Option Counts → Tree → ℕ → Type 0
 AreBesideIn None t i = Unit {0}
 AreBesideIn (Some c) t i = (length c.list.items + 1 ≡ leaf_count t) × AreOutside 0 t i c.list.items

@@ -1,4 +1,4 @@
--- What the changes of a tree have replaced, and the tree before these changes. An entry of a journal is the code's own.
+-- What the changes of a tree have replaced, and the tree before these changes. Contracts name no undo entry of a journal.
 use Rattle.std.specs.Prelude.{◌≡◌, ℕ, ◌*◌, ◌-◌, nat_lt, if◌then◌else◌, All, List, [], ◌∷◌, take, Option, option_map}
 use Rattle.mls_tree.specs.Tree.{Tree, leaf_count}
 use Rattle.mls_tree.specs.Paths.{direct_path}
@@ -32,8 +32,8 @@ before j t = all_taken_back j.formers.items t
 abbrev pub TellsNothing : Journal → Type 0
 TellsNothing j = (t : Tree) → before j t ≡ t
 
--- The cells of the tree before a change that replaced this, by the tree after it and its cells: a node that is put back empties its own
--- cell and those above it, and a half that comes back has the cells that it had.
+-- `cells_back x t cells` is the cache slots once the change with undo entry `x` is undone, of the tree `t` after it with
+-- these slots. A node that is restored empties its slot and those above it. A restored subtree has the slots that it had.
 abbrev pub cells_back : UndoEntry → Tree → List (Option (List ℕ)) → List (Option (List ℕ))
 cells_back (Leaf i x) t cells = if nat_lt i (leaf_count t) then emptied cells (2 * i ∷ direct_path 0 t i) else cells
 cells_back (Parent p x) t cells = emptied cells (parents_from 0 t p)
@@ -41,16 +41,16 @@ cells_back (Entered p i) t cells = emptied cells (parents_from 0 t p)
 cells_back Grown t cells = take (2 * leaf_count (left_half t) - 1) cells
 cells_back (Halved b) t cells = rejoined_cells t cells b.value.tree b.value.cells
 
--- the cells of the tree before changes that replaced these
+-- `all_cells_back xs t cells` is the slots once the changes with these undo entries are undone.
 abbrev pub all_cells_back : List UndoEntry → Tree → List (Option (List ℕ)) → List (Option (List ℕ))
 all_cells_back [] t cells = cells
 all_cells_back (x ∷ xs) t cells = cells_back x (all_taken_back xs t) (all_cells_back xs t cells)
 
--- the cells that the tree before the changes has, once they are taken back
+-- `cells_before j t` is the slots of the tree once the journal's changes are undone.
 abbrev pub cells_before : Journal → KeptTree → List (Option (List ℕ))
 cells_before j t = all_cells_back j.formers.items t.tree t.cells
 
--- a tree that was halved keeps hashes of this kind, or none
+-- `IsEntryOfKind kind x`: if the undo entry `x` is a truncated tree, its cache is of this kind, or it has none.
 abbrev pub IsEntryOfKind : Option HashKind → UndoEntry → Type 0
 IsEntryOfKind kind (Leaf i x) = Unit {0}
 IsEntryOfKind kind (Parent p x) = Unit {0}

@@ -70,7 +70,7 @@ pub record IsArrayOf (xs : List (Option Node)) (h : ℕ) : Type 0 where
   pub even : (i : ℕ) → IsNoParent (slice_get xs (2 * i))
   pub odd : (i : ℕ) → IsNoLeaf (slice_get xs (2 * i + 1))
 
--- The array has changed only from `low` up to before `high`, and nodes are still of the kind their indices ask for.
+-- The array has changed only from `low` up to before `high`, and each node is still of the kind that its index has (RFC 9420, Appendix C).
 pub record ChangesWithin (old new : List (Option Node)) (low high : ℕ) : Type 0 where
   pub outside : (p : ℕ) → (p < low) ⊎ (high ≤ p) → slice_get new p ≡ slice_get old p
   pub even : (i : ℕ) → IsNoParent (slice_get old (2 * i)) → IsNoParent (slice_get new (2 * i))

@@ -35,7 +35,7 @@ HasShape-prop t x y = λ i. record { perfect = IsPerfect-prop t x.perfect y.perf
 pub RatchetTree-same : (x y : RatchetTree) → x.tree ≡ y.tree → x ≡ y
 RatchetTree-same x y e = λ i. record { tree = e i; shape = is_prop→PathP (λ j. HasShape (e j)) (λ j. HasShape-prop (e j)) x.shape y.shape i }
 
--- The first part of a code. A model has to have one, which tells it from any other.
+-- The first part of a code. Each value of a model needs a code that no other value has.
 abbrev head : Gv → Gv
 head gnil = gnil
 head (gnum n) = gnil

@@ -13,6 +13,6 @@ IsPowerOfTwo n = (h : ℕ) × (n ≡ 2 ^ h)
 abbrev pub IsTooLong : ℕ → Type 0
 IsTooLong count = (h : ℕ) × (20 < h) × (count + 1 ≡ 2 * 2 ^ h)
 
--- `IsListing xs`: the list is the nodes of some tree, by rising node index.
+-- `IsListing xs`: the list is the nodes of some tree, in increasing order of node index.
 abbrev pub IsListing : List (Option NodeValue) → Type 0
 IsListing nodes = (t : RatchetTree) × (listing t.tree ≡ nodes)

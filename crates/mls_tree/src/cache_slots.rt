@@ -1,4 +1,4 @@
-//! Cells for hashes of one length.
+//! Cache slots for hashes of one length.
 ghost use Rattle.std.specs.Prelude.{◌≡◌, ◌+◌, ◌++◌, ◌<◌, ◌≤◌, ◌^◌, IfOk, OnOk, None, Some, false, option_map, is_some, replicate, take, drop, length, slice_get, slice_set};
 ghost use Rattle.std.specs.Vec.{vec_len, vec_capacity};
 ghost use Rattle.mls_tree.specs.HashCache.{empty_count, hash_in};
@@ -41,7 +41,7 @@ fn put_marks(filled: &mut [bool], front: &[bool])
     filled[..front.len()].copy_from_slice(front);
 }
 
-/// Cells for hashes of one length, each of which is empty or has a hash.
+/// Cache slots for hashes of one length. Each is empty or has a hash.
 ///
 /// A slot takes one byte more than a hash. Contracts see the length of a hash, the list of slots, and the number of
 /// slots that there is capacity for.
@@ -153,7 +153,7 @@ impl HashCells {
         Ok(())
     }
 
-    /// Adds as many empty cells as there are, and one more. Takes no memory.
+    /// Adds `n + 1` empty slots to the `n` that there are. Does not allocate.
     pub(crate) fn double(&mut self)
         requires { CanExtend self.old }
         ensures items { self.new.items ≡ self.old.items
@@ -164,7 +164,7 @@ impl HashCells {
         push_false(&mut self.filled, more);
     }
 
-    /// The first so many cells again.
+    /// Returns a copy of the first `count` slots.
     pub(crate) fn front(&self, alloc: Global, count: usize) -> Result<HashCells, AllocError>
         requires { count ≤ length self.now.items }
         ensures items { IfOk result (λ c. c.items ≡ take count self.now.items) }
@@ -176,7 +176,7 @@ impl HashCells {
         })
     }
 
-    /// Puts other cells over the first ones.
+    /// Replaces the first slots by those of `front`.
     pub(crate) fn put_front(&mut self, front: &HashCells)
         requires place { length front.now.items ≤ length self.old.items }
         requires width { front.now.width ≡ self.old.width }
@@ -189,7 +189,7 @@ impl HashCells {
         self.hashes.put_front(&front.hashes, count);
     }
 
-    /// Leaves the first so many cells.
+    /// Drops all slots except the first `count`.
     pub(crate) fn truncate(&mut self, count: usize)
         ensures items { self.new.items ≡ take count self.old.items }
         ensures width { self.new.width ≡ self.old.width }

@@ -1,4 +1,4 @@
-//! The cells that a tree may have, changed as the tree is changed.
+//! The optional cache of a tree's hashes, changed as the tree is changed.
 ghost use Rattle.std.specs.Prelude.{◌≡◌, ◌+◌, ◌*◌, ◌^◌, ◌∷◌, ◌<◌, ◌≤◌, Some, OnOk, IfOk, IfSome, length, take};
 ghost use Rattle.std.specs.List.{range_with_len};
 ghost use Rattle.mls_tree.specs.Tree.{Tree, height, leaves_at, IsPerfect};
@@ -88,7 +88,7 @@ pub(crate) fn double(cells: &mut Option<Cells>)
     cells.double();
 }
 
-/// The first so many cells again, where there are any.
+/// Returns a copy of the first `count` slots, if there is a cache.
 pub(crate) fn clone_front(
     alloc: Global,
     cells: &Option<Cells>,
@@ -104,7 +104,7 @@ pub(crate) fn clone_front(
     }
 }
 
-/// Empties the first so many cells, and one more.
+/// Empties the first `count + 1` slots.
 pub(crate) fn empty_front(cells: &mut Option<Cells>, count: u32)
     requires few { count + 1 < 2 ^ 32 }
     requires long { HasMoreThan count cells.old }
@@ -118,8 +118,8 @@ pub(crate) fn empty_front(cells: &mut Option<Cells>, count: u32)
     cells.clear_front(count + 1);
 }
 
-/// The cells of a tree in the place of the left half of another one, of which the right half keeps its cells. There are
-/// none where they are not of one kind. Takes no memory.
+/// Returns the cache of a tree that becomes the left subtree of another one, whose right subtree has its slots still.
+/// `None` if the two caches are not of one kind. Does not allocate.
 pub(crate) fn join_cells(cells: Option<Cells>, whole: Option<Cells>) -> Option<Cells>
     requires fewer { AreFewer cells whole }
     requires short { length (cells_in whole) < 2 ^ 32 }

@@ -8,7 +8,7 @@ use crate::node_array::NodeArray;
 use crate::subtree_counts::Count;
 use std::alloc::{AllocError, Global};
 
-/// The counts of a tree's parents, by rising node index.
+/// The counts of a tree's parents, in increasing order of node index.
 #[derive(Debug, Drop)]
 pub(crate) struct Counts {
     pub(crate) list: Vec<Count>,
@@ -121,7 +121,7 @@ pub(crate) fn reserve_counts(counts: &mut Option<Counts>) -> Result<(), AllocErr
     Ok(())
 }
 
-/// Counts the tree anew if there are counts and capacity for those of the tree; drops the counts otherwise. Does not
+/// Counts the tree again if there are counts and capacity for those of the tree; drops the counts otherwise. Does not
 /// allocate.
 pub(crate) fn count_in_place(counts: Option<Counts>, tree: &NodeArray) -> Option<Counts>
     ensures { AreCountsIn result tree.now.tree }

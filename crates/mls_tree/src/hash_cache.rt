@@ -136,7 +136,7 @@ impl Cells {
         self.empty += more;
     }
 
-    /// The first so many cells again.
+    /// Returns a copy of the first `count` slots.
     pub(crate) fn front(&self, alloc: Global, count: usize) -> Result<Cells, AllocError>
         requires { count ≤ length self.now.hashes.items }
         ensures cells { IfOk result
@@ -153,7 +153,7 @@ impl Cells {
         Ok(cells)
     }
 
-    /// Empties the first so many cells.
+    /// Empties the first `count` slots.
     pub(crate) fn clear_front(&mut self, count: u32)
         requires { count ≤ length self.old.hashes.items }
         ensures cells { self.new.hashes.items
@@ -165,7 +165,7 @@ impl Cells {
         }
     }
 
-    /// Puts other cells of the same kind over the first ones. That behind them is emptied.
+    /// Replaces the first slots by those of `front`, which is of the same kind. The next slot is emptied.
     pub(crate) fn put_front(&mut self, front: &Cells)
         requires fewer { length front.now.hashes.items < length self.old.hashes.items }
         requires short { length self.old.hashes.items < 2 ^ 32 }
@@ -180,7 +180,7 @@ impl Cells {
         self.empty = self.hashes.count_empty();
     }
 
-    /// Leaves the first so many cells.
+    /// Drops all slots except the first `count`.
     pub(crate) fn truncate(&mut self, count: usize)
         ensures cells { self.new.hashes.items ≡ take count self.old.hashes.items }
         ensures kind { self.new.kind ≡ self.old.kind }

@@ -118,7 +118,7 @@ impl HashList {
         put_part(self.bytes.as_mut_slice(), start, hash.as_slice());
     }
 
-    /// The first so many hashes again.
+    /// Returns a copy of the first `count` hashes.
     pub(crate) fn front(&self, alloc: Global, count: usize) -> Result<HashList, AllocError>
         requires { count ≤ length self.now.hashes }
         ensures { IfOk result (λ l. l
@@ -132,7 +132,7 @@ impl HashList {
         })
     }
 
-    /// Puts the first so many hashes of another list over those here.
+    /// Replaces the first `count` hashes by those of `front`.
     pub(crate) fn put_front(&mut self, front: &HashList, count: usize)
         requires there { count ≤ length front.now.hashes }
         requires place { count ≤ length self.old.hashes }

@@ -1,8 +1,8 @@
-//! Changes of a tree that can be taken back (RFC 9420, 7.7 and 12.1).
+//! Changes of a tree that can be undone (RFC 9420, 7.7 and 12.1).
 //!
-//! A large tree is changed where it stands, and not on a copy of it, and judged then: each call here changes the tree
-//! and keeps what it replaced. The changes are either kept, or taken back, the last one first, which takes no memory
-//! and can't be refused.
+//! A large tree is changed in place, not on a copy, and is validated after that. Each call here changes the tree and
+//! stores what it replaced. The changes are then either final, or undone in reverse order. Undoing does not allocate
+//! and cannot fail.
 ghost use Rattle.std.specs.Prelude.{◌≡◌, ◌<◌, ◌-◌, ◌*◌, ◌∷◌, ◌↔◌, ◌⊎◌, take, false, Err, IfOk, IfErr, OnOk, OnErr, Option, option_map};
 ghost use Rattle.mls_nodes.specs.Limits.{leaf_limit};
 ghost use Rattle.mls_tree.specs.Tree.{leaf_count, node_at, IsParentPlace};
@@ -43,26 +43,28 @@ pub(crate) enum UndoEntry {
     },
     /// The tree, which has been extended.
     Grown,
-    /// A tree twice as large, whose left half has been taken out of it.
+    /// A tree twice as large, without its left subtree.
     Halved(Box<PublicTree>),
 }
 
-/// What the changes of a tree have replaced, in the order of the changes. It is made beside a tree, and from then on
-/// the tree is changed by the calls here alone, with this journal, until the changes are kept or taken back.
-/// Contracts see a journal by the tree before these changes, `before`, which no call but `take_back` and `keep`
-/// changes, whether it is refused or not. A call that is refused for want of memory may have changed a part of what
-/// it is to change, where this is said of it; the journal has kept that part. Each call empties the cells that the
-/// tree's own call of that name empties, and taking back those of what it puts back: `cells_before` are the cells that
-/// the tree then has. A half that was taken away keeps its cells, where it has the kind of hashes that the tree has when
-/// it comes back (`IsOfKind`), which is so where nothing but the calls here has changed the kind.
+/// What the changes of a tree have replaced, in the order of the changes. From the first change on, the tree is changed
+/// only by the calls here, with this journal, until the changes are final or undone.
 ///
-/// A change takes an entry of the journal for each node that it replaces, and none where a blank one stays blank.
+/// Contracts model a journal by the tree before these changes, `before`. Only `take_back` and `keep` change it. A call
+/// that returns `OutOfMemory` may have made a part of its changes, if its documentation says so; the journal has stored
+/// that part.
+///
+/// Each call empties the cache slots that the tree's own call of that name empties. Undoing empties those of what it
+/// restores: `cells_before` is the slots that the tree then has. A restored subtree has the slots that it had, if its
+/// cache is of the same kind as the tree's (`IsOfKind`). That is so if only the calls here have changed the kind.
+///
+/// The journal has an entry for each node that a change replaces, except where a blank node is replaced by a blank one.
 #[derive(Drop)]
 pub struct Journal {
     formers: Vec<UndoEntry>,
 }
 
-/// Takes back the change that replaced `former`.
+/// Undoes the change with the undo entry `former`.
 fn take_back(tree: &mut PublicTree, former: UndoEntry)
     ensures tree { tree.new.tree ≡ taken_back former tree.old.tree }
     ensures kind { IsEntryOfKind tree.old.kind former → tree.new.kind ≡ tree.old.kind }
@@ -328,7 +330,7 @@ impl Journal {
         Ok(places)
     }
 
-    /// Takes back all changes in reverse order. The tree is then the one before the changes, and the journal is empty.
+    /// Undoes all changes in reverse order. The tree is then the one before the changes, and the journal is empty.
     /// Does not allocate.
     pub fn take_back(&mut self, tree: &mut PublicTree)
         ensures tree { tree.new.tree ≡ before self.old tree.old.tree }
@@ -344,7 +346,7 @@ impl Journal {
         }
     }
 
-    /// Keeps all changes. They can't be taken back after this. Does not allocate.
+    /// Makes all changes final: they cannot be undone after this. Does not allocate.
     pub fn keep(&mut self)
         ensures nothing { TellsNothing self.new }
         ensures halves { (kind : Option HashKind) → IsOfKind kind self.new }

@@ -4,7 +4,7 @@
 //! Contracts see a `PublicTree` as a recursive tree (`specs/Tree.antt`) with the list of cached hashes
 //! (`specs/PublicTreeModel.antt`). The array is private to this crate.
 //!
-//! Nodes are named by their node indices, which the code calls `place`. Leaf `i` has the node index `2 * i`, parents
+//! Nodes are named by their node indices, which parameters call `place`. Leaf `i` has the node index `2 * i`, parents
 //! have odd ones, and the root of a tree of `n` leaves has `n - 1`.
 #![tactic(auto)]
 

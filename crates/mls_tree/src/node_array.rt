@@ -31,7 +31,7 @@ use std::collections::BTreeSet;
 use std::marker::Model;
 use std::mem;
 
-/// The nodes of a tree of 1 to 1,048,576 leaves, a power of two, by rising node index (RFC 9420, Appendix C). Contracts
+/// The nodes of a tree of 1 to 1,048,576 leaves, a power of two, in order of node index (RFC 9420, Appendix C). Contracts
 /// see a ratchet tree. If a call fails, the nodes are unchanged.
 #[derive(Debug, Drop)]
 pub(crate) struct NodeArray {
@@ -54,7 +54,7 @@ impl Model for NodeArray {
 }
 
 impl NodeArray {
-    /// Creates the tree of these nodes, by rising node index (RFC 9420, Appendix C). Does not allocate.
+    /// Creates the tree of these nodes, in order of node index (RFC 9420, Appendix C). Does not allocate.
     ///
     /// # Errors
     ///
@@ -155,7 +155,7 @@ impl NodeArray {
         count_all(self.nodes.as_slice(), counts, self.height, 0);
     }
 
-    /// Returns all nodes, by rising node index.
+    /// Returns all nodes, in order of node index.
     pub(crate) fn nodes(&self) -> &[Option<Node>]
         ensures { map entry_value result.now ≡ listing self.now.tree }
     {
@@ -379,7 +379,7 @@ impl NodeArray {
         Ok(())
     }
 
-    /// Replaces a leaf, and returns the former one; `None` makes it blank. Does not allocate.
+    /// Replaces a leaf, and returns the previous one; `None` makes it blank. Does not allocate.
     pub(crate) fn replace_leaf(
         &mut self,
         index: u32,
@@ -394,7 +394,7 @@ impl NodeArray {
         into_leaf(former)
     }
 
-    /// Replaces a parent, and returns the former one; `None` makes it blank. Does not allocate.
+    /// Replaces a parent, and returns the previous one; `None` makes it blank. Does not allocate.
     pub(crate) fn replace_parent(
         &mut self,
         place: u32,

@@ -65,7 +65,7 @@ impl Model for PublicTree {
 }
 
 impl PublicTree {
-    /// Creates the tree of these nodes, by rising node index (RFC 9420, Appendix C). Does not allocate. The tree has no
+    /// Creates the tree of these nodes, in order of node index (RFC 9420, Appendix C). Does not allocate. The tree has no
     /// cache.
     ///
     /// # Errors
@@ -138,7 +138,7 @@ impl PublicTree {
         }
     }
 
-    /// Returns all nodes, by rising node index.
+    /// Returns all nodes, in order of node index.
     pub fn nodes(&self) -> &[Option<Node>]
         ensures { map entry_value result.now ≡ listing self.now.tree }
     {
@@ -383,7 +383,7 @@ impl PublicTree {
         Ok(())
     }
 
-    /// Replaces a leaf, and returns the former one; `None` makes it blank. Does not allocate.
+    /// Replaces a leaf, and returns the previous one; `None` makes it blank. Does not allocate.
     pub(crate) fn replace_leaf(
         &mut self,
         index: u32,
@@ -404,7 +404,7 @@ impl PublicTree {
         former
     }
 
-    /// Replaces a parent, and returns the former one; `None` makes it blank. Does not allocate.
+    /// Replaces a parent, and returns the previous one; `None` makes it blank. Does not allocate.
     pub(crate) fn replace_parent(
         &mut self,
         place: u32,
@@ -516,7 +516,7 @@ impl PublicTree {
         changed
     }
 
-    /// Puts a parent back at a place, where there is one. Takes no memory.
+    /// Restores the parent at a node index, if the tree has that index. Does not allocate.
     pub(crate) fn restore_parent(&mut self, place: u32, parent: Option<Box<ParentNode>>)
         ensures put { self.new.tree
             ≡ put_parent 0 self.old.tree place (option_map (λ b. b.value) parent) }
@@ -530,7 +530,7 @@ impl PublicTree {
         recount(&mut self.counts, &self.tree, place / 2);
     }
 
-    /// Takes a leaf's index out of the list of the parent at a place, where there is one that has it. Takes no memory.
+    /// Removes a leaf index from the unmerged leaves of the parent at a node index, if the list has it. Does not allocate.
     pub(crate) fn leave_at(&mut self, place: u32, index: u32)
         ensures left { self.new.tree
             ≡ change_parent (without_unmerged index) 0 self.old.tree place }
@@ -582,7 +582,7 @@ impl PublicTree {
         truncate_counts(&mut self.counts, self.tree.leaf_count());
     }
 
-    /// Takes the left half out of the tree, which has blank nodes and empty cells there then. The left half has those of its places.
+    /// Takes out and returns the left subtree, with its cache slots. The tree has blank nodes and empty slots in its place.
     pub(crate) fn take_left(&mut self, alloc: Global) -> Result<PublicTree, AllocError>
         requires { IsBranch self.old.tree }
         ensures left { IfOk result (λ l. l.tree ≡ left_half self.old.tree) }
@@ -611,9 +611,8 @@ impl PublicTree {
         })
     }
 
-    /// Puts the tree in the place of the left half of another one, and that one in its place. A tree of another
-    /// height stays. The tree's cells stay, and those of the other half, where both keep hashes of one kind. Takes no
-    /// memory.
+    /// Makes the tree the left subtree of `whole`, and replaces the tree by the result. A tree of another height is
+    /// unchanged. If both caches are of one kind, the slots of both subtrees are unchanged. Does not allocate.
     pub(crate) fn rejoin(&mut self, whole: PublicTree)
         ensures tree { self.new.tree ≡ rejoined self.old.tree whole.tree }
         ensures kind { whole.kind ≡ self.old.kind → self.new.kind ≡ self.old.kind }

@@ -49,35 +49,20 @@ pub(crate) fn is_overfilled_above(nodes: &[Option<Node>], level: u32, first: u32
     }
 }
 
-// Returns the number of leading entries that are less than `number`: the index at which it is inserted.
-pub(crate) fn insertion_point(items: &[u32], number: u32) -> usize
-    ensures inside { result ≤ length items.now }
-    ensures place { insert_before number items.now ≡ insert items.now result number }
-    ensures front { All (λ x. x < number) (take result items.now) }
-    ensures rest { IfSome (slice_get (drop result items.now) 0) (λ x. number ≤ x) }
-{
-    for (index, item) in items.iter().enumerate() {
-        if *item >= number {
-            return index;
-        }
-    }
-    items.len()
-}
-
 // Returns the list with `number` added. `None` if the list has it.
 fn with_number(alloc: Global, list: &Unmerged, number: u32) -> Result<Option<Unmerged>, AllocError>
     requires { length (insert_number number list.now) ≤ leaf_limit }
     ensures { IfOk result (λ new. new ≡ changed_list number list.now) }
 {
-    let list = list.as_slice();
-    if list.contains(&number) {
+    if list.position(number).is_some() {
         return Ok(None);
     }
-    let at = insertion_point(list, number);
-    let mut items = Vec::with_capacity(alloc, list.len() + 1)?;
-    items.extend_from_slice(&list[..at])?;
+    let leaves = list.as_slice();
+    let (less, others) = leaves.split_at(list.insertion_point(number));
+    let mut items = Vec::with_capacity(alloc, leaves.len() + 1)?;
+    items.extend_from_slice(less)?;
     items.push(number)?;
-    items.extend_from_slice(&list[at..])?;
+    items.extend_from_slice(others)?;
     let Ok(new) = Unmerged::new(items) else {
         unreachable!();
     };
@@ -179,33 +164,19 @@ pub(crate) fn enter(list: &mut Unmerged, number: u32) -> Result<bool, AllocError
     ensures same { IfOk result (λ changed. OnFalse changed (list.new ≡ list.old)) }
     ensures err { OnErr result (list.new ≡ list.old) }
 {
-    let leaves = list.as_slice();
-    if leaves.contains(&number) {
+    if list.position(number).is_some() {
         return Ok(false);
     }
-    let at = insertion_point(leaves, number);
+    let at = list.insertion_point(number);
     list.insert(at, number)?;
     Ok(true)
-}
-
-// Returns the index of the first entry that is `number`.
-fn position_of(items: &[u32], number: u32) -> Option<usize>
-    ensures { MatchOption result (without_number number items.now ≡ items.now) (λ at.
-        (at < length items.now) × (without_number number items.now ≡ remove items.now at)) }
-{
-    for (index, item) in items.iter().enumerate() {
-        if *item == number {
-            return Some(index);
-        }
-    }
-    None
 }
 
 /// Removes the first entry that is `number` from the list. Does not allocate.
 pub(crate) fn leave(list: &mut Unmerged, number: u32)
     ensures { list.new ≡ without_number number list.old }
 {
-    if let Some(at) = position_of(list.as_slice(), number) {
+    if let Some(at) = list.position(number) {
         list.remove(at);
     }
 }

@@ -1,17 +1,33 @@
-use Rattle.std.proofs.Common.{ap, ◌∙◌, sym, ◌≡◌, insert, false}
-use Rattle.std.specs.Prelude.{◌==◌}
-use Rattle.std.specs.List.{list_any}
+use Rattle.std.proofs.Common.{ap, ◌∙◌, sym, ℕ, List, insert, arith, not, Bool}
+use Rattle.std.specs.Prelude.{nat_le, if◌then◌else◌}
+use Rattle.std.proofs.lemmas.List.Sums.{prefix_len-le-length}
 use Rattle.mls_tree.specs.TreeOperations.{insert_before, without_number}
-use Rattle.mls_tree.proofs.Entering.{entered-left}
+use Rattle.mls_tree.proofs.Lists.{insert_number-present, insert_number-absent}
+use Rattle.mls_tree.proofs.Entering.{has-number, before-first, entered-left}
 use Rattle.mls_tree.proofs.unmerged_leaves.enter.Goals as goal
+
+pub returns-then-is_some-clause-entered : goal.returns-then-is_some-clause-entered
+returns-then-is_some-clause-entered c =
+    sym (insert_number-present c.args.number c.args.list.now (has-number c.args.number c.args.list.now c.position.result _ c.position.ensures (sym c.is_some.ensures ∙ c.if-is_some.true)))
+
+pub insert-requires-clause-inside : goal.insert-requires-clause-inside
+insert-requires-clause-inside c = omega (arith, c.insertion_point-at.ensures, prefix_len-le-length (λ x. not (nat_le c.args.number x)) c.args.list.now)
+
+pub insert-requires-clause-room : goal.insert-requires-clause-room
+insert-requires-clause-room c =
+    let absent = has-number c.args.number c.args.list.now c.position.result _ c.position.ensures (sym c.is_some.ensures ∙ c.if-is_some.false) in
+    omega (arith, c.requires, insert_number-absent c.args.number c.args.list.now absent)
+
+pub returns-clause-entered : goal.returns-clause-entered
+returns-clause-entered c =
+    let list : List ℕ = c.args.list.now in
+    let absent = has-number c.args.number list c.position.result _ c.position.ensures (sym c.is_some.ensures ∙ c.if-is_some.false) in
+    c.in_ok-insert.ensures.ok ∙ ap (λ k. insert list k c.args.number) c.insertion_point-at.ensures ∙ sym (before-first c.args.number list)
+    ∙ sym (ap (λ (b : Bool). if b then list else insert_before c.args.number list) absent)
 
 pub returns-clause-back : goal.returns-clause-back
 returns-clause-back c =
-    let list = c.args.list.now in
-    let number = c.args.number in
-    let at = c.as_slice-leaves.ensures.items in
-    let none : list_any (λ x. x == number) list ≡ false
-    = ap (λ xs. list_any (λ x. x == number) xs) (sym at) ∙ sym c.contains.ensures.value ∙ c.if-contains.false in
-    let put : insert list c.insertion_point-at.result number ≡ insert_before number list
-    = ap (λ xs. insert xs c.insertion_point-at.result number) (sym at) ∙ sym c.insertion_point-at.ensures.place ∙ ap (insert_before number) at in
-    ap (without_number number) (c.in_ok-insert.ensures.ok ∙ put) ∙ entered-left number list none
+    let list : List ℕ = c.args.list.now in
+    let absent = has-number c.args.number list c.position.result _ c.position.ensures (sym c.is_some.ensures ∙ c.if-is_some.false) in
+    ap (λ (xs : List ℕ). without_number c.args.number xs) (c.in_ok-insert.ensures.ok ∙ ap (λ k. insert list k c.args.number) c.insertion_point-at.ensures ∙ sym (before-first c.args.number list))
+    ∙ entered-left c.args.number list absent

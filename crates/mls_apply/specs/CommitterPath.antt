@@ -1,4 +1,4 @@
--- The update path of a commit, in the tree after the commit's list (RFC 9420, 7.5, 7.6 and 7.9).
+-- The update path of a commit, in the tree after the proposal list (RFC 9420, 7.5, 7.6 and 7.9).
 -- Used by contracts: `refusal_of` and `merged_by`. Internal: `AreNewNodes`.
 -- H is the hash function, t the tree after the list.
 use Rattle.std.specs.Prelude.{◌≡◌, ◌<◌, ℕ, List, All, map, Option, Some, option_map}

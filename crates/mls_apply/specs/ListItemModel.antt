@@ -1,4 +1,4 @@
--- A proposal of a commit's list, as contracts see a `ListItem` (RFC 9420, 12.4).
+-- The model of a `ListItem`: a proposal of a proposal list (RFC 9420, 12.4).
 -- Used by contracts.
 use Rattle.std.specs.Prelude.{ℕ}
 use Rattle.mls_msgs.specs.declared.proposal.Proposal.{Proposal}

@@ -1,4 +1,4 @@
--- The proposal list of a commit (RFC 9420, 12.4): its entries in order, where a reference stands for a pending
+-- The proposal list of a commit (RFC 9420, 12.4): its entries in order, where a reference is replaced by a pending
 -- proposal. Used by contracts.
 use Rattle.std.specs.Prelude.{ℕ, if◌then◌else◌, List, [], ◌∷◌, Option, Some, None, option_map}
 use Rattle.std.specs.Str.{bytes_eq}

@@ -1,4 +1,4 @@
-//! Whether there is room for the Adds of a proposal list (RFC 9420, 12.3), before anything is allocated.
+//! Whether a tree has capacity for the Adds of a proposal list (RFC 9420, 12.3), before anything is allocated.
 //!
 //! How many members are left after the list's Removes is known from its length alone, unless it removes a leaf that
 //! isn't set at its turn: one that is blank, or the same one twice. To find a leaf that is removed twice without
@@ -151,8 +151,8 @@ fn is_removed_once(items: &[ListItem<'_>]) -> bool
     true
 }
 
-/// Whether the Updates and the Removes of a list can be applied to a tree, and there is no room for its Adds then.
-/// Takes no memory.
+/// Returns whether the Updates and the Removes of a list can be applied to a tree, and the Adds then exceed its
+/// capacity. Does not allocate.
 pub(crate) fn exceeds_capacity(tree: &PublicTree, items: &[ListItem<'_>]) -> bool
     ensures { IsTrue result ↔ ExceedsCapacity items.now tree.now.tree }
 {

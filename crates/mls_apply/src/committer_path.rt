@@ -3,7 +3,7 @@
 use crate::list_application::Leaves;
 use mls_msgs::UpdatePath;
 
-/// The update path of a commit, and what it is judged and merged by in the tree after the commit's list.
+/// The update path of a commit, and what its rules and its merge need of the tree after the proposal list.
 #[derive(Drop)]
 pub struct CommitterPath<'a> {
     /// The leaf index that the path is for: the committer's.

@@ -11,14 +11,14 @@ use mls_nodes::{Extensions, GroupContext};
 use mls_wire::{CodecFault, TryClone};
 use std::alloc::Global;
 
-/// Whether some item brings extensions to the context.
+/// Returns whether some item is a GroupContextExtensions proposal (RFC 9420, 12.1.7).
 pub(crate) fn has_extensions(items: &[ListItem<'_>]) -> bool
     ensures { result ≡ list_any brings_extensions items.now }
 {
     items.iter().any(|item| item.brings_extensions())
 }
 
-/// Whether no two items bring extensions to the context.
+/// Returns whether at most one item is a GroupContextExtensions proposal (RFC 9420, 12.2).
 pub(crate) fn bring_once(items: &[ListItem<'_>]) -> bool
     ensures { result ≡ bring_once items.now }
 {
@@ -34,7 +34,7 @@ pub(crate) fn bring_once(items: &[ListItem<'_>]) -> bool
     true
 }
 
-/// The extensions that a list brings to the context: those of the first item that brings some.
+/// Returns the extensions of the first GroupContextExtensions proposal of a list.
 fn brought<'a>(items: &[ListItem<'a>]) -> Option<&'a Extensions>
     ensures { option_map (λ extensions. extensions.now) result ≡ brought items.now }
 {

@@ -26,7 +26,7 @@ pub struct Applied {
     pub added: Leaves,
 }
 
-/// Applies the items of a list, for whose Adds there is room.
+/// Applies the items of a list, for whose Adds the tree has capacity.
 fn apply_items(
     alloc: Global,
     tree: &mut PublicTree,

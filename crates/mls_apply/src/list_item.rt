@@ -10,7 +10,7 @@ use mls_tree::HashValue;
 use std::alloc::Global;
 use std::marker::Model;
 
-/// A proposal of a commit's list. It borrows the proposal from the commit or from the pending proposals.
+/// A proposal of a proposal list. It borrows the proposal from the commit or from the pending proposals.
 ///
 /// Contracts see the sender and the proposal itself.
 #[derive(Debug, Drop)]
@@ -59,7 +59,7 @@ pub struct KnownProposal {
     pub proposal: Proposal,
 }
 
-/// Returns the item that an entry of a commit's list stands for, if its reference, where it is one, is that of a
+/// Returns the item of an entry of a proposal list, if its reference, if it is one, is that of a
 /// pending proposal.
 fn entry_item<'a>(
     committer: u32,
@@ -84,7 +84,7 @@ fn entry_item<'a>(
 }
 
 /// Returns the list of proposals that a commit applies, in the order of its entries (RFC 9420, 12.4). A proposal in the
-/// commit itself is the committer's own. A reference stands for the first pending proposal that has it.
+/// commit itself is the committer's own. A reference names the first pending proposal that has it.
 ///
 /// No proposal is copied: each item borrows its own.
 ///

@@ -223,7 +223,7 @@ fn new_nodes(
 }
 
 /// Returns the new nodes of a path, if it satisfies the rules for paths, by an index of the tree. The hashes that the
-/// tree caches of its subtrees are filled before the last rule is judged, and only then: parent hashes take them.
+/// tree caches of its subtrees are filled before the last rule is checked, and only then: parent hashes take them.
 ///
 /// # Errors
 ///

@@ -60,11 +60,11 @@ impl PendingProposals {
         }
     }
 
-    /// Adds a proposal behind the others.
+    /// Adds a proposal after the others.
     ///
     /// # Errors
     ///
-    /// Want of memory; the list is unchanged.
+    /// A failed allocation; the list is unchanged.
     pub fn push(&mut self, alloc: Global, proposal: KnownProposal) -> Result<(), AllocError>
         ensures pushed { OnOk result (self.new ≡ self.old ++ proposal ∷ []) }
         ensures stays { OnErr result (self.new ≡ self.old) }
@@ -88,7 +88,7 @@ impl PendingProposals {
         }
     }
 
-    /// Removes all proposals, in no memory.
+    /// Removes all proposals. Does not allocate.
     pub fn clear(&mut self)
         ensures { self.new ≡ [] }
     {

@@ -67,7 +67,7 @@ impl CredentialCounts {
 
     /// Counts the leaf at a node index in place of the one that was counted there. Nothing changes for a parent, and
     /// for a leaf without an entry.
-    fn insert_unmerged_at(&mut self, tree: &PublicTree, place: u32) -> Result<(), AllocError>
+    fn recount_at(&mut self, tree: &PublicTree, place: u32) -> Result<(), AllocError>
         ensures between { (t : Tree) → HaveBase t self.old → HaveBase t self.new }
         ensures counts { OnOk result ((rest : List ℕ) → HasCapacityFor tree.now.tree self.old
             → CountBut (place ∷ rest) tree.now.tree self.old
@@ -94,7 +94,7 @@ impl CredentialCounts {
     {
         let mut rest = places;
         while let Some((place, tail)) = rest.split_first() {
-            self.insert_unmerged_at(tree, *place)?;
+            self.recount_at(tree, *place)?;
             rest = tail;
         }
         Ok(())

@@ -109,7 +109,7 @@ impl KeyTable {
     }
 
     /// Adds an entry for a key at a node index, unless there is one.
-    fn insert_unmerged_at(&mut self, number: Option<u64>, place: u32) -> Result<(), AllocError>
+    fn insert_at(&mut self, number: Option<u64>, place: u32) -> Result<(), AllocError>
         ensures between { (x : ℕ → Option ℕ) → HasBase x self.old → HasBase x self.new }
         ensures entered { OnOk result (HasEntered number place self.old.entries self.new.entries) }
         ensures beginnings { self.new.beginnings ≡ self.old.beginnings }
@@ -140,7 +140,7 @@ impl KeyTable {
     {
         let mut rest = places;
         while let Some((place, tail)) = rest.split_first() {
-            self.insert_unmerged_at(begun(tree, kind, *place), *place)?;
+            self.insert_at(begun(tree, kind, *place), *place)?;
             rest = tail;
         }
         Ok(())

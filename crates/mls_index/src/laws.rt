@@ -18,7 +18,7 @@ pub fn changed_members_suffice()
     ensures { ChangedLeavesDecideValidity }
 {}
 
-/// If each leaf of a tree passes a test that asks nothing of other leaves, the first leaf that fails it after a change
+/// If each leaf of a tree passes a test that does not depend on other leaves, the first leaf that fails it after a change
 /// is the first of the leaves that changed.
 pub fn first_failing_leaf_changed()
     ensures { ChangedLeavesFindFailing }

@@ -67,7 +67,7 @@ tag_if_exact true = only (λ o. tag_fits true o ≡ true) (tag_if true) (tag_if 
 tag_if_exact false = only (λ o. tag_fits false o ≡ true) (tag_if false) (tag_if false) (tag_if_at false) (λ o p. refl) (tag_spelled false)
     (known (λ o. tag_fits false o ≡ true) (tag_if false) None refl refl unwanted_tag)
 
--- ---- frames
+-- ---- AuthenticatedContent
 
 pub frame_auth_exact : (c : Bool) → IsExact (frame_auth c) (frame_auth_at c)
 unfolding frame_auth frame_auth_at

@@ -26,7 +26,7 @@ is_members_proposal (proposals.ReInit _) = false
 is_members_proposal (proposals.ExternalInit _) = false
 is_members_proposal (proposals.ContextExtensions _) = true
 
--- `is_members_entry e` is true if and only if the entry `e` of a commit's list (12.4) is a reference, or a proposal in the
+-- `is_members_entry e` is true if and only if the entry `e` of a proposal list (12.4) is a reference, or a proposal in the
 -- members' profile.
 abbrev pub is_members_entry : ProposalOrRef → Bool
 is_members_entry (entries.Proposal p) = is_members_proposal p

@@ -297,8 +297,8 @@ fn judge_authenticated(alloc: Global, bytes: &[u8]) -> Result<(), CodecFault>
 /// # Errors
 ///
 /// - `BadTag` of the wire format at 0, if it is neither 1 nor 2.
-/// - `BadTag` of the type at its place, for the first proposal type that the profile does not have. Nothing behind the
-///   type is judged first.
+/// - `BadTag` of the type at its offset, for the first proposal type that the profile does not have. Nothing after the
+///   type is checked first.
 /// - Otherwise the first fault of the bytes from the left.
 /// - `OutOfMemory`.
 #[tactic(auto, using(crate::proofs::Profiles::authenticated_contents_in))]

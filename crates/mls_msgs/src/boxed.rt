@@ -7,7 +7,7 @@ use std::alloc::{AllocError, Global};
 use std::marker::Model;
 use std::ops::Deref;
 
-/// A value that is stored on the heap, so that an enum with a large variant stays small. Contracts see the value
+/// A value that is stored on the heap, so that an enum with a large variant is small. Contracts model it by the value
 /// alone, and not that it is boxed.
 #[derive(Debug)]
 pub struct Boxed<T> {
@@ -28,7 +28,7 @@ impl<T> Model for Boxed<T> {
 }
 
 impl<T: Drop> Boxed<T> {
-    /// Returns the value, stored on the heap. The only error is want of memory.
+    /// Returns the value, stored on the heap. The only error is a failed allocation.
     pub fn new(alloc: Global, value: T) -> Result<Boxed<T>, AllocError>
         ensures { IfOk result (λ made. made ≡ value) }
     {

@@ -123,10 +123,10 @@ fn judge_message(alloc: Global, bytes: &[u8]) -> Result<(), CodecFault>
 ///
 /// # Errors
 ///
-/// - `TooLong` at 0, if there are more than 268,435,456 bytes. This is judged first, and before any allocation.
+/// - `TooLong` at 0, if there are more than 268,435,456 bytes. This is checked first, and before any allocation.
 /// - `BadTag` of the version at 0, if it is not 1; `BadTag` of the wire format at 2, if it is not 1 to 5.
-/// - `BadTag` of the type at its place, for the first proposal type that the profile does not have. Nothing behind the
-///   type is judged first.
+/// - `BadTag` of the type at its offset, for the first proposal type that the profile does not have. Nothing after the
+///   type is checked first.
 /// - Otherwise the first fault of the bytes from the left.
 /// - `OutOfMemory`.
 #[tactic(auto, using(crate::proofs::Profiles::messages_in))]

@@ -52,7 +52,7 @@ fn is_members_proposal(proposal: &Proposal) -> bool
     }
 }
 
-/// Returns whether an entry of a commit's list is in the members' profile. A reference is.
+/// Returns whether an entry of a proposal list is in the members' profile. A reference is.
 fn is_members_entry(entry: &ProposalOrRef) -> bool
     ensures { result ≡ is_members_entry entry.now }
 {
@@ -62,7 +62,7 @@ fn is_members_entry(entry: &ProposalOrRef) -> bool
     }
 }
 
-/// Returns whether each entry of a commit's list is in the members' profile.
+/// Returns whether each entry of a proposal list is in the members' profile.
 fn are_members_entries(entries: &[ProposalOrRef]) -> bool
     ensures { result ≡ are_members_entries entries.now }
 {
@@ -143,7 +143,7 @@ pub(crate) fn fault_found(judged: Result<(), CodecFault>) -> CodecFault
     }
 }
 
-/// Refuses a proposal type outside the members' profile: `BadTag` at its place. Nothing behind the type is read.
+/// Refuses a proposal type outside the members' profile: `BadTag` at its offset. Nothing after the type is read.
 pub(crate) fn judge_proposal(alloc: Global, reader: &Reader<'_>) -> Result<(), CodecFault>
     ensures { OnOk result (passes is_members_proposal (proposal_at reader.now) ≡ true) }
 {
@@ -155,7 +155,7 @@ pub(crate) fn judge_proposal(alloc: Global, reader: &Reader<'_>) -> Result<(), C
     Ok(())
 }
 
-/// Refuses an entry of a commit's list whose proposal type is outside the members' profile, as [`judge_proposal`] does.
+/// Refuses an entry of a proposal list whose proposal type is outside the members' profile, as [`judge_proposal`] does.
 fn judge_entry(alloc: Global, reader: &Reader<'_>) -> Result<(), CodecFault>
     ensures { OnOk result (passes is_members_entry (proposal_or_ref_at reader.now) ≡ true) }
 {
@@ -177,7 +177,7 @@ fn skip<T: Decode>(alloc: Global, reader: &mut Reader<'_>) -> Result<(), CodecFa
     Ok(())
 }
 
-/// Refuses the first entry of a commit's list that cannot be read, or whose proposal type is outside the members'
+/// Refuses the first entry of a proposal list that cannot be read, or whose proposal type is outside the members'
 /// profile.
 fn judge_list(alloc: Global, mut body: Reader<'_>) -> Result<(), CodecFault>
     ensures { OnOk result (entries_pass
@@ -215,7 +215,7 @@ fn judge_content(alloc: Global, mut reader: Reader<'_>) -> Result<(), CodecFault
 }
 
 /// Refuses a FramedContent that cannot be read up to the end of its proposals, or that has a proposal type outside the
-/// members' profile. Nothing behind such a type is read.
+/// members' profile. Nothing after such a type is read.
 pub(crate) fn judge_frame(alloc: Global, mut reader: Reader<'_>) -> Result<(), CodecFault>
     ensures { OnOk result (passes (λ f. is_members_content f.content)
         (framed_content_at reader.entry) ≡ true) }

@@ -39,7 +39,7 @@ pub enum Proposal {
     ExternalInit(Boxed<Opaque>),
 }
 
-/// An entry of a commit's list of proposals (RFC 9420, 12.4: ProposalOrRef).
+/// An entry of a proposal list (RFC 9420, 12.4: ProposalOrRef).
 #[derive(Debug, Drop)]
 pub enum ProposalOrRef {
     /// Type 1: a proposal of the committer.
@@ -200,7 +200,7 @@ impl TryClone for Proposal {
 ///
 /// # Errors
 ///
-/// - `BadTag` of the type at 0, if the profile does not have the proposal type. Nothing behind the type is judged first.
+/// - `BadTag` of the type at 0, if the profile does not have the proposal type. Nothing after the type is checked first.
 /// - Otherwise the first fault of the bytes from the left, `Trailing` if bytes follow the proposal.
 /// - `OutOfMemory`.
 #[tactic(auto, using(crate::proofs::Profiles::proposals_in))]
@@ -236,7 +236,7 @@ pub fn decode_proposal(alloc: Global, bytes: &[u8]) -> Result<Proposal, CodecFau
 ///
 /// # Errors
 ///
-/// - `TooLong` at 0, if the proposal has no encoding because one of its vectors is over the limit. This is judged before
+/// - `TooLong` at 0, if the proposal has no encoding because one of its vectors is over the limit. This is checked before
 ///   any allocation.
 /// - `OutOfMemory`.
 pub fn encode_proposal(alloc: Global, value: &Proposal) -> Result<Vec<u8>, CodecFault>

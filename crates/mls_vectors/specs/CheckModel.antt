@@ -29,13 +29,13 @@ use Rattle.mls_vectors.specs.declared.suite.SuiteMember.TheVariants as suites
 use Rattle.mls_vectors.specs.declared.tree_math.Column.{Column}
 use Rattle.mls_vectors.specs.declared.tree_math.Column.TheVariants as columns
 
--- The outcome of the definitions for one of the code.
+-- The result in the definitions for a result of the implementation.
 abbrev pub outcome_of : Outcome → outcomes.Outcome
 outcome_of Pass = outcomes.pass
 outcome_of (Fail name) = outcomes.fail name.now
 outcome_of Skip = outcomes.skip
 
--- The relation of an array of the code, and its name.
+-- The relation of an array of the implementation, and its name.
 abbrev pub relation : Column → Relation
 relation columns.Left = IsLeft
 relation columns.Right = IsRight
@@ -48,7 +48,7 @@ column_name columns.Right = codes "right"
 column_name columns.Parent = codes "parent"
 column_name columns.Sibling = codes "sibling"
 
--- The counts of the definitions for those of the code.
+-- The counts in the definitions for those of the implementation.
 abbrev pub counts_of : code.Counts → Counts
 counts_of c = record { passed = c.passed; failed = c.failed; skipped = c.skipped }
 

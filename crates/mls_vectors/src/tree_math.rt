@@ -105,7 +105,7 @@ fn has_entries(column: Column, leaves: u32, vector: &Value) -> bool
     }
 }
 
-/// Returns the number of leaves that the vector names, if a tree can have so many.
+/// Returns the number of leaves that the vector names, if a tree can have that number.
 fn size_of(vector: &Value) -> Option<u32>
     ensures some { IfSome result
         (λ n. (t : RatchetTree) × (leaf_count t.tree ≡ n) × HasSize (view vector.now) t) }

@@ -12,10 +12,10 @@ loop-place-preserved c =
     let tail = c.in-Some.tail.now in
     let cut : c.loop-place.rest.now ≡ place ∷ tail = search rules in
     record {
-      between = λ x h. c.insert_unmerged_at.ensures.between x (c.loop-place.invariant.between x h);
-      covers = λ h. covers-more y c.loop-place.self c.insert_unmerged_at.new.self place tail c.begun.result c.begun.ensures c.in_ok-insert_unmerged_at.ensures.entered
+      between = λ x h. c.insert_at.ensures.between x (c.loop-place.invariant.between x h);
+      covers = λ h. covers-more y c.loop-place.self c.insert_at.new.self place tail c.begun.result c.begun.ensures c.in_ok-insert_at.ensures.entered
           (subst (λ ps. ContainsKeysBut ps y c.loop-place.self) cut (c.loop-place.invariant.covers h));
-      beginnings = c.insert_unmerged_at.ensures.beginnings ∙ c.loop-place.invariant.beginnings;
+      beginnings = c.insert_at.ensures.beginnings ∙ c.loop-place.invariant.beginnings;
     }
 
 pub returns-clause-covers : goal.returns-clause-covers

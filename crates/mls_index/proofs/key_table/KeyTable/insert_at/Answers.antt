@@ -2,7 +2,7 @@ use Rattle.std.proofs.Common.{◌∙◌, ◌∷◌, ◌++◌, [], sym, ap, refl,
 use Rattle.mls_index.specs.KeyTable.{HasEntered}
 use Rattle.mls_index.proofs.Entries.{entered, unchanged, contained}
 use Rattle.mls_index.proofs.Tables.{put-had, put-some, between-same, between-more}
-use Rattle.mls_index.proofs.key_table.KeyTable.insert_unmerged_at.Goals as goal
+use Rattle.mls_index.proofs.key_table.KeyTable.insert_at.Goals as goal
 
 pub returns-then-contains-clause-entered : goal.returns-then-contains-clause-entered
 returns-then-contains-clause-entered c =

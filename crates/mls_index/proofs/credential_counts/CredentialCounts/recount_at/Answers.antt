@@ -2,8 +2,8 @@ use Rattle.std.proofs.Common.{◌≡◌, ◌<◌, ◌≤◌, ◌*◌, ◌/◌, �
 use Rattle.mls_index.specs.LeafCredentials.{taken_back}
 use Rattle.mls_index.proofs.Classes.{same_classes, replaced-back, class-beyond}
 use Rattle.mls_index.proofs.Counting.{but-same, but-replaced}
-use Rattle.mls_index.proofs.credential_counts.CredentialCounts.insert_unmerged_at.Goals as goal
-use Rattle.mls_index.proofs.credential_counts.CredentialCounts.insert_unmerged_at.Goals.{then-place-eq1-via-then-place-eq1, then-place-eq1-via-else-place-eq1+then-index-len}
+use Rattle.mls_index.proofs.credential_counts.CredentialCounts.recount_at.Goals as goal
+use Rattle.mls_index.proofs.credential_counts.CredentialCounts.recount_at.Goals.{then-place-eq1-via-then-place-eq1, then-place-eq1-via-else-place-eq1+then-index-len}
 
 pub returns-then-place-eq1-clause-counts : goal.returns-then-place-eq1-clause-counts
 returns-then-place-eq1-clause-counts c = λ rest room h.

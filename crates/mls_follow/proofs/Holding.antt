@@ -29,7 +29,7 @@ pub record IsSteady (s : State) : Type 0 where
   pub requires : Requires s.context required
 
 -- it starts in one
-start_steady : (G : VerifyFn) (info : GroupInfo) (handed : Option RatchetTree) (s : State) → IsStart G info handed s → IsSteady s
+pub start_steady : (G : VerifyFn) (info : GroupInfo) (handed : Option RatchetTree) (s : State) → IsStart G info handed s → IsSteady s
 start_steady G info handed s h =
     let valid = h.has_signer.has_members.valid_tree in
     subst IsSteady (sym h.state) (record {

@@ -106,7 +106,7 @@ module _ (G K : VerifyFn) where
     update_alike i present x h =
         ap (λ (b : Bool). fits_leaf present x && b) (leaf_alike G K context.cipher_suite context.group_id i x h)
 
-    adds_alike : (i : ℕ) (p : Proposal) → AgreeOn G K (proposal_signatures context i p) → valid_if_add G context p ≡ valid_if_add K context p
+    pub adds_alike : (i : ℕ) (p : Proposal) → AgreeOn G K (proposal_signatures context i p) → valid_if_add G context p ≡ valid_if_add K context p
     adds_alike i (proposals.Add k) h = add_alike k h
     adds_alike i (proposals.Update x) h = refl
     adds_alike i (proposals.Remove j) h = refl
@@ -115,7 +115,7 @@ module _ (G K : VerifyFn) where
     adds_alike i (proposals.ReInit es) h = refl
     adds_alike i (proposals.ExternalInit es) h = refl
 
-    updates_alike : (t : Tree) (i : ℕ) (p : Proposal) → AgreeOn G K (proposal_signatures context i p)
+    pub updates_alike : (t : Tree) (i : ℕ) (p : Proposal) → AgreeOn G K (proposal_signatures context i p)
         → valid_if_update G context t i p ≡ valid_if_update K context t i p
     updates_alike t i (proposals.Add k) h = refl
     updates_alike t i (proposals.Update x) h = update_alike i (leaf_at 0 t i) x h

@@ -80,7 +80,7 @@ module _ (G : VerifyFn) where
   -- ---- what holds of all entries
 
   -- what is held stores the entries
-  pub held_entries : (s : State) (es : List KnownEntry) (new : State) → Holds G s es new
+  unfoldable pub held_entries : (s : State) (es : List KnownEntry) (new : State) → Holds G s es new
       → (ks : List KnownProposal) × (es ≡ map stored_entry ks) × (new ≡ record s { known = s.known ++ ks })
   held_entries s [] new h = ([], refl, h ∙ (λ i. record s { known = sym (append-nil s.known) i }))
   held_entries s (e ∷ es) new h =

@@ -88,6 +88,13 @@ supported_or_not suite = go (nat_le 1 suite) (nat_le suite 7) refl refl
     go false b p q = inr (λ h. let le = h.0 in let t : nat_le 1 suite ≡ true = grind (arith, nat_tests) in false≢true (sym p ∙ t))
     go true false p q = inr (λ h. let le = h.1 in let t : nat_le suite 7 ≡ true = grind (arith, nat_tests) in false≢true (sym q ∙ t))
 
+pub le_or_not : (a b : ℕ) → (a ≤ b) ⊎ (a ≤ b → ⊥)
+le_or_not a b = go (nat_le a b) refl
+  where
+    go : (c : Bool) → nat_le a b ≡ c → (a ≤ b) ⊎ (a ≤ b → ⊥)
+    go true e = inl (grind (arith, nat_tests))
+    go false e = inr (λ le. let t : nat_le a b ≡ true = grind (arith, nat_tests) in false≢true (sym e ∙ t))
+
 pub same_or_not : (a b : ℕ) → (a ≡ b) ⊎ (a ≢ b)
 same_or_not a b = go (a == b) refl
   where

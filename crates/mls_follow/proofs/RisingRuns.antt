@@ -94,11 +94,11 @@ recoveries_accept G s events new other calls h same memory run =
 -- ---- what holds after any run under the last meaning
 
 -- a rising run leads where a run under the last meaning does
-record IsRunOf (K : VerifyFn) (s new : State) : Type 0 where
-  calls : List Call
-  run : IsRun K s calls new
+pub record IsRunOf (K : VerifyFn) (s new : State) : Type 0 where
+  pub calls : List Call
+  pub run : IsRun K s calls new
 
-as_run : (G : VerifyFn) (s : State) (events : List Event) (new : State) → IsRisingRun G s events new → IsRunOf (last_meaning G events) s new
+pub as_run : (G : VerifyFn) (s : State) (events : List Event) (new : State) → IsRisingRun G s events new → IsRunOf (last_meaning G events) s new
 as_run G s events new h =
     let made = accepted_run (last_meaning G events) s (accepted (received events)) new (rising_accepted G s events new h) in
     record { calls = made.0; run = made.3 }

@@ -21,14 +21,14 @@ use Rattle.mls_signatures.specs.declared.signature_to_verify.SignatureToVerify.{
 use Rattle.mls_signatures.proofs.Agreement.{front, back, from_deduplicated}
 use Rattle.mls_follow.proofs.SignatureAgreement.{tree_leaf, leaf_alike, info_alike, members_alike, faults_alike}
 
-numbers_followed : (version suite : ℕ) → version ≡ 1 → 1 ≤ suite → suite ≤ 7 → (version == 1 && nat_le 1 suite && nat_le suite 7) ≡ true
+pub numbers_followed : (version suite : ℕ) → version ≡ 1 → 1 ≤ suite → suite ≤ 7 → (version == 1 && nat_le 1 suite && nat_le suite 7) ≡ true
 numbers_followed version suite e low high = grind (arith, nat_tests)
 
 followed : (info : GroupInfo) → IsSupportedContext info.context → is_supported info ≡ true
 followed info h = numbers_followed info.context.version info.context.cipher_suite h.version h.suite.0 h.suite.1
 
 -- where a version and a suite are followed, all is asked
-all_asked : (G K : VerifyFn) (b : Bool) (qs : List SignatureToVerify) → b ≡ true → AgreeOn G K (if b then qs else []) → AgreeOn G K qs
+pub all_asked : (G K : VerifyFn) (b : Bool) (qs : List SignatureToVerify) → b ≡ true → AgreeOn G K (if b then qs else []) → AgreeOn G K qs
 all_asked G K true qs e h = h
 all_asked G K false qs e h = absurd (cc)
 

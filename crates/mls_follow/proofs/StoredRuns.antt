@@ -17,7 +17,7 @@ use Rattle.mls_apply.specs.declared.list_item.KnownProposal.{KnownProposal}
 use Rattle.mls_apply.proofs.Spellings.{put_back, right_spelled}
 use Rattle.mls_follow.specs.State.{State}
 use Rattle.mls_follow.specs.StoredState.{IsIntact, Stores, stored_entry}
-use Rattle.mls_follow.specs.Resumption.{Holds, IsStateOf, base_state}
+use Rattle.mls_follow.specs.Resumption.{Holds, IsStateOf, IsResumed, base_state}
 use Rattle.mls_follow.specs.StoredRuns.{IsResumable, ResumableStatesResume, FollowersResume, ResumptionsAreValid, ResumedRunsAreValid, ResumedRunsAreAnswered}
 use Rattle.mls_follow.proofs.Deciding.{an_answer}
 use Rattle.mls_follow.proofs.Holding.{IsSteady, run_steady}
@@ -113,7 +113,11 @@ content_steady G bytes c t s i h =
       requires = member.valid_tree.readable.requires;
     })
 
+-- a follower resumes in a state that it may hold
+pub resumed_steady : (G : VerifyFn) (bytes : List ℕ) (s : State) → IsResumed G bytes s → IsSteady s
+resumed_steady G bytes s h = content_steady G bytes h.content h.tree s h.intact h.state
+
 pub resumed_answered : ResumedRunsAreAnswered
 resumed_answered G bytes more first last calls h run =
-    let steady = run_steady G first calls last (content_steady G bytes h.content h.tree first h.intact h.state) run in
+    let steady = run_steady G first calls last (resumed_steady G bytes first h) run in
     an_answer G last steady.required more steady.held steady.requires

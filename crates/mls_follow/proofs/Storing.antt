@@ -28,7 +28,7 @@ use Rattle.mls_follow.proofs.StoredTrees.{one_tree_of, encoded_tree, decoded_sam
 
 module _ (bytes : List ℕ) (t : RatchetTree) (e : ratchet_tree (trimmed (listing t.tree)) ≡ Some bytes) where
   -- a body of the tree has these bytes
-  own_bytes : (body : List ℕ) → IsTreeBody body t → (vector body ≡ Some bytes) × IsTreeOf bytes t
+  pub own_bytes : (body : List ℕ) → IsTreeBody body t → (vector body ≡ Some bytes) × IsTreeOf bytes t
   own_bytes body h =
       let same : h.bytes ≡ bytes = same_Some h.bytes bytes (sym (encoded_tree h.bytes t h.tree) ∙ e) in
       (h.encoded ∙ ap Some same, subst (λ (b : List ℕ). IsTreeOf b t) same h.tree)

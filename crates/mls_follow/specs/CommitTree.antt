@@ -1,4 +1,4 @@
--- The tree after a commit's list and path, before it is checked. Internal: no public contract uses this.
+-- The tree after a commit's proposal list and path, before it is checked. Internal: no public contract uses this.
 use Rattle.std.specs.Prelude.{◌≡◌, ℕ, List, [], Option, None, Some, is_some, option_and_then}
 use Rattle.std.specs.Coded.{Coded-set, coded_option}
 use Rattle.mls_tree.specs.Tree.{Tree, leaf}

@@ -75,7 +75,7 @@ commit_tree s i c =
     (outcome items s.tree))
     (resolved i s.known c.proposals)
 
--- `extensions_after present items` is the extensions of the next GroupContext, by the commit's list (RFC 9420, 12.1.7).
+-- `extensions_after present items` is the extensions of the next GroupContext, by the proposal list (RFC 9420, 12.1.7).
 abbrev pub extensions_after : List Extension → Option (List ListItem) → List Extension
 extensions_after present None = present
 extensions_after present (Some items) = new_extensions present items

@@ -5,11 +5,13 @@ use Rattle.mls_hash.specs.SuiteHash.{hash_length}
 use Rattle.mls_check.specs.GroupTree.{IsSupportedContext}
 use Rattle.mls_check.specs.Signatures.{VerifyFn, Extends}
 use Rattle.mls_msgs.specs.declared.group_info.GroupInfo.{GroupInfo}
+use Rattle.mls_signatures.specs.Agreement.{AgreeOn}
+use Rattle.mls_signatures.specs.SignaturesToVerify.{resumption_signatures}
 use Rattle.mls_follow.specs.State.{State}
 use Rattle.mls_follow.specs.Start.{IsStart}
 use Rattle.mls_follow.specs.Runs.{Call, IsRun, IsAnswered}
 use Rattle.mls_follow.specs.Validity.{IsValidState}
-use Rattle.mls_follow.specs.StoredState.{EncodesState, stored_entry}
+use Rattle.mls_follow.specs.StoredState.{EncodesState, HasNoFile, stored_entry}
 use Rattle.mls_follow.specs.Resumption.{Holds, IsResumed, IsResumeFault}
 use Rattle.mls_follow.specs.declared.resume_fault.ResumeFault.{ResumeFault}
 use Rattle.mls_follow.specs.declared.resume_fault.ResumeFault.TheVariants.{Unreadable, ChecksumDiffers, UnsupportedVersion, UnsupportedSuite, RequirementsUnreadable, Tree, Member, InterimLength, KnownInvalid, OutOfMemory}
@@ -54,7 +56,7 @@ is_unreadable InterimLength = false
 is_unreadable (KnownInvalid n) = false
 is_unreadable OutOfMemory = false
 
--- There is at most one fault, but for the cause that `Unreadable` names.
+-- There is at most one fault, except for the cause that `Unreadable` names.
 abbrev pub ResumeFaultIsUnique : Type 0
 ResumeFaultIsUnique =
     (G : VerifyFn) (bytes : List ℕ) (fault other : ResumeFault) → fault ≢ OutOfMemory → other ≢ OutOfMemory
@@ -68,7 +70,17 @@ ResumptionOrFault =
     → ((s : State) × IsResumed G bytes s)
     ⊎ ((fault : ResumeFault) × (fault ≢ OutOfMemory) × IsResumeFault G bytes fault)
 
+-- The signatures of a state determine whether a follower resumes in it.
+abbrev pub SignaturesDetermineResumption : Type 0
+SignaturesDetermineResumption =
+    (G K : VerifyFn) (bytes : List ℕ) (s : State)
+    → AgreeOn G K (resumption_signatures s.context s.tree s.known) → IsResumed G bytes s → IsResumed K bytes s
+
 -- ---- stored states
+
+-- A state has a file, or no bytes are its file.
+abbrev pub StoredFileOrNone : Type 0
+StoredFileOrNone = (s : State) → ((bytes : List ℕ) × EncodesState s bytes) ⊎ HasNoFile s
 
 -- A state has at most one file.
 abbrev pub StoredFileIsUnique : Type 0

@@ -40,7 +40,7 @@ fn decode(alloc: Global, bytes: &[u8]) -> Result<Message, Refusal>
 ///
 /// - `Malformed` if there is none. More than 268,435,456 bytes, and the lack of a header, are refused even without
 ///   memory.
-/// - `NotPublic` if it is a PrivateMessage or a Welcome, which needs no memory.
+/// - `NotPublic` if it is a PrivateMessage or a Welcome, without an allocation.
 /// - `OutOfMemory`.
 pub(crate) fn read_message(alloc: Global, bytes: &[u8]) -> Result<Message, Refusal>
     ensures read { IfOk result (λ m. EncodesMessage m bytes.now) }

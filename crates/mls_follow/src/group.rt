@@ -96,7 +96,7 @@ impl Group {
         })
     }
 
-    /// Moves to the next epoch, whose tree is in place and has this tree hash, on these terms. It takes no memory.
+    /// Moves to the next epoch, whose tree is in place and has this tree hash, with these extensions and requirements. Does not allocate.
     pub(crate) fn enter(
         &mut self,
         tree_hash: Opaque,

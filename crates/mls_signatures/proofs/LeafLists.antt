@@ -1,5 +1,5 @@
 -- Signatures that a loop appends, and the leaves that a commit's list adds or replaces.
-use Rattle.std.proofs.Common.{drop, get_or, length, ◌≡◌, ◌∙◌, ℕ, zero, suc, ◌+◌, ◌<◌, ◌≤◌, List, [], ◌∷◌, ◌++◌, Option, Some, None, refl, sym, ap, append_assoc, append-nil, add-zero, add-suc, add-one, arith}
+use Rattle.std.proofs.Common.{drop, get_or, length, ◌≡◌, ◌∙◌, ℕ, zero, suc, ◌+◌, ◌-◌, ◌<◌, ◌≤◌, List, [], ◌∷◌, ◌++◌, Option, Some, None, refl, sym, ap, append_assoc, append-nil, add-zero, add-suc, add-one, arith}
 use Rattle.std.specs.Prelude.{option_and_then}
 use Rattle.std.proofs.lemmas.List.{drop_more, drop_all}
 use Rattle.mls_nodes.specs.declared.leaf.LeafNode.{LeafNode}
@@ -18,7 +18,7 @@ module _ {X : Type 0} where
   joined f first zero = []
   joined f first (suc count) = joined f first count ++ f (first + count)
 
-  joined-both : (f : ℕ → List X) (first a b : ℕ) → joined f first (a + b) ≡ joined f first a ++ joined f (first + a) b
+  pub joined-both : (f : ℕ → List X) (first a b : ℕ) → joined f first (a + b) ≡ joined f first a ++ joined f (first + a) b
   joined-both f first a zero = ap (joined f first) (add-zero a) ∙ sym (append-nil (joined f first a))
   joined-both f first a (suc b) =
       let at : first + (a + b) ≡ first + a + b = omega arith in
@@ -39,7 +39,7 @@ module _ (suite : ℕ) (group_id : List ℕ) where
   of_leaf_in first t i = non_blank_leaf_signatures suite group_id i (leaf_at first t i)
 
   -- those of a tree, leaf by leaf
-  tree-joined : (first : ℕ) (t : Tree) → tree_signatures suite group_id first t ≡ joined (of_leaf_in first t) first (leaf_count t)
+  pub tree-joined : (first : ℕ) (t : Tree) → tree_signatures suite group_id first t ≡ joined (of_leaf_in first t) first (leaf_count t)
   tree-joined first (leaf y) =
       let at : first + 0 ≡ first = omega arith in
       ap (λ (o : Option LeafNode). non_blank_leaf_signatures suite group_id first o) (sym (leaf_at-here first y))
@@ -56,6 +56,19 @@ module _ (suite : ℕ) (group_id : List ℕ) where
   -- those of the leaves below index n
   abbrev pub signatures_below : Tree → ℕ → List SignatureToVerify
   signatures_below t n = joined (of_leaf_in 0 t) 0 n
+
+  -- those of the leaves from index n on
+  abbrev pub signatures_from : Tree → ℕ → List SignatureToVerify
+  signatures_from t n = joined (of_leaf_in 0 t) n (leaf_count t - n)
+
+  pub below-from : (t : Tree) (n : ℕ) → n ≤ leaf_count t → tree_signatures suite group_id 0 t ≡ signatures_below t n ++ signatures_from t n
+  below-from t n le =
+      let all : leaf_count t ≡ n + (leaf_count t - n) = omega (arith, le) in
+      let at : 0 + n ≡ n = omega arith in
+      tree-joined 0 t
+      ∙ ap (λ k. signatures_below t k) all
+      ∙ joined-both (of_leaf_in 0 t) 0 n (leaf_count t - n)
+      ∙ ap (λ k. signatures_below t n ++ joined (of_leaf_in 0 t) k (leaf_count t - n)) at
 
   module _ (t : Tree) (n : ℕ) (old now : List SignatureToVerify) (known : now ≡ old ++ signatures_below t n) where
     pub below-next : (new : List SignatureToVerify) (o : Option LeafNode) → leaf_at 0 t n ≡ o → new ≡ now ++ non_blank_leaf_signatures suite group_id n o

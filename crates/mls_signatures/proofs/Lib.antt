@@ -1,3 +1,4 @@
 pub mod DuplicateMarks
 pub mod Agreement
 pub mod LeafLists
+pub mod DistinctStarts

@@ -1,3 +1,4 @@
 pub mod SignaturesToVerify
 pub mod Agreement
+pub mod DistinctStarts
 pub mod Marks

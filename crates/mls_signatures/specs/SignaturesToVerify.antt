@@ -1,6 +1,6 @@
--- Which signatures have to be verified: those of a start (RFC 9420, 12.4.3.1), and those of a message of a group (5.1.2, 6.1,
--- 7.2, 10.1). No checker is an argument, so they depend on no verification. Some may be listed that no rule checks, as if
--- another rule refuses the message before.
+-- Which signatures have to be verified: those of a start (RFC 9420, 12.4.3.1), those of a resumption from a stored state (own
+-- rule), and those of a message of a group (5.1.2, 6.1, 7.2, 10.1). No checker is an argument, so they depend on no
+-- verification. Some may be listed that no rule checks, as if another rule refuses the message before.
 -- Used by contracts. `suite` and `group_id`: those of the group's context.
 use Rattle.std.specs.Prelude.{ℕ, ◌+◌, ◌==◌, ◌&&◌, not, nat_le, if◌then◌else◌, Bool, List, [], ◌∷◌, ◌++◌, filter, Option, Some, None, codes}
 use Rattle.std.specs.Str.{bytes_eq}
@@ -109,11 +109,14 @@ deduplicated (q ∷ qs) = q ∷ without q (deduplicated qs)
 
 -- ---- those of a start (12.4.3.1)
 
--- whether the version and the cipher suite of a GroupInfo are supported (17.1)
+-- whether the version and the cipher suite of a context are supported (17.1)
+abbrev pub is_supported_context : GroupContext → Bool
+is_supported_context context =
+    context.version == 1 && nat_le 1 context.cipher_suite && nat_le context.cipher_suite 7
+
+-- whether those of the context of a GroupInfo are
 abbrev pub is_supported : GroupInfo → Bool
-is_supported info =
-    info.context.version == 1
-    && nat_le 1 info.context.cipher_suite && nat_le info.context.cipher_suite 7
+is_supported info = is_supported_context info.context
 
 -- the GroupInfo's, then each leaf's from left to right; none if the version or the cipher suite isn't supported
 abbrev pub all_start_signatures : GroupInfo → Tree → List SignatureToVerify
@@ -142,15 +145,35 @@ proposal_signatures context i (proposals.PreSharedKey _) = []
 proposal_signatures context i (proposals.ReInit _) = []
 proposal_signatures context i (proposals.ExternalInit _) = []
 
--- of an entry of a commit's list: those of a proposal by value; of a reference none
+-- of an entry of a proposal list: those of a proposal by value; of a reference none
 abbrev pub entry_signatures : GroupContext → ℕ → ProposalOrRef → List SignatureToVerify
 entry_signatures context i (entries.Proposal p) = proposal_signatures context i p
 entry_signatures context i (entries.Reference _) = []
 
--- of the entries of a commit's list, in their order
+-- of pending proposals, in their order
+abbrev pub pending_signatures : GroupContext → List KnownProposal → List SignatureToVerify
+pending_signatures context [] = []
+pending_signatures context (k ∷ ks) =
+    proposal_signatures context k.sender k.proposal ++ pending_signatures context ks
+
+-- of the entries of a proposal list, in their order
 abbrev pub entries_signatures : GroupContext → ℕ → List ProposalOrRef → List SignatureToVerify
 entries_signatures context i [] = []
 entries_signatures context i (e ∷ es) = entry_signatures context i e ++ entries_signatures context i es
+
+-- ---- those of resuming in a state with this context, this tree and these pending proposals (own rule)
+
+-- each leaf's from left to right, then those of the pending proposals; none if the version or the cipher suite isn't
+-- supported
+abbrev pub all_resumption_signatures : GroupContext → Tree → List KnownProposal → List SignatureToVerify
+all_resumption_signatures context t ks =
+    if is_supported_context context
+    then tree_signatures context.cipher_suite context.group_id 0 t ++ pending_signatures context ks
+    else []
+
+-- the signatures of a resumption, without duplicates
+abbrev pub resumption_signatures : GroupContext → Tree → List KnownProposal → List SignatureToVerify
+resumption_signatures context t ks = deduplicated (all_resumption_signatures context t ks)
 
 -- ---- those of the leaves that a commit adds or replaces (7.3, 12.4.2)
 

@@ -25,7 +25,7 @@ pub(crate) struct MemberCommit<'a> {
     pub(crate) commit: &'a Commit,
 }
 
-/// Appends the signatures of an entry of a commit's list, if the entry is a proposal by value.
+/// Appends the signatures of an entry of a proposal list, if the entry is a proposal by value.
 fn push_entry_signatures(
     alloc: Global,
     context: &GroupContext,
@@ -134,7 +134,7 @@ fn new_leaves(alloc: Global, items: &[ListItem], added: &Leaves) -> Result<Vec<u
     Ok(leaves)
 }
 
-/// Appends the signatures of these leaves of the tree after a commit's list, then that of the leaf of its path.
+/// Appends the signatures of these leaves of the tree after a proposal list, then that of the leaf of its path.
 fn push_new_leaf_signatures(
     alloc: Global,
     commit: &MemberCommit<'_>,
@@ -184,8 +184,8 @@ fn apply_and_push_signatures(
     push_new_leaf_signatures(alloc, commit, tree.tree(), leaves?.as_slice(), list)
 }
 
-/// Appends the signatures of the leaves that a commit's list adds or replaces, and of the path's leaf, if the list can be
-/// applied. The list is applied to the tree, and taken back.
+/// Appends the signatures of the leaves that a proposal list adds or replaces, and of the path's leaf, if the list can be
+/// applied. The list is applied to the tree, and undone.
 fn push_applied_list_signatures(
     alloc: Global,
     commit: &MemberCommit<'_>,

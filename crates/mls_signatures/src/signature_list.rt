@@ -2,7 +2,7 @@
 
 ghost use Rattle.std.specs.Prelude.{◌≡◌, ◌++◌, Some, OnOk};
 ghost use Rattle.mls_tree.specs.Tree.{leaf_at};
-ghost use Rattle.mls_signatures.specs.SignaturesToVerify.{labeled_signatures, leaf_signatures, package_signatures, framed_content_signatures, info_signatures, non_blank_leaf_signatures, tree_signatures, is_supported, all_start_signatures, proposal_signatures};
+ghost use Rattle.mls_signatures.specs.SignaturesToVerify.{labeled_signatures, leaf_signatures, package_signatures, framed_content_signatures, info_signatures, non_blank_leaf_signatures, tree_signatures, is_supported_context, all_start_signatures, proposal_signatures};
 
 use crate::signature_to_verify::SignatureToVerify;
 use mls_check::{LEAF_NODE_TBS, OutOfMemory, sign_content};
@@ -96,7 +96,7 @@ pub(crate) fn push_non_blank_leaf_signature(
 }
 
 /// Appends the signature of each leaf of a tree, from left to right.
-fn push_tree_signatures(
+pub(crate) fn push_tree_signatures(
     alloc: Global,
     context: &GroupContext,
     tree: &PublicTree,
@@ -113,7 +113,7 @@ fn push_tree_signatures(
 }
 
 /// Appends the signature of a GroupInfo, if its signer's leaf is non-blank (RFC 9420, 12.4.3).
-fn push_info_signature(
+pub(crate) fn push_info_signature(
     alloc: Global,
     info: &GroupInfo,
     tree: &PublicTree,
@@ -139,11 +139,11 @@ fn push_info_signature(
     push_signature(alloc, &signed, tbs.as_slice(), list)
 }
 
-/// Returns whether the version and the cipher suite of a GroupInfo are supported (RFC 9420, 17.1).
-fn is_supported(info: &GroupInfo) -> bool
-    ensures { result ≡ is_supported info.now }
+/// Returns whether the version and the cipher suite of a GroupContext are supported (RFC 9420, 17.1).
+pub(crate) fn is_supported_context(context: &GroupContext) -> bool
+    ensures { result ≡ is_supported_context context.now }
 {
-    info.context.version == 1 && Suite::from_u16(info.context.cipher_suite).is_ok()
+    context.version == 1 && Suite::from_u16(context.cipher_suite).is_ok()
 }
 
 /// Appends the signatures of a start (RFC 9420, 12.4.3.1).
@@ -156,7 +156,7 @@ pub(crate) fn push_start_signatures(
     ensures { OnOk result (list.new.items ≡ list.old.items
         ++ all_start_signatures info.now tree.now.tree) }
 {
-    if !is_supported(info) {
+    if !is_supported_context(&info.context) {
         return Ok(());
     }
     push_info_signature(alloc, info, tree, list)?;

@@ -3,12 +3,13 @@
 ghost use Rattle.std.specs.Prelude.{◌≡◌, ◌++◌, IfOk, OnOk};
 ghost use Rattle.mls_tree.specs.Tree.{leaf_at};
 ghost use Rattle.mls_apply.specs.Staged.{IsSettled};
-ghost use Rattle.mls_signatures.specs.SignaturesToVerify.{all_message_signatures, authenticated_signatures, member_signatures, message_signatures, start_signatures};
+ghost use Rattle.mls_signatures.specs.SignaturesToVerify.{all_message_signatures, authenticated_signatures, info_signatures, member_signatures, message_signatures, non_blank_leaf_signatures, start_signatures};
 
 use crate::commit_signatures::{MemberCommit, push_commit_signatures};
 use crate::duplicates::deduplicated;
 use crate::signature_list::{
-    push_framed_content_signature, push_proposal_signatures, push_start_signatures,
+    push_framed_content_signature, push_info_signature, push_non_blank_leaf_signature,
+    push_proposal_signatures, push_start_signatures,
 };
 use crate::signature_to_verify::SignatureToVerify;
 use mls_apply::{PendingProposals, StagedTree};
@@ -35,6 +36,57 @@ pub fn start_signatures(
     let mut list = Vec::new(alloc);
     match push_start_signatures(alloc, info, tree, &mut list) {
         Ok(()) => deduplicated(alloc, list),
+        Err(memory) => {
+            drop(list);
+            Err(memory)
+        }
+    }
+}
+
+/// Returns the signature of a GroupInfo by a tree (RFC 9420, 12.4.3). It is the first of [`start_signatures`] if version
+/// and cipher suite are supported. The list is empty if the signer's leaf is blank, or if what is signed has no encoding.
+///
+/// # Errors
+///
+/// [`OutOfMemory`].
+pub fn info_signatures(
+    alloc: Global,
+    info: &GroupInfo,
+    tree: &PublicTree,
+) -> Result<Vec<SignatureToVerify>, OutOfMemory>
+    ensures { IfOk result (λ v. v.items
+        ≡ info_signatures info.now (leaf_at 0 tree.now.tree info.now.signer)) }
+{
+    let mut list = Vec::new(alloc);
+    match push_info_signature(alloc, info, tree, &mut list) {
+        Ok(()) => Ok(list),
+        Err(memory) => {
+            drop(list);
+            Err(memory)
+        }
+    }
+}
+
+/// Returns the signature of one leaf node of a group (RFC 9420, 7.2), by its leaf index. Those of all leaves from left to
+/// right are the others of [`start_signatures`], if no two leaves have one signature key. The list is empty if the leaf
+/// is blank, or if what is signed has no encoding.
+///
+/// # Errors
+///
+/// [`OutOfMemory`].
+pub fn leaf_signatures(
+    alloc: Global,
+    context: &GroupContext,
+    tree: &PublicTree,
+    index: u32,
+) -> Result<Vec<SignatureToVerify>, OutOfMemory>
+    ensures { let suite = context.now.cipher_suite in
+        IfOk result (λ v. v.items ≡ non_blank_leaf_signatures
+        suite context.now.group_id index (leaf_at 0 tree.now.tree index)) }
+{
+    let mut list = Vec::new(alloc);
+    match push_non_blank_leaf_signature(alloc, context, tree, index, &mut list) {
+        Ok(()) => Ok(list),
         Err(memory) => {
             drop(list);
             Err(memory)

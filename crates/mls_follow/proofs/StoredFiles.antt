@@ -1,0 +1,149 @@
+-- A state has a file, or no bytes are its file.
+use Rattle.std.proofs.Common.{◌≡◌, ◌∙◌, ℕ, ◌≤◌, List, length, map, Option, Some, None, refl, sym, ap, subst, inl, inr}
+use Rattle.std.specs.Prelude.{◌⊎◌}
+use Rattle.std.proofs.lemmas.Option.{none-some, same_Some}
+use Rattle.sha2.specs.Sha256.{sha256}
+use Rattle.mls_wire.specs.Encoding.{vector}
+use Rattle.mls_wire.specs.Limits.{input_limit}
+use Rattle.mls_wire.specs.Parsing.{vector_at}
+use Rattle.mls_wire.specs.VectorsExact.{vector_exact}
+use Rattle.mls_nodes.specs.RatchetTreeEncoding.{ratchet_tree, trimmed}
+use Rattle.mls_tree.specs.RatchetTree.{HasShape, RatchetTree}
+use Rattle.mls_tree.specs.Tree.{Tree, leaf, branch, height, IsPerfect, leaf_count, listing}
+use Rattle.mls_tree.specs.TreeDecoding.{IsTreeOf}
+use Rattle.mls_state.specs.Layout.{follower_state, state_file}
+use Rattle.mls_state.specs.StateFile.{IsFileOf}
+use Rattle.mls_state.specs.declared.file.StateFile.{StateFile}
+use Rattle.mls_state.specs.declared.state.FollowerState.{FollowerState}
+use Rattle.mls_state.specs.declared.state.GroupPhase.TheVariants.{Open}
+use Rattle.mls_state.specs.declared.state.StateProfile.TheVariants.{Members}
+use Rattle.mls_follow.specs.State.{State}
+use Rattle.mls_follow.specs.StoredState.{IsTreeBody, Stores, EncodesState, HasNoFile, stored_entry}
+use Rattle.mls_follow.specs.StoredRuns.{StoredFileOrNone}
+use Rattle.mls_follow.proofs.Readings.{read_or_not, fits_or_not, tree_or_not, same_or_not, le_or_not}
+use Rattle.mls_follow.proofs.StoredStates.{made_file, no_file, long_file, no_tree_no_file}
+use Rattle.mls_follow.proofs.StoredTrees.{one_tree_of, encoded_tree, decoded_same}
+use Rattle.mls_follow.proofs.Storing.{own_bytes, no_body}
+
+-- ---- shapes
+
+perfect_or_not : (t : Tree) → IsPerfect t ⊎ (IsPerfect t → ⊥)
+perfect_or_not (leaf x) = inl tt
+perfect_or_not (branch l n r) =
+    elim (same_or_not (height l) (height r)) [
+      | inr other ↦ inr (λ h. other h.0)
+      | inl same ↦ elim (perfect_or_not l) [
+        | inr none ↦ inr (λ h. none h.1)
+        | inl left ↦ elim (perfect_or_not r) [
+          | inr none ↦ inr (λ h. none h.2)
+          | inl right ↦ inl (same, left, right)
+        ]
+      ]
+    ]
+
+shape_or_not : (t : Tree) → HasShape t ⊎ (HasShape t → ⊥)
+shape_or_not t =
+    elim (perfect_or_not t) [
+      | inr none ↦ inr (λ h. none h.perfect)
+      | inl perfect ↦ elim (le_or_not (height t) 20) [
+        | inr high ↦ inr (λ h. high h.low)
+        | inl low ↦ inl (record { perfect = perfect; low = low })
+      ]
+    ]
+
+-- ---- bodies
+
+module _ (t : RatchetTree) where
+  abbrev BodyOrNone : Type 0
+  BodyOrNone = ((body : List ℕ) × IsTreeBody body t) ⊎ ((body : List ℕ) → IsTreeBody body t → ⊥)
+
+  by_vector : (bytes : List ℕ) → ratchet_tree (trimmed (listing t.tree)) ≡ Some bytes → IsTreeOf bytes t → BodyOrNone
+  by_vector bytes e is =
+      elim (read_or_not vector vector_at vector_exact bytes) [
+        | inl body ↦ inl (body.0, record { bytes = bytes; encoded = body.1; tree = is })
+        | inr none ↦ inr (λ body h. none body (own_bytes bytes t e body h).0)
+      ]
+
+  by_leaves : (bytes : List ℕ) → ratchet_tree (trimmed (listing t.tree)) ≡ Some bytes → (u : RatchetTree) → IsTreeOf bytes u → BodyOrNone
+  by_leaves bytes e u decoded =
+      elim (same_or_not (leaf_count u.tree) (leaf_count t.tree)) [
+        | inl same ↦ by_vector bytes e (subst (IsTreeOf bytes) (decoded_same bytes t u e decoded same) decoded)
+        | inr other ↦ inr (no_body bytes t e (λ h. other (ap (λ (v : RatchetTree). leaf_count v.tree) (one_tree_of bytes u t decoded h))))
+      ]
+
+  by_bytes : (o : Option (List ℕ)) → ratchet_tree (trimmed (listing t.tree)) ≡ o → BodyOrNone
+  by_bytes None e = inr (λ body h. none-some h.bytes (sym e ∙ encoded_tree h.bytes t h.tree))
+  by_bytes (Some bytes) e =
+      elim (tree_or_not bytes) [
+        | inl u ↦ by_leaves bytes e u.0 u.1
+        | inr none ↦ inr (no_body bytes t e (λ h. none h.nodes h.is_tree))
+      ]
+
+  body_or_none : BodyOrNone
+  body_or_none = by_bytes (ratchet_tree (trimmed (listing t.tree))) refl
+
+-- ---- files
+
+module _ (s : State) where
+  abbrev FileOrNone : Type 0
+  FileOrNone = ((bytes : List ℕ) × EncodesState s bytes) ⊎ HasNoFile s
+
+  module _ (c : FollowerState) (t : RatchetTree) (body : IsTreeBody c.tree t) (stores : Stores c t s) where
+    -- a file of the content has the digest of its encoding
+    the_file : (encoded bytes : List ℕ) → follower_state c ≡ Some encoded → (h : IsFileOf bytes c) → h.file ≡ record { checksum = sha256 encoded; state = c }
+    the_file encoded bytes e h =
+        let same : h.checked.body ≡ encoded =
+        same_Some h.checked.body encoded (sym h.checked.encoded ∙ ap follower_state h.state ∙ e) in
+        let digest = h.checked.digest ∙ ap sha256 same in
+        λ i. record { checksum = digest i; state = h.state i }
+
+    by_length : (bytes : List ℕ) → IsFileOf bytes c → FileOrNone
+    by_length bytes file =
+        elim (fits_or_not bytes) [
+          | inl le ↦ inl (bytes, made_file s c t body stores bytes file le)
+          | inr long ↦ inr (long_file s c t body stores bytes file long)
+        ]
+
+    by_file : (encoded : List ℕ) → follower_state c ≡ Some encoded → (o : Option (List ℕ))
+        → state_file (record { checksum = sha256 encoded; state = c }) ≡ o → FileOrNone
+    by_file encoded e None f =
+        inr (no_file s c t body stores (λ bytes h. none-some bytes (sym f ∙ ap state_file (sym (the_file encoded bytes e h)) ∙ h.encoded)))
+    by_file encoded e (Some bytes) f =
+        by_length bytes (record {
+          file = record { checksum = sha256 encoded; state = c };
+          state = refl;
+          checked = record { body = encoded; encoded = e; digest = refl };
+          encoded = f;
+        })
+
+    by_state : (o : Option (List ℕ)) → follower_state c ≡ o → FileOrNone
+    by_state None e =
+        inr (no_file s c t body stores (λ bytes h. none-some h.checked.body (sym e ∙ ap follower_state (sym h.state) ∙ h.checked.encoded)))
+    by_state (Some encoded) e = by_file encoded e (state_file (record { checksum = sha256 encoded; state = c })) refl
+
+    by_content : FileOrNone
+    by_content = by_state (follower_state c) refl
+
+  by_shape : HasShape s.tree → FileOrNone
+  by_shape shape =
+      let t : RatchetTree = record { tree = s.tree; shape = shape } in
+      elim (body_or_none t) [
+        | inr none ↦ inr (no_tree_no_file s t refl none)
+        | inl body ↦
+            (let c : FollowerState = record {
+              profile = Members;
+              phase = Open;
+              context = s.context;
+              interim = s.interim;
+              tree = body.0;
+              known = map stored_entry s.known;
+            } in
+            by_content c t body.1 (record { profile = refl; phase = refl; context = refl; tree = refl; interim = refl; known = refl }))
+      ]
+
+pub some_file : StoredFileOrNone
+some_file s =
+    elim (shape_or_not s.tree) [
+      | inl shape ↦ by_shape s shape
+      | inr none ↦ inr (λ bytes e. none (subst HasShape e.stores.tree e.tree.shape))
+    ]

@@ -1,17 +1,16 @@
--- What a start wants, and the report that begins with it.
-use Rattle.std.proofs.Common.{◌≡◌, ◌≢◌, ◌∙◌, ℕ, List, Option, Some, None, refl, sym, ap, subst, inl, inr}
+-- The report `signatures` that begins with a start.
+use Rattle.std.proofs.Common.{◌≡◌, ◌≢◌, ℕ, List, ◌++◌, Option, refl, subst, inl, inr}
 use Rattle.mls_tree.specs.RatchetTree.{RatchetTree}
 use Rattle.mls_check.specs.Signatures.{VerifyFn}
 use Rattle.mls_msgs.specs.declared.group_info.GroupInfo.{GroupInfo}
-use Rattle.mls_follow.specs.Start.{UsesTree, UsesNoTree, IsStart, IsStartFault}
+use Rattle.mls_follow.specs.Start.{IsStartFault}
 use Rattle.mls_follow.specs.State.{State}
-use Rattle.mls_signatures.specs.SignaturesToVerify.{start_signatures}
 use Rattle.mls_follow.specs.declared.start_fault.StartFault.{StartFault}
 use Rattle.mls_follow.specs.declared.start_fault.StartFault.TheVariants as starts
 use Rattle.mls_signatures.specs.declared.signature_to_verify.SignatureToVerify.{SignatureToVerify}
 use Rattle.mls_follow.specs.CoveredLogs.{all_good}
 use Rattle.mls_report.specs.SignaturesReport.{wanted_lines, StartHasSignatures, ReadsStartSignatures, Signatures, SignaturesPart, SignaturesBefore}
-use Rattle.mls_report.specs.SignaturesSteps.{AreStartLines, StopsInText, TellsBehind, BehindPart, SignaturesStart, SignaturesStartPart, RefusesBefore}
+use Rattle.mls_report.specs.SignaturesSteps.{StopsInLines, BehindPart, SignaturesStart, SignaturesStartPart, RefusesBefore}
 use Rattle.mls_report.specs.StartSteps.{RefusesStartPart}
 use Rattle.mls_report.specs.StartInputs.{ReadsBoth, IsReadAs, ReadsAndDeclines}
 use Rattle.mls_report.specs.declared.finding.Finding.TheVariants.{StartRefused}
@@ -19,47 +18,6 @@ use Rattle.mls_report.specs.declared.verdict.RunFault.{RunFault}
 use Rattle.mls_report.specs.declared.verdict.RunFault.TheVariants.{Read, Write, Memory}
 use Rattle.mls_report.specs.declared.verdict.Verdict.{Verdict}
 use Rattle.mls_report.proofs.Replaying.{Appends-nil}
-use Rattle.mls_report.proofs.StartsOnce.{one_tree}
-
--- ---- what a start wants
-
-pub lines-handed : (R : VerifyFn) (info : GroupInfo) (h : RatchetTree) (text : List ℕ) → text ≡ wanted_lines R (start_signatures info h.tree)
-    → AreStartLines R info (Some h) text
-lines-handed R info h text e t uses = e ∙ ap (λ (v : RatchetTree). wanted_lines R (start_signatures info v.tree)) (sym uses)
-
-pub lines-own : (R : VerifyFn) (info : GroupInfo) (h : RatchetTree) (text : List ℕ) → UsesTree None info.extensions h
-    → text ≡ wanted_lines R (start_signatures info h.tree) → AreStartLines R info None text
-lines-own R info h text own e t uses =
-    e ∙ ap (λ (v : RatchetTree). wanted_lines R (start_signatures info v.tree)) (one_tree None info.extensions h t own uses)
-
-pub lines-none : (R : VerifyFn) (info : GroupInfo) (text : List ℕ) → UsesNoTree None info.extensions → AreStartLines R info None text
-lines-none R info text none t uses = absurd (none t uses)
-
-module _ (R : VerifyFn) (info : GroupInfo) (handed : Option RatchetTree) (s : State) (start : IsStart all_good info handed s) where
-  pub start-wants : StartHasSignatures info handed s (start_signatures info s.tree)
-  start-wants = record { start = start; wanted_is = refl }
-
-  pub start-lines : (text : List ℕ) → AreStartLines R info handed text → text ≡ wanted_lines R (start_signatures info s.tree)
-  start-lines text lines =
-      lines start.tree start.has_signer.has_members.valid_tree.readable.has_tree.uses
-      ∙ ap (λ (st : State). wanted_lines R (start_signatures info st.tree)) (sym start.state)
-
-  module _ (text : List ℕ) (lines : AreStartLines R info handed text) (l0 l1 : Option (Option (List ℕ))) (w0 w1 : Option (List ℕ)) where
-    pub starts-told : (verdict : Verdict) → TellsBehind R s text l0 l1 w0 w1 verdict → SignaturesStart R info handed l0 l1 w0 w1 verdict
-    starts-told verdict told = inl (record {
-      state = s;
-      wanted = start_signatures info s.tree;
-      starts = start-wants;
-      behind = subst (λ t. TellsBehind R s t l0 l1 w0 w1 verdict) (start-lines text lines) told;
-    })
-
-    pub starts-part : (fault : RunFault) → BehindPart R s text l0 l1 w0 w1 fault → SignaturesStartPart R info handed l0 l1 w0 w1 fault
-    starts-part fault part = inl (record {
-      state = s;
-      wanted = start_signatures info s.tree;
-      starts = start-wants;
-      behind = subst (λ t. BehindPart R s t l0 l1 w0 w1 fault) (start-lines text lines) part;
-    })
 
 -- ---- a start that is refused
 
@@ -122,25 +80,31 @@ module _ (R : VerifyFn) (info_bytes : List ℕ) (tree_bytes : Option (List ℕ))
       unread = p.unread;
       wrote = p.wrote;
     })
-    refused-part Memory p = p
+    refused-part Memory p = inl p
 
-    in-start : (s : State) (wanted : List SignatureToVerify) → StartHasSignatures info handed s wanted → (fault : RunFault) → fault ≡ Write
-        → StopsInText (wanted_lines R wanted) l0 l1 w0 w1 → SignaturesBefore R i0 i1 t0 t1 l0 l1 w0 w1 fault
-    in-start s wanted starts Read e p = absurd (cc)
-    in-start s wanted starts Write e p = inr (record { state = s; wanted = wanted; opens = opens s wanted starts; unread = p.unread; wrote = p.wrote })
-    in-start s wanted starts Memory e p = absurd (cc)
+    module _ (s : State) (wanted : List SignatureToVerify) (starts : StartHasSignatures info handed s wanted) where
+      in-start : (fault : RunFault) → l1 ≡ l0 → StopsInLines (wanted_lines R) wanted w0 w1 fault → SignaturesBefore R i0 i1 t0 t1 l0 l1 w0 w1 fault
+      in-start Read unread p = absurd p
+      in-start Write unread p = inr (record { state = s; wanted = wanted; opens = opens s wanted starts; unread = unread; wrote = p })
+      in-start Memory unread p = inr (record {
+        state = s;
+        front = p.front;
+        rest = p.rest;
+        opens = opens s (p.front ++ p.rest) (subst (StartHasSignatures info handed s) p.split starts);
+        unread = unread;
+        wrote = p.wrote;
+      })
 
-    behind-part : (s : State) (wanted : List SignatureToVerify) → StartHasSignatures info handed s wanted → (fault : RunFault)
-        → BehindPart R s (wanted_lines R wanted) l0 l1 w0 w1 fault → SignaturesPart R i0 i1 t0 t1 l0 l1 w0 w1 fault
-    behind-part s wanted starts fault (inl p) = inl (in-start s wanted starts fault p.0 p.1)
-    behind-part s wanted starts fault (inr p) = inr (record {
-      state = s;
-      wanted = wanted;
-      opens = opens s wanted starts;
-      between = p.between;
-      wrote = p.wrote;
-      tells = p.tells;
-    })
+      behind-part : (fault : RunFault) → BehindPart R s wanted l0 l1 w0 w1 fault → SignaturesPart R i0 i1 t0 t1 l0 l1 w0 w1 fault
+      behind-part fault (inl p) = inl (in-start fault p.unread p.stops)
+      behind-part fault (inr p) = inr (record {
+        state = s;
+        wanted = wanted;
+        opens = opens s wanted starts;
+        between = p.between;
+        wrote = p.wrote;
+        tells = p.tells;
+      })
 
     pub part-start : (fault : RunFault) → SignaturesStartPart R info handed l0 l1 w0 w1 fault → SignaturesPart R i0 i1 t0 t1 l0 l1 w0 w1 fault
     part-start fault (inl p) = behind-part p.state p.wanted p.starts fault p.behind
@@ -152,9 +116,9 @@ module _ (R : VerifyFn) (i0 i1 : Option (List ℕ)) (t0 t1 l : Option (Option (L
   pub part-unread : (fault : RunFault) → fault ≢ Write → SignaturesPart R i0 i1 t0 t1 l l w w fault
   part-unread Read own = inl (record { unread = refl; wrote = Appends-nil w })
   part-unread Write own = absurd (own refl)
-  part-unread Memory own = inl (record { unread = refl; wrote = Appends-nil w })
+  part-unread Memory own = inl (inl (record { unread = refl; wrote = Appends-nil w }))
 
   pub part-memory : (fault : RunFault) → fault ≡ Memory → SignaturesPart R i0 i1 t0 t1 l l w w fault
   part-memory Read same = absurd (cc)
   part-memory Write same = absurd (cc)
-  part-memory Memory same = inl (record { unread = refl; wrote = Appends-nil w })
+  part-memory Memory same = inl (inl (record { unread = refl; wrote = Appends-nil w }))

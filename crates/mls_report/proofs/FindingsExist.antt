@@ -1,5 +1,5 @@
 -- Something is found of any bytes.
-use Rattle.std.proofs.Common.{◌≡◌, ℕ, List, length, Option, Some, None, refl, inl, inr}
+use Rattle.std.proofs.Common.{◌≡◌, ◌≢◌, ℕ, List, length, Option, Some, None, refl, sym, subst, inl, inr}
 use Rattle.std.specs.Prelude.{◌⊎◌, ◌≤◌}
 use Rattle.mls_wire.specs.Limits.{input_limit}
 use Rattle.mls_nodes.specs.NodesExact.{group_context_exact}
@@ -7,13 +7,14 @@ use Rattle.mls_nodes.specs.Layout.{group_context}
 use Rattle.mls_nodes.specs.Parsing.{group_context_at}
 use Rattle.mls_nodes.specs.declared.context.GroupContext.{GroupContext}
 use Rattle.mls_nodes.specs.declared.fault.NodeFault.TheVariants.{EmptyTree}
-use Rattle.mls_nodes.specs.declared.required_capabilities.RequiredCapabilities.{RequiredCapabilities}
 use Rattle.mls_tree.specs.RatchetTree.{RatchetTree}
 use Rattle.mls_tree.specs.TreeDecoding.{IsTreeOf}
-use Rattle.mls_hash.specs.SuiteHash.{hash_of}
-use Rattle.mls_check.proofs.Faulted.{valid_or_fault}
-use Rattle.mls_check.specs.GroupTree.{IsSupportedContext, HasTree, IsReadable, HasValidTree}
+use Rattle.mls_check.proofs.GroupTreeAnswers.{group_tree_or_fault}
+use Rattle.mls_check.proofs.GroupTrees.{members_too, requirements_too, invalid_too, strangers_too}
+use Rattle.mls_check.specs.GroupTree.{IsSupportedContext, IsGroupTreeFault}
 use Rattle.mls_check.specs.Signatures.{VerifyFn}
+use Rattle.mls_check.specs.declared.group_tree.GroupTreeFault.{GroupTreeFault}
+use Rattle.mls_check.specs.declared.group_tree.GroupTreeFault.TheVariants as groups
 use Rattle.mls_msgs.specs.Profile.{message_in}
 use Rattle.mls_msgs.specs.declared.profile.Profile.TheVariants.{Members}
 use Rattle.mls_msgs.proofs.Profiles.{encoded_in, message_or_none}
@@ -21,8 +22,8 @@ use Rattle.mls_msgs.specs.declared.group_info.GroupInfo.{GroupInfo}
 use Rattle.mls_msgs.specs.declared.message.Message.{Message}
 use Rattle.mls_msgs.specs.declared.message.Message.TheVariants as messages
 use Rattle.mls_follow.specs.State.{State}
-use Rattle.mls_report.proofs.Decided.{some_fault, read_or_not, fits_or_not, requires_or_not, tree_or_not, members_or_fault}
-use Rattle.mls_report.proofs.StartsExist.{interim_of, starts_or_not, supported_or_not, same_or_not}
+use Rattle.mls_follow.proofs.Readings.{some_fault, read_or_not, fits_or_not, tree_or_not, same_or_not, supported_or_not}
+use Rattle.mls_report.proofs.StartsExist.{interim_of, starts_or_not}
 use Rattle.mls_report.specs.Finding.{finding_verdict}
 use Rattle.mls_report.specs.Show.{IsMessage}
 use Rattle.mls_report.specs.ReportsExist.{TreeFindingExists, StartFindingExists}
@@ -48,31 +49,30 @@ module _ (G : VerifyFn) (context_bytes tree_bytes : List ℕ) where
   abbrev Found : Type 0
   Found = (finding : Finding) × IsTreeFinding G context_bytes tree_bytes finding
 
-  by_members : (c : GroupContext) (t : RatchetTree) (r : RequiredCapabilities) → IsContext context_bytes c → HasValidTree c (IsTreeOf tree_bytes) t r → Found
-  by_members c t r context h =
-      elim (members_or_fault G c.cipher_suite c.group_id r t.tree) [
-        | inl m ↦ (TreeValid c.tree_hash, (c, t, r, context, record { valid_tree = h; members = m }, refl))
-        | inr f ↦ (MembersRefused f.0, (c, context, record { tree = t; required = r; valid_tree = h; own = f.1; first = f.2 }))
-      ]
+  module _ (c : GroupContext) (t : RatchetTree) (context : IsContext context_bytes c) (is_tree : IsTreeOf tree_bytes t) where
+    abbrev Own : RatchetTree → Type 0
+    Own u = u ≡ t
 
-  by_tree : (c : GroupContext) (t : RatchetTree) (r : RequiredCapabilities) → IsContext context_bytes c → IsReadable c (IsTreeOf tree_bytes) t r → Found
-  by_tree c t r context h =
-      elim (valid_or_fault (hash_of c.cipher_suite) c.tree_hash t.tree) [
-        | inl v ↦ by_members c t r context (record { readable = h; valid = v })
-        | inr f ↦ (TreeRefused f.0, (c, context, record { tree = t; required = r; readable = h; own = f.1; first = f.2 }))
-      ]
+    too : (u : RatchetTree) → Own u → IsTreeOf tree_bytes u
+    too u e = subst (IsTreeOf tree_bytes) (sym e) is_tree
 
-  by_requirements : (c : GroupContext) (t : RatchetTree) → IsContext context_bytes c → HasTree c (IsTreeOf tree_bytes) t → Found
-  by_requirements c t context h =
-      elim (requires_or_not c) [
-        | inl r ↦ by_tree c t r.0 context (record { has_tree = h; requires = r.1 })
-        | inr none ↦ (RequirementsUnreadable, (c, context, record { tree = t; has_tree = h; none = none }))
-      ]
+    by_fault : (fault : GroupTreeFault) → fault ≢ groups.OutOfMemory → IsGroupTreeFault G c Own fault → Found
+    by_fault groups.RequirementsUnreadable own f = (RequirementsUnreadable, (c, context, requirements_too G c Own (IsTreeOf tree_bytes) too f))
+    by_fault (groups.Tree fault) own f = (TreeRefused fault, (c, context, invalid_too G c Own (IsTreeOf tree_bytes) too fault f))
+    by_fault (groups.Member fault) own f = (MembersRefused fault, (c, context, strangers_too G c Own (IsTreeOf tree_bytes) too fault f))
+    by_fault groups.OutOfMemory own f = absurd (own refl)
+
+    by_tree : IsSupportedContext c → Found
+    by_tree followed =
+        elim (group_tree_or_fault G c t followed) [
+          | inl m ↦ (TreeValid c.tree_hash, (c, t, m.0, context, members_too G c Own (IsTreeOf tree_bytes) too t m.0 m.1, refl))
+          | inr f ↦ by_fault f.0 f.1 f.2
+        ]
 
   by_use : (c : GroupContext) → IsContext context_bytes c → IsSupportedContext c → Found
   by_use c context h =
       elim (tree_or_not tree_bytes) [
-        | inl t ↦ by_requirements c t.0 context (record { followed = h; uses = t.1 })
+        | inl t ↦ by_tree c t.0 context t.1 h
         | inr none ↦ (TreeUnreadable EmptyTree, (c, context, h, none, λ own. cc))
       ]
 

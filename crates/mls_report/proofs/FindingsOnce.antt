@@ -32,7 +32,7 @@ use Rattle.mls_report.specs.Show.{IsMessage}
 use Rattle.mls_report.specs.StartInputs.{IsInfo, IsHanded, IsHandedUnread, IsReadAs, IsStarted, IsStartFinding, started_of}
 use Rattle.mls_report.specs.ValidateTree.{IsContext, IsTreeFinding}
 use Rattle.mls_report.specs.declared.finding.Finding.{Finding}
-use Rattle.mls_report.specs.declared.finding.Finding.TheVariants.{ContextUnreadable, InfoUnreadable, NotGroupInfo, TreeUnreadable, UnsupportedVersion, UnsupportedSuite, RequirementsUnreadable, TreeRefused, MembersRefused, StartRefused, TreeValid, Starts}
+use Rattle.mls_report.specs.declared.finding.Finding.TheVariants.{ContextUnreadable, InfoUnreadable, NotGroupInfo, TreeUnreadable, UnsupportedVersion, UnsupportedSuite, RequirementsUnreadable, TreeRefused, MembersRefused, StartRefused, StateRefused, TreeValid, Starts}
 
 -- ---- what is read is one
 
@@ -190,6 +190,7 @@ module _ (G : VerifyFn) (context_bytes tree_bytes : List ℕ) where
   alike (InfoUnreadable x) g e a b = absurd a
   alike NotGroupInfo g e a b = absurd a
   alike (StartRefused x) g e a b = absurd a
+  alike (StateRefused x) g e a b = absurd a
   alike (Starts x) g e a b = absurd a
   alike f g e a b = absurd (other_place (tree_place f) (tree_place g) refl e)
 

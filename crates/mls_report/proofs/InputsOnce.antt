@@ -13,7 +13,7 @@ use Rattle.mls_report.specs.UniqueReports.{AreAlike}
 use Rattle.mls_report.specs.ReadAll.{ReadsAll}
 use Rattle.mls_report.specs.StartInputs.{ReadsHanded, ReadsBoth, ReadsAndStarts, ReadsAndDeclines, IsStarted, IsStartFinding, started_of}
 use Rattle.mls_report.specs.declared.finding.Finding.{Finding}
-use Rattle.mls_report.specs.declared.finding.Finding.TheVariants.{ContextUnreadable, InfoUnreadable, NotGroupInfo, TreeUnreadable, UnsupportedVersion, UnsupportedSuite, RequirementsUnreadable, TreeRefused, MembersRefused, StartRefused, TreeValid, Starts}
+use Rattle.mls_report.specs.declared.finding.Finding.TheVariants.{ContextUnreadable, InfoUnreadable, NotGroupInfo, TreeUnreadable, UnsupportedVersion, UnsupportedSuite, RequirementsUnreadable, TreeRefused, MembersRefused, StartRefused, StateRefused, TreeValid, Starts}
 use Rattle.mls_report.specs.declared.finding.Started.{Started}
 use Rattle.mls_report.specs.declared.verdict.Verdict.TheVariants.{Yes, No}
 
@@ -62,10 +62,10 @@ one_tree_input (Some all) (Some l) (Some r) (Some x) (Some y) a b = ap (λ (z : 
 
 -- ---- a follower starts, or none does
 
-yes_no : Yes ≡ No → ⊥
+pub yes_no : Yes ≡ No → ⊥
 yes_no e = absurd cc
 
-alike_starts : (f : Finding) (s : State) (k : Started) → k ≡ started_of s → AreAlike f (Starts k) → finding_verdict f ≡ Yes
+pub alike_starts : (f : Finding) (s : State) (k : Started) → k ≡ started_of s → AreAlike f (Starts k) → finding_verdict f ≡ Yes
 alike_starts (Starts x) s k e h = refl
 alike_starts (TreeValid x) s k e h = refl
 alike_starts (ContextUnreadable x) s k e h = absurd cc
@@ -78,6 +78,7 @@ alike_starts RequirementsUnreadable s k e h = absurd cc
 alike_starts (TreeRefused x) s k e h = absurd cc
 alike_starts (MembersRefused x) s k e h = absurd cc
 alike_starts (StartRefused x) s k e h = absurd cc
+alike_starts (StateRefused x) s k e h = absurd cc
 
 module _ (G : VerifyFn) (info_bytes : List ℕ) (tree_bytes : Option (List ℕ)) (i j : Option (List ℕ)) (t u : Option (Option (List ℕ))) where
   abbrev Tree : Option (Option (List ℕ))

@@ -3,17 +3,20 @@ pub mod Hashes
 pub mod Lines
 pub mod Outcomes
 pub mod Replaying
+mod ReplayInputs
 pub mod Answered
 pub mod AskedLogs
+pub mod StartLists
+pub mod StartLines
 pub mod AskedStarts
 pub mod InOrder
 pub mod FindingsOnce
 pub mod InputsOnce
 pub mod ReplaysOnce
+pub mod StatesOnce
 pub mod SignaturesOnce
 pub mod StartsOnce
 pub mod TurnsOnce
-pub mod Decided
 pub mod StartsExist
 pub mod FindingsExist
 pub mod LogsExist
@@ -21,3 +24,4 @@ pub mod ReplaysExist
 pub mod SignaturesExist
 mod ValidEpochs
 mod CoveredReports
+mod SavedStates

@@ -7,21 +7,19 @@ use Rattle.mls_wire.proofs.KnownBytes.{Appends-trans, Consumes-trans}
 use Rattle.mls_wire.specs.Logs.{IsRecord, IsBrokenAt, IsIncomplete}
 use Rattle.mls_check.specs.Signatures.{VerifyFn}
 use Rattle.mls_follow.specs.Runs.{IsAnswer}
-use Rattle.mls_follow.specs.Start.{IsStart, IsStartFault}
 use Rattle.mls_follow.specs.State.{State}
-use Rattle.mls_follow.specs.declared.start_fault.StartFault.{StartFault}
-use Rattle.mls_follow.specs.declared.start_fault.StartFault.TheVariants as starts
 use Rattle.mls_report.specs.declared.verdict.RunFault.{RunFault}
 use Rattle.mls_report.specs.declared.verdict.RunFault.TheVariants.{Read, Write, Memory}
 use Rattle.mls_report.specs.declared.verdict.Verdict.{Verdict}
-use Rattle.mls_report.specs.Replay.{ProcessedMessage, AreProcessed, state_after, processed_line, processed_lines, one_if, accepted_count, refused_count, message_limit, still_to_come, AreRecords, Follows, TellsLog, TellsPart, IsVerdict, last_lines, ending, Replays, ReplaysPart, StopsBefore}
-use Rattle.mls_report.specs.ReplaySteps.{ReadsUndecided, TellsTurn, StopsAt, FollowsLog, ReplaysStart, ReplaysStartPart, RefusesBefore}
-use Rattle.mls_report.specs.StartInputs.{ReadsBoth, IsReadAs, IsStarted, ReadsAndStarts, ReadsAndDeclines}
-use Rattle.mls_report.specs.StartSteps.{IsUnread, RefusesStartPart}
+use Rattle.mls_report.specs.declared.verdict.Verdict.TheVariants.{No}
+use Rattle.mls_report.specs.Replay.{ProcessedMessage, AreProcessed, state_after, processed_line, processed_lines, one_if, accepted_count, refused_count, message_limit, still_to_come, AreRecords, Follows, TellsPart, IsVerdict, last_lines, ending, ReplaysFrom, ReplaysTo, ReplaysPartFrom}
+use Rattle.mls_report.specs.ReplaySteps.{ReadsUndecided, TellsTurn, StopsAt, FollowsLog, ReplaysLog, ReturnsAfter, WritesDecline, WritesDeclinePart}
+use Rattle.mls_report.specs.Finding.{finding_verdict}
+use Rattle.mls_report.specs.StartInputs.{ReadsBoth, ReadsAndDeclines}
+use Rattle.mls_report.specs.StartSteps.{IsUnread, Says}
 use Rattle.mls_report.specs.declared.finding.Finding.{Finding}
-use Rattle.mls_report.specs.declared.finding.Finding.TheVariants.{StartRefused}
-use Rattle.mls_msgs.specs.declared.group_info.GroupInfo.{GroupInfo}
-use Rattle.mls_tree.specs.RatchetTree.{RatchetTree}
+use Rattle.mls_report.specs.declared.read_inputs.StartFailure.{StartFailure}
+use Rattle.mls_report.specs.declared.read_inputs.StartFailure.TheVariants.{Found, Fault}
 
 -- ---- one turn more
 
@@ -206,20 +204,22 @@ counts-bounded G s l0 l1 w0 w1 now a r broken f =
 
 pub told-log : (G : VerifyFn) (s : State) (l0 l1 w0 w1 w2 : Option (List ℕ)) (now : State) (a r : ℕ) (broken : Bool) (verdict : Verdict)
     → FollowsLog G s l0 l1 w0 w1 now a r broken → Appends w1 w2 (last_lines broken a r now.context.epoch) → IsVerdict broken r verdict
-    → TellsLog G s l0 l1 w0 w2 verdict
+    → ReplaysLog G s l0 l1 w0 w2 verdict now
 told-log G s l0 l1 w0 w1 w2 now a r broken verdict f wrote v =
     let taken = f.taken in
     let counted = f.counted in
-    let refused : r ≡ refused_count f.turns = omega arith in
-    record {
-      turns = f.turns;
-      rest = f.rest;
-      broken = broken;
-      follows = f.follows;
-      log_end = f.log_end;
-      wrote = subst (λ text. Appends w0 w2 (processed_lines 1 f.turns ++ text)) (ending-is s now f.turns a r broken f.state f.taken f.counted) (Appends-trans w0 w1 w2 _ _ f.wrote wrote);
-      verdict_is = subst (λ k. IsVerdict broken k verdict) refused v;
-    }
+    let refused : r ≡ refused_count f.turns = omega arith in (
+      record {
+        turns = f.turns;
+        rest = f.rest;
+        broken = broken;
+        follows = f.follows;
+        log_end = f.log_end;
+        wrote = subst (λ text. Appends w0 w2 (processed_lines 1 f.turns ++ text)) (ending-is s now f.turns a r broken f.state f.taken f.counted) (Appends-trans w0 w1 w2 _ _ f.wrote wrote);
+        verdict_is = subst (λ k. IsVerdict broken k verdict) refused v;
+      },
+      f.state,
+    )
 
 pub part-ending : (G : VerifyFn) (s : State) (l0 l1 w0 w1 w2 : Option (List ℕ)) (now : State) (a r : ℕ) (broken : Bool)
     → FollowsLog G s l0 l1 w0 w1 now a r broken → AppendsPrefix w1 w2 (last_lines broken a r now.context.epoch) → TellsPart G s l0 l1 w0 w2 Write
@@ -245,17 +245,7 @@ part-followed G s l0 l1 w0 w1 now a r broken f = record {
   wrote = f.wrote;
 }
 
--- ---- a start that is refused
-
--- nothing of the log was read, and what was written of the line is told by the fault
-pub refused-before : (G : VerifyFn) (info : GroupInfo) (handed : Option RatchetTree) (fault : StartFault) (l w0 w1 : Option (List ℕ)) (e : RunFault)
-    → IsStartFault G info handed fault → RefusesStartPart fault w0 w1 e → RefusesBefore G info handed l l w0 w1 e
-refused-before G info handed fault l w0 w1 Read fails part = absurd part
-refused-before G info handed fault l w0 w1 Write fails part =
-    record { fault = fault; own = part.own; fails = fails; unread = refl; wrote = part.wrote }
-refused-before G info handed fault l w0 w1 Memory fails part = record { unread = refl; wrote = part }
-
--- ---- with the inputs
+-- ---- one line
 
 -- what holds where one line was not written whole
 pub line-part :
@@ -277,44 +267,55 @@ declines-unread G i0 i1 t0 t1 info_bytes tree_bytes finding both unread = record
   verdict = unread.verdict;
 }
 
-module _ (G : VerifyFn) (info_bytes : List ℕ) (tree_bytes : Option (List ℕ)) (info : GroupInfo) (handed : Option RatchetTree)
-    (is_read : IsReadAs info_bytes tree_bytes info handed) where
-  started : (s : State) → IsStart G info handed s → IsStarted G info_bytes tree_bytes s
-  started s start = record { info = info; handed = handed; is_read = is_read; start = start }
+-- ---- a follower has started, or none has
 
-  module _ (i0 i1 : Option (List ℕ)) (t0 t1 : Option (Option (List ℕ))) (both : ReadsBoth i0 i1 t0 t1 info_bytes tree_bytes) where
-    starts_in : (s : State) → IsStart G info handed s → ReadsAndStarts G i0 i1 t0 t1 s
-    starts_in s start = record { info_bytes = info_bytes; tree_bytes = tree_bytes; both_read = both; started = started s start }
+pub says-map : (P Q : Finding → Type 0) → ((f : Finding) → P f → Q f) → (failure : StartFailure) → Says P failure → Says Q failure
+says-map P Q f (Found finding) h = f finding h
+says-map P Q f (Fault e) h = h
 
-    declines : (fault : StartFault) → fault ≢ starts.OutOfMemory → IsStartFault G info handed fault → ReadsAndDeclines G i0 i1 t0 t1 (StartRefused fault)
-    declines fault own fails = record {
-      info_bytes = info_bytes;
-      tree_bytes = tree_bytes;
-      both_read = both;
-      found = (info, handed, is_read, own, fails);
-      verdict = refl;
-    }
+pub says-own : (P : Finding → Type 0) (failure : StartFailure) → Says P failure → Says (λ f. Unit {0}) failure
+says-own P failure h = says-map P (λ f. Unit {0}) (λ f p. tt) failure h
 
-    pub replays-start : (l0 l1 w0 w1 : Option (List ℕ)) (verdict : Verdict) → ReplaysStart G info handed l0 l1 w0 w1 verdict → Replays G i0 i1 t0 t1 l0 l1 w0 w1 verdict
-    replays-start l0 l1 w0 w1 verdict (inl p) = inr (record { state = p.state; starts = starts_in p.state p.start; tells = p.tells })
-    replays-start l0 l1 w0 w1 verdict (inr p) = inl (record {
-      finding = StartRefused p.fault;
-      declines = declines p.fault p.own p.fails;
-      unread = p.unread;
-      wrote = p.wrote;
-      verdict_is = p.verdict_is;
-    })
+module _ (K G : VerifyFn) (same : K ≡ G) (Starts : State → Type 0) (Declines : Finding → Type 0) (s : State) (starts : Starts s) (l0 l1 w0 w1 : Option (List ℕ)) where
+  pub replays-to : (verdict : Verdict) (last : Option State) → ReturnsAfter K s l0 l1 w0 w1 verdict last → ReplaysTo G Starts Declines l0 l1 w0 w1 verdict last
+  replays-to verdict None h = absurd h
+  replays-to verdict (Some last) h =
+      let moved : ReplaysLog G s l0 l1 w0 w1 verdict last = subst (λ (g : VerifyFn). ReplaysLog g s l0 l1 w0 w1 verdict last) same h in
+      (record { state = s; starts = starts; tells = moved.0 }, moved.1)
 
-    refused-part : (l0 l1 w0 w1 : Option (List ℕ)) (fault : RunFault) → RefusesBefore G info handed l0 l1 w0 w1 fault → StopsBefore G i0 i1 t0 t1 l0 l1 w0 w1 fault
-    refused-part l0 l1 w0 w1 Read p = absurd p
-    refused-part l0 l1 w0 w1 Write p = record {
-      finding = StartRefused p.fault;
-      declines = declines p.fault p.own p.fails;
-      unread = p.unread;
-      wrote = p.wrote;
-    }
-    refused-part l0 l1 w0 w1 Memory p = p
+  pub replays-after : (fault : RunFault) → TellsPart K s l0 l1 w0 w1 fault → ReplaysPartFrom G Starts Declines l0 l1 w0 w1 fault
+  replays-after fault h = inr (record { state = s; starts = starts; tells = subst (λ (g : VerifyFn). TellsPart g s l0 l1 w0 w1 fault) same h })
 
-    pub replays-part : (l0 l1 w0 w1 : Option (List ℕ)) (fault : RunFault) → ReplaysStartPart G info handed l0 l1 w0 w1 fault → ReplaysPart G i0 i1 t0 t1 l0 l1 w0 w1 fault
-    replays-part l0 l1 w0 w1 fault (inl p) = inr (record { state = p.state; starts = starts_in p.state p.start; tells = p.tells })
-    replays-part l0 l1 w0 w1 fault (inr p) = inl (refused-part l0 l1 w0 w1 fault p)
+module _ (G : VerifyFn) (Starts : State → Type 0) (Declines : Finding → Type 0) (no : (f : Finding) → Declines f → finding_verdict f ≡ No)
+    (failure : StartFailure) (declines : Says Declines failure) (l w0 w1 : Option (List ℕ)) where
+  declined : (finding : Finding) → failure ≡ Found finding → Declines finding
+  declined finding e = subst (Says Declines) e declines
+
+  pub replays-none : (verdict : Verdict) (last : Option State) → last ≡ None → WritesDecline failure w0 w1 verdict → ReplaysTo G Starts Declines l l w0 w1 verdict last
+  replays-none verdict (Some last) e p = absurd cc
+  replays-none verdict None e p = record {
+    finding = p.finding;
+    declines = declined p.finding p.failure_is;
+    unread = refl;
+    wrote = p.wrote;
+    verdict_is = p.verdict_is ∙ no p.finding (declined p.finding p.failure_is);
+  }
+
+  pub replays-before : (fault : RunFault) → WritesDeclinePart failure w0 w1 fault → ReplaysPartFrom G Starts Declines l l w0 w1 fault
+  replays-before Read p = absurd p
+  replays-before Write p =
+      inl (record { finding = p.finding; declines = declined p.finding p.failure_is; unread = refl; wrote = p.wrote })
+  replays-before Memory p = inl (record { unread = refl; wrote = p })
+
+-- nothing was read of the log, and nothing was written
+pub replays-unread : (G : VerifyFn) (Starts : State → Type 0) (Declines : Finding → Type 0) (l w : Option (List ℕ)) (fault : RunFault) → fault ≢ Write
+    → ReplaysPartFrom G Starts Declines l l w w fault
+replays-unread G Starts Declines l w Read own = inl (record { unread = refl; wrote = Appends-nil w })
+replays-unread G Starts Declines l w Write own = absurd (own refl)
+replays-unread G Starts Declines l w Memory own = inl (record { unread = refl; wrote = Appends-nil w })
+
+-- without the state after it
+pub replays-from : (G : VerifyFn) (Starts : State → Type 0) (Declines : Finding → Type 0) (l0 l1 w0 w1 : Option (List ℕ)) (verdict : Verdict) (last : Option State)
+    → ReplaysTo G Starts Declines l0 l1 w0 w1 verdict last → ReplaysFrom G Starts Declines l0 l1 w0 w1 verdict
+replays-from G Starts Declines l0 l1 w0 w1 verdict None h = inl h
+replays-from G Starts Declines l0 l1 w0 w1 verdict (Some last) h = inr h.0

@@ -5,10 +5,14 @@ use Rattle.std.proofs.lemmas.Bool.{false≢true}
 use Rattle.mls_check.specs.Signatures.{VerifyFn}
 use Rattle.mls_follow.specs.State.{State}
 use Rattle.mls_report.proofs.InputsOnce.{written_is, one_decline, decline_or_start, one_opening}
+use Rattle.mls_report.proofs.StatesOnce.{one_state_decline, decline_or_resume, one_resuming}
 use Rattle.mls_report.proofs.TurnsOnce.{one_log}
 use Rattle.mls_report.specs.Finding.{finding_line}
-use Rattle.mls_report.specs.UniqueReports.{AreAlikeTexts, EndsLog, ReplayIsUnique}
-use Rattle.mls_report.specs.Replay.{ProcessedMessage, IsVerdict, Replays, TellsDecline, TellsReplay, processed_lines, ending, refused_count}
+use Rattle.mls_report.specs.UniqueReports.{AreAlike, AreAlikeTexts, EndsLog, ReplayIsUnique, StateReplayIsUnique}
+use Rattle.mls_report.specs.Replay.{ProcessedMessage, IsVerdict, ReplaysFrom, TellsDecline, TellsReplay, processed_lines, ending, refused_count}
+use Rattle.mls_report.specs.StartInputs.{ReadsAndStarts, ReadsAndDeclines}
+use Rattle.mls_report.specs.StateInputs.{ReadsAndResumes, ReadsAndDeclinesState}
+use Rattle.mls_report.specs.declared.finding.Finding.{Finding}
 use Rattle.mls_report.specs.declared.verdict.Verdict.{Verdict}
 use Rattle.mls_report.specs.declared.verdict.Verdict.TheVariants.{Yes, No}
 
@@ -24,29 +28,23 @@ yes_or_no broken refused No Yes (inr a) b = absurd (a b.1)
 
 -- ---- the report
 
-module _ (G : VerifyFn) (info_bytes : List ℕ) (tree_bytes : Option (List ℕ)) (log_bytes : List ℕ) where
-  abbrev Tree : Option (Option (List ℕ))
-  Tree = option_map Some tree_bytes
-
+-- two pairs of relations under which a follower starts in one state, or none does for findings that are alike
+module _ (G : VerifyFn) (log_bytes : List ℕ) (Starts More : State → Type 0) (Declines Others : Finding → Type 0)
+    (alike : (f g : Finding) → Declines f → Others g → AreAlike f g)
+    (apart : (f : Finding) (s : State) → Declines f → More s → ⊥)
+    (apart_too : (f : Finding) (s : State) → Others f → Starts s → ⊥)
+    (one_state : (s t : State) → Starts s → More t → s ≡ t) where
   -- no follower starts, twice
-  both_decline : (i j : Option (List ℕ)) (t u : Option (Option (List ℕ))) (l m : Option (List ℕ)) (before after text other : List ℕ) (v o : Verdict)
-      → TellsDecline G (Some info_bytes) i Tree t (Some log_bytes) l (Some before) (Some (before ++ text)) v
-      → TellsDecline G (Some info_bytes) j Tree u (Some log_bytes) m (Some after) (Some (after ++ other)) o → AreAlikeTexts text other × (v ≡ o)
-  both_decline i j t u l m before after text other v o a b =
-      let alike = one_decline G info_bytes tree_bytes i j t u a.finding b.finding a.declines b.declines in
-      (inr (a.finding, b.finding, alike, written_is before text (finding_line a.finding) a.wrote, written_is after other (finding_line b.finding) b.wrote), a.verdict_is ∙ sym b.verdict_is)
-
-  -- a follower starts, or none does
-  not_both : (i j : Option (List ℕ)) (t u : Option (Option (List ℕ))) (l m w x y z : Option (List ℕ)) (v o : Verdict)
-      → TellsDecline G (Some info_bytes) i Tree t (Some log_bytes) l w x v → TellsReplay G (Some info_bytes) j Tree u (Some log_bytes) m y z o → ⊥
-  not_both i j t u l m w x y z v o a b = decline_or_start G info_bytes tree_bytes i j t u a.finding b.state a.declines b.starts
+  both_decline : (l m : Option (List ℕ)) (before after text other : List ℕ) (v o : Verdict) → TellsDecline Declines (Some log_bytes) l (Some before) (Some (before ++ text)) v
+      → TellsDecline Others (Some log_bytes) m (Some after) (Some (after ++ other)) o → AreAlikeTexts text other × (v ≡ o)
+  both_decline l m before after text other v o a b =
+      (inr (a.finding, b.finding, alike a.finding b.finding a.declines b.declines, written_is before text (finding_line a.finding) a.wrote, written_is after other (finding_line b.finding) b.wrote), a.verdict_is ∙ sym b.verdict_is)
 
   -- a follower starts, twice
-  both_replay : (i j : Option (List ℕ)) (t u : Option (Option (List ℕ))) (l m : Option (List ℕ)) (before after text other : List ℕ) (v o : Verdict)
-      → TellsReplay G (Some info_bytes) i Tree t (Some log_bytes) l (Some before) (Some (before ++ text)) v
-      → TellsReplay G (Some info_bytes) j Tree u (Some log_bytes) m (Some after) (Some (after ++ other)) o → AreAlikeTexts text other × (v ≡ o)
-  both_replay i j t u l m before after text other v o a b =
-      let es = one_opening G info_bytes tree_bytes i j t u a.state b.state a.starts b.starts in
+  both_replay : (l m : Option (List ℕ)) (before after text other : List ℕ) (v o : Verdict) → TellsReplay G Starts (Some log_bytes) l (Some before) (Some (before ++ text)) v
+      → TellsReplay G More (Some log_bytes) m (Some after) (Some (after ++ other)) o → AreAlikeTexts text other × (v ≡ o)
+  both_replay l m before after text other v o a b =
+      let es = one_state a.state b.state a.starts b.starts in
       let ends : EndsLog G a.state (Some log_bytes) l a.tells.turns a.tells.broken = record { rest = a.tells.rest; follows = a.tells.follows; log_end = a.tells.log_end } in
       let other_ends : EndsLog G b.state (Some log_bytes) m b.tells.turns b.tells.broken = record { rest = b.tells.rest; follows = b.tells.follows; log_end = b.tells.log_end } in
       let moved = subst (λ (s : State). EndsLog G s (Some log_bytes) l a.tells.turns a.tells.broken) es ends in
@@ -59,16 +57,36 @@ module _ (G : VerifyFn) (info_bytes : List ℕ) (tree_bytes : Option (List ℕ))
             (subst (λ (z : Bool). IsVerdict z (refused_count a.tells.turns) v) log.1 a.tells.verdict_is)) b.tells.verdict_is,
       )
 
-  either : (i j : Option (List ℕ)) (t u : Option (Option (List ℕ))) (l m : Option (List ℕ)) (before after text other : List ℕ) (v o : Verdict)
-      → Replays G (Some info_bytes) i Tree t (Some log_bytes) l (Some before) (Some (before ++ text)) v
-      → Replays G (Some info_bytes) j Tree u (Some log_bytes) m (Some after) (Some (after ++ other)) o → AreAlikeTexts text other × (v ≡ o)
-  either i j t u l m before after text other v o (inl a) (inl b) = both_decline i j t u l m before after text other v o a b
-  either i j t u l m before after text other v o (inl a) (inr b) =
-      absurd (not_both i j t u l m (Some before) (Some (before ++ text)) (Some after) (Some (after ++ other)) v o a b)
-  either i j t u l m before after text other v o (inr a) (inl b) =
-      absurd (not_both j i u t m l (Some after) (Some (after ++ other)) (Some before) (Some (before ++ text)) o v b a)
-  either i j t u l m before after text other v o (inr a) (inr b) = both_replay i j t u l m before after text other v o a b
+  pub one_report : (l m : Option (List ℕ)) (before after text other : List ℕ) (v o : Verdict) → ReplaysFrom G Starts Declines (Some log_bytes) l (Some before) (Some (before ++ text)) v
+      → ReplaysFrom G More Others (Some log_bytes) m (Some after) (Some (after ++ other)) o → AreAlikeTexts text other × (v ≡ o)
+  one_report l m before after text other v o (inl a) (inl b) = both_decline l m before after text other v o a b
+  one_report l m before after text other v o (inl a) (inr b) = absurd (apart a.finding b.state a.declines b.starts)
+  one_report l m before after text other v o (inr a) (inl b) = absurd (apart_too b.finding a.state b.declines a.starts)
+  one_report l m before after text other v o (inr a) (inr b) = both_replay l m before after text other v o a b
+
+-- ---- from a group info
 
 pub one_replay : ReplayIsUnique
 one_replay G info_bytes tree_bytes log_bytes text other verdict more a b =
-    either G info_bytes tree_bytes log_bytes a.info_left b.info_left a.tree_left b.tree_left a.log_left b.log_left a.before b.before text other verdict more a.replays b.replays
+    one_report G log_bytes (ReadsAndStarts G (Some info_bytes) a.info_left Tree a.tree_left) (ReadsAndStarts G (Some info_bytes) b.info_left Tree b.tree_left)
+    (ReadsAndDeclines G (Some info_bytes) a.info_left Tree a.tree_left) (ReadsAndDeclines G (Some info_bytes) b.info_left Tree b.tree_left)
+    (one_decline G info_bytes tree_bytes a.info_left b.info_left a.tree_left b.tree_left)
+    (decline_or_start G info_bytes tree_bytes a.info_left b.info_left a.tree_left b.tree_left)
+    (decline_or_start G info_bytes tree_bytes b.info_left a.info_left b.tree_left a.tree_left)
+    (one_opening G info_bytes tree_bytes a.info_left b.info_left a.tree_left b.tree_left)
+    a.log_left b.log_left a.before b.before text other verdict more a.replays b.replays
+  where
+    Tree : Option (Option (List ℕ))
+    Tree = option_map Some tree_bytes
+
+-- ---- from the file of a state
+
+pub one_state_replay : StateReplayIsUnique
+one_state_replay G state_bytes log_bytes text other verdict more a b =
+    one_report G log_bytes (ReadsAndResumes G (Some state_bytes) a.state_left) (ReadsAndResumes G (Some state_bytes) b.state_left)
+    (ReadsAndDeclinesState G (Some state_bytes) a.state_left) (ReadsAndDeclinesState G (Some state_bytes) b.state_left)
+    (one_state_decline G state_bytes a.state_left b.state_left)
+    (decline_or_resume G state_bytes a.state_left b.state_left)
+    (decline_or_resume G state_bytes b.state_left a.state_left)
+    (one_resuming G state_bytes a.state_left b.state_left)
+    a.log_left b.log_left a.before b.before text other verdict more a.replays b.replays

@@ -1,8 +1,6 @@
 -- A follower starts from a group info that some bytes spell, or there is a fault for which none does.
-use Rattle.std.proofs.Common.{◌≡◌, ◌≢◌, ◌∙◌, ℕ, List, Bool, true, false, ◌++◌, Option, Some, None, refl, sym, ap, inl, inr, arith}
-use Rattle.std.specs.Prelude.{◌⊎◌, ◌==◌, nat_le, option_map}
-use Rattle.std.proofs.lemmas.Bool.{false≢true}
-use Rattle.std.proofs.lemmas.Bool.Decides.{nat_tests}
+use Rattle.std.proofs.Common.{◌≡◌, ◌≢◌, ℕ, List, Bool, true, false, ◌++◌, Option, Some, None, refl, sym, ap, subst, inl, inr}
+use Rattle.std.specs.Prelude.{◌⊎◌, option_map}
 use Rattle.mls_wire.specs.EncodingConcat.{joined}
 use Rattle.mls_wire.specs.Encoding.{◌⊕◌, number, vector, list}
 use Rattle.std.specs.Int.{w32}
@@ -15,19 +13,23 @@ use Rattle.mls_tree.specs.RatchetTree.{RatchetTree}
 use Rattle.mls_tree.specs.Tree.{leaf_at}
 use Rattle.mls_hash.specs.SuiteHash.{hash_of}
 use Rattle.mls_hash.specs.Suites.{IsSupported}
-use Rattle.mls_check.proofs.Faulted.{valid_or_fault}
-use Rattle.mls_check.specs.GroupTree.{IsSupportedContext, HasTree, IsReadable, HasValidTree, HasMembers}
+use Rattle.mls_check.proofs.GroupTreeAnswers.{group_tree_or_fault}
+use Rattle.mls_check.proofs.GroupTrees.{members_too}
+use Rattle.mls_check.specs.GroupTree.{IsSupportedContext, HasMembers}
 use Rattle.mls_check.specs.Signatures.{VerifyFn}
+use Rattle.mls_check.specs.declared.group_tree.GroupTreeFault.{GroupTreeFault}
+use Rattle.mls_check.specs.declared.group_tree.GroupTreeFault.TheVariants as groups
 use Rattle.mls_msgs.specs.Layout.{group_info}
 use Rattle.mls_msgs.specs.Message.{message, header}
 use Rattle.mls_msgs.specs.declared.group_info.GroupInfo.{GroupInfo}
 use Rattle.mls_msgs.specs.declared.message.Message.TheVariants as messages
-use Rattle.mls_follow.specs.Start.{UsesTree, UsesNoTree, IsTreeIn, HasSigner, IsStart, IsStartFault, is_info_signed, info_interim, initial_state}
+use Rattle.mls_follow.specs.Start.{UsesTree, UsesNoTree, IsTreeIn, HasSigner, IsStart, IsStartFault, is_info_signed, info_interim, initial_state, start_fault_of}
 use Rattle.mls_follow.specs.State.{State}
 use Rattle.mls_follow.specs.Transcript.{interim_hash}
 use Rattle.mls_follow.specs.declared.start_fault.StartFault.{StartFault}
-use Rattle.mls_follow.specs.declared.start_fault.StartFault.TheVariants.{UnsupportedVersion, UnsupportedSuite, NoTree, RequirementsUnreadable, Tree, Member, SignerNotMember, InfoSignature, OutOfMemory}
-use Rattle.mls_report.proofs.Decided.{requires_or_not, tree_or_not, members_or_fault}
+use Rattle.mls_follow.specs.declared.start_fault.StartFault.TheVariants.{UnsupportedVersion, UnsupportedSuite, NoTree, SignerNotMember, InfoSignature, OutOfMemory}
+use Rattle.mls_follow.proofs.Readings.{tree_or_not, same_or_not, supported_or_not}
+use Rattle.mls_follow.proofs.Starting.{tree_fails}
 
 -- ---- the interim transcript hash
 
@@ -57,6 +59,12 @@ in_extension (Some body) = elim (tree_or_not body) [ inl t ↦ inl t | inr none 
 
 -- ---- a start
 
+own_fault : (fault : GroupTreeFault) → fault ≢ groups.OutOfMemory → start_fault_of fault ≢ OutOfMemory
+own_fault groups.RequirementsUnreadable own = λ e. cc
+own_fault (groups.Tree fault) own = λ e. cc
+own_fault (groups.Member fault) own = λ e. cc
+own_fault groups.OutOfMemory own = absurd (own refl)
+
 module _ (G : VerifyFn) (info : GroupInfo) (handed : Option RatchetTree) (interim : List ℕ) (hashed : info_interim info ≡ Some interim) where
   abbrev pub StartsOrNot : Type 0
   StartsOrNot = ((s : State) × IsStart G info handed s) ⊎ ((fault : StartFault) × (fault ≢ OutOfMemory) × IsStartFault G info handed fault)
@@ -75,54 +83,25 @@ module _ (G : VerifyFn) (info : GroupInfo) (handed : Option RatchetTree) (interi
   by_signer t required h (Some signer) e =
       by_signature t signer (record { required = required; has_members = h; set = e }) (is_info_signed G info signer) refl
 
-  by_members : (t : RatchetTree) (required : RequiredCapabilities) → HasValidTree info.context (UsesTree handed info.extensions) t required → StartsOrNot
-  by_members t required h =
-      elim (members_or_fault G info.context.cipher_suite info.context.group_id required t.tree) [
-        | inl m ↦ by_signer t required (record { valid_tree = h; members = m }) (leaf_at 0 t.tree info.signer) refl
-        | inr f ↦ inr (Member f.0, λ own. cc, record { tree = t; required = required; valid_tree = h; own = f.1; first = f.2 })
-      ]
-
-  by_tree : (t : RatchetTree) (required : RequiredCapabilities) → IsReadable info.context (UsesTree handed info.extensions) t required → StartsOrNot
-  by_tree t required h =
-      elim (valid_or_fault (hash_of info.context.cipher_suite) info.context.tree_hash t.tree) [
-        | inl v ↦ by_members t required (record { readable = h; valid = v })
-        | inr f ↦ inr (Tree f.0, λ own. cc, record { tree = t; required = required; readable = h; own = f.1; first = f.2 })
-      ]
-
-  by_requirements : (t : RatchetTree) → HasTree info.context (UsesTree handed info.extensions) t → StartsOrNot
-  by_requirements t h =
-      elim (requires_or_not info.context) [
-        | inl r ↦ by_tree t r.0 (record { has_tree = h; requires = r.1 })
-        | inr none ↦ inr (RequirementsUnreadable, λ own. cc, record { tree = t; has_tree = h; none = none })
+  by_tree : IsSupportedContext info.context → (t : RatchetTree) → UsesTree handed info.extensions t → StartsOrNot
+  by_tree followed t uses =
+      elim (group_tree_or_fault G info.context t followed) [
+        | inl m ↦
+            (let too = λ (u : RatchetTree) (e : u ≡ t). subst (UsesTree handed info.extensions) (sym e) uses in
+            by_signer t m.0 (members_too G info.context (λ u. u ≡ t) (UsesTree handed info.extensions) too t m.0 m.1) (leaf_at 0 t.tree info.signer) refl)
+        | inr f ↦ inr (start_fault_of f.0, own_fault f.0 f.1, tree_fails G info t f.0 f.2 handed uses)
       ]
 
   by_use : IsSupportedContext info.context → StartsOrNot
   by_use followed =
       elim (uses_or_not handed) [
-        | inl u ↦ by_requirements u.0 (record { followed = followed; uses = u.1 })
+        | inl u ↦ by_tree followed u.0 u.1
         | inr none ↦ inr (NoTree, λ own. cc, record { followed = followed; none = none })
       ]
 
   by_suite : info.context.version ≡ 1 → IsSupported info.context.cipher_suite ⊎ (¬ IsSupported info.context.cipher_suite) → StartsOrNot
   by_suite version (inl suite) = by_use (record { version = version; suite = suite })
   by_suite version (inr none) = inr (UnsupportedSuite, λ own. cc, record { version = version; unsupported = none })
-
--- ---- versions and suites
-
-pub supported_or_not : (suite : ℕ) → IsSupported suite ⊎ (¬ IsSupported suite)
-supported_or_not suite = go (nat_le 1 suite) (nat_le suite 7) refl refl
-  where
-    go : (a b : Bool) → nat_le 1 suite ≡ a → nat_le suite 7 ≡ b → IsSupported suite ⊎ (¬ IsSupported suite)
-    go true true p q = inl (grind (arith, nat_tests), grind (arith, nat_tests))
-    go false b p q = inr (λ h. let le = h.0 in let t : nat_le 1 suite ≡ true = grind (arith, nat_tests) in false≢true (sym p ∙ t))
-    go true false p q = inr (λ h. let le = h.1 in let t : nat_le suite 7 ≡ true = grind (arith, nat_tests) in false≢true (sym q ∙ t))
-
-pub same_or_not : (a b : ℕ) → (a ≡ b) ⊎ (a ≢ b)
-same_or_not a b = go (a == b) refl
-  where
-    go : (c : Bool) → (a == b) ≡ c → (a ≡ b) ⊎ (a ≢ b)
-    go true e = inl (grind (arith, nat_tests))
-    go false e = inr (λ same. let t : (a == b) ≡ true = grind (arith, nat_tests) in false≢true (sym e ∙ t))
 
 -- a follower starts, or there is a fault
 pub starts_or_not : (G : VerifyFn) (info : GroupInfo) (handed : Option RatchetTree) (interim : List ℕ) → info_interim info ≡ Some interim

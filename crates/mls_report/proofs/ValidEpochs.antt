@@ -1,13 +1,14 @@
--- A follower that starts is in a valid state, and stays in one through the messages of a log.
+-- A follower that starts or resumes is in a valid state, and stays in one through the messages of a log.
 use Rattle.std.proofs.Common.{List, [], ◌∷◌, refl}
 use Rattle.std.specs.Prelude.{All}
 use Rattle.std.proofs.lemmas.List.Elements.{All-nil, All-cons}
 use Rattle.mls_check.specs.Signatures.{VerifyFn}
+use Rattle.mls_follow.proofs.StoredRuns.{resumption_valid}
 use Rattle.mls_follow.proofs.Validity.{start_valid, run_valid}
 use Rattle.mls_follow.specs.State.{State}
 use Rattle.mls_follow.specs.Validity.{IsValidState}
 use Rattle.mls_report.specs.Replay.{ProcessedMessage, AreProcessed}
-use Rattle.mls_report.specs.ValidEpochs.{StartedEpochsAreValid, ReportedEpochsAreValid}
+use Rattle.mls_report.specs.ValidEpochs.{StartedEpochsAreValid, ReportedEpochsAreValid, ResumedEpochsAreValid}
 
 pub started_valid : StartedEpochsAreValid
 started_valid G info_bytes tree_bytes s started = start_valid G started.info started.handed s started.start
@@ -22,3 +23,8 @@ turns_valid G s (turn ∷ turns) valid taken =
 pub told_valid : ReportedEpochsAreValid
 told_valid G info_bytes tree_bytes s log0 log1 turns rest started follows =
     turns_valid G s turns (started_valid G info_bytes tree_bytes s started) follows.taken
+
+pub resumed_valid : ResumedEpochsAreValid
+resumed_valid G bytes s log0 log1 turns rest resumed follows =
+    let valid = resumption_valid G bytes s resumed in
+    (valid, turns_valid G s turns valid follows.taken)

@@ -10,6 +10,8 @@ use Rattle.mls_check.specs.declared.members.MemberFault.{MemberFault}
 use Rattle.mls_check.specs.declared.members.MemberFault.TheVariants as members
 use Rattle.mls_check.specs.declared.tree_validation.TreeFault.{TreeFault}
 use Rattle.mls_check.specs.declared.tree_validation.TreeFault.TheVariants as trees
+use Rattle.mls_follow.specs.declared.resume_fault.ResumeFault.{ResumeFault}
+use Rattle.mls_follow.specs.declared.resume_fault.ResumeFault.TheVariants as resumes
 use Rattle.mls_follow.specs.declared.start_fault.StartFault.{StartFault}
 use Rattle.mls_follow.specs.declared.start_fault.StartFault.TheVariants as starts
 
@@ -79,3 +81,17 @@ start_fault_text (starts.Member fault) = codes "6 Member " ++ member_fault_text 
 start_fault_text starts.SignerNotMember = codes "7 SignerNotMember"
 start_fault_text starts.InfoSignature = codes "8 InfoSignature"
 start_fault_text starts.OutOfMemory = codes "OutOfMemory"
+
+-- `resume_fault_text f` is why no follower resumes from the file of a state: it cannot be read, or the first condition
+-- that fails, by number and name, with the fault of the tree or of a leaf node, or the number of the pending proposal.
+abbrev pub resume_fault_text : ResumeFault → List ℕ
+resume_fault_text (resumes.Unreadable fault) = codes "unreadable " ++ node_fault_text fault
+resume_fault_text resumes.ChecksumDiffers = codes "refused 2 ChecksumDiffers"
+resume_fault_text resumes.UnsupportedVersion = codes "refused 3 UnsupportedVersion"
+resume_fault_text resumes.UnsupportedSuite = codes "refused 4 UnsupportedSuite"
+resume_fault_text resumes.RequirementsUnreadable = codes "refused 5 RequirementsUnreadable"
+resume_fault_text (resumes.Tree fault) = codes "refused 6 Tree " ++ tree_fault_text fault
+resume_fault_text (resumes.Member fault) = codes "refused 7 Member " ++ member_fault_text fault
+resume_fault_text resumes.InterimLength = codes "refused 8 InterimLength"
+resume_fault_text (resumes.KnownInvalid n) = codes "refused 9 KnownInvalid " ++ decimal n
+resume_fault_text resumes.OutOfMemory = codes "OutOfMemory"

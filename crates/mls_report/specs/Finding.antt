@@ -4,10 +4,10 @@ use Rattle.std.specs.Prelude.{ℕ, List, [], ◌++◌, codes, Option, ◌≡◌,
 use Rattle.std.specs.Fmt.{decimal}
 use Rattle.std.specs.Io.KnownBytes.{Appends}
 use Rattle.mls_wire.specs.Devices.{AppendsPrefix}
-use Rattle.mls_report.specs.FaultText.{wire_fault_text, node_fault_text, tree_fault_text, member_fault_text, start_fault_text}
+use Rattle.mls_report.specs.FaultText.{wire_fault_text, node_fault_text, tree_fault_text, member_fault_text, start_fault_text, resume_fault_text}
 use Rattle.mls_report.specs.ValueTexts.{hex_text}
 use Rattle.mls_report.specs.declared.finding.Finding.{Finding}
-use Rattle.mls_report.specs.declared.finding.Finding.TheVariants.{ContextUnreadable, InfoUnreadable, NotGroupInfo, TreeUnreadable, UnsupportedVersion, UnsupportedSuite, RequirementsUnreadable, TreeRefused, MembersRefused, StartRefused, TreeValid, Starts}
+use Rattle.mls_report.specs.declared.finding.Finding.TheVariants.{ContextUnreadable, InfoUnreadable, NotGroupInfo, TreeUnreadable, UnsupportedVersion, UnsupportedSuite, RequirementsUnreadable, TreeRefused, MembersRefused, StartRefused, StateRefused, TreeValid, Starts}
 use Rattle.mls_report.specs.declared.finding.Started.{Started}
 use Rattle.mls_report.specs.declared.verdict.Verdict.{Verdict}
 use Rattle.mls_report.specs.declared.verdict.Verdict.TheVariants.{Yes, No}
@@ -32,6 +32,7 @@ finding_text RequirementsUnreadable = codes "context refused RequirementsUnreada
 finding_text (TreeRefused fault) = codes "tree refused " ++ tree_fault_text fault
 finding_text (MembersRefused fault) = codes "members refused " ++ member_fault_text fault
 finding_text (StartRefused fault) = codes "start refused " ++ start_fault_text fault
+finding_text (StateRefused fault) = codes "state " ++ resume_fault_text fault
 finding_text (TreeValid tree_hash) = codes "valid " ++ hex_text tree_hash
 finding_text (Starts started) = started_text started
 

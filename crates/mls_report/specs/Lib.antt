@@ -12,6 +12,7 @@ pub mod SignaturesReport
 pub mod SignaturesSteps
 pub mod ReportsExist
 pub mod StartInputs
+pub mod StateInputs
 pub mod StartSteps
 pub mod Status
 pub mod ValueTexts
@@ -21,3 +22,4 @@ pub mod Validate
 pub mod ValidateTree
 pub mod ValidEpochs
 pub mod CoveredReports
+pub mod SavedStates

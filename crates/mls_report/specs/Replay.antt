@@ -1,7 +1,7 @@
 -- The report `replay`: a line for each message of a log, and a last one. `log0` and `log1` are what the log has left
 -- before and after, `written0` and `written1` what the output holds. G is the verification function of the checker,
 -- `turns` are processed messages. Used by contracts.
-use Rattle.std.specs.Prelude.{List, [], ◌∷◌, ℕ, ◌+◌, ◌-◌, ◌≤◌, ◌++◌, codes, length, map, Bool, true, false, Option, Result, Ok, Err, is_ok, ◌≡◌, ◌≢◌, ◌⊎◌}
+use Rattle.std.specs.Prelude.{List, [], ◌∷◌, ℕ, ◌+◌, ◌-◌, ◌≤◌, ◌++◌, codes, length, map, Bool, true, false, Option, Some, None, Result, Ok, Err, is_ok, ◌≡◌, ◌≢◌, ◌⊎◌}
 use Rattle.std.specs.Fmt.{decimal}
 use Rattle.std.specs.Io.KnownBytes.{Appends, Consumes, IsAtEnd}
 use Rattle.mls_wire.specs.Devices.{AppendsPrefix}
@@ -17,6 +17,7 @@ use Rattle.mls_follow.specs.declared.taken.Taken.TheVariants.{Proposal, Commit}
 use Rattle.mls_report.specs.FaultText.{member_number}
 use Rattle.mls_report.specs.Finding.{finding_line}
 use Rattle.mls_report.specs.StartInputs.{ReadsAndStarts, ReadsAndDeclines}
+use Rattle.mls_report.specs.StateInputs.{ReadsAndResumes, ReadsAndDeclinesState}
 use Rattle.mls_report.specs.ValueTexts.{hex_text}
 use Rattle.mls_report.specs.declared.finding.Finding.{Finding}
 use Rattle.mls_report.specs.declared.verdict.RunFault.{RunFault}
@@ -214,35 +215,42 @@ TellsPart G s log0 log1 written0 written1 Write =
     StopsInLine G s log0 log1 written0 written1 ⊎ StopsInEnding G s log0 log1 written0 written1
 TellsPart G s log0 log1 written0 written1 Memory = StopsWithoutMemory G s log0 log1 written0 written1
 
--- ---- the whole report
+-- ---- the whole report. `Starts s`: the inputs were read, and a follower starts or resumes from them in the state `s`.
+-- `Declines finding`: the inputs were read, and no follower does, for this finding.
 
--- `TellsDecline G info0 info1 tree0 tree1 log0 log1 written0 written1 verdict`: no follower starts, the log was not
--- read, and one line says why.
-pub record TellsDecline (G : VerifyFn) (info0 info1 : Option (List ℕ))
-    (tree0 tree1 : Option (Option (List ℕ))) (log0 log1 written0 written1 : Option (List ℕ))
+-- `TellsDecline Declines log0 log1 written0 written1 verdict`: no follower starts, the log was not read, and one line
+-- says why.
+pub record TellsDecline (Declines : Finding → Type 0) (log0 log1 written0 written1 : Option (List ℕ))
     (verdict : Verdict) : Type 0 where
   pub finding : Finding
-  pub declines : ReadsAndDeclines G info0 info1 tree0 tree1 finding
+  pub declines : Declines finding
   pub unread : log1 ≡ log0
   pub wrote : Appends written0 written1 (finding_line finding)
   pub verdict_is : verdict ≡ No
 
--- `TellsReplay G info0 info1 tree0 tree1 log0 log1 written0 written1 verdict`: a follower starts, and the report of the
--- log was written.
-pub record TellsReplay (G : VerifyFn) (info0 info1 : Option (List ℕ))
-    (tree0 tree1 : Option (Option (List ℕ))) (log0 log1 written0 written1 : Option (List ℕ))
+-- `TellsReplay G Starts log0 log1 written0 written1 verdict`: a follower starts, and the report of the log was written.
+pub record TellsReplay (G : VerifyFn) (Starts : State → Type 0) (log0 log1 written0 written1 : Option (List ℕ))
     (verdict : Verdict) : Type 0 where
   pub state : State
-  pub starts : ReadsAndStarts G info0 info1 tree0 tree1 state
+  pub starts : Starts state
   pub tells : TellsLog G state log0 log1 written0 written1 verdict
 
--- `Replays G info0 info1 tree0 tree1 log0 log1 written0 written1 verdict`: the report was written whole.
-abbrev pub Replays : VerifyFn → Option (List ℕ) → Option (List ℕ) → Option (Option (List ℕ))
-    → Option (Option (List ℕ)) → Option (List ℕ) → Option (List ℕ) → Option (List ℕ)
-    → Option (List ℕ) → Verdict → Type 0
-Replays G info0 info1 tree0 tree1 log0 log1 written0 written1 verdict =
-    TellsDecline G info0 info1 tree0 tree1 log0 log1 written0 written1 verdict
-    ⊎ TellsReplay G info0 info1 tree0 tree1 log0 log1 written0 written1 verdict
+-- `ReplaysFrom G Starts Declines log0 log1 written0 written1 verdict`: the report was written whole.
+abbrev pub ReplaysFrom : VerifyFn → (State → Type 0) → (Finding → Type 0) → Option (List ℕ) → Option (List ℕ)
+    → Option (List ℕ) → Option (List ℕ) → Verdict → Type 0
+ReplaysFrom G Starts Declines log0 log1 written0 written1 verdict =
+    TellsDecline Declines log0 log1 written0 written1 verdict
+    ⊎ TellsReplay G Starts log0 log1 written0 written1 verdict
+
+-- `ReplaysTo G Starts Declines log0 log1 written0 written1 verdict last`: the report was written whole, and `last` is
+-- the state after the last whole message of the log; None if no follower starts.
+abbrev pub ReplaysTo : VerifyFn → (State → Type 0) → (Finding → Type 0) → Option (List ℕ) → Option (List ℕ)
+    → Option (List ℕ) → Option (List ℕ) → Verdict → Option State → Type 0
+ReplaysTo G Starts Declines log0 log1 written0 written1 verdict None =
+    TellsDecline Declines log0 log1 written0 written1 verdict
+ReplaysTo G Starts Declines log0 log1 written0 written1 verdict (Some last) =
+    (told : TellsReplay G Starts log0 log1 written0 written1 verdict)
+    × (last ≡ state_after told.state told.tells.turns)
 
 -- ---- a part of the report
 
@@ -251,40 +259,78 @@ pub record TellsNothing (log0 log1 written0 written1 : Option (List ℕ)) : Type
   pub unread : log1 ≡ log0
   pub wrote : Appends written0 written1 []
 
--- `StopsInDecline G info0 info1 tree0 tree1 log0 log1 written0 written1`: the output failed in the line of a refused
--- start.
-pub record StopsInDecline (G : VerifyFn) (info0 info1 : Option (List ℕ))
-    (tree0 tree1 : Option (Option (List ℕ))) (log0 log1 written0 written1 : Option (List ℕ))
-    : Type 0 where
+-- `StopsInDecline Declines log0 log1 written0 written1`: the output failed in the line that says why no follower starts.
+pub record StopsInDecline (Declines : Finding → Type 0) (log0 log1 written0 written1 : Option (List ℕ)) : Type 0 where
   pub finding : Finding
-  pub declines : ReadsAndDeclines G info0 info1 tree0 tree1 finding
+  pub declines : Declines finding
   pub unread : log1 ≡ log0
   pub wrote : AppendsPrefix written0 written1 (finding_line finding)
 
--- `StopsBefore .. fault`: no follower has started, by the fault that is returned.
-abbrev pub StopsBefore : VerifyFn → Option (List ℕ) → Option (List ℕ) → Option (Option (List ℕ))
-    → Option (Option (List ℕ)) → Option (List ℕ) → Option (List ℕ) → Option (List ℕ)
+-- `StopsBefore Declines log0 log1 written0 written1 fault`: no follower has started, by the fault that is returned.
+abbrev pub StopsBefore : (Finding → Type 0) → Option (List ℕ) → Option (List ℕ) → Option (List ℕ)
     → Option (List ℕ) → RunFault → Type 0
-StopsBefore G info0 info1 tree0 tree1 log0 log1 written0 written1 Read =
-    TellsNothing log0 log1 written0 written1
-StopsBefore G info0 info1 tree0 tree1 log0 log1 written0 written1 Write =
-    StopsInDecline G info0 info1 tree0 tree1 log0 log1 written0 written1
-StopsBefore G info0 info1 tree0 tree1 log0 log1 written0 written1 Memory =
-    TellsNothing log0 log1 written0 written1
+StopsBefore Declines log0 log1 written0 written1 Read = TellsNothing log0 log1 written0 written1
+StopsBefore Declines log0 log1 written0 written1 Write =
+    StopsInDecline Declines log0 log1 written0 written1
+StopsBefore Declines log0 log1 written0 written1 Memory = TellsNothing log0 log1 written0 written1
 
--- `StopsAfter .. fault`: a follower has started, and the report of the log was not written whole.
-pub record StopsAfter (G : VerifyFn) (info0 info1 : Option (List ℕ))
-    (tree0 tree1 : Option (Option (List ℕ))) (log0 log1 written0 written1 : Option (List ℕ))
+-- `StopsAfter G Starts log0 log1 written0 written1 fault`: a follower has started, and the report of the log was not
+-- written whole.
+pub record StopsAfter (G : VerifyFn) (Starts : State → Type 0) (log0 log1 written0 written1 : Option (List ℕ))
     (fault : RunFault) : Type 0 where
   pub state : State
-  pub starts : ReadsAndStarts G info0 info1 tree0 tree1 state
+  pub starts : Starts state
   pub tells : TellsPart G state log0 log1 written0 written1 fault
 
--- `ReplaysPart .. fault`: what was written if the report was not written whole, by the fault that is returned. It is a
--- prefix of what the bytes that were read determine.
-abbrev pub ReplaysPart : VerifyFn → Option (List ℕ) → Option (List ℕ) → Option (Option (List ℕ))
-    → Option (Option (List ℕ)) → Option (List ℕ) → Option (List ℕ) → Option (List ℕ)
-    → Option (List ℕ) → RunFault → Type 0
-ReplaysPart G info0 info1 tree0 tree1 log0 log1 written0 written1 fault =
-    StopsBefore G info0 info1 tree0 tree1 log0 log1 written0 written1 fault
-    ⊎ StopsAfter G info0 info1 tree0 tree1 log0 log1 written0 written1 fault
+-- `ReplaysPartFrom G Starts Declines log0 log1 written0 written1 fault`: what was written if the report was not written
+-- whole, by the fault that is returned. It is a prefix of what the bytes that were read determine.
+abbrev pub ReplaysPartFrom : VerifyFn → (State → Type 0) → (Finding → Type 0) → Option (List ℕ)
+    → Option (List ℕ) → Option (List ℕ) → Option (List ℕ) → RunFault → Type 0
+ReplaysPartFrom G Starts Declines log0 log1 written0 written1 fault =
+    StopsBefore Declines log0 log1 written0 written1 fault
+    ⊎ StopsAfter G Starts log0 log1 written0 written1 fault
+
+-- ---- from a GroupInfo, and a tree if one is passed
+
+module _ (G : VerifyFn) (info0 info1 : Option (List ℕ)) (tree0 tree1 : Option (Option (List ℕ)))
+    (log0 log1 written0 written1 : Option (List ℕ)) where
+  -- `Replays G info0 info1 tree0 tree1 log0 log1 written0 written1 verdict`: the report was written whole.
+  abbrev pub Replays : Verdict → Type 0
+  Replays =
+      ReplaysFrom G (ReadsAndStarts G info0 info1 tree0 tree1) (ReadsAndDeclines G info0 info1 tree0 tree1)
+      log0 log1 written0 written1
+
+  -- `ReplaysGroupTo G info0 info1 tree0 tree1 log0 log1 written0 written1 verdict last`: moreover `last` is the state
+  -- after the last whole message; None if no follower starts.
+  abbrev pub ReplaysGroupTo : Verdict → Option State → Type 0
+  ReplaysGroupTo =
+      ReplaysTo G (ReadsAndStarts G info0 info1 tree0 tree1) (ReadsAndDeclines G info0 info1 tree0 tree1)
+      log0 log1 written0 written1
+
+  -- `ReplaysPart G info0 info1 tree0 tree1 log0 log1 written0 written1 fault`: the report was not written whole.
+  abbrev pub ReplaysPart : RunFault → Type 0
+  ReplaysPart =
+      ReplaysPartFrom G (ReadsAndStarts G info0 info1 tree0 tree1) (ReadsAndDeclines G info0 info1 tree0 tree1)
+      log0 log1 written0 written1
+
+-- ---- from the file of a state
+
+module _ (G : VerifyFn) (state0 state1 log0 log1 written0 written1 : Option (List ℕ)) where
+  -- `ReplaysState G state0 state1 log0 log1 written0 written1 verdict`: the report was written whole.
+  abbrev pub ReplaysState : Verdict → Type 0
+  ReplaysState =
+      ReplaysFrom G (ReadsAndResumes G state0 state1) (ReadsAndDeclinesState G state0 state1)
+      log0 log1 written0 written1
+
+  -- `ReplaysStateTo G state0 state1 log0 log1 written0 written1 verdict last`: moreover `last` is the state after the
+  -- last whole message; None if no follower resumes.
+  abbrev pub ReplaysStateTo : Verdict → Option State → Type 0
+  ReplaysStateTo =
+      ReplaysTo G (ReadsAndResumes G state0 state1) (ReadsAndDeclinesState G state0 state1)
+      log0 log1 written0 written1
+
+  -- `ReplaysStatePart G state0 state1 log0 log1 written0 written1 fault`: the report was not written whole.
+  abbrev pub ReplaysStatePart : RunFault → Type 0
+  ReplaysStatePart =
+      ReplaysPartFrom G (ReadsAndResumes G state0 state1) (ReadsAndDeclinesState G state0 state1)
+      log0 log1 written0 written1

@@ -1,26 +1,22 @@
 -- The contracts of the steps of `replay`. Internal: no public contract uses this.
-use Rattle.std.specs.Prelude.{List, [], ℕ, ◌+◌, ◌++◌, codes, length, Bool, Option, Result, is_ok, ◌≡◌, ◌≢◌, ◌⊎◌}
+use Rattle.std.specs.Prelude.{List, [], ℕ, ◌+◌, ◌++◌, codes, length, Bool, Option, Some, None, Result, is_ok, ◌≡◌}
 use Rattle.std.specs.Fmt.{decimal}
 use Rattle.std.specs.Io.KnownBytes.{Appends, Consumes}
 use Rattle.mls_wire.specs.Devices.{AppendsPrefix}
 use Rattle.mls_wire.specs.Logs.{IsIncomplete}
-use Rattle.mls_tree.specs.RatchetTree.{RatchetTree}
 use Rattle.mls_check.specs.Signatures.{VerifyFn}
-use Rattle.mls_msgs.specs.declared.group_info.GroupInfo.{GroupInfo}
 use Rattle.mls_follow.specs.Runs.{IsAnswer}
-use Rattle.mls_follow.specs.Start.{IsStart, IsStartFault}
 use Rattle.mls_follow.specs.State.{State}
 use Rattle.mls_follow.specs.declared.refusal.Refusal.{Refusal}
-use Rattle.mls_follow.specs.declared.start_fault.StartFault.{StartFault}
-use Rattle.mls_follow.specs.declared.start_fault.StartFault.TheVariants as starts
 use Rattle.mls_follow.specs.declared.taken.Taken.{Taken}
-use Rattle.mls_report.specs.Finding.{finding_line}
-use Rattle.mls_report.specs.Replay.{ProcessedMessage, Follows, IsLogEnd, TellsLog, TellsPart, TellsNothing, accepted_count, answer_text, state_after, still_to_come, processed_lines}
-use Rattle.mls_report.specs.declared.finding.Finding.TheVariants.{StartRefused}
+use Rattle.mls_report.specs.Finding.{finding_line, finding_verdict}
+use Rattle.mls_report.specs.Replay.{ProcessedMessage, Follows, IsLogEnd, TellsLog, accepted_count, answer_text, state_after, still_to_come, processed_lines}
+use Rattle.mls_report.specs.declared.finding.Finding.{Finding}
+use Rattle.mls_report.specs.declared.read_inputs.StartFailure.{StartFailure}
+use Rattle.mls_report.specs.declared.read_inputs.StartFailure.TheVariants.{Found}
 use Rattle.mls_report.specs.declared.verdict.RunFault.{RunFault}
 use Rattle.mls_report.specs.declared.verdict.RunFault.TheVariants.{Read, Write, Memory}
 use Rattle.mls_report.specs.declared.verdict.Verdict.{Verdict}
-use Rattle.mls_report.specs.declared.verdict.Verdict.TheVariants.{No}
 
 -- The bytes read of a log don't decide yet what comes next.
 pub record ReadsUndecided (log0 log1 : Option (List ℕ)) (most : ℕ) : Type 0 where
@@ -66,54 +62,34 @@ pub record FollowsLog (G : VerifyFn) (s : State) (log0 log1 written0 written1 : 
   pub taken : accepted ≡ accepted_count turns
   pub counted : accepted + refused ≡ length turns
 
--- A follower starts from a GroupInfo and a tree, and the log is reported.
-pub record StartsReplay (G : VerifyFn) (info : GroupInfo) (handed : Option RatchetTree)
-    (log0 log1 written0 written1 : Option (List ℕ)) (verdict : Verdict) : Type 0 where
-  pub state : State
-  pub start : IsStart G info handed state
-  pub tells : TellsLog G state log0 log1 written0 written1 verdict
+-- The report of a log was written from the state `s` on, and `last` is the state after it.
+abbrev pub ReplaysLog : VerifyFn → State → Option (List ℕ) → Option (List ℕ) → Option (List ℕ) → Option (List ℕ)
+    → Verdict → State → Type 0
+ReplaysLog G s log0 log1 written0 written1 verdict last =
+    (told : TellsLog G s log0 log1 written0 written1 verdict) × (last ≡ state_after s told.turns)
 
--- No follower starts, and one line says why.
-pub record RefusesReplay (G : VerifyFn) (info : GroupInfo) (handed : Option RatchetTree)
-    (log0 log1 written0 written1 : Option (List ℕ)) (verdict : Verdict) : Type 0 where
-  pub fault : StartFault
-  pub own : fault ≢ starts.OutOfMemory
-  pub fails : IsStartFault G info handed fault
-  pub unread : log1 ≡ log0
-  pub wrote : Appends written0 written1 (finding_line (StartRefused fault))
-  pub verdict_is : verdict ≡ No
+-- The same, where a follower is returned.
+abbrev pub ReturnsAfter : VerifyFn → State → Option (List ℕ) → Option (List ℕ) → Option (List ℕ) → Option (List ℕ)
+    → Verdict → Option State → Type 0
+ReturnsAfter G s log0 log1 written0 written1 verdict None = ⊥
+ReturnsAfter G s log0 log1 written0 written1 verdict (Some last) =
+    ReplaysLog G s log0 log1 written0 written1 verdict last
 
-abbrev pub ReplaysStart : VerifyFn → GroupInfo → Option RatchetTree → Option (List ℕ) → Option (List ℕ)
-    → Option (List ℕ) → Option (List ℕ) → Verdict → Type 0
-ReplaysStart G info handed log0 log1 written0 written1 verdict =
-    StartsReplay G info handed log0 log1 written0 written1 verdict
-    ⊎ RefusesReplay G info handed log0 log1 written0 written1 verdict
+-- The line that says why no follower starts was written.
+pub record WritesDecline (failure : StartFailure) (written0 written1 : Option (List ℕ)) (verdict : Verdict) : Type 0 where
+  pub finding : Finding
+  pub failure_is : failure ≡ Found finding
+  pub wrote : Appends written0 written1 (finding_line finding)
+  pub verdict_is : verdict ≡ finding_verdict finding
 
--- The same for a report that was not written whole, with this fault.
-pub record StartsPart (G : VerifyFn) (info : GroupInfo) (handed : Option RatchetTree)
-    (log0 log1 written0 written1 : Option (List ℕ)) (fault : RunFault) : Type 0 where
-  pub state : State
-  pub start : IsStart G info handed state
-  pub tells : TellsPart G state log0 log1 written0 written1 fault
+-- A prefix of that line was written.
+pub record WritesDeclinePrefix (failure : StartFailure) (written0 written1 : Option (List ℕ)) : Type 0 where
+  pub finding : Finding
+  pub failure_is : failure ≡ Found finding
+  pub wrote : AppendsPrefix written0 written1 (finding_line finding)
 
-pub record RefusesPart (G : VerifyFn) (info : GroupInfo) (handed : Option RatchetTree)
-    (log0 log1 written0 written1 : Option (List ℕ)) : Type 0 where
-  pub fault : StartFault
-  pub own : fault ≢ starts.OutOfMemory
-  pub fails : IsStartFault G info handed fault
-  pub unread : log1 ≡ log0
-  pub wrote : AppendsPrefix written0 written1 (finding_line (StartRefused fault))
-
-abbrev pub RefusesBefore : VerifyFn → GroupInfo → Option RatchetTree → Option (List ℕ) → Option (List ℕ)
-    → Option (List ℕ) → Option (List ℕ) → RunFault → Type 0
-RefusesBefore G info handed log0 log1 written0 written1 Read = ⊥
-RefusesBefore G info handed log0 log1 written0 written1 Write =
-    RefusesPart G info handed log0 log1 written0 written1
-RefusesBefore G info handed log0 log1 written0 written1 Memory =
-    TellsNothing log0 log1 written0 written1
-
-abbrev pub ReplaysStartPart : VerifyFn → GroupInfo → Option RatchetTree → Option (List ℕ)
-    → Option (List ℕ) → Option (List ℕ) → Option (List ℕ) → RunFault → Type 0
-ReplaysStartPart G info handed log0 log1 written0 written1 fault =
-    StartsPart G info handed log0 log1 written0 written1 fault
-    ⊎ RefusesBefore G info handed log0 log1 written0 written1 fault
+-- That line was not written whole, by the fault that is returned.
+abbrev pub WritesDeclinePart : StartFailure → Option (List ℕ) → Option (List ℕ) → RunFault → Type 0
+WritesDeclinePart failure written0 written1 Read = ⊥
+WritesDeclinePart failure written0 written1 Write = WritesDeclinePrefix failure written0 written1
+WritesDeclinePart failure written0 written1 Memory = Appends written0 written1 []

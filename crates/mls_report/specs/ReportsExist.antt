@@ -2,8 +2,9 @@
 -- by contracts.
 use Rattle.std.specs.Prelude.{List, ℕ, Option}
 use Rattle.mls_check.specs.Signatures.{VerifyFn}
-use Rattle.mls_report.specs.UniqueReports.{IsReplayReport, IsSignaturesReport}
+use Rattle.mls_report.specs.UniqueReports.{IsReplayReport, IsStateReplayReport, IsSignaturesReport}
 use Rattle.mls_report.specs.StartInputs.{IsStartFinding}
+use Rattle.mls_report.specs.StateInputs.{IsStateFinding}
 use Rattle.mls_report.specs.ValidateTree.{IsTreeFinding}
 use Rattle.mls_report.specs.declared.finding.Finding.{Finding}
 use Rattle.mls_report.specs.declared.verdict.Verdict.{Verdict}
@@ -20,12 +21,22 @@ StartFindingExists =
     (G : VerifyFn) (info_bytes : List ℕ) (tree_bytes : Option (List ℕ))
     → (finding : Finding) × IsStartFinding G info_bytes tree_bytes finding
 
+-- Something is found of the bytes of a state's file.
+abbrev pub StateFindingExists : Type 0
+StateFindingExists = (G : VerifyFn) (bytes : List ℕ) → (finding : Finding) × IsStateFinding G bytes finding
+
 -- The bytes of the inputs of a replay have a report.
 abbrev pub ReplayExists : Type 0
 ReplayExists =
     (G : VerifyFn) (info_bytes : List ℕ) (tree_bytes : Option (List ℕ)) (log_bytes : List ℕ)
     → (text : List ℕ) × (verdict : Verdict)
     × IsReplayReport G info_bytes tree_bytes log_bytes text verdict
+
+-- The bytes of a state's file and of a log have a report.
+abbrev pub StateReplayExists : Type 0
+StateReplayExists =
+    (G : VerifyFn) (state_bytes log_bytes : List ℕ)
+    → (text : List ℕ) × (verdict : Verdict) × IsStateReplayReport G state_bytes log_bytes text verdict
 
 -- The bytes of the inputs of `signatures` have a report, with a tree and a log or without.
 abbrev pub SignaturesExist : Type 0

@@ -275,6 +275,18 @@ pub record SignaturesInStart (R : VerifyFn) (info0 info1 : Option (List ℕ))
   pub unread : log1 ≡ log0
   pub wrote : AppendsPrefix written0 written1 (wanted_lines R wanted)
 
+-- `SignaturesWithoutMemory ..`: memory ran out in the lines of the start. The lines of the signatures before were
+-- written whole.
+pub record SignaturesWithoutMemory (R : VerifyFn) (info0 info1 : Option (List ℕ))
+    (tree0 tree1 log0 log1 : Option (Option (List ℕ))) (written0 written1 : Option (List ℕ))
+    : Type 0 where
+  pub state : State
+  pub front : List SignatureToVerify
+  pub rest : List SignatureToVerify
+  pub opens : ReadsStartSignatures info0 info1 tree0 tree1 state (front ++ rest)
+  pub unread : log1 ≡ log0
+  pub wrote : Appends written0 written1 (wanted_lines R front)
+
 -- `SignaturesBefore .. fault`: nothing of the log was read, by the fault that is returned.
 abbrev pub SignaturesBefore : VerifyFn → Option (List ℕ) → Option (List ℕ) → Option (Option (List ℕ))
     → Option (Option (List ℕ)) → Option (Option (List ℕ)) → Option (Option (List ℕ))
@@ -286,6 +298,7 @@ SignaturesBefore R info0 info1 tree0 tree1 log0 log1 written0 written1 Write =
     ⊎ SignaturesInStart R info0 info1 tree0 tree1 log0 log1 written0 written1
 SignaturesBefore R info0 info1 tree0 tree1 log0 log1 written0 written1 Memory =
     WritesNothing log0 log1 written0 written1
+    ⊎ SignaturesWithoutMemory R info0 info1 tree0 tree1 log0 log1 written0 written1
 
 -- `SignaturesAfter .. fault`: the lines of the start were written whole, and those of the log were not.
 pub record SignaturesAfter (R : VerifyFn) (info0 info1 : Option (List ℕ))

@@ -1,14 +1,15 @@
 -- The contracts of the steps of `signatures`. Internal: no public contract uses this.
-use Rattle.std.specs.Prelude.{List, [], ℕ, Bool, Option, is_some, Result, ◌≡◌, ◌≢◌, ◌⊎◌}
+use Rattle.std.specs.Prelude.{List, [], ◌++◌, ℕ, Bool, Option, is_some, Result, ◌≡◌, ◌≢◌, ◌⊎◌}
 use Rattle.std.specs.Io.KnownBytes.{Appends}
 use Rattle.mls_wire.specs.Devices.{AppendsPrefix}
 use Rattle.mls_tree.specs.RatchetTree.{RatchetTree}
+use Rattle.mls_tree.specs.Tree.{leaf_at}
 use Rattle.mls_check.specs.Signatures.{VerifyFn}
 use Rattle.mls_msgs.specs.declared.group_info.GroupInfo.{GroupInfo}
 use Rattle.mls_follow.specs.Runs.{IsAnswer}
 use Rattle.mls_follow.specs.Start.{UsesTree, IsStartFault}
 use Rattle.mls_follow.specs.State.{State}
-use Rattle.mls_signatures.specs.SignaturesToVerify.{start_signatures}
+use Rattle.mls_signatures.specs.SignaturesToVerify.{info_signatures, non_blank_leaf_signatures}
 use Rattle.mls_follow.specs.declared.refusal.Refusal.{Refusal}
 use Rattle.mls_follow.specs.declared.start_fault.StartFault.{StartFault}
 use Rattle.mls_follow.specs.declared.start_fault.StartFault.TheVariants as starts
@@ -57,38 +58,66 @@ StopsAsking R s n bytes written0 written1 Read = ⊥
 StopsAsking R s n bytes written0 written1 Write = StopsAsked R s n bytes written0 written1
 StopsAsking R s n bytes written0 written1 Memory = Appends written0 written1 []
 
--- The text is the lines of the start, by the tree that it uses.
-abbrev pub AreStartLines : VerifyFn → GroupInfo → Option RatchetTree → List ℕ → Type 0
-AreStartLines R info handed text =
-    (t : RatchetTree) → UsesTree handed info.extensions t
-    → text ≡ wanted_lines R (start_signatures info t.tree)
+-- ---- the signatures of a start
 
--- The text was written, and then the lines of the log.
-pub record TellsBehind (R : VerifyFn) (s : State) (text : List ℕ) (log0 log1 : Option (Option (List ℕ)))
-    (written0 written1 : Option (List ℕ)) (verdict : Verdict) : Type 0 where
+-- The list is the signature of the GroupInfo, by the tree that the start uses.
+abbrev pub AreInfoSignatures : GroupInfo → Option RatchetTree → List SignatureToVerify → Type 0
+AreInfoSignatures info handed signatures =
+    (t : RatchetTree) → UsesTree handed info.extensions t
+    → signatures ≡ info_signatures info (leaf_at 0 t.tree info.signer)
+
+-- The signature of the leaf of a state's tree at a leaf index.
+abbrev pub signatures_of_leaf : State → ℕ → List SignatureToVerify
+signatures_of_leaf s i =
+    non_blank_leaf_signatures s.context.cipher_suite s.context.group_id i (leaf_at 0 s.tree i)
+
+-- ---- lines that are written one signature after the other. `lines` is the lines of a list of signatures
+
+-- Memory ran out. The lines of the signatures before were written whole.
+pub record LinesWithoutMemory (lines : List SignatureToVerify → List ℕ) (signatures : List SignatureToVerify)
+    (written0 written1 : Option (List ℕ)) : Type 0 where
+  pub front : List SignatureToVerify
+  pub rest : List SignatureToVerify
+  pub split : signatures ≡ front ++ rest
+  pub wrote : Appends written0 written1 (lines front)
+
+-- The lines were not written whole, with this fault.
+abbrev pub StopsInLines : (List SignatureToVerify → List ℕ) → List SignatureToVerify → Option (List ℕ)
+    → Option (List ℕ) → RunFault → Type 0
+StopsInLines lines signatures written0 written1 Read = ⊥
+StopsInLines lines signatures written0 written1 Write = AppendsPrefix written0 written1 (lines signatures)
+StopsInLines lines signatures written0 written1 Memory = LinesWithoutMemory lines signatures written0 written1
+
+-- ---- the report from a start on
+
+-- The lines of the start were written, and then the lines of the log.
+pub record TellsBehind (R : VerifyFn) (s : State) (wanted : List SignatureToVerify)
+    (log0 log1 : Option (Option (List ℕ))) (written0 written1 : Option (List ℕ)) (verdict : Verdict)
+    : Type 0 where
   pub between : Option (List ℕ)
-  pub wrote : Appends written0 between text
+  pub wrote : Appends written0 between (wanted_lines R wanted)
   pub tells : TellsLogIf R s log0 log1 between written1 verdict
 
--- The output failed in the text.
-pub record StopsInText (text : List ℕ) (log0 log1 : Option (Option (List ℕ)))
-    (written0 written1 : Option (List ℕ)) : Type 0 where
-  pub unread : log1 ≡ log0
-  pub wrote : AppendsPrefix written0 written1 text
-
--- The text was written whole, but not the lines of the log, with this fault.
-pub record StopsBehind (R : VerifyFn) (s : State) (text : List ℕ) (log0 log1 : Option (Option (List ℕ)))
+-- The lines of the start were not written whole, with this fault. The log was not read.
+pub record StopsInStart (R : VerifyFn) (wanted : List SignatureToVerify) (log0 log1 : Option (Option (List ℕ)))
     (written0 written1 : Option (List ℕ)) (fault : RunFault) : Type 0 where
+  pub unread : log1 ≡ log0
+  pub stops : StopsInLines (wanted_lines R) wanted written0 written1 fault
+
+-- The lines of the start were written whole, but not the lines of the log, with this fault.
+pub record StopsBehind (R : VerifyFn) (s : State) (wanted : List SignatureToVerify)
+    (log0 log1 : Option (Option (List ℕ))) (written0 written1 : Option (List ℕ)) (fault : RunFault)
+    : Type 0 where
   pub between : Option (List ℕ)
-  pub wrote : Appends written0 between text
+  pub wrote : Appends written0 between (wanted_lines R wanted)
   pub tells : LogPartIf R s log0 log1 between written1 fault
 
--- The text and the lines of the log were not written whole, with this fault.
-abbrev pub BehindPart : VerifyFn → State → List ℕ → Option (Option (List ℕ)) → Option (Option (List ℕ))
-    → Option (List ℕ) → Option (List ℕ) → RunFault → Type 0
-BehindPart R s text log0 log1 written0 written1 fault =
-    ((fault ≡ Write) × StopsInText text log0 log1 written0 written1)
-    ⊎ StopsBehind R s text log0 log1 written0 written1 fault
+-- The lines of the start and the lines of the log were not written whole, with this fault.
+abbrev pub BehindPart : VerifyFn → State → List SignatureToVerify → Option (Option (List ℕ))
+    → Option (Option (List ℕ)) → Option (List ℕ) → Option (List ℕ) → RunFault → Type 0
+BehindPart R s wanted log0 log1 written0 written1 fault =
+    StopsInStart R wanted log0 log1 written0 written1 fault
+    ⊎ StopsBehind R s wanted log0 log1 written0 written1 fault
 
 -- A follower starts from a GroupInfo and a tree, and all needed signatures are reported.
 pub record StartsSignatures (R : VerifyFn) (info : GroupInfo) (handed : Option RatchetTree)
@@ -97,7 +126,7 @@ pub record StartsSignatures (R : VerifyFn) (info : GroupInfo) (handed : Option R
   pub state : State
   pub wanted : List SignatureToVerify
   pub starts : StartHasSignatures info handed state wanted
-  pub behind : TellsBehind R state (wanted_lines R wanted) log0 log1 written0 written1 verdict
+  pub behind : TellsBehind R state wanted log0 log1 written0 written1 verdict
 
 -- No follower starts, and one line says why.
 pub record RefusesSignatures (info : GroupInfo) (handed : Option RatchetTree)
@@ -123,7 +152,7 @@ pub record StartsPart (R : VerifyFn) (info : GroupInfo) (handed : Option Ratchet
   pub state : State
   pub wanted : List SignatureToVerify
   pub starts : StartHasSignatures info handed state wanted
-  pub behind : BehindPart R state (wanted_lines R wanted) log0 log1 written0 written1 fault
+  pub behind : BehindPart R state wanted log0 log1 written0 written1 fault
 
 pub record RefusesPart (info : GroupInfo) (handed : Option RatchetTree)
     (log0 log1 : Option (Option (List ℕ))) (written0 written1 : Option (List ℕ)) : Type 0 where

@@ -29,6 +29,12 @@ pub record IsUnread (info_bytes : List ℕ) (tree_bytes : Option (List ℕ)) (fi
   pub found : (G : VerifyFn) → IsStartFinding G info_bytes tree_bytes finding
   pub verdict : finding_verdict finding ≡ No
 
+-- `DeclinesStart G info_bytes tree_bytes finding`: no follower starts from the bytes, for this finding.
+pub record DeclinesStart (G : VerifyFn) (info_bytes : List ℕ) (tree_bytes : Option (List ℕ)) (finding : Finding)
+    : Type 0 where
+  pub found : IsStartFinding G info_bytes tree_bytes finding
+  pub verdict : finding_verdict finding ≡ No
+
 -- `RefusesStart fault written0 written1 verdict`: the line of a start that failed with this fault was written.
 pub record RefusesStart (fault : StartFault) (written0 written1 : Option (List ℕ)) (verdict : Verdict)
     : Type 0 where

@@ -1,14 +1,16 @@
 -- A report is a function of the bytes of its inputs and of the checker's verification function G. Used by contracts.
-use Rattle.std.specs.Prelude.{List, ℕ, ◌++◌, Bool, Option, Some, option_map, ◌≡◌, ◌⊎◌}
+use Rattle.std.specs.Prelude.{List, ℕ, ◌++◌, Bool, true, Option, Some, option_map, ◌≡◌, ◌⊎◌}
 use Rattle.mls_check.specs.Signatures.{VerifyFn}
 use Rattle.mls_follow.specs.State.{State}
+use Rattle.mls_follow.specs.StoredRuns.{is_unreadable}
 use Rattle.mls_report.specs.Finding.{finding_line}
-use Rattle.mls_report.specs.Replay.{ProcessedMessage, Follows, IsLogEnd, Replays, still_to_come}
+use Rattle.mls_report.specs.Replay.{ProcessedMessage, Follows, IsLogEnd, Replays, ReplaysState, still_to_come}
 use Rattle.mls_report.specs.SignaturesReport.{HasSignatures, Signatures}
 use Rattle.mls_report.specs.StartInputs.{IsStarted, IsStartFinding}
+use Rattle.mls_report.specs.StateInputs.{IsStateFinding}
 use Rattle.mls_report.specs.ValidateTree.{IsTreeFinding}
 use Rattle.mls_report.specs.declared.finding.Finding.{Finding}
-use Rattle.mls_report.specs.declared.finding.Finding.TheVariants.{ContextUnreadable, InfoUnreadable, TreeUnreadable}
+use Rattle.mls_report.specs.declared.finding.Finding.TheVariants.{ContextUnreadable, InfoUnreadable, TreeUnreadable, StateRefused}
 use Rattle.mls_report.specs.declared.verdict.Verdict.{Verdict}
 use Rattle.mls_signatures.specs.declared.signature_to_verify.SignatureToVerify.{SignatureToVerify}
 
@@ -19,6 +21,8 @@ abbrev pub AreAlike : Finding → Finding → Type 0
 AreAlike (ContextUnreadable fault) (ContextUnreadable other) = Unit {0}
 AreAlike (InfoUnreadable fault) (InfoUnreadable other) = Unit {0}
 AreAlike (TreeUnreadable fault) (TreeUnreadable other) = Unit {0}
+AreAlike (StateRefused fault) (StateRefused other) =
+    (fault ≡ other) ⊎ ((is_unreadable fault ≡ true) × (is_unreadable other ≡ true))
 AreAlike finding other = finding ≡ other
 
 -- Of the bytes of a context and of a tree one thing is found.
@@ -34,6 +38,12 @@ StartFindingIsUnique =
     (G : VerifyFn) (info_bytes : List ℕ) (tree_bytes : Option (List ℕ)) (finding other : Finding)
     → IsStartFinding G info_bytes tree_bytes finding
     → IsStartFinding G info_bytes tree_bytes other → AreAlike finding other
+
+-- Of the bytes of a state's file one thing is found.
+abbrev pub StateFindingIsUnique : Type 0
+StateFindingIsUnique =
+    (G : VerifyFn) (bytes : List ℕ) (finding other : Finding) → IsStateFinding G bytes finding
+    → IsStateFinding G bytes other → AreAlike finding other
 
 -- From the bytes of a GroupInfo, and of a tree if one is passed, a follower starts in one state.
 abbrev pub StartIsUnique : Type 0
@@ -83,6 +93,23 @@ ReplayIsUnique =
     → IsReplayReport G info_bytes tree_bytes log_bytes other more
     → AreAlikeTexts text other × (verdict ≡ more)
 
+-- `IsStateReplayReport G state_bytes log_bytes text verdict`: a replay from the file of a state over these bytes has
+-- written this text, and has this verdict.
+pub record IsStateReplayReport (G : VerifyFn) (state_bytes log_bytes text : List ℕ) (verdict : Verdict) : Type 0 where
+  pub state_left : Option (List ℕ)
+  pub log_left : Option (List ℕ)
+  pub before : List ℕ
+  pub replays : ReplaysState G (Some state_bytes) state_left (Some log_bytes) log_left (Some before)
+      (Some (before ++ text)) verdict
+
+-- The bytes of a state's file and of a log determine what a replay writes, and its verdict.
+abbrev pub StateReplayIsUnique : Type 0
+StateReplayIsUnique =
+    (G : VerifyFn) (state_bytes log_bytes text other : List ℕ) (verdict more : Verdict)
+    → IsStateReplayReport G state_bytes log_bytes text verdict
+    → IsStateReplayReport G state_bytes log_bytes other more
+    → AreAlikeTexts text other × (verdict ≡ more)
+
 -- ---- the signatures to verify
 
 -- The bytes of a message and the state before it determine its signatures, or that the bytes are no message.
@@ -103,7 +130,7 @@ pub record IsSignaturesReport (R : VerifyFn) (info_bytes : List ℕ) (tree_bytes
   pub signatures : Signatures R (Some info_bytes) info_left (option_map Some tree_bytes) tree_left
       (option_map Some log_bytes) log_left (Some before) (Some (before ++ text)) verdict
 
--- The bytes of its inputs and the meaning of the receipts determine what `signatures` writes, and its verdict.
+-- The bytes of its inputs and the verification function of the receipts determine what `signatures` writes, and its verdict.
 abbrev pub SignaturesAreUnique : Type 0
 SignaturesAreUnique =
     (R : VerifyFn) (info_bytes : List ℕ) (tree_bytes log_bytes : Option (List ℕ)) (text other : List ℕ)

@@ -5,6 +5,7 @@ use Rattle.std.specs.Prelude.{List, ℕ, Option, All}
 use Rattle.mls_check.specs.Signatures.{VerifyFn}
 use Rattle.mls_follow.specs.State.{State}
 use Rattle.mls_follow.specs.Validity.{IsValidState}
+use Rattle.mls_follow.specs.Resumption.{IsResumed}
 use Rattle.mls_report.specs.Replay.{ProcessedMessage, Follows}
 use Rattle.mls_report.specs.StartInputs.{IsStarted}
 
@@ -21,3 +22,11 @@ ReportedEpochsAreValid =
     (log0 log1 : Option (List ℕ)) (turns : List ProcessedMessage) (rest : List ℕ)
     → IsStarted G info_bytes tree_bytes s → Follows G s log0 log1 turns rest
     → All (λ turn. IsValidState G turn.state) turns
+
+-- A follower that resumes from the bytes of a state's file resumes in a valid state. So is the state after each message
+-- of the log whose line was written.
+abbrev pub ResumedEpochsAreValid : Type 0
+ResumedEpochsAreValid =
+    (G : VerifyFn) (bytes : List ℕ) (s : State) (log0 log1 : Option (List ℕ)) (turns : List ProcessedMessage)
+    (rest : List ℕ) → IsResumed G bytes s → Follows G s log0 log1 turns rest
+    → IsValidState G s × All (λ turn. IsValidState G turn.state) turns

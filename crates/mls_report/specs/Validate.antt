@@ -1,8 +1,10 @@
--- The report `validate`: one line, the first that applies. Used by contracts.
+-- The report `validate`: one line, the first that applies. From a stored state likewise. Used by contracts.
 use Rattle.std.specs.Prelude.{List, ℕ, Option}
 use Rattle.mls_check.specs.Signatures.{VerifyFn}
 use Rattle.mls_report.specs.Finding.{TellsFinding, TellsFindingPart}
+use Rattle.mls_report.specs.ReadAll.{ReadsAll}
 use Rattle.mls_report.specs.StartInputs.{IsStartFinding, ReadsBoth}
+use Rattle.mls_report.specs.StateInputs.{IsStateFinding}
 use Rattle.mls_report.specs.declared.finding.Finding.{Finding}
 use Rattle.mls_report.specs.declared.verdict.Verdict.{Verdict}
 
@@ -26,3 +28,20 @@ Validates G info0 info1 tree0 tree1 = TellsFinding (IsFoundOfStart G info0 info1
 abbrev pub ValidatesPart : VerifyFn → Option (List ℕ) → Option (List ℕ) → Option (Option (List ℕ))
     → Option (Option (List ℕ)) → Option (List ℕ) → Option (List ℕ) → Type 0
 ValidatesPart G info0 info1 tree0 tree1 = TellsFindingPart (IsFoundOfStart G info0 info1 tree0 tree1)
+
+-- `IsFoundOfState G state0 state1 finding`: the file of a state was read to its end, and this is found of its bytes.
+pub record IsFoundOfState (G : VerifyFn) (state0 state1 : Option (List ℕ)) (finding : Finding) : Type 0 where
+  pub bytes : List ℕ
+  pub read : ReadsAll state0 state1 bytes
+  pub found : IsStateFinding G bytes finding
+
+-- `ValidatesState G state0 state1 written0 written1 verdict`: the file of a state was read to its end, and the line of
+-- what is found was written whole.
+abbrev pub ValidatesState : VerifyFn → Option (List ℕ) → Option (List ℕ) → Option (List ℕ) → Option (List ℕ) → Verdict
+    → Type 0
+ValidatesState G state0 state1 = TellsFinding (IsFoundOfState G state0 state1)
+
+-- `ValidatesStatePart G state0 state1 written0 written1`: nothing was written, or a prefix of the report of a file that
+-- had ended.
+abbrev pub ValidatesStatePart : VerifyFn → Option (List ℕ) → Option (List ℕ) → Option (List ℕ) → Option (List ℕ) → Type 0
+ValidatesStatePart G state0 state1 = TellsFindingPart (IsFoundOfState G state0 state1)

@@ -4,7 +4,7 @@ ghost use Rattle.std.specs.Prelude.{◌≡◌, ◌++◌, codes, IfOk, string_byt
 ghost use Rattle.mls_report.specs.FaultText as texts;
 
 use mls_check::{MemberFault, TreeFault};
-use mls_follow::StartFault;
+use mls_follow::{ResumeFault, StartFault};
 use mls_nodes::NodeFault;
 use mls_wire::{WireFault, WireFaultKind};
 use std::alloc::{AllocError, Global};
@@ -129,5 +129,55 @@ pub fn start_fault_text(alloc: Global, fault: StartFault) -> Result<String, Allo
         StartFault::SignerNotMember => String::from_str(alloc, "7 SignerNotMember"),
         StartFault::InfoSignature => String::from_str(alloc, "8 InfoSignature"),
         StartFault::OutOfMemory => String::from_str(alloc, "OutOfMemory"),
+    }
+}
+
+/// Returns why the file of a state is not readable.
+fn unreadable_state_text(alloc: Global, fault: NodeFault) -> Result<String, AllocError>
+    ensures { IfOk result
+        (λ text. string_bytes text ≡ codes "unreadable " ++ texts.node_fault_text fault) }
+{
+    let fault = node_fault_text(alloc, fault)?;
+    format!(in alloc; "unreadable {fault}")
+}
+
+/// Returns why no follower resumes, if the tree is the cause.
+fn resumed_tree_text(alloc: Global, fault: TreeFault) -> Result<String, AllocError>
+    ensures { IfOk result
+        (λ text. string_bytes text ≡ codes "refused 6 Tree " ++ texts.tree_fault_text fault) }
+{
+    let fault = tree_fault_text(alloc, fault)?;
+    format!(in alloc; "refused 6 Tree {fault}")
+}
+
+/// Returns why no follower resumes, if the members are the cause.
+fn resumed_member_text(alloc: Global, fault: MemberFault) -> Result<String, AllocError>
+    ensures { IfOk result
+        (λ text. string_bytes text ≡ codes "refused 7 Member " ++ texts.member_fault_text fault) }
+{
+    let fault = member_fault_text(alloc, fault)?;
+    format!(in alloc; "refused 7 Member {fault}")
+}
+
+/// Returns why no follower resumes from the file of a state: `unreadable` and the fault, or `refused`, number and name,
+/// and those of a fault of the tree or of the members, or the number of the pending proposal.
+pub fn resume_fault_text(alloc: Global, fault: ResumeFault) -> Result<String, AllocError>
+    ensures { IfOk result (λ text. string_bytes text ≡ texts.resume_fault_text fault) }
+{
+    match fault {
+        ResumeFault::Unreadable(fault) => unreadable_state_text(alloc, fault),
+        ResumeFault::ChecksumDiffers => String::from_str(alloc, "refused 2 ChecksumDiffers"),
+        ResumeFault::UnsupportedVersion => {
+            String::from_str(alloc, "refused 3 UnsupportedVersion")
+        }
+        ResumeFault::UnsupportedSuite => String::from_str(alloc, "refused 4 UnsupportedSuite"),
+        ResumeFault::RequirementsUnreadable => {
+            String::from_str(alloc, "refused 5 RequirementsUnreadable")
+        }
+        ResumeFault::Tree(fault) => resumed_tree_text(alloc, fault),
+        ResumeFault::Member(fault) => resumed_member_text(alloc, fault),
+        ResumeFault::InterimLength => String::from_str(alloc, "refused 8 InterimLength"),
+        ResumeFault::KnownInvalid(n) => format!(in alloc; "refused 9 KnownInvalid {n}"),
+        ResumeFault::OutOfMemory => String::from_str(alloc, "OutOfMemory"),
     }
 }

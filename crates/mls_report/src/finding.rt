@@ -6,19 +6,20 @@ ghost use Rattle.mls_wire.specs.Devices.{AppendsPrefix};
 ghost use Rattle.mls_report.specs.Finding as findings;
 
 use crate::fault_text::{
-    member_fault_text, node_fault_text, start_fault_text, tree_fault_text, wire_fault_text,
+    member_fault_text, node_fault_text, resume_fault_text, start_fault_text, tree_fault_text,
+    wire_fault_text,
 };
 use crate::value_text::hex_of;
 use crate::verdict::{RunFault, Verdict};
 use crate::write::write_text;
 use mls_check::{MemberFault, TreeFault};
-use mls_follow::StartFault;
+use mls_follow::{ResumeFault, StartFault};
 use mls_nodes::{GroupContext, NodeFault};
 use mls_tree::HashValue;
 use mls_wire::{Sink, WireFault};
 use std::alloc::{AllocError, Global};
 
-/// What is reported of a follower that can start.
+/// What is reported of a follower that can start or resumes.
 #[derive(Clone, Copy)]
 pub struct Started {
     /// The group's epoch.
@@ -52,9 +53,11 @@ pub enum Finding {
     MembersRefused(MemberFault),
     /// No follower can start.
     StartRefused(StartFault),
+    /// No follower resumes from the file of a state.
+    StateRefused(ResumeFault),
     /// The tree, which has this hash, and the members are valid.
     TreeValid(HashValue),
-    /// A follower can start.
+    /// A follower can start, or resumes.
     Starts(Started),
 }
 
@@ -85,7 +88,7 @@ fn started_text(alloc: Global, started: &Started) -> Result<String, AllocError>
 }
 
 impl Finding {
-    /// Returns the verdict: `Yes` for a valid tree and for a follower that can start.
+    /// Returns the verdict: `Yes` for a valid tree, and for a follower that can start or resumes.
     pub fn verdict(&self) -> Verdict
         ensures { result ≡ findings.finding_verdict self.now }
     {
@@ -127,6 +130,9 @@ impl Finding {
             }
             Finding::StartRefused(fault) => {
                 with_detail(alloc, "start refused", start_fault_text(alloc, *fault)?)
+            }
+            Finding::StateRefused(fault) => {
+                with_detail(alloc, "state", resume_fault_text(alloc, *fault)?)
             }
             Finding::TreeValid(hash) => with_detail(
                 alloc,

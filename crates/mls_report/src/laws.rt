@@ -1,9 +1,10 @@
 //! Properties of the reports' definitions. No caller needs to run these functions.
 
 ghost use Rattle.mls_report.specs.CoveredReports.{CoveredReportsReplay};
-ghost use Rattle.mls_report.specs.UniqueReports.{TreeFindingIsUnique, StartFindingIsUnique, StartIsUnique, LogIsUnique, ReplayIsUnique, MessageSignaturesAreUnique, SignaturesAreUnique};
-ghost use Rattle.mls_report.specs.ReportsExist.{TreeFindingExists, StartFindingExists, ReplayExists, SignaturesExist};
-ghost use Rattle.mls_report.specs.ValidEpochs.{StartedEpochsAreValid, ReportedEpochsAreValid};
+ghost use Rattle.mls_report.specs.UniqueReports.{TreeFindingIsUnique, StartFindingIsUnique, StartIsUnique, StateFindingIsUnique, LogIsUnique, ReplayIsUnique, StateReplayIsUnique, MessageSignaturesAreUnique, SignaturesAreUnique};
+ghost use Rattle.mls_report.specs.ReportsExist.{TreeFindingExists, StartFindingExists, StateFindingExists, ReplayExists, StateReplayExists, SignaturesExist};
+ghost use Rattle.mls_report.specs.SavedStates.{SavedStatesResume, LaterMessagesFollow};
+ghost use Rattle.mls_report.specs.ValidEpochs.{StartedEpochsAreValid, ReportedEpochsAreValid, ResumedEpochsAreValid};
 
 /// Findings are determined by the bytes of the inputs and the meaning of the signature check, except for which fault is
 /// named of an undecodable input. So is the state in which a follower starts.
@@ -11,6 +12,7 @@ pub fn findings_are_determined()
     ensures tree { TreeFindingIsUnique }
     ensures start { StartFindingIsUnique }
     ensures state { StartIsUnique }
+    ensures stored { StateFindingIsUnique }
 {}
 
 /// A replay is determined by the bytes of its inputs and the meaning of the signature check, however the bytes are
@@ -19,6 +21,7 @@ pub fn findings_are_determined()
 pub fn replays_are_determined()
     ensures log { LogIsUnique }
     ensures report { ReplayIsUnique }
+    ensures stored { StateReplayIsUnique }
 {}
 
 /// The report `signatures` is determined by the bytes of its inputs and the meaning of the receipts, however the bytes
@@ -34,15 +37,18 @@ pub fn signatures_are_determined()
 pub fn reports_exist()
     ensures tree { TreeFindingExists }
     ensures start { StartFindingExists }
+    ensures stored { StateFindingExists }
     ensures replay { ReplayExists }
+    ensures stored_replay { StateReplayExists }
     ensures signatures { SignaturesExist }
 {}
 
 /// Each epoch that `validate` or `replay` reports has a tree that is valid by the GroupContext's tree hash, and valid
-/// members by its required capabilities, though the tree is validated only at the start.
+/// members by its required capabilities, though the tree is validated only where a follower starts or resumes.
 pub fn reported_epochs_are_valid()
     ensures started { StartedEpochsAreValid }
     ensures told { ReportedEpochsAreValid }
+    ensures resumed { ResumedEpochsAreValid }
 {}
 
 /// Suppose a check accepts every signature that `signatures` lists of the start and of the messages of a log. Then a
@@ -50,4 +56,11 @@ pub fn reported_epochs_are_valid()
 /// answers and states.
 pub fn covered_reports_replay()
     ensures { CoveredReportsReplay }
+{}
+
+/// From the file of the state after a log a follower resumes in this state. It processes the messages after this log with
+/// the same results and the same states as the follower that goes on.
+pub fn saved_states_resume()
+    ensures resume { SavedStatesResume }
+    ensures later { LaterMessagesFollow }
 {}

@@ -55,7 +55,7 @@ fn psk_text(alloc: Global, kind: &PskKind) -> Result<String, AllocError>
     }
 }
 
-/// Returns what a ReInit proposal asks for.
+/// Returns the text of a ReInit proposal: the group id and the cipher suite of the new group.
 fn reinit_text(alloc: Global, reinit: &ReInit) -> Result<String, AllocError>
     ensures { IfOk result (λ text. string_bytes text ≡ lines.proposal_text (Proposal.ReInit reinit.now)) }
 {

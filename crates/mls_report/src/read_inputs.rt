@@ -2,13 +2,15 @@
 
 ghost use Rattle.std.specs.Prelude.{◌≡◌, ◌≢◌, ◌↔◌, ◌⊎◌, List, ℕ, Option, false, true, Err, IfOk, IfErr, option_map};
 ghost use Rattle.mls_tree.specs.PublicTreeModel.{plain};
-ghost use Rattle.mls_report.specs.StartInputs.{IsInfo, IsHanded, IsHandedUnread, IsReadAs, ReadsBoth, ReadsHanded, has_failed};
-ghost use Rattle.mls_report.specs.StartSteps.{Says, IsUnread, RefusesStart, RefusesStartPart};
+ghost use Rattle.mls_follow.specs.FollowerModel.{checker_of, state_of};
+ghost use Rattle.mls_report.specs.StartInputs.{IsInfo, IsHanded, IsHandedUnread, IsReadAs, IsStarted, ReadsBoth, ReadsHanded, has_failed};
+ghost use Rattle.mls_report.specs.StartSteps.{Says, IsUnread, DeclinesStart, RefusesStart, RefusesStartPart};
 
 use crate::finding::{Finding, tell};
 use crate::read_to_end::read_all;
 use crate::verdict::{RunFault, Verdict};
-use mls_follow::StartFault;
+use mls_check::SignatureCheck;
+use mls_follow::{Follower, StartFault};
 use mls_msgs::{GroupInfo, Message, decode_message};
 use mls_nodes::NodeFault;
 use mls_tree::PublicTree;
@@ -169,6 +171,64 @@ pub fn read_inputs(
         (Says (IsUnread info_bytes.items (option_map (λ v. v.items) tree_bytes))) }
 {
     decode_inputs(alloc, info_bytes.as_slice(), &tree_bytes)
+}
+
+/// Returns why no follower has started.
+fn start_failure(fault: StartFault) -> StartFailure
+    ensures { Says (λ finding. (fault ≢ StartFault.OutOfMemory)
+        × (finding ≡ Finding.StartRefused fault)) result }
+{
+    match fault {
+        StartFault::OutOfMemory => StartFailure::Fault(RunFault::Memory),
+        _ => StartFailure::Found(Finding::StartRefused(fault)),
+    }
+}
+
+/// Starts a follower from the decoded inputs.
+fn start_decoded<C: SignatureCheck>(
+    alloc: Global,
+    inputs: Inputs,
+    checker: C,
+) -> Result<Follower<C>, StartFailure>
+    ensures started { (info_bytes : List ℕ) (tree_bytes : Option (List ℕ))
+        → IsReadAs info_bytes tree_bytes inputs.info (option_map plain inputs.tree)
+        → IfOk result (λ f. IsStarted (C.meaning checker) info_bytes tree_bytes (state_of f)) }
+    ensures checker { IfOk result (λ f. C.meaning (checker_of f) ≡ C.meaning checker) }
+    ensures refused { (info_bytes : List ℕ) (tree_bytes : Option (List ℕ))
+        → IsReadAs info_bytes tree_bytes inputs.info (option_map plain inputs.tree)
+        → IfErr result (Says (DeclinesStart (C.meaning checker) info_bytes tree_bytes)) }
+{
+    match Follower::start(alloc, inputs.info, inputs.tree, checker) {
+        Ok(follower) => Ok(follower),
+        Err(refused) => {
+            let fault = refused.fault;
+            drop(refused);
+            Err(start_failure(fault))
+        }
+    }
+}
+
+/// Starts a follower from the bytes of a GroupInfo, and of a tree if there is a file of it.
+///
+/// # Errors
+///
+/// - `Found` if none starts: an input is not decodable, or the first condition of [`Follower::start`] that fails.
+/// - `Fault` of `Memory`.
+pub fn start_from<C: SignatureCheck>(
+    alloc: Global,
+    bytes: InputBytes,
+    checker: C,
+) -> Result<Follower<C>, StartFailure>
+    ensures started { IfOk result (λ f. IsStarted (C.meaning checker) bytes.info.items
+        (option_map (λ v. v.items) bytes.tree) (state_of f)) }
+    ensures checker { IfOk result (λ f. C.meaning (checker_of f) ≡ C.meaning checker) }
+    ensures refused { IfErr result (Says (DeclinesStart (C.meaning checker) bytes.info.items
+        (option_map (λ v. v.items) bytes.tree))) }
+{
+    match read_inputs(alloc, bytes.info, bytes.tree) {
+        Ok(inputs) => start_decoded(alloc, inputs, checker),
+        Err(failure) => Err(failure),
+    }
 }
 
 /// Returns the finding for a start that failed.

@@ -8,7 +8,7 @@ use crate::verdict::RunFault;
 use mls_wire::{DeviceFault, MAX_INPUT, Source};
 use std::alloc::Global;
 
-/// The most bytes that a source is asked for at once.
+/// The most bytes that one call reads of a source.
 const PIECE: usize = 8192;
 
 /// Reads one piece from the source.
@@ -32,7 +32,7 @@ fn pull_piece<S: Source>(source: &mut S, piece: &mut [u8]) -> Result<usize, RunF
 ///
 /// # Errors
 ///
-/// `Read` if the source fails, `Memory` if the bytes can't be stored. What was read from the source stays read.
+/// `Read` if the source fails, `Memory` if the bytes can't be stored. The source is then after the bytes that were read.
 pub fn read_all<S: Source>(alloc: Global, source: &mut S) -> Result<Vec<u8>, RunFault>
     requires { S.is_failed source.old ≡ false }
     ensures all { IfOk result

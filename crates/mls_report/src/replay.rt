@@ -1,22 +1,24 @@
-//! The report `replay`: what a follower answers to each message of a log.
+//! The report `replay`: what a follower answers to each message of a log. It starts from a GroupInfo, or resumes from
+//! the file of a state.
 
-ghost use Rattle.std.specs.Prelude.{◌≡◌, ◌≢◌, ◌↔◌, ◌⊎◌, ◌+◌, ◌≤◌, false, true, Ok, Err, IfOk, IfErr, OnErr, option_map};
-ghost use Rattle.mls_tree.specs.PublicTreeModel.{plain};
+ghost use Rattle.std.specs.Prelude.{◌≡◌, ◌≢◌, ◌↔◌, ◌⊎◌, ◌+◌, ◌≤◌, false, true, None, Ok, Err, IfOk, IfErr, IfSome, OnErr, option_map};
 ghost use Rattle.mls_wire.specs.Logs.{ReadsRecord, ReaderAfter};
+ghost use Rattle.std.specs.Result.{result_map_both};
 ghost use Rattle.mls_follow.specs.FollowerModel.{checker_of, state_of};
 ghost use Rattle.mls_report.specs.StartInputs.{has_failed};
-ghost use Rattle.mls_report.specs.Replay.{message_limit, one_if, IsVerdict, TellsLog, TellsPart, Replays, ReplaysPart};
-ghost use Rattle.mls_report.specs.ReplaySteps.{ReadsUndecided, TellsTurn, StopsAt, FollowsLog, ReplaysStart, ReplaysStartPart};
+ghost use Rattle.mls_report.specs.Replay.{message_limit, one_if, IsVerdict, TellsPart, Replays, ReplaysGroupTo, ReplaysPart, ReplaysState, ReplaysStateTo, ReplaysStatePart};
+ghost use Rattle.mls_report.specs.ReplaySteps.{ReadsUndecided, TellsTurn, StopsAt, FollowsLog, ReplaysLog, ReturnsAfter, WritesDecline, WritesDeclinePart};
+ghost use Rattle.mls_report.specs.StartSteps.{Says};
 
 use crate::finding::tell;
-use crate::read_inputs::{StartFailure, read_inputs, read_inputs_to_end, tell_refused};
+use crate::read_inputs::{StartFailure, read_inputs_to_end, start_from};
+use crate::read_to_end::read_all;
 use crate::replay_text::{last_lines, processed_line};
+use crate::state_input::resume_from;
 use crate::verdict::{RunFault, Verdict};
 use crate::write::write_text;
 use mls_check::SignatureCheck;
 use mls_follow::{Follower, Refusal};
-use mls_msgs::GroupInfo;
-use mls_tree::PublicTree;
 use mls_wire::{LogStep, RecordFault, Records, Sink, Source};
 use std::alloc::Global;
 
@@ -113,6 +115,8 @@ fn follow_log<L: Source, K: Sink, C: SignatureCheck>(
     ensures part { IfErr result
         (TellsPart (C.meaning (checker_of follower.old)) (state_of follower.old)
         (L.left log.old) (L.left log.new) (K.written out.old) (K.written out.new)) }
+    ensures checker { C.meaning (checker_of follower.new)
+        ≡ C.meaning (checker_of follower.old) }
     ensures read { (result ≡ Err RunFault.Read) ↔ (L.is_failed log.new ≡ true) }
     ensures write { (result ≡ Err RunFault.Write) ↔ (K.is_failed out.new ≡ true) }
 {
@@ -154,12 +158,15 @@ fn write_log_report<L: Source, K: Sink, C: SignatureCheck>(
 ) -> Result<Verdict, RunFault>
     requires log { L.is_failed log.old ≡ false }
     requires out { K.is_failed out.old ≡ false }
-    ensures told { IfOk result
-        (TellsLog (C.meaning (checker_of follower.old)) (state_of follower.old)
-        (L.left log.old) (L.left log.new) (K.written out.old) (K.written out.new)) }
+    ensures told { IfOk result (λ verdict.
+        ReplaysLog (C.meaning (checker_of follower.old)) (state_of follower.old)
+        (L.left log.old) (L.left log.new) (K.written out.old) (K.written out.new)
+        verdict (state_of follower.new)) }
     ensures part { IfErr result
         (TellsPart (C.meaning (checker_of follower.old)) (state_of follower.old)
         (L.left log.old) (L.left log.new) (K.written out.old) (K.written out.new)) }
+    ensures checker { C.meaning (checker_of follower.new)
+        ≡ C.meaning (checker_of follower.old) }
     ensures read { (result ≡ Err RunFault.Read) ↔ (L.is_failed log.new ≡ true) }
     ensures write { (result ≡ Err RunFault.Write) ↔ (K.is_failed out.new ≡ true) }
 {
@@ -175,39 +182,86 @@ fn write_log_report<L: Source, K: Sink, C: SignatureCheck>(
     Ok(verdict_of(is_broken, refused))
 }
 
-/// Starts a follower and writes the report of a log.
-fn replay_from<L: Source, K: Sink, C: SignatureCheck>(
+/// A replay whose report was written whole.
+#[derive(Drop)]
+pub struct Replayed<C: SignatureCheck> {
+    /// The verdict.
+    pub verdict: Verdict,
+    /// The follower after the last whole message of the log; `None` if none has started or resumed.
+    pub follower: Option<Follower<C>>,
+}
+
+/// Writes the report of a log, from its first record on, and returns the follower after it.
+fn replay_log<L: Source, K: Sink, C: SignatureCheck>(
     alloc: Global,
-    info: GroupInfo,
-    tree: Option<PublicTree>,
+    follower: Follower<C>,
     log: &mut L,
-    checker: C,
     out: &mut K,
-) -> Result<Verdict, RunFault>
+) -> Result<Replayed<C>, RunFault>
     requires log { L.is_failed log.old ≡ false }
     requires out { K.is_failed out.old ≡ false }
-    ensures told { IfOk result
-        (ReplaysStart (C.meaning checker) info (option_map plain tree)
-        (L.left log.old) (L.left log.new) (K.written out.old) (K.written out.new)) }
+    ensures told { IfOk result (λ r.
+        ReturnsAfter (C.meaning (checker_of follower)) (state_of follower)
+        (L.left log.old) (L.left log.new) (K.written out.old) (K.written out.new)
+        r.verdict (option_map (λ f. state_of f) r.follower)) }
     ensures part { IfErr result
-        (ReplaysStartPart (C.meaning checker) info (option_map plain tree)
+        (TellsPart (C.meaning (checker_of follower)) (state_of follower)
         (L.left log.old) (L.left log.new) (K.written out.old) (K.written out.new)) }
+    ensures checker { IfOk result (λ r. IfSome r.follower
+        (λ f. C.meaning (checker_of f) ≡ C.meaning (checker_of follower))) }
     ensures read { (result ≡ Err RunFault.Read) ↔ (L.is_failed log.new ≡ true) }
     ensures write { (result ≡ Err RunFault.Write) ↔ (K.is_failed out.new ≡ true) }
 {
-    match Follower::start(alloc, info, tree, checker) {
-        Ok(started) => {
-            let mut follower = started;
-            let verdict = write_log_report(alloc, &mut follower, log, out);
+    let mut follower = follower;
+    match write_log_report(alloc, &mut follower, log, out) {
+        Ok(verdict) => Ok(Replayed {
+            verdict,
+            follower: Some(follower),
+        }),
+        Err(fault) => {
             drop(follower);
-            verdict
-        }
-        Err(refused) => {
-            let fault = refused.fault;
-            drop(refused);
-            tell_refused(alloc, fault, out)
+            Err(fault)
         }
     }
+}
+
+/// Writes why no follower has started.
+fn decline<K: Sink>(alloc: Global, failure: StartFailure, out: &mut K) -> Result<Verdict, RunFault>
+    requires own { Says (λ finding. Unit {0}) failure }
+    requires out { K.is_failed out.old ≡ false }
+    ensures told { IfOk result (WritesDecline failure (K.written out.old) (K.written out.new)) }
+    ensures part { IfErr result
+        (WritesDeclinePart failure (K.written out.old) (K.written out.new)) }
+    ensures fault { IfErr result (λ e. e ≢ RunFault.Read) }
+    ensures write { (result ≡ Err RunFault.Write) ↔ (K.is_failed out.new ≡ true) }
+{
+    match failure {
+        StartFailure::Found(finding) => tell(alloc, &finding, out),
+        StartFailure::Fault(fault) => Err(fault),
+    }
+}
+
+/// Writes why no follower has started, and returns the verdict without a follower.
+fn replay_nothing<K: Sink, C: SignatureCheck>(
+    alloc: Global,
+    failure: StartFailure,
+    out: &mut K,
+) -> Result<Replayed<C>, RunFault>
+    requires own { Says (λ finding. Unit {0}) failure }
+    requires out { K.is_failed out.old ≡ false }
+    ensures told { IfOk result (λ r.
+        WritesDecline failure (K.written out.old) (K.written out.new) r.verdict) }
+    ensures none { IfOk result (λ r. r.follower ≡ None) }
+    ensures part { IfErr result
+        (WritesDeclinePart failure (K.written out.old) (K.written out.new)) }
+    ensures fault { IfErr result (λ e. e ≢ RunFault.Read) }
+    ensures write { (result ≡ Err RunFault.Write) ↔ (K.is_failed out.new ≡ true) }
+{
+    let verdict = decline(alloc, failure, out)?;
+    Ok(Replayed {
+        verdict,
+        follower: None,
+    })
 }
 
 /// Reads the GroupInfo to its end, then the tree if there is a file of it, and starts a follower. If none starts, it
@@ -222,13 +276,103 @@ fn replay_from<L: Source, K: Sink, C: SignatureCheck>(
 /// - no complete record: the log is broken.
 ///
 /// The last lines are the numbers of accepted, refused and broken messages, and the epoch. The verdict is `Yes` if no
-/// message was refused or broken.
+/// message was refused or broken. The follower that is returned has processed each whole message.
 ///
 /// # Errors
 ///
 /// - `Read` if an input fails: exactly the messages that were read whole have their lines.
 /// - `Write` if the output fails: nothing was read after the message in whose line it failed.
 /// - `Memory`: each message that was read has its line, except the one at which memory ran out.
+pub fn replay_group<I: Source, T: Source, L: Source, K: Sink, C: SignatureCheck>(
+    alloc: Global,
+    info: &mut I,
+    tree: &mut Option<T>,
+    log: &mut L,
+    checker: C,
+    out: &mut K,
+) -> Result<Replayed<C>, RunFault>
+    requires info { I.is_failed info.old ≡ false }
+    requires tree { has_failed (option_map T.is_failed tree.old) ≡ false }
+    requires log { L.is_failed log.old ≡ false }
+    requires out { K.is_failed out.old ≡ false }
+    ensures replayed { IfOk result (λ r.
+        ReplaysGroupTo (C.meaning checker) (I.left info.old) (I.left info.new)
+        (option_map T.left tree.old) (option_map T.left tree.new)
+        (L.left log.old) (L.left log.new) (K.written out.old) (K.written out.new)
+        r.verdict (option_map (λ f. state_of f) r.follower)) }
+    ensures checker { IfOk result (λ r. IfSome r.follower
+        (λ f. C.meaning (checker_of f) ≡ C.meaning checker)) }
+    ensures part { IfErr result
+        (ReplaysPart (C.meaning checker) (I.left info.old) (I.left info.new)
+        (option_map T.left tree.old) (option_map T.left tree.new)
+        (L.left log.old) (L.left log.new) (K.written out.old) (K.written out.new)) }
+    ensures read { (result ≡ Err RunFault.Read)
+        ↔ ((I.is_failed info.new ≡ true)
+        ⊎ ((has_failed (option_map T.is_failed tree.new) ≡ true)
+        ⊎ (L.is_failed log.new ≡ true))) }
+    ensures write { (result ≡ Err RunFault.Write) ↔ (K.is_failed out.new ≡ true) }
+{
+    let bytes = read_inputs_to_end(alloc, info, tree)?;
+    match start_from(alloc, bytes, checker) {
+        Ok(follower) => replay_log(alloc, follower, log, out),
+        Err(failure) => replay_nothing(alloc, failure, out),
+    }
+}
+
+/// Reads the file of a state to its end, and resumes a follower. If none resumes, it writes the line of
+/// [`run_validate_state`](crate::run_validate_state); the verdict is `No` and the log is not read. Otherwise it reads
+/// the log and writes the report of [`replay_group`]. Message 1 is the first one of this log.
+///
+/// # Errors
+///
+/// Those of [`replay_group`].
+pub fn replay_state<S: Source, L: Source, K: Sink, C: SignatureCheck>(
+    alloc: Global,
+    state: &mut S,
+    log: &mut L,
+    checker: C,
+    out: &mut K,
+) -> Result<Replayed<C>, RunFault>
+    requires state { S.is_failed state.old ≡ false }
+    requires log { L.is_failed log.old ≡ false }
+    requires out { K.is_failed out.old ≡ false }
+    ensures replayed { IfOk result (λ r.
+        ReplaysStateTo (C.meaning checker) (S.left state.old) (S.left state.new)
+        (L.left log.old) (L.left log.new) (K.written out.old) (K.written out.new)
+        r.verdict (option_map (λ f. state_of f) r.follower)) }
+    ensures checker { IfOk result (λ r. IfSome r.follower
+        (λ f. C.meaning (checker_of f) ≡ C.meaning checker)) }
+    ensures part { IfErr result
+        (ReplaysStatePart (C.meaning checker) (S.left state.old) (S.left state.new)
+        (L.left log.old) (L.left log.new) (K.written out.old) (K.written out.new)) }
+    ensures read { (result ≡ Err RunFault.Read)
+        ↔ ((S.is_failed state.new ≡ true) ⊎ (L.is_failed log.new ≡ true)) }
+    ensures write { (result ≡ Err RunFault.Write) ↔ (K.is_failed out.new ≡ true) }
+{
+    let bytes = read_all(alloc, state)?;
+    match resume_from(alloc, bytes.as_slice(), checker) {
+        Ok(follower) => replay_log(alloc, follower, log, out),
+        Err(failure) => replay_nothing(alloc, failure, out),
+    }
+}
+
+/// Returns the verdict of a replay.
+fn verdict_in<C: SignatureCheck>(
+    replayed: Result<Replayed<C>, RunFault>,
+) -> Result<Verdict, RunFault>
+    ensures { result ≡ result_map_both (λ r. r.verdict) (λ e. e) replayed }
+{
+    match replayed {
+        Ok(replayed) => Ok(replayed.verdict),
+        Err(fault) => Err(fault),
+    }
+}
+
+/// Writes the report of [`replay_group`].
+///
+/// # Errors
+///
+/// Those of [`replay_group`].
 pub fn run_replay<I: Source, T: Source, L: Source, K: Sink, C: SignatureCheck>(
     alloc: Global,
     info: &mut I,
@@ -255,10 +399,33 @@ pub fn run_replay<I: Source, T: Source, L: Source, K: Sink, C: SignatureCheck>(
         ⊎ (L.is_failed log.new ≡ true))) }
     ensures write { (result ≡ Err RunFault.Write) ↔ (K.is_failed out.new ≡ true) }
 {
-    let bytes = read_inputs_to_end(alloc, info, tree)?;
-    match read_inputs(alloc, bytes.info, bytes.tree) {
-        Ok(inputs) => replay_from(alloc, inputs.info, inputs.tree, log, checker, out),
-        Err(StartFailure::Found(finding)) => tell(alloc, &finding, out),
-        Err(StartFailure::Fault(fault)) => Err(fault),
-    }
+    verdict_in(replay_group(alloc, info, tree, log, checker, out))
+}
+
+/// Writes the report of [`replay_state`].
+///
+/// # Errors
+///
+/// Those of [`replay_group`].
+pub fn run_replay_state<S: Source, L: Source, K: Sink, C: SignatureCheck>(
+    alloc: Global,
+    state: &mut S,
+    log: &mut L,
+    checker: C,
+    out: &mut K,
+) -> Result<Verdict, RunFault>
+    requires state { S.is_failed state.old ≡ false }
+    requires log { L.is_failed log.old ≡ false }
+    requires out { K.is_failed out.old ≡ false }
+    ensures replayed { IfOk result
+        (ReplaysState (C.meaning checker) (S.left state.old) (S.left state.new)
+        (L.left log.old) (L.left log.new) (K.written out.old) (K.written out.new)) }
+    ensures part { IfErr result
+        (ReplaysStatePart (C.meaning checker) (S.left state.old) (S.left state.new)
+        (L.left log.old) (L.left log.new) (K.written out.old) (K.written out.new)) }
+    ensures read { (result ≡ Err RunFault.Read)
+        ↔ ((S.is_failed state.new ≡ true) ⊎ (L.is_failed log.new ≡ true)) }
+    ensures write { (result ≡ Err RunFault.Write) ↔ (K.is_failed out.new ≡ true) }
+{
+    verdict_in(replay_state(alloc, state, log, checker, out))
 }

@@ -60,7 +60,7 @@ fn commit_text(alloc: Global, epoch: u64, context: &GroupContext) -> Result<Stri
     format!(in alloc; " accepted commit {epoch} {tree_hash} {confirmed}")
 }
 
-/// Returns the answer to a message without its number, as ` refused 1`: from the space behind the number to before the
+/// Returns the answer to a message without its number, as ` refused 1`: from the space after the number to before the
 /// line feed. `follower` has processed the message.
 pub fn answer_text<C: SignatureCheck>(
     alloc: Global,

@@ -1,72 +1,74 @@
-//! The report `validate`: whether a follower can start from a GroupInfo, and its state.
+//! The report `validate`: whether a follower can start from a GroupInfo, or resumes from the file of a state, and its
+//! state.
 
-ghost use Rattle.std.specs.Prelude.{◌≡◌, ◌≤◌, ◌↔◌, ◌⊎◌, List, ℕ, Option, false, true, [], length, Err, IfOk, IfErr, OnErr, option_map};
+ghost use Rattle.std.specs.Prelude.{◌≡◌, ◌≤◌, ◌↔◌, ◌⊎◌, false, true, [], length, Err, IfOk, IfErr, OnErr, option_map};
 ghost use Rattle.std.specs.Io.KnownBytes.{Appends};
-ghost use Rattle.mls_tree.specs.PublicTreeModel.{plain};
 ghost use Rattle.mls_follow.specs.FollowerModel.{state_of};
-ghost use Rattle.mls_report.specs.StartInputs.{IsReadAs, IsStartFinding, has_failed, started_of};
-ghost use Rattle.mls_report.specs.Validate.{Validates, ValidatesPart};
+ghost use Rattle.mls_report.specs.StartInputs.{IsStartFinding, has_failed, started_of};
+ghost use Rattle.mls_report.specs.StateInputs.{IsStateFinding};
+ghost use Rattle.mls_report.specs.Validate.{Validates, ValidatesPart, ValidatesState, ValidatesStatePart};
 
 use crate::finding::{Finding, Started, tell, tree_hash_of};
-use crate::read_inputs::{Inputs, StartFailure, read_inputs, read_inputs_to_end, refused_start};
+use crate::read_inputs::{InputBytes, StartFailure, read_inputs_to_end, start_from};
+use crate::read_to_end::read_all;
+use crate::state_input::resume_from;
 use crate::verdict::{RunFault, Verdict};
 use mls_check::SignatureCheck;
 use mls_follow::Follower;
 use mls_wire::{Sink, Source};
 use std::alloc::Global;
 
-/// Returns what is reported of a follower that has just started.
-fn started<C: SignatureCheck>(follower: &Follower<C>) -> Started
+/// Returns the finding of a follower that has just started or resumed.
+fn started<C: SignatureCheck>(follower: &Follower<C>) -> Finding
     requires { length (state_of follower.now).context.tree_hash ≤ 64 }
-    ensures { result ≡ started_of (state_of follower.now) }
+    ensures { result ≡ Finding.Starts (started_of (state_of follower.now)) }
 {
-    Started {
+    Finding::Starts(Started {
         epoch: follower.context().epoch,
         members: follower.tree().member_count(),
         tree_hash: tree_hash_of(follower.context()),
-    }
-}
-
-/// Returns the finding for a decoded GroupInfo and tree.
-#[tactic(auto, using(crate::proofs::Hashes::length_started))]
-fn check_inputs<C: SignatureCheck>(
-    alloc: Global,
-    inputs: Inputs,
-    checker: C,
-) -> Result<Finding, RunFault>
-    ensures found { (info_bytes : List ℕ) (tree_bytes : Option (List ℕ))
-        → IsReadAs info_bytes tree_bytes inputs.info (option_map plain inputs.tree)
-        → IfOk result (IsStartFinding (C.meaning checker) info_bytes tree_bytes) }
-    ensures memory { IfErr result (λ e. e ≡ RunFault.Memory) }
-{
-    match Follower::start(alloc, inputs.info, inputs.tree, checker) {
-        Ok(follower) => {
-            let started = started(&follower);
-            drop(follower);
-            Ok(Finding::Starts(started))
-        }
-        Err(refused) => {
-            let fault = refused.fault;
-            drop(refused);
-            refused_start(fault)
-        }
-    }
+    })
 }
 
 /// Returns the finding for the bytes of a GroupInfo, and of a tree if there is a file of it.
+#[tactic(auto, using(crate::proofs::Hashes::length_started))]
 fn check_bytes<C: SignatureCheck>(
     alloc: Global,
-    info_bytes: Vec<u8>,
-    tree_bytes: Option<Vec<u8>>,
+    bytes: InputBytes,
     checker: C,
 ) -> Result<Finding, RunFault>
     ensures found { IfOk result
-        (IsStartFinding (C.meaning checker) info_bytes.items
-        (option_map (λ v. v.items) tree_bytes)) }
+        (IsStartFinding (C.meaning checker) bytes.info.items
+        (option_map (λ v. v.items) bytes.tree)) }
     ensures memory { IfErr result (λ e. e ≡ RunFault.Memory) }
 {
-    match read_inputs(alloc, info_bytes, tree_bytes) {
-        Ok(inputs) => check_inputs(alloc, inputs, checker),
+    match start_from(alloc, bytes, checker) {
+        Ok(follower) => {
+            let finding = started(&follower);
+            drop(follower);
+            Ok(finding)
+        }
+        Err(StartFailure::Found(finding)) => Ok(finding),
+        Err(StartFailure::Fault(fault)) => Err(fault),
+    }
+}
+
+/// Returns the finding for the bytes of a state's file.
+#[tactic(auto, using(crate::proofs::Hashes::length_resumed))]
+fn check_state<C: SignatureCheck>(
+    alloc: Global,
+    bytes: &[u8],
+    checker: C,
+) -> Result<Finding, RunFault>
+    ensures found { IfOk result (IsStateFinding (C.meaning checker) bytes.now) }
+    ensures memory { IfErr result (λ e. e ≡ RunFault.Memory) }
+{
+    match resume_from(alloc, bytes, checker) {
+        Ok(follower) => {
+            let finding = started(&follower);
+            drop(follower);
+            Ok(finding)
+        }
         Err(StartFailure::Found(finding)) => Ok(finding),
         Err(StartFailure::Fault(fault)) => Err(fault),
     }
@@ -105,6 +107,38 @@ pub fn run_validate<I: Source, T: Source, K: Sink, C: SignatureCheck>(
     ensures write { (result ≡ Err RunFault.Write) ↔ (K.is_failed out.new ≡ true) }
 {
     let bytes = read_inputs_to_end(alloc, info, tree)?;
-    let finding = check_bytes(alloc, bytes.info, bytes.tree, checker)?;
+    let finding = check_bytes(alloc, bytes, checker)?;
+    tell(alloc, &finding, out)
+}
+
+/// Reads the file of a state to its end, and writes one line. If a follower resumes from it: the epoch, the number of
+/// members and the tree hash, with the verdict `Yes`. Otherwise the first condition of
+/// [`Follower::resume`](mls_follow::Follower::resume) that fails, with the verdict `No`.
+///
+/// # Errors
+///
+/// `Read` if the file fails. `Write` if the output fails; a prefix of the line may be written. `Memory` comes before
+/// anything is written.
+pub fn run_validate_state<S: Source, K: Sink, C: SignatureCheck>(
+    alloc: Global,
+    state: &mut S,
+    checker: C,
+    out: &mut K,
+) -> Result<Verdict, RunFault>
+    requires state { S.is_failed state.old ≡ false }
+    requires out { K.is_failed out.old ≡ false }
+    ensures validated { IfOk result
+        (ValidatesState (C.meaning checker) (S.left state.old) (S.left state.new)
+        (K.written out.old) (K.written out.new)) }
+    ensures part { OnErr result
+        (ValidatesStatePart (C.meaning checker) (S.left state.old) (S.left state.new)
+        (K.written out.old) (K.written out.new)) }
+    ensures memory { result ≡ Err RunFault.Memory
+        → Appends (K.written out.old) (K.written out.new) [] }
+    ensures read { (result ≡ Err RunFault.Read) ↔ (S.is_failed state.new ≡ true) }
+    ensures write { (result ≡ Err RunFault.Write) ↔ (K.is_failed out.new ≡ true) }
+{
+    let bytes = read_all(alloc, state)?;
+    let finding = check_state(alloc, bytes.as_slice(), checker)?;
     tell(alloc, &finding, out)
 }

@@ -42,7 +42,7 @@ returns-in-Err-Found-clause-part g c =
       declines = declines-unread _ _ _ _ _ _ _ _ c.in_ok-bytes.ensures.both unread;
       unread = refl;
       wrote = wrote;
-    }))) c.tell.ensures.memory (λ none. inl (record { unread = refl; wrote = none })) c.tell.ensures.fault
+    }))) c.tell.ensures.memory (λ none. inl (inl (record { unread = refl; wrote = none }))) c.tell.ensures.fault
 
 pub returns-in_err-bytes-clause-part : goal.returns-in_err-bytes-clause-part
 returns-in_err-bytes-clause-part g c =

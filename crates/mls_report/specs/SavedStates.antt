@@ -1,0 +1,23 @@
+-- What `--save` is for: from the file of the state after a log a follower resumes in this state (own rule). So a replay
+-- from this file answers each further message as the replay that goes on. Used by contracts.
+use Rattle.std.specs.Prelude.{List, ℕ, ◌++◌}
+use Rattle.mls_check.specs.Signatures.{VerifyFn}
+use Rattle.mls_follow.specs.State.{State}
+use Rattle.mls_follow.specs.Resumption.{IsResumed}
+use Rattle.mls_follow.specs.StoredRuns.{IsFirst}
+use Rattle.mls_follow.specs.StoredState.{EncodesState}
+use Rattle.mls_report.specs.Replay.{ProcessedMessage, AreProcessed, state_after}
+
+-- After messages are processed from a start or a resumption, a follower resumes from the file of the state after them,
+-- in this state.
+abbrev pub SavedStatesResume : Type 0
+SavedStatesResume =
+    (G : VerifyFn) (s : State) (turns : List ProcessedMessage) (bytes : List ℕ) → IsFirst G s → AreProcessed G s turns
+    → EncodesState (state_after s turns) bytes → IsResumed G bytes (state_after s turns)
+
+-- If messages are processed one after the other, those after the first ones are processed from the state after these,
+-- with the same results and the same states.
+abbrev pub LaterMessagesFollow : Type 0
+LaterMessagesFollow =
+    (G : VerifyFn) (s : State) (turns more : List ProcessedMessage) → AreProcessed G s (turns ++ more)
+    → AreProcessed G (state_after s turns) more

@@ -1,69 +1,37 @@
 -- The answers to requests.
 use Rattle.std.proofs.Common.{◌≡◌, ◌∙◌, ℕ, List, [], Bool, true, false, Option, Some, None, Result, refl, sym, ap, subst, inl, inr}
 use Rattle.std.proofs.lemmas.Bool.{false≢true}
-use Rattle.mls_tree.specs.RatchetTree.{RatchetTree}
 use Rattle.mls_check.specs.Signatures.{VerifyFn}
-use Rattle.mls_msgs.specs.declared.message.Message.TheVariants as messages
-use Rattle.mls_msgs.specs.declared.profile.Profile.TheVariants.{Members}
-use Rattle.mls_msgs.proofs.Profiles.{messages_once}
 use Rattle.mls_signatures.specs.declared.signature_to_verify.SignatureToVerify.{SignatureToVerify}
 use Rattle.mls_follow.specs.Runs.{IsAnswer}
 use Rattle.mls_follow.specs.State.{State}
+use Rattle.mls_follow.specs.StoredState.{EncodesState, HasNoFile}
 use Rattle.mls_follow.specs.declared.refusal.Refusal.{Refusal}
-use Rattle.mls_follow.specs.declared.start_fault.StartFault.{StartFault}
 use Rattle.mls_follow.specs.declared.taken.Taken.{Taken}
 use Rattle.mls_report.specs.Finding.{finding_line}
 use Rattle.mls_report.specs.SignaturesReport.{HasSignatures}
-use Rattle.mls_report.specs.StartInputs.{IsHanded, IsHandedUnread, IsStarted, IsStartFinding}
 use Rattle.mls_report.specs.declared.finding.Finding.{Finding}
-use Rattle.mls_report.specs.declared.finding.Finding.TheVariants.{ContextUnreadable, InfoUnreadable, NotGroupInfo, TreeUnreadable, UnsupportedVersion, UnsupportedSuite, RequirementsUnreadable, TreeRefused, MembersRefused, StartRefused, TreeValid, Starts}
-use Rattle.mls_report.specs.declared.verdict.Verdict.TheVariants.{Yes, No}
-use Rattle.mls_gate.specs.Answers.{Outcome, Goes, Ends, Begins, Queries, Judges, Responds, Answers, message_query, ready_line, judged_line, broken_line}
-use Rattle.mls_gate.specs.GateSteps.{IsReadable, IsReady, Replies, AnswersIn, IsOutcome, Declines}
+use Rattle.mls_gate.specs.Answers.{Outcome, Goes, Ends, Begins, Queries, Judges, StoresState, Responds, Answers, message_query, ready_line, judged_line, stored_line, no_file_line, broken_line}
+use Rattle.mls_gate.specs.FirstStates.{IsFirstState, Declines}
+use Rattle.mls_gate.specs.GateSteps.{IsReadable, IsReady, Replies, AnswersIn, IsOutcome}
 use Rattle.mls_gate.specs.Phases.{Inputs, Phase, Opening, Following}
 use Rattle.mls_gate.specs.Requests.{request_of, having_learnt}
 use Rattle.mls_gate.specs.declared.request.Request.{Request}
-use Rattle.mls_gate.specs.declared.request.Request.TheVariants.{Learn, Begin, Query, Judge}
+use Rattle.mls_gate.specs.declared.request.Request.TheVariants.{Learn, Begin, Query, Judge, Store}
+use Rattle.mls_gate.proofs.FirstStates.{declines-refuses}
 
 -- ---- a start
 
-not_handed : (bytes : Option (List ℕ)) (t : Option RatchetTree) → IsHandedUnread bytes → IsHanded bytes t → ⊥
-not_handed None t a b = absurd a
-not_handed (Some bytes) None a b = absurd b
-not_handed (Some bytes) (Some t) a b = a b.nodes b.is_tree
-
-yes_no : Yes ≡ No → ⊥
-yes_no e = absurd cc
-
--- of inputs that can be read only that a start is refused
-pub refused-only : (G : VerifyFn) (i : Inputs) (finding : Finding) → IsReadable i → Declines G i finding → (fault : StartFault) × (finding ≡ StartRefused fault)
-refused-only G i (StartRefused fault) r d = (fault, refl)
-refused-only G i (InfoUnreadable fault) r d = absurd (d.found (messages.GroupInfo r.info) r.is_read.is_info)
-refused-only G i NotGroupInfo r d =
-    let same : d.found.0 ≡ messages.GroupInfo r.info = messages_once Members d.found.0 (messages.GroupInfo r.info) i.info d.found.1.spelled r.is_read.is_info.spelled in
-    absurd (d.found.2 r.info same)
-refused-only G i (TreeUnreadable fault) r d = absurd (not_handed i.tree r.handed d.found.2 r.is_read.is_handed)
-refused-only G i (Starts started) r d = absurd (yes_no d.verdict)
-refused-only G i (ContextUnreadable fault) r d = absurd d.found
-refused-only G i UnsupportedVersion r d = absurd d.found
-refused-only G i UnsupportedSuite r d = absurd d.found
-refused-only G i RequirementsUnreadable r d = absurd d.found
-refused-only G i (TreeRefused fault) r d = absurd d.found
-refused-only G i (MembersRefused fault) r d = absurd d.found
-refused-only G i (TreeValid hash) r d = absurd d.found
-
-pub begun : (G : VerifyFn) (i : Inputs) (s : State) → IsStarted G i.info i.tree s → Replies (Begins i G) (ready_line s) false (Some (Following G s))
-begun G i s started = record { outcome = Goes (ready_line s) (Following G s); meets = inl (s, started, refl); is = (refl, refl, refl) }
+pub begun : (G : VerifyFn) (i : Inputs) (s : State) → IsFirstState G i s → Replies (Begins i G) (ready_line s) false (Some (Following G s))
+begun G i s first = record { outcome = Goes (ready_line s) (Following G s); meets = inl (s, first, refl); is = (refl, refl, refl) }
 
 pub not-begun : (G : VerifyFn) (i : Inputs) (finding : Finding) (after : Option Phase) → IsReadable i → Declines G i finding
     → Replies (Begins i G) (finding_line finding) true after
-not-begun G i finding after r d =
-    let only = refused-only G i finding r d in
-    record {
-      outcome = Ends (finding_line finding);
-      meets = inr (only.0, subst (IsStartFinding G i.info i.tree) only.1 d.found, ap (λ (f : Finding). Ends (finding_line f)) only.1);
-      is = (refl, refl);
-    }
+not-begun G i finding after r d = record {
+  outcome = Ends (finding_line finding);
+  meets = inr (finding, declines-refuses G i finding r d, refl);
+  is = (refl, refl);
+}
 
 -- ---- a message
 
@@ -82,6 +50,19 @@ judged G K s t message answer text is_answer e same = record {
   meets = (answer, t, is_answer, refl);
   is = (e, refl, λ i. Some (Following (same i) t));
 }
+
+-- ---- a state
+
+pub stored : (G : VerifyFn) (s : State) (bytes text : List ℕ) → EncodesState s bytes → text ≡ stored_line bytes
+    → Replies (StoresState G s) text false (Some (Following G s))
+stored G s bytes text encodes e = record {
+  outcome = Goes (stored_line bytes) (Following G s);
+  meets = inl (bytes, encodes, refl);
+  is = (e, refl, refl);
+}
+
+pub without-file : (G : VerifyFn) (s : State) → HasNoFile s → Replies (StoresState G s) no_file_line false (Some (Following G s))
+without-file G s none = record { outcome = Goes no_file_line (Following G s); meets = inr (none, refl); is = (refl, refl, refl) }
 
 -- ---- what an answer leads to
 
@@ -122,9 +103,10 @@ ready-responds (Opening i G) new (Some Learn) rest text r a =
     subst (λ (p : Phase). IsReady (Some p)) (one_phase text [] new (Opening i (having_learnt G rest)) a) r
 ready-responds (Opening i G) new (Some Begin) rest text r (inl a) =
     subst (λ (p : Phase). IsReady (Some p)) (one_phase text (ready_line a.0) new (Following G a.0) a.2) tt
-ready-responds (Opening i G) new (Some Begin) rest text r (inr a) = no_end text (finding_line (StartRefused a.0)) new a.2
+ready-responds (Opening i G) new (Some Begin) rest text r (inr a) = no_end text (finding_line a.0) new a.2
 ready-responds (Opening i G) new (Some Query) rest text r a = no_end text broken_line new a
 ready-responds (Opening i G) new (Some Judge) rest text r a = no_end text broken_line new a
+ready-responds (Opening i G) new (Some Store) rest text r a = no_end text broken_line new a
 ready-responds (Opening i G) new None rest text r a = no_end text broken_line new a
 ready-responds (Following G s) new (Some Learn) rest text r a =
     subst (λ (p : Phase). IsReady (Some p)) (one_phase text [] new (Following (having_learnt G rest) s) a) tt
@@ -133,6 +115,10 @@ ready-responds (Following G s) new (Some Query) rest text r a =
     subst (λ (p : Phase). IsReady (Some p)) (one_phase text (message_query G a.0) new (Following G s) a.2) tt
 ready-responds (Following G s) new (Some Judge) rest text r a =
     subst (λ (p : Phase). IsReady (Some p)) (one_phase text (judged_line a.0 a.1) new (Following G a.1) a.3) tt
+ready-responds (Following G s) new (Some Store) rest text r (inl a) =
+    subst (λ (p : Phase). IsReady (Some p)) (one_phase text (stored_line a.0) new (Following G s) a.2) tt
+ready-responds (Following G s) new (Some Store) rest text r (inr a) =
+    subst (λ (p : Phase). IsReady (Some p)) (one_phase text no_file_line new (Following G s) a.1) tt
 ready-responds (Following G s) new None rest text r a = no_end text broken_line new a
 
 pub ready-goes : (now new : Phase) (body text : List ℕ) → IsReady (Some now) → Answers now body (Goes text new) → IsReady (Some new)

@@ -4,35 +4,38 @@ use Rattle.mls_check.specs.Signatures.{VerifyFn}
 use Rattle.mls_signatures.specs.declared.signature_to_verify.SignatureToVerify.{SignatureToVerify}
 use Rattle.mls_follow.specs.State.{State}
 use Rattle.mls_follow.proofs.Answering.{only_answer}
+use Rattle.mls_follow.proofs.StoredStates.{one_file}
 use Rattle.mls_report.specs.Finding.{finding_line}
-use Rattle.mls_report.specs.StartInputs.{started_of}
 use Rattle.mls_report.specs.declared.finding.Finding.{Finding}
-use Rattle.mls_report.specs.declared.finding.Finding.TheVariants.{StartRefused, Starts}
-use Rattle.mls_report.proofs.FindingsOnce.{one_start_finding, one_started}
 use Rattle.mls_report.proofs.SignaturesOnce.{one_wanted}
-use Rattle.mls_gate.specs.Answers.{Outcome, Goes, Ends, Begins, Answers, Responds, judged_line, message_query, ready_line}
+use Rattle.mls_gate.specs.Answers.{Outcome, Goes, Ends, Begins, StoresState, Answers, Responds, judged_line, message_query, ready_line, stored_line}
 use Rattle.mls_gate.specs.Phases.{Inputs, Phase, Opening, Following}
 use Rattle.mls_gate.specs.Requests.{request_of}
 use Rattle.mls_gate.specs.declared.request.Request.{Request}
-use Rattle.mls_gate.specs.declared.request.Request.TheVariants.{Learn, Begin, Query, Judge}
+use Rattle.mls_gate.specs.declared.request.Request.TheVariants.{Learn, Begin, Query, Judge, Store}
+use Rattle.mls_gate.proofs.FirstStates.{one_first, first_or_refuses, one_refusal}
 
 one_begin : (i : Inputs) (G : VerifyFn) (o u : Outcome) → Begins i G o → Begins i G u → o ≡ u
 one_begin i G o u (inl a) (inl b) =
-    a.2 ∙ ap (λ (s : State). Goes (ready_line s) (Following G s)) (one_started G i.info i.tree a.0 b.0 a.1 b.1) ∙ sym b.2
-one_begin i G o u (inl a) (inr b) =
-    let same : Starts (started_of a.0) ≡ StartRefused b.0 = one_start_finding G i.info i.tree (Starts (started_of a.0)) (StartRefused b.0) (a.0, a.1, refl) b.1 in
-    absurd cc
-one_begin i G o u (inr a) (inl b) =
-    let same : Starts (started_of b.0) ≡ StartRefused a.0 = one_start_finding G i.info i.tree (Starts (started_of b.0)) (StartRefused a.0) (b.0, b.1, refl) a.1 in
-    absurd cc
+    a.2 ∙ ap (λ (s : State). Goes (ready_line s) (Following G s)) (one_first G i a.0 b.0 a.1 b.1) ∙ sym b.2
+one_begin i G o u (inl a) (inr b) = absurd (first_or_refuses G i a.0 b.0 a.1 b.1)
+one_begin i G o u (inr a) (inl b) = absurd (first_or_refuses G i b.0 a.0 b.1 a.1)
 one_begin i G o u (inr a) (inr b) =
-    a.2 ∙ ap (λ (f : Finding). Ends (finding_line f)) (one_start_finding G i.info i.tree (StartRefused a.0) (StartRefused b.0) a.1 b.1) ∙ sym b.2
+    a.2 ∙ ap (λ (f : Finding). Ends (finding_line f)) (one_refusal G i a.0 b.0 a.1 b.1) ∙ sym b.2
+
+one_store : (G : VerifyFn) (s : State) (o u : Outcome) → StoresState G s o → StoresState G s u → o ≡ u
+one_store G s o u (inl a) (inl b) =
+    a.2 ∙ ap (λ (bytes : List ℕ). Goes (stored_line bytes) (Following G s)) (one_file s a.0 b.0 a.1 b.1) ∙ sym b.2
+one_store G s o u (inl a) (inr b) = absurd (b.0 a.0 a.1)
+one_store G s o u (inr a) (inl b) = absurd (a.0 b.0 b.1)
+one_store G s o u (inr a) (inr b) = a.1 ∙ sym b.1
 
 one_response : (phase : Phase) (request : Option Request) (rest : List ℕ) (o u : Outcome) → Responds phase request rest o → Responds phase request rest u → o ≡ u
 one_response (Opening i G) (Some Learn) rest o u a b = a ∙ sym b
 one_response (Opening i G) (Some Begin) rest o u a b = one_begin i G o u a b
 one_response (Opening i G) (Some Query) rest o u a b = a ∙ sym b
 one_response (Opening i G) (Some Judge) rest o u a b = a ∙ sym b
+one_response (Opening i G) (Some Store) rest o u a b = a ∙ sym b
 one_response (Opening i G) None rest o u a b = a ∙ sym b
 one_response (Following G s) (Some Learn) rest o u a b = a ∙ sym b
 one_response (Following G s) (Some Begin) rest o u a b = a ∙ sym b
@@ -41,6 +44,7 @@ one_response (Following G s) (Some Query) rest o u a b =
 one_response (Following G s) (Some Judge) rest o u a b =
     let same = only_answer G s rest a.0 b.0 a.1 b.1 a.2 b.2 in
     a.3 ∙ (λ k. Goes (judged_line (same.0 k) (same.1 k)) (Following G (same.1 k))) ∙ sym b.3
+one_response (Following G s) (Some Store) rest o u a b = one_store G s o u a b
 one_response (Following G s) None rest o u a b = a ∙ sym b
 
 pub one_outcome : (phase : Phase) (body : List ℕ) (o u : Outcome) → Answers phase body o → Answers phase body u → o ≡ u

@@ -2,36 +2,37 @@
 use Rattle.std.proofs.Common.{◌≡◌, ◌≢◌, ◌∙◌, ℕ, zero, suc, List, [], ◌∷◌, ◌++◌, drop, Option, Some, None, Result, Ok, Err, refl, sym, ap, subst, inl, inr, arith, append_assoc}
 use Rattle.std.specs.Prelude.{option_map}
 use Rattle.mls_check.specs.Signatures.{VerifyFn}
-use Rattle.mls_follow.specs.CoveredLogs.{all_good}
 use Rattle.mls_follow.specs.MessageSignatures.{message_signatures}
 use Rattle.mls_follow.specs.Runs.{IsAnswer, IsAnswered}
 use Rattle.mls_follow.specs.State.{State}
 use Rattle.mls_follow.specs.declared.refusal.Refusal.{Refusal}
 use Rattle.mls_follow.specs.declared.refusal.Refusal.TheVariants.{OutOfMemory}
 use Rattle.mls_follow.specs.declared.taken.Taken.{Taken}
-use Rattle.mls_follow.proofs.RisingRuns.{rising_answered}
-use Rattle.mls_signatures.specs.SignaturesToVerify.{start_signatures}
+use Rattle.mls_follow.specs.RisingRuns.{last_meaning}
+use Rattle.mls_follow.proofs.Deciding.{an_answer}
+use Rattle.mls_follow.proofs.Holding.{run_steady}
+use Rattle.mls_follow.proofs.RisingRuns.{as_run}
+use Rattle.mls_follow.proofs.StoredFiles.{some_file}
 use Rattle.mls_signatures.specs.declared.signature_to_verify.SignatureToVerify.{SignatureToVerify}
 use Rattle.mls_report.specs.Finding.{finding_line}
 use Rattle.mls_report.specs.SignaturesReport.{HasSignatures}
-use Rattle.mls_report.specs.StartInputs.{ReadsBoth, IsStarted, IsStartFinding}
-use Rattle.mls_report.specs.declared.finding.Finding.TheVariants.{StartRefused}
+use Rattle.mls_report.specs.StartInputs.{ReadsBoth}
 use Rattle.mls_report.specs.declared.verdict.Verdict.{Verdict}
 use Rattle.mls_report.specs.declared.verdict.Verdict.TheVariants.{No}
-use Rattle.mls_report.proofs.FindingsExist.{begun}
 use Rattle.mls_report.proofs.LogsExist.{Begins, Breaks, comes}
 use Rattle.mls_report.proofs.ReplaysExist.{read_input, read_optional_tree}
 use Rattle.mls_gate.specs.Answers as specs
-use Rattle.mls_gate.specs.Answers.{Outcome, Goes, Ends, Answers, Responds, query_text, message_query, judged_line, ready_line, broken_line}
-use Rattle.mls_gate.specs.GateReport.{Turn, phase_after, answers, record_limit, IsEnding}
-use Rattle.mls_gate.specs.GateReports.{GateExists}
+use Rattle.mls_gate.specs.Answers.{Outcome, Goes, Ends, Answers, Responds, query_text, message_query, judged_line, ready_line, stored_line, no_file_line, broken_line}
+use Rattle.mls_gate.specs.FirstStates.{ReadsGroup, ReadsState}
+use Rattle.mls_gate.specs.GateReport.{Turn, phase_after, answers, record_limit, IsEnding, GatesOf}
+use Rattle.mls_gate.specs.GateReports.{GateExists, StateGateExists}
 use Rattle.mls_gate.specs.GateRuns.{HasStarted}
 use Rattle.mls_gate.specs.GateSteps.{IsReadable}
-use Rattle.mls_gate.specs.Phases.{Inputs, Phase, Opening, Following, end_verdict}
+use Rattle.mls_gate.specs.Phases.{GroupFiles, Inputs, OfGroup, OfState, Phase, Opening, Following, end_verdict}
 use Rattle.mls_gate.specs.Requests.{request_of, having_learnt}
 use Rattle.mls_gate.specs.declared.request.Request.{Request}
-use Rattle.mls_gate.specs.declared.request.Request.TheVariants.{Learn, Begin, Query, Judge}
-use Rattle.mls_gate.proofs.Answering.{refused-only}
+use Rattle.mls_gate.specs.declared.request.Request.TheVariants.{Learn, Begin, Query, Judge, Store}
+use Rattle.mls_gate.proofs.FirstStates.{first_or_refused, readable, starts_or_declined, first_steady}
 use Rattle.mls_gate.proofs.RecordsOnce.{RecordLines}
 use Rattle.mls_gate.proofs.Rising.{Reached, reached-none, reached-on}
 
@@ -54,30 +55,38 @@ some_wanted G s bytes (Err e) new h =
 
 -- ---- a record
 
-module _ (i : Inputs) (G : VerifyFn) (readable : IsReadable i) where
+module _ (i : Inputs) (G : VerifyFn) (can_read : IsReadable i) where
   abbrev Here : Phase → Type 0
   Here = Reached i G
 
   -- there is an answer to any message
   some_answer : (K : VerifyFn) (s : State) (bytes : List ℕ) → HasStarted i G K s → IsAnswered K s bytes
   some_answer K s bytes h =
-      subst (λ (M : VerifyFn). IsAnswered M s bytes) h.run.meaning
-      (rising_answered h.known h.started.info h.started.handed h.first s h.run.events bytes h.started.start h.run.rises)
+      let L = last_meaning h.known h.run.events in
+      let run = as_run h.known h.first h.run.events s h.run.rises in
+      let steady = run_steady L h.first run.calls s (first_steady h.known i h.first h.started) run.run in
+      subst (λ (M : VerifyFn). IsAnswered M s bytes) h.run.meaning (an_answer L s steady.required bytes steady.held steady.requires)
 
   some_begin : (j : Inputs) (K : VerifyFn) → IsReadable j → (o : Outcome) × specs.Begins j K o
   some_begin j K r =
-      elim (begun K j.info j.tree) [
+      elim (first_or_refused K j r) [
         | inl s ↦ (Goes (ready_line s.0) (Following K s.0), inl (s.0, s.1, refl))
-        | inr f ↦
-            (let only = refused-only K j f.0 r (record { found = f.1; verdict = f.2 }) in
-            (Ends (finding_line (StartRefused only.0)), inr (only.0, subst (IsStartFinding K j.info j.tree) only.1 f.1, refl)))
+        | inr f ↦ (Ends (finding_line f.0), inr (f.0, f.1, refl))
+      ]
+
+  some_store : (K : VerifyFn) (s : State) → (o : Outcome) × specs.StoresState K s o
+  some_store K s =
+      elim (some_file s) [
+        | inl file ↦ (Goes (stored_line file.0) (Following K s), inl (file.0, file.1, refl))
+        | inr none ↦ (Goes no_file_line (Following K s), inr (none, refl))
       ]
 
   some_response : (p : Phase) (request : Option Request) (rest : List ℕ) → Here p → (o : Outcome) × Responds p request rest o
   some_response (Opening j K) (Some Learn) rest r = (Goes [] (Opening j (having_learnt K rest)), refl)
-  some_response (Opening j K) (Some Begin) rest r = some_begin j K (subst IsReadable (sym r.0) readable)
+  some_response (Opening j K) (Some Begin) rest r = some_begin j K (subst IsReadable (sym r.0) can_read)
   some_response (Opening j K) (Some Query) rest r = (Ends broken_line, refl)
   some_response (Opening j K) (Some Judge) rest r = (Ends broken_line, refl)
+  some_response (Opening j K) (Some Store) rest r = (Ends broken_line, refl)
   some_response (Opening j K) None rest r = (Ends broken_line, refl)
   some_response (Following K s) (Some Learn) rest r = (Goes [] (Following (having_learnt K rest) s), refl)
   some_response (Following K s) (Some Begin) rest r = (Ends broken_line, refl)
@@ -88,6 +97,7 @@ module _ (i : Inputs) (G : VerifyFn) (readable : IsReadable i) where
   some_response (Following K s) (Some Judge) rest r =
       let answer = some_answer K s rest r in
       (Goes (judged_line answer.0 answer.1) (Following K answer.1), (answer.0, answer.1, answer.2, refl))
+  some_response (Following K s) (Some Store) rest r = some_store K s
   some_response (Following K s) None rest r = (Ends broken_line, refl)
 
   -- ---- all records
@@ -189,72 +199,65 @@ module _ (i : Inputs) (G : VerifyFn) (readable : IsReadable i) where
 
 -- ---- the report
 
+-- a report of inputs that were read
+record HasReport (Reads : Inputs → Type 0) (G : VerifyFn) (records : List ℕ) : Type 0 where
+  text : List ℕ
+  verdict : Verdict
+  left : Option (List ℕ)
+  gates : GatesOf Reads G (Some records) left (Some []) (Some text) verdict
+
+has_report : (Reads : Inputs → Type 0) (G : VerifyFn) (i : Inputs) (records : List ℕ) → Reads i → HasReport Reads G records
+has_report Reads G i records read =
+    elim (starts_or_declined i) [
+      | inl s ↦
+          (let can_read = readable i s.0 s.1 in
+          let all : IsServed i G can_read record_limit (Opening i G) records = served i G can_read record_limit (Opening i G) records (reached-none i G) in
+          record {
+            text = query_text G s.0 ++ (answers all.turns ++ all.text);
+            verdict = all.verdict;
+            left = Some all.lines.left;
+            gates = inr (record {
+              i = i;
+              read = read;
+              signatures = s.0;
+              can_start = s.1;
+              between = Some (query_text G s.0);
+              wrote = refl;
+              tells = record {
+                turns = all.turns;
+                rest = all.lines.rest;
+                text = all.text;
+                serves = record {
+                  answered = all.lines.answered;
+                  bounded = all.lines.bounded;
+                  records = all.lines.records;
+                  are_records = all.lines.are_records;
+                  all_read = all.lines.read;
+                };
+                ending = all.lines.ending;
+                wrote = refl;
+              };
+            });
+          })
+      | inr f ↦ record {
+        text = finding_line f.0;
+        verdict = No;
+        left = Some records;
+        gates = inl (record { i = i; read = read; finding = f.0; declines = f.1; unread = refl; wrote = refl; verdict_is = refl });
+      }
+    ]
+
 pub some_gate : GateExists
 some_gate G info_bytes tree_bytes records =
     let info = read_input info_bytes in
     let tree = read_optional_tree tree_bytes in
-    let i : Inputs = record { info = info.bytes; tree = tree.bytes } in
+    let files : GroupFiles = record { info = info.bytes; tree = tree.bytes } in
     let both : ReadsBoth (Some info_bytes) (Some info.left) (option_map Some tree_bytes) tree.left info.bytes tree.bytes = record { info = info.reads; tree = tree.reads } in
-    elim (begun all_good info.bytes tree.bytes) [
-      | inl s ↦
-          (let started : IsStarted all_good info.bytes tree.bytes s.0 = s.1 in
-          let readable : IsReadable i = record { info = started.info; handed = started.handed; is_read = started.is_read } in
-          let wanted = start_signatures started.info s.0.tree in
-          let all : IsServed i G readable record_limit (Opening i G) records = served i G readable record_limit (Opening i G) records (reached-none i G) in (
-            query_text G wanted ++ (answers all.turns ++ all.text),
-            all.verdict,
-            record {
-              info_left = Some info.left;
-              tree_left = tree.left;
-              records_left = Some all.lines.left;
-              before = [];
-              gates = inr (record {
-                i = i;
-                wanted = wanted;
-                opens = record {
-                  both_read = both;
-                  can_start = record {
-                    info = started.info;
-                    handed = started.handed;
-                    is_read = started.is_read;
-                    state = s.0;
-                    has_signatures = record { start = started.start; wanted_is = refl };
-                  };
-                };
-                between = Some (query_text G wanted);
-                wrote = refl;
-                tells = record {
-                  turns = all.turns;
-                  rest = all.lines.rest;
-                  text = all.text;
-                  serves = record {
-                    answered = all.lines.answered;
-                    bounded = all.lines.bounded;
-                    records = all.lines.records;
-                    are_records = all.lines.are_records;
-                    all_read = all.lines.read;
-                  };
-                  ending = all.lines.ending;
-                  wrote = refl;
-                };
-              });
-            },
-          ))
-      | inr f ↦ (
-        finding_line f.0,
-        No,
-        record {
-          info_left = Some info.left;
-          tree_left = tree.left;
-          records_left = Some records;
-          before = [];
-          gates = inl (record {
-            finding = f.0;
-            declines = record { info_bytes = info.bytes; tree_bytes = tree.bytes; both_read = both; found = f.1; verdict = f.2 };
-            unread = refl;
-            wrote = refl;
-            verdict_is = refl;
-          });
-        },
-      )
-    ]
+    let made = has_report (ReadsGroup (Some info_bytes) (Some info.left) (option_map Some tree_bytes) tree.left) G (OfGroup files) records both in
+    (made.text, made.verdict, record { info_left = Some info.left; tree_left = tree.left; records_left = made.left; before = []; gates = made.gates })
+
+pub some_state_gate : StateGateExists
+some_state_gate G state_bytes records =
+    let state = read_input state_bytes in
+    let made = has_report (ReadsState (Some state_bytes) (Some state.left)) G (OfState state.bytes) records state.reads in
+    (made.text, made.verdict, record { state_left = Some state.left; records_left = made.left; before = []; gates = made.gates })

@@ -1,5 +1,8 @@
 pub mod Learnt
 pub mod Starting
+pub mod OpeningLines
+pub mod StateLines
+pub mod FirstStates
 pub mod Answering
 pub mod Replying
 pub mod Serving

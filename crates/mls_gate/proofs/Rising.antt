@@ -7,22 +7,26 @@ use Rattle.mls_follow.specs.RisingRuns.{Event, IsRisingRun, last_meaning}
 use Rattle.mls_follow.specs.RisingRuns.Event.{Received, Learned}
 use Rattle.mls_follow.specs.Runs.{Call, Takes, IsAnswer}
 use Rattle.mls_follow.specs.State.{State}
+use Rattle.mls_follow.specs.StoredRuns.{IsResumable}
 use Rattle.mls_follow.specs.Validity.{IsValidState}
 use Rattle.mls_follow.specs.declared.refusal.Refusal.{Refusal}
 use Rattle.mls_follow.specs.declared.taken.Taken.{Taken}
 use Rattle.mls_follow.proofs.CoveredLogs.{covered_answers}
-use Rattle.mls_follow.proofs.RisingRuns.{rising_follower_valid}
+use Rattle.mls_follow.proofs.Resumable.{run_resumable}
+use Rattle.mls_follow.proofs.ResumableStays.{resumable_stays}
+use Rattle.mls_follow.proofs.RisingRuns.{as_run, rising_extends}
+use Rattle.mls_follow.proofs.StoredRuns.{resumable_resumes}
 use Rattle.mls_report.specs.Finding.{finding_line}
-use Rattle.mls_report.specs.StartInputs.{IsStarted}
-use Rattle.mls_report.specs.declared.finding.Finding.TheVariants.{StartRefused}
-use Rattle.mls_gate.specs.Answers.{Goes, Answers, Responds, broken_line, judged_line, message_query, ready_line}
+use Rattle.mls_gate.specs.Answers.{Goes, Answers, Responds, broken_line, judged_line, message_query, ready_line, stored_line, no_file_line}
+use Rattle.mls_gate.specs.FirstStates.{IsFirstState}
 use Rattle.mls_gate.specs.GateReport.{Turn, AreAnswered, phase_after}
-use Rattle.mls_gate.specs.GateRuns.{HasStarted, GatesRise, GatesAreValid, GateAnswersAreTrusted}
+use Rattle.mls_gate.specs.GateRuns.{HasStarted, GatesRise, GatesAreValid, GateAnswersAreTrusted, GateStatesResume}
 use Rattle.mls_gate.specs.Phases.{Inputs, Phase, Opening, Following}
 use Rattle.mls_gate.specs.Requests.{request_of, with_receipts, having_learnt}
 use Rattle.mls_gate.specs.declared.request.Request.{Request}
-use Rattle.mls_gate.specs.declared.request.Request.TheVariants.{Learn, Begin, Query, Judge}
+use Rattle.mls_gate.specs.declared.request.Request.TheVariants.{Learn, Begin, Query, Judge, Store}
 use Rattle.mls_gate.proofs.Answering.{one_phase, no_end}
+use Rattle.mls_gate.proofs.FirstStates.{first_resumable}
 
 -- ---- learning extends
 
@@ -75,12 +79,12 @@ module _ (i : Inputs) (G : VerifyFn) where
   still_opening : (j : Inputs) (K : VerifyFn) (rest : List ℕ) → Reached (Opening j K) → Reached (Opening j (having_learnt K rest))
   still_opening j K rest r = (r.0, extends_through G K (having_learnt K rest) r.1 (learnt_extends K rest))
 
-  starts : (j : Inputs) (K : VerifyFn) (s : State) → Reached (Opening j K) → IsStarted K j.info j.tree s → Reached (Following K s)
-  starts j K s r started = record {
+  starts : (j : Inputs) (K : VerifyFn) (s : State) → Reached (Opening j K) → IsFirstState K j s → Reached (Following K s)
+  starts j K s r first = record {
     known = K;
     extends = r.1;
     first = s;
-    started = subst (λ (x : Inputs). IsStarted K x.info x.tree s) r.0 started;
+    started = subst (λ (x : Inputs). IsFirstState K x s) r.0 first;
     run = record { events = []; rises = refl; meaning = refl };
   }
 
@@ -120,9 +124,10 @@ module _ (i : Inputs) (G : VerifyFn) where
       subst Reached (one_phase text [] new (Opening j (having_learnt K rest)) a) (still_opening j K rest r)
   by_request (Opening j K) new (Some Begin) rest text r (inl a) =
       subst Reached (one_phase text (ready_line a.0) new (Following K a.0) a.2) (starts j K a.0 r a.1)
-  by_request (Opening j K) new (Some Begin) rest text r (inr a) = no_end text (finding_line (StartRefused a.0)) new a.2
+  by_request (Opening j K) new (Some Begin) rest text r (inr a) = no_end text (finding_line a.0) new a.2
   by_request (Opening j K) new (Some Query) rest text r a = no_end text broken_line new a
   by_request (Opening j K) new (Some Judge) rest text r a = no_end text broken_line new a
+  by_request (Opening j K) new (Some Store) rest text r a = no_end text broken_line new a
   by_request (Opening j K) new None rest text r a = no_end text broken_line new a
   by_request (Following K s) new (Some Learn) rest text r a =
       subst Reached (one_phase text [] new (Following (having_learnt K rest) s) a) (learns K s rest r)
@@ -131,6 +136,10 @@ module _ (i : Inputs) (G : VerifyFn) where
       subst Reached (one_phase text (message_query K a.0) new (Following K s) a.2) r
   by_request (Following K s) new (Some Judge) rest text r a =
       subst Reached (one_phase text (judged_line a.0 a.1) new (Following K a.1) a.3) (takes K s a.1 rest a.0 r a.2)
+  by_request (Following K s) new (Some Store) rest text r (inl a) =
+      subst Reached (one_phase text (stored_line a.0) new (Following K s) a.2) r
+  by_request (Following K s) new (Some Store) rest text r (inr a) =
+      subst Reached (one_phase text no_file_line new (Following K s) a.1) r
   by_request (Following K s) new None rest text r a = no_end text broken_line new a
 
   pub reached-on : (now new : Phase) (body text : List ℕ) → Reached now → Answers now body (Goes text new) → Reached new
@@ -149,13 +158,19 @@ module _ (i : Inputs) (G : VerifyFn) where
 pub gates_rise : GatesRise
 gates_rise i G K turns s a e = has_started i G turns K s a e
 
-pub started_valid : (i : Inputs) (G K : VerifyFn) (s : State) → HasStarted i G K s → IsValidState K s
-started_valid i G K s h =
-    subst (λ (M : VerifyFn). IsValidState M s) h.run.meaning
-    (rising_follower_valid h.known h.started.info h.started.handed h.first s h.run.events h.started.start h.run.rises)
+-- the state satisfies the conditions of a resumption, by what was learnt so far
+started_resumable : (i : Inputs) (G K : VerifyFn) (s : State) → HasStarted i G K s → IsResumable K s
+started_resumable i G K s h =
+    let L = last_meaning h.known h.run.events in
+    let run = as_run h.known h.first h.run.events s h.run.rises in
+    let first = resumable_stays h.known L h.first (rising_extends h.known h.first h.run.events s h.run.rises) (first_resumable h.known i h.first h.started) in
+    subst (λ (M : VerifyFn). IsResumable M s) h.run.meaning (run_resumable L h.first run.calls s first run.run)
 
 pub gates_valid : GatesAreValid
-gates_valid i G K turns s a e = started_valid i G K s (has_started i G turns K s a e)
+gates_valid i G K turns s a e = (started_resumable i G K s (has_started i G turns K s a e)).valid
+
+pub gates_resume : GateStatesResume
+gates_resume i G K turns s bytes a e file = resumable_resumes K s bytes (started_resumable i G K s (has_started i G turns K s a e)) file
 
 pub gates_trusted : GateAnswersAreTrusted
 gates_trusted i G K turns s new bytes answer a e covers = covered_answers K s bytes answer new (gates_valid i G K turns s a e) covers

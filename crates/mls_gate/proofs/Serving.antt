@@ -226,6 +226,6 @@ module _ (p : Phase) (r0 r1 r2 w0 w1 : Option (List ℕ)) (now : Option Phase) (
     })
 
 -- a call that fails only in its output
-pub write-part : {A : Type 0} (r : Result Verdict RunFault) (P : RunFault → Type 0) → OnErr r A → (A → P Write) → IfErr r (λ e. e ≡ Write) → IfErr r P
-write-part (Ok verdict) P part of_part own = tt
+pub write-part : {T A : Type 0} (r : Result T RunFault) (P : RunFault → Type 0) → OnErr r A → (A → P Write) → IfErr r (λ e. e ≡ Write) → IfErr r P
+write-part (Ok x) P part of_part own = tt
 write-part (Err e) P part of_part own = subst P (sym own) (of_part part)

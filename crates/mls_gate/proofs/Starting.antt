@@ -1,15 +1,14 @@
--- What a start needs, and the report that begins with it.
-use Rattle.std.proofs.Common.{◌≡◌, ◌≢◌, ◌∙◌, ℕ, List, Option, Some, None, refl, sym, ap, subst, inl, inr}
+-- The report of the gate that begins with a start or a resumption.
+use Rattle.std.proofs.Common.{◌≡◌, ◌≢◌, ℕ, List, ◌++◌, Option, refl, sym, subst, inl, inr}
 use Rattle.mls_tree.specs.RatchetTree.{RatchetTree}
 use Rattle.mls_check.specs.Signatures.{VerifyFn}
 use Rattle.mls_msgs.specs.declared.group_info.GroupInfo.{GroupInfo}
-use Rattle.mls_signatures.specs.SignaturesToVerify.{start_signatures}
 use Rattle.mls_signatures.specs.declared.signature_to_verify.SignatureToVerify.{SignatureToVerify}
-use Rattle.mls_follow.specs.CoveredLogs.{all_good}
-use Rattle.mls_follow.specs.Start.{UsesTree, UsesNoTree, IsStart}
 use Rattle.mls_follow.specs.State.{State}
-use Rattle.mls_report.specs.StartInputs.{IsReadAs, ReadsBoth, ReadsAndDeclines}
+use Rattle.mls_report.specs.SignaturesReport.{StartHasSignatures}
+use Rattle.mls_report.specs.StartInputs.{IsReadAs}
 use Rattle.mls_report.specs.StartSteps.{Says, IsUnread}
+use Rattle.mls_report.specs.StateInputs.{DeclinesState}
 use Rattle.mls_report.specs.declared.finding.Finding.{Finding}
 use Rattle.mls_report.specs.declared.read_inputs.StartFailure.{StartFailure}
 use Rattle.mls_report.specs.declared.read_inputs.StartFailure.TheVariants.{Found, Fault}
@@ -17,114 +16,109 @@ use Rattle.mls_report.specs.declared.verdict.RunFault.{RunFault}
 use Rattle.mls_report.specs.declared.verdict.RunFault.TheVariants.{Read, Write, Memory}
 use Rattle.mls_report.specs.declared.verdict.Verdict.{Verdict}
 use Rattle.mls_report.proofs.Replaying.{Appends-nil}
-use Rattle.mls_report.proofs.StartsOnce.{one_tree}
-use Rattle.mls_gate.specs.Answers.{query_text}
-use Rattle.mls_gate.specs.GateReport.{CanStart, ReadsStart, Gates, GatesPart, GateBefore}
-use Rattle.mls_gate.specs.GateSteps.{IsReadable, IsStartQuery, QueriesStart, OpensWith, FailsStart, Declines, GatesFrom, GatesFromPart, GatesBefore}
-use Rattle.mls_gate.specs.Phases.{Inputs}
+use Rattle.mls_gate.specs.FirstStates.{StartSignatures, CanStart, Declines}
+use Rattle.mls_gate.specs.GateReport.{GatesOf, GateBefore, GatesPartOf}
+use Rattle.mls_gate.specs.GateSteps.{FailsStart, StopsInStartLines, Are}
+use Rattle.mls_gate.specs.Phases.{GroupFiles, Inputs, OfGroup, OfState}
 
--- ---- the lines of a start
+-- ---- from the bytes of a GroupInfo and a tree
 
-pub lines-handed : (G : VerifyFn) (info : GroupInfo) (h : RatchetTree) (text : List ℕ) → text ≡ query_text G (start_signatures info h.tree)
-    → IsStartQuery G info (Some h) text
-lines-handed G info h text e t uses = e ∙ ap (λ (v : RatchetTree). query_text G (start_signatures info v.tree)) (sym uses)
+module _ (files : GroupFiles) (info : GroupInfo) (handed : Option RatchetTree) (is_read : IsReadAs files.info files.tree info handed) where
+  pub can-start : (s : State) (signatures : List SignatureToVerify) → StartHasSignatures info handed s signatures → StartSignatures files signatures
+  can-start s signatures has = record { info = info; handed = handed; is_read = is_read; state = s; has_signatures = has }
 
-pub lines-own : (G : VerifyFn) (info : GroupInfo) (h : RatchetTree) (text : List ℕ) → UsesTree None info.extensions h
-    → text ≡ query_text G (start_signatures info h.tree) → IsStartQuery G info None text
-lines-own G info h text own e t uses =
-    e ∙ ap (λ (v : RatchetTree). query_text G (start_signatures info v.tree)) (one_tree None info.extensions h t own uses)
-
-pub lines-none : (G : VerifyFn) (info : GroupInfo) (text : List ℕ) → UsesNoTree None info.extensions → IsStartQuery G info None text
-lines-none G info text none t uses = absurd (none t uses)
-
--- a follower starts, so the tree that it uses is there
-pub lines-start : (G : VerifyFn) (info : GroupInfo) (handed : Option RatchetTree) (s : State) (text : List ℕ) → IsStart all_good info handed s
-    → IsStartQuery G info handed text → QueriesStart G info handed text
-lines-start G info handed s text start lines = record {
-  state = s;
-  start = start;
-  text_is =
-      lines start.tree start.has_signer.has_members.valid_tree.readable.has_tree.uses
-      ∙ ap (λ (st : State). query_text G (start_signatures info st.tree)) (sym start.state);
-}
-
--- ---- from the bytes
-
-module _ (i : Inputs) (info : GroupInfo) (handed : Option RatchetTree) (is_read : IsReadAs i.info i.tree info handed) where
-  pub opens-with : (G : VerifyFn) (text : List ℕ) → QueriesStart G info handed text → OpensWith G i text
-  opens-with G text q = record {
-    wanted = start_signatures info q.state.tree;
-    can_start = record { info = info; handed = handed; is_read = is_read; state = q.state; has_signatures = record { start = q.start; wanted_is = refl } };
-    text_is = q.text_is;
-  }
-
-  declines : (G : VerifyFn) (finding : Finding) → FailsStart G info handed finding → Declines G i finding
+  declines : (G : VerifyFn) (finding : Finding) → FailsStart G info handed finding → Declines G (OfGroup files) finding
   declines G finding f =
-      subst (Declines G i) (sym f.finding_is) (record { found = (info, handed, is_read, f.own, f.fails); verdict = refl })
+      subst (Declines G (OfGroup files)) (sym f.finding_is) (record { found = (info, handed, is_read, f.own, f.fails); verdict = refl })
 
-  pub says-declines : (G : VerifyFn) (failure : StartFailure) → Says (FailsStart G info handed) failure → Says (Declines G i) failure
+  pub says-declines : (G : VerifyFn) (failure : StartFailure) → Says (FailsStart G info handed) failure → Says (Declines G (OfGroup files)) failure
   says-declines G (Found finding) f = declines G finding f
   says-declines G (Fault e) f = f
 
-pub says-unread : (G : VerifyFn) (i : Inputs) (failure : StartFailure) → Says (IsUnread i.info i.tree) failure → Says (Declines G i) failure
-says-unread G i (Found finding) u = record { found = u.found G; verdict = u.verdict }
-says-unread G i (Fault e) u = u
+pub says-unread : (G : VerifyFn) (files : GroupFiles) (failure : StartFailure) → Says (IsUnread files.info files.tree) failure → Says (Declines G (OfGroup files)) failure
+says-unread G files (Found finding) u = record { found = u.found G; verdict = u.verdict }
+says-unread G files (Fault e) u = u
 
-pub readable : (i : Inputs) (wanted : List SignatureToVerify) → CanStart i wanted → IsReadable i
-readable i wanted c = record { info = c.info; handed = c.handed; is_read = c.is_read }
+-- ---- from the bytes of a state
 
--- ---- the whole report
+pub state_declines : (G : VerifyFn) (bytes : List ℕ) (finding : Finding) → DeclinesState G bytes finding → Declines G (OfState bytes) finding
+state_declines G bytes finding d = record { found = d.found; verdict = d.verdict }
 
-module _ (G : VerifyFn) (i0 i1 : Option (List ℕ)) (t0 t1 : Option (Option (List ℕ))) (i : Inputs) (both : ReadsBoth i0 i1 t0 t1 i.info i.tree)
-    (r0 r1 w0 w1 : Option (List ℕ)) where
-  declines-read : (finding : Finding) → Declines all_good i finding → ReadsAndDeclines all_good i0 i1 t0 t1 finding
-  declines-read finding d = record { info_bytes = i.info; tree_bytes = i.tree; both_read = both; found = d.found; verdict = d.verdict }
+pub says-state : (G : VerifyFn) (bytes : List ℕ) (failure : StartFailure) → Says (DeclinesState G bytes) failure → Says (Declines G (OfState bytes)) failure
+says-state G bytes (Found finding) d = state_declines G bytes finding d
+says-state G bytes (Fault e) d = d
 
-  opens : (wanted : List SignatureToVerify) → CanStart i wanted → ReadsStart i0 i1 t0 t1 i wanted
-  opens wanted c = record { both_read = both; can_start = c }
+-- ---- the whole report, from inputs that were read
 
-  pub told-gate : (verdict : Verdict) → GatesFrom G i r0 r1 w0 w1 verdict → Gates G i0 i1 t0 t1 r0 r1 w0 w1 verdict
-  told-gate verdict (inl p) = inl (record {
+module _ (Reads : Inputs → Type 0) (G : VerifyFn) (i : Inputs) (read : Reads i) (r0 r1 w0 w1 : Option (List ℕ)) where
+  reads : (j : Inputs) → Are i j → Reads j
+  reads j e = subst Reads (sym e) read
+
+  pub told-read : (verdict : Verdict) → GatesOf (Are i) G r0 r1 w0 w1 verdict → GatesOf Reads G r0 r1 w0 w1 verdict
+  told-read verdict (inl p) = inl (record {
+    i = p.i;
+    read = reads p.i p.read;
     finding = p.finding;
-    declines = declines-read p.finding p.declines;
+    declines = p.declines;
     unread = p.unread;
     wrote = p.wrote;
     verdict_is = p.verdict_is;
   })
-  told-gate verdict (inr p) = inr (record {
-    i = i;
-    wanted = p.wanted;
-    opens = opens p.wanted p.can_start;
+  told-read verdict (inr p) = inr (record {
+    i = p.i;
+    read = reads p.i p.read;
+    signatures = p.signatures;
+    can_start = p.can_start;
     between = p.between;
     wrote = p.wrote;
     tells = p.tells;
   })
 
-  before : (fault : RunFault) → GatesBefore G i r0 r1 w0 w1 fault → GateBefore G i0 i1 t0 t1 r0 r1 w0 w1 fault
-  before Read p = absurd p
-  before Write (inl p) = inl (record { finding = p.finding; declines = declines-read p.finding p.declines; unread = p.unread; wrote = p.wrote })
-  before Write (inr p) = inr (record { i = i; wanted = p.wanted; opens = opens p.wanted p.can_start; unread = p.unread; wrote = p.wrote })
-  before Memory p = p
+  before-read : (fault : RunFault) → GateBefore (Are i) G r0 r1 w0 w1 fault → GateBefore Reads G r0 r1 w0 w1 fault
+  before-read Read p = p
+  before-read Write (inl p) = inl (record { i = p.i; read = reads p.i p.read; finding = p.finding; declines = p.declines; unread = p.unread; wrote = p.wrote })
+  before-read Write (inr p) = inr (record { i = p.i; read = reads p.i p.read; signatures = p.signatures; can_start = p.can_start; unread = p.unread; wrote = p.wrote })
+  before-read Memory (inl p) = inl p
+  before-read Memory (inr p) = inr (record { i = p.i; read = reads p.i p.read; front = p.front; rest = p.rest; can_start = p.can_start; unread = p.unread; wrote = p.wrote })
 
-  pub part-gate : (fault : RunFault) → GatesFromPart G i r0 r1 w0 w1 fault → GatesPart G i0 i1 t0 t1 r0 r1 w0 w1 fault
-  part-gate fault (inl p) = inl (before fault p)
-  part-gate fault (inr p) = inr (record {
-    i = i;
-    wanted = p.wanted;
-    opens = opens p.wanted p.can_start;
+  pub part-read : (fault : RunFault) → GatesPartOf (Are i) G r0 r1 w0 w1 fault → GatesPartOf Reads G r0 r1 w0 w1 fault
+  part-read fault (inl p) = inl (before-read fault p)
+  part-read fault (inr p) = inr (record {
+    i = p.i;
+    read = reads p.i p.read;
+    signatures = p.signatures;
+    can_start = p.can_start;
     between = p.between;
     wrote = p.wrote;
     tells = p.tells;
   })
 
--- nothing is written
-pub part-unread : (G : VerifyFn) (i0 i1 : Option (List ℕ)) (t0 t1 : Option (Option (List ℕ))) (r w : Option (List ℕ)) (fault : RunFault) → fault ≢ Write
-    → GatesPart G i0 i1 t0 t1 r r w w fault
-part-unread G i0 i1 t0 t1 r w Read own = inl (record { unread = refl; wrote = Appends-nil w })
-part-unread G i0 i1 t0 t1 r w Write own = absurd (own refl)
-part-unread G i0 i1 t0 t1 r w Memory own = inl (record { unread = refl; wrote = Appends-nil w })
+-- ---- a part of it
 
-pub part-memory : (G : VerifyFn) (i : Inputs) (r w : Option (List ℕ)) (fault : RunFault) → fault ≡ Memory → GatesFromPart G i r r w w fault
-part-memory G i r w Read same = absurd (cc)
-part-memory G i r w Write same = absurd (cc)
-part-memory G i r w Memory same = inl (record { unread = refl; wrote = Appends-nil w })
+module _ (Reads : Inputs → Type 0) (G : VerifyFn) where
+  -- the lines of the start were not written whole
+  pub part-opening : (i : Inputs) → Reads i → (signatures : List SignatureToVerify) → CanStart i signatures → (r w0 w1 : Option (List ℕ)) (fault : RunFault)
+      → StopsInStartLines G signatures w0 w1 fault → GatesPartOf Reads G r r w0 w1 fault
+  part-opening i read signatures can r w0 w1 Read p = absurd p
+  part-opening i read signatures can r w0 w1 Write p =
+      inl (inr (record { i = i; read = read; signatures = signatures; can_start = can; unread = refl; wrote = p }))
+  part-opening i read signatures can r w0 w1 Memory p = inl (inr (record {
+    i = i;
+    read = read;
+    front = p.front;
+    rest = p.rest;
+    can_start = subst (CanStart i) p.split can;
+    unread = refl;
+    wrote = p.wrote;
+  }))
+
+  -- nothing is written
+  pub part-unread : (r w : Option (List ℕ)) (fault : RunFault) → fault ≢ Write → GatesPartOf Reads G r r w w fault
+  part-unread r w Read own = inl (record { unread = refl; wrote = Appends-nil w })
+  part-unread r w Write own = absurd (own refl)
+  part-unread r w Memory own = inl (inl (record { unread = refl; wrote = Appends-nil w }))
+
+  pub part-memory : (r w : Option (List ℕ)) (fault : RunFault) → fault ≡ Memory → GatesPartOf Reads G r r w w fault
+  part-memory r w Read same = absurd cc
+  part-memory r w Write same = absurd cc
+  part-memory r w Memory same = inl (inl (record { unread = refl; wrote = Appends-nil w }))

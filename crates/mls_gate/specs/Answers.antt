@@ -8,21 +8,21 @@ use Rattle.mls_signatures.specs.declared.signature_to_verify.SignatureToVerify.{
 use Rattle.mls_follow.specs.RefusalNumbers.{number_of}
 use Rattle.mls_follow.specs.Runs.{IsAnswer}
 use Rattle.mls_follow.specs.State.{State}
+use Rattle.mls_follow.specs.StoredState.{EncodesState, HasNoFile}
 use Rattle.mls_follow.specs.declared.refusal.Refusal.{Refusal}
 use Rattle.mls_follow.specs.declared.refusal.Refusal.TheVariants as refusals
-use Rattle.mls_follow.specs.declared.start_fault.StartFault.{StartFault}
 use Rattle.mls_follow.specs.declared.taken.Taken.{Taken}
 use Rattle.mls_follow.specs.declared.taken.Taken.TheVariants.{Proposal, Commit}
 use Rattle.mls_report.specs.FaultText.{member_fault_text}
 use Rattle.mls_report.specs.Finding.{finding_line}
 use Rattle.mls_report.specs.SignaturesReport.{HasSignatures, wanted_line}
-use Rattle.mls_report.specs.StartInputs.{IsStarted, IsStartFinding}
 use Rattle.mls_report.specs.ValueTexts.{hex_text}
-use Rattle.mls_report.specs.declared.finding.Finding.TheVariants.{StartRefused}
+use Rattle.mls_report.specs.declared.finding.Finding.{Finding}
+use Rattle.mls_gate.specs.FirstStates.{IsFirstState, Refuses}
 use Rattle.mls_gate.specs.Phases.{Inputs, Phase, Opening, Following}
 use Rattle.mls_gate.specs.Requests.{request_of, having_learnt}
 use Rattle.mls_gate.specs.declared.request.Request.{Request}
-use Rattle.mls_gate.specs.declared.request.Request.TheVariants.{Learn, Begin, Query, Judge}
+use Rattle.mls_gate.specs.declared.request.Request.TheVariants.{Learn, Begin, Query, Judge, Store}
 
 -- ---- lines
 
@@ -48,17 +48,20 @@ abbrev pub unknown_count : VerifyFn → List SignatureToVerify → ℕ
 unknown_count G [] = 0
 unknown_count G (w ∷ wanted) = unknown_one G w + unknown_count G wanted
 
--- `query_text G wanted` is these lines, and a last one with their number.
+-- `count_line n` is the line with this number.
+abbrev pub count_line : ℕ → List ℕ
+count_line n = codes "queried " ++ (decimal n ++ codes "\n")
+
+-- `query_text G wanted` is the lines of the signatures that `G` does not accept, and a last one with their number.
 abbrev pub query_text : VerifyFn → List SignatureToVerify → List ℕ
-query_text G wanted =
-    verify_lines G wanted ++ (codes "queried " ++ (decimal (unknown_count G wanted) ++ codes "\n"))
+query_text G wanted = verify_lines G wanted ++ count_line (unknown_count G wanted)
 
 -- `message_query G wanted` is the answer to a query. Bytes that are no message have no signature.
 abbrev pub message_query : VerifyFn → Option (List SignatureToVerify) → List ℕ
 message_query G None = query_text G []
 message_query G (Some wanted) = query_text G wanted
 
--- `ready_line s` is the line of a follower that has started: its epoch, its number of members, and its tree hash
+-- `ready_line s` is the line of a follower that has started or resumed: its epoch, its number of members, and its tree hash
 -- (RFC 9420, 8.1).
 abbrev pub ready_line : State → List ℕ
 ready_line s =
@@ -97,7 +100,7 @@ refusal_name refusals.TwoContextExtensions = codes "TwoContextExtensions"
 refusal_name refusals.ContextExtensionsInvalid = codes "ContextExtensionsInvalid"
 refusal_name refusals.OutOfMemory = codes "OutOfMemory"
 
--- `judged_line answer s` is the line of a message that was judged: the reference of a proposal (RFC 9420, 5.2); of a
+-- `judged_line answer s` is the line of a processed message: the reference of a proposal (RFC 9420, 5.2); of a
 -- commit the epoch that it begins, and the tree hash and the confirmed transcript hash of that epoch (8.1); or the
 -- number and the name of the refusal, and for 25 those of the fault of the leaf node.
 abbrev pub judged_line : Result Taken Refusal → State → List ℕ
@@ -108,7 +111,15 @@ judged_line (Ok (Commit epoch)) s =
     ++ (codes " " ++ (hex_text s.context.confirmed ++ codes "\n")))))
 judged_line (Err e) s = codes "refused " ++ (decimal (number_of e) ++ (codes " " ++ (refusal_name e ++ codes "\n")))
 
--- `broken_line` is the line of a record that is none, or asks for nothing that the phase has an answer to.
+-- `stored_line bytes` is the line of a state that has this file.
+abbrev pub stored_line : List ℕ → List ℕ
+stored_line bytes = codes "state " ++ (hex_text bytes ++ codes "\n")
+
+-- `no_file_line` is the line of a state that has no file.
+abbrev pub no_file_line : List ℕ
+no_file_line = codes "state TooLong\n"
+
+-- `broken_line` is the line of a record that is none, or has no answer in the phase.
 abbrev pub broken_line : List ℕ
 broken_line = codes "broken\n"
 
@@ -120,13 +131,12 @@ pub data Outcome : Type 0 where
   Goes : List ℕ → Phase → Outcome
   Ends : List ℕ → Outcome
 
--- `Begins i G outcome`: a follower starts from the inputs, and the gate goes on with it; or none does, and the gate ends
--- with the line of `validate`.
+-- `Begins i G outcome`: a follower starts or resumes from the inputs, and the gate goes on with it; or none does, and the
+-- gate ends with the line of `validate`.
 abbrev pub Begins : Inputs → VerifyFn → Outcome → Type 0
 Begins i G outcome =
-    ((s : State) × IsStarted G i.info i.tree s × (outcome ≡ Goes (ready_line s) (Following G s)))
-    ⊎ ((fault : StartFault) × IsStartFinding G i.info i.tree (StartRefused fault)
-    × (outcome ≡ Ends (finding_line (StartRefused fault))))
+    ((s : State) × IsFirstState G i s × (outcome ≡ Goes (ready_line s) (Following G s)))
+    ⊎ ((finding : Finding) × Refuses G i finding × (outcome ≡ Ends (finding_line finding)))
 
 -- `Queries G s message outcome`: the signatures of the message that `G` does not accept are listed. Nothing changes.
 abbrev pub Queries : VerifyFn → State → List ℕ → Outcome → Type 0
@@ -140,6 +150,12 @@ Judges G s message outcome =
     (answer : Result Taken Refusal) × (new : State) × IsAnswer G s message answer new
     × (outcome ≡ Goes (judged_line answer new) (Following G new))
 
+-- `StoresState G s outcome`: the file of the state is written, or that it has none. Nothing changes.
+abbrev pub StoresState : VerifyFn → State → Outcome → Type 0
+StoresState G s outcome =
+    ((bytes : List ℕ) × EncodesState s bytes × (outcome ≡ Goes (stored_line bytes) (Following G s)))
+    ⊎ (HasNoFile s × (outcome ≡ Goes no_file_line (Following G s)))
+
 -- `Responds phase request rest outcome`: the outcome of a request in a phase. `rest` is the record's body after its
 -- letter.
 abbrev pub Responds : Phase → Option Request → List ℕ → Outcome → Type 0
@@ -148,6 +164,7 @@ Responds (Opening i G) (Some Begin) rest outcome = Begins i G outcome
 Responds (Following G s) (Some Learn) rest outcome = outcome ≡ Goes [] (Following (having_learnt G rest) s)
 Responds (Following G s) (Some Query) rest outcome = Queries G s rest outcome
 Responds (Following G s) (Some Judge) rest outcome = Judges G s rest outcome
+Responds (Following G s) (Some Store) rest outcome = StoresState G s outcome
 Responds _ _ rest outcome = outcome ≡ Ends broken_line
 
 -- `Answers phase body outcome`: the outcome of a record with this body in a phase.

@@ -1,24 +1,23 @@
 -- The report `gate`: the signatures of the start, and then an answer to each record of the input, before the next one
 -- is read. `records0` and `records1` are what the input has left before and after, `written0` and `written1` what the
--- output holds; the other arguments are as in the report `replay`. Used by contracts.
+-- output holds; `info0`, `info1`, `tree0`, `tree1` are as in the report `replay`, and `state0` and `state1` are what the
+-- file of a state has left. Used by contracts.
 use Rattle.std.specs.Prelude.{◌≡◌, ◌⊎◌, ℕ, ◌-◌, ◌≤◌, ◌<◌, List, [], ◌∷◌, ◌++◌, length, map, Option}
 use Rattle.std.specs.Io.KnownBytes.{Appends, Consumes, IsAtEnd}
 use Rattle.mls_wire.specs.Devices.{AppendsPrefix}
 use Rattle.mls_wire.specs.Logs.{IsRecord, IsBrokenAt, IsIncomplete}
-use Rattle.mls_tree.specs.RatchetTree.{RatchetTree}
 use Rattle.mls_check.specs.Signatures.{VerifyFn}
-use Rattle.mls_msgs.specs.declared.group_info.GroupInfo.{GroupInfo}
 use Rattle.mls_signatures.specs.declared.signature_to_verify.SignatureToVerify.{SignatureToVerify}
 use Rattle.mls_follow.specs.CoveredLogs.{all_good}
-use Rattle.mls_follow.specs.State.{State}
-use Rattle.mls_report.specs.Replay.{AreRecords, IsLeftOver, TellsNothing, StopsInDecline, TellsDecline}
-use Rattle.mls_report.specs.SignaturesReport.{StartHasSignatures}
-use Rattle.mls_report.specs.StartInputs.{IsReadAs, ReadsBoth}
+use Rattle.mls_report.specs.Finding.{finding_line}
+use Rattle.mls_report.specs.Replay.{AreRecords, IsLeftOver, TellsNothing}
+use Rattle.mls_report.specs.declared.finding.Finding.{Finding}
 use Rattle.mls_report.specs.declared.verdict.RunFault.{RunFault}
 use Rattle.mls_report.specs.declared.verdict.RunFault.TheVariants.{Read, Write, Memory}
 use Rattle.mls_report.specs.declared.verdict.Verdict.{Verdict}
 use Rattle.mls_report.specs.declared.verdict.Verdict.TheVariants.{No}
-use Rattle.mls_gate.specs.Answers.{Answers, Goes, Ends, query_text, broken_line}
+use Rattle.mls_gate.specs.Answers.{Answers, Goes, Ends, verify_lines, query_text, broken_line}
+use Rattle.mls_gate.specs.FirstStates.{CanStart, Declines, ReadsGroup, ReadsState}
 use Rattle.mls_gate.specs.Phases.{Inputs, Phase, Opening, end_verdict}
 
 -- The most records of an input: a limit of this library.
@@ -158,79 +157,124 @@ RecordsPart phase records0 records1 written0 written1 Write =
 RecordsPart phase records0 records1 written0 written1 Memory =
     StopsWithoutMemory phase records0 records1 written0 written1
 
--- ---- the whole report
+-- ---- the whole report. `Reads i`: the inputs were read to their ends, and `i` is their bytes
 
--- `CanStart i wanted`: a follower starts from the inputs, each signature being good, and the start has these
--- signatures.
-pub record CanStart (i : Inputs) (wanted : List SignatureToVerify) : Type 0 where
-  pub info : GroupInfo
-  pub handed : Option RatchetTree
-  pub is_read : IsReadAs i.info i.tree info handed
-  pub state : State
-  pub has_signatures : StartHasSignatures info handed state wanted
+-- `DeclinesGate Reads ..`: no follower starts although each signature is good. No record was read, and one line says
+-- why.
+pub record DeclinesGate (Reads : Inputs → Type 0) (records0 records1 written0 written1 : Option (List ℕ))
+    (verdict : Verdict) : Type 0 where
+  pub i : Inputs
+  pub read : Reads i
+  pub finding : Finding
+  pub declines : Declines all_good i finding
+  pub unread : records1 ≡ records0
+  pub wrote : Appends written0 written1 (finding_line finding)
+  pub verdict_is : verdict ≡ No
 
--- `ReadsStart info0 info1 tree0 tree1 i wanted`: both were read, and a follower starts from them so.
-pub record ReadsStart (info0 info1 : Option (List ℕ)) (tree0 tree1 : Option (Option (List ℕ))) (i : Inputs)
-    (wanted : List SignatureToVerify) : Type 0 where
-  pub both_read : ReadsBoth info0 info1 tree0 tree1 i.info i.tree
-  pub can_start : CanStart i wanted
-
--- `TellsGate G ..`: the signatures of the start that `G` does not accept were listed, and the records answered.
-pub record TellsGate (G : VerifyFn) (info0 info1 : Option (List ℕ)) (tree0 tree1 : Option (Option (List ℕ)))
+-- `OpensGate Reads G ..`: the signatures of the start that `G` does not accept were listed, and the records answered.
+pub record OpensGate (Reads : Inputs → Type 0) (G : VerifyFn)
     (records0 records1 written0 written1 : Option (List ℕ)) (verdict : Verdict) : Type 0 where
   pub i : Inputs
-  pub wanted : List SignatureToVerify
-  pub opens : ReadsStart info0 info1 tree0 tree1 i wanted
+  pub read : Reads i
+  pub signatures : List SignatureToVerify
+  pub can_start : CanStart i signatures
   pub between : Option (List ℕ)
-  pub wrote : Appends written0 between (query_text G wanted)
+  pub wrote : Appends written0 between (query_text G signatures)
   pub tells : TellsRecords (Opening i G) records0 records1 between written1 verdict
 
--- `Gates G ..`: the report was written whole. Either no follower starts although each signature is good, no record was
--- read and one line says why; or the records were answered.
+-- `GatesOf Reads G ..`: the report was written whole. Either no follower starts although each signature is good, or the
+-- records were answered.
+abbrev pub GatesOf : (Inputs → Type 0) → VerifyFn → Option (List ℕ) → Option (List ℕ) → Option (List ℕ)
+    → Option (List ℕ) → Verdict → Type 0
+GatesOf Reads G records0 records1 written0 written1 verdict =
+    DeclinesGate Reads records0 records1 written0 written1 verdict
+    ⊎ OpensGate Reads G records0 records1 written0 written1 verdict
+
+-- `Gates G info0 info1 tree0 tree1 ..`: the report from a GroupInfo, and a tree if one is passed.
 abbrev pub Gates : VerifyFn → Option (List ℕ) → Option (List ℕ) → Option (Option (List ℕ)) → Option (Option (List ℕ))
     → Option (List ℕ) → Option (List ℕ) → Option (List ℕ) → Option (List ℕ) → Verdict → Type 0
 Gates G info0 info1 tree0 tree1 records0 records1 written0 written1 verdict =
-    TellsDecline all_good info0 info1 tree0 tree1 records0 records1 written0 written1 verdict
-    ⊎ TellsGate G info0 info1 tree0 tree1 records0 records1 written0 written1 verdict
+    GatesOf (ReadsGroup info0 info1 tree0 tree1) G records0 records1 written0 written1 verdict
+
+-- `GatesState G state0 state1 ..`: the report from the file of a state.
+abbrev pub GatesState : VerifyFn → Option (List ℕ) → Option (List ℕ) → Option (List ℕ) → Option (List ℕ)
+    → Option (List ℕ) → Option (List ℕ) → Verdict → Type 0
+GatesState G state0 state1 records0 records1 written0 written1 verdict =
+    GatesOf (ReadsState state0 state1) G records0 records1 written0 written1 verdict
 
 -- ---- a part of the report
 
--- `StopsInQuery G ..`: the output failed in the lines of the start, before a record was read.
-pub record StopsInQuery (G : VerifyFn) (info0 info1 : Option (List ℕ)) (tree0 tree1 : Option (Option (List ℕ)))
+-- `StopsDeclining Reads ..`: the output failed in the line that says why no follower starts.
+pub record StopsDeclining (Reads : Inputs → Type 0) (records0 records1 written0 written1 : Option (List ℕ))
+    : Type 0 where
+  pub i : Inputs
+  pub read : Reads i
+  pub finding : Finding
+  pub declines : Declines all_good i finding
+  pub unread : records1 ≡ records0
+  pub wrote : AppendsPrefix written0 written1 (finding_line finding)
+
+-- `StopsInQuery Reads G ..`: the output failed in the lines of the start, before a record was read.
+pub record StopsInQuery (Reads : Inputs → Type 0) (G : VerifyFn)
     (records0 records1 written0 written1 : Option (List ℕ)) : Type 0 where
   pub i : Inputs
-  pub wanted : List SignatureToVerify
-  pub opens : ReadsStart info0 info1 tree0 tree1 i wanted
+  pub read : Reads i
+  pub signatures : List SignatureToVerify
+  pub can_start : CanStart i signatures
   pub unread : records1 ≡ records0
-  pub wrote : AppendsPrefix written0 written1 (query_text G wanted)
+  pub wrote : AppendsPrefix written0 written1 (query_text G signatures)
 
--- `GateBefore G .. fault`: no record was read, by the fault that is returned.
-abbrev pub GateBefore : VerifyFn → Option (List ℕ) → Option (List ℕ) → Option (Option (List ℕ))
-    → Option (Option (List ℕ)) → Option (List ℕ) → Option (List ℕ) → Option (List ℕ) → Option (List ℕ) → RunFault
-    → Type 0
-GateBefore G info0 info1 tree0 tree1 records0 records1 written0 written1 Read =
-    TellsNothing records0 records1 written0 written1
-GateBefore G info0 info1 tree0 tree1 records0 records1 written0 written1 Write =
-    StopsInDecline all_good info0 info1 tree0 tree1 records0 records1 written0 written1
-    ⊎ StopsInQuery G info0 info1 tree0 tree1 records0 records1 written0 written1
-GateBefore G info0 info1 tree0 tree1 records0 records1 written0 written1 Memory =
-    TellsNothing records0 records1 written0 written1
+-- `QueryWithoutMemory Reads G ..`: memory ran out in the lines of the start, before a record was read. The lines of the
+-- signatures before were written whole.
+pub record QueryWithoutMemory (Reads : Inputs → Type 0) (G : VerifyFn)
+    (records0 records1 written0 written1 : Option (List ℕ)) : Type 0 where
+  pub i : Inputs
+  pub read : Reads i
+  pub front : List SignatureToVerify
+  pub rest : List SignatureToVerify
+  pub can_start : CanStart i (front ++ rest)
+  pub unread : records1 ≡ records0
+  pub wrote : Appends written0 written1 (verify_lines G front)
 
--- `GateAfter G .. fault`: the lines of the start were written, and not each record was answered.
-pub record GateAfter (G : VerifyFn) (info0 info1 : Option (List ℕ)) (tree0 tree1 : Option (Option (List ℕ)))
+-- `GateBefore Reads G .. fault`: no record was read, by the fault that is returned.
+abbrev pub GateBefore : (Inputs → Type 0) → VerifyFn → Option (List ℕ) → Option (List ℕ) → Option (List ℕ)
+    → Option (List ℕ) → RunFault → Type 0
+GateBefore Reads G records0 records1 written0 written1 Read = TellsNothing records0 records1 written0 written1
+GateBefore Reads G records0 records1 written0 written1 Write =
+    StopsDeclining Reads records0 records1 written0 written1
+    ⊎ StopsInQuery Reads G records0 records1 written0 written1
+GateBefore Reads G records0 records1 written0 written1 Memory =
+    TellsNothing records0 records1 written0 written1
+    ⊎ QueryWithoutMemory Reads G records0 records1 written0 written1
+
+-- `GateAfter Reads G .. fault`: the lines of the start were written, and not each record was answered.
+pub record GateAfter (Reads : Inputs → Type 0) (G : VerifyFn)
     (records0 records1 written0 written1 : Option (List ℕ)) (fault : RunFault) : Type 0 where
   pub i : Inputs
-  pub wanted : List SignatureToVerify
-  pub opens : ReadsStart info0 info1 tree0 tree1 i wanted
+  pub read : Reads i
+  pub signatures : List SignatureToVerify
+  pub can_start : CanStart i signatures
   pub between : Option (List ℕ)
-  pub wrote : Appends written0 between (query_text G wanted)
+  pub wrote : Appends written0 between (query_text G signatures)
   pub tells : RecordsPart (Opening i G) records0 records1 between written1 fault
 
--- `GatesPart G .. fault`: what was written if the report was not written whole, by the fault that is returned. It is a
--- prefix of what the bytes that were read determine.
+-- `GatesPartOf Reads G .. fault`: what was written if the report was not written whole, by the fault that is returned. It
+-- is a prefix of what the bytes that were read determine.
+abbrev pub GatesPartOf : (Inputs → Type 0) → VerifyFn → Option (List ℕ) → Option (List ℕ) → Option (List ℕ)
+    → Option (List ℕ) → RunFault → Type 0
+GatesPartOf Reads G records0 records1 written0 written1 fault =
+    GateBefore Reads G records0 records1 written0 written1 fault
+    ⊎ GateAfter Reads G records0 records1 written0 written1 fault
+
+-- `GatesPart G info0 info1 tree0 tree1 .. fault`: a part of the report from a GroupInfo, and a tree if one is passed.
 abbrev pub GatesPart : VerifyFn → Option (List ℕ) → Option (List ℕ) → Option (Option (List ℕ))
     → Option (Option (List ℕ)) → Option (List ℕ) → Option (List ℕ) → Option (List ℕ) → Option (List ℕ) → RunFault
     → Type 0
 GatesPart G info0 info1 tree0 tree1 records0 records1 written0 written1 fault =
-    GateBefore G info0 info1 tree0 tree1 records0 records1 written0 written1 fault
-    ⊎ GateAfter G info0 info1 tree0 tree1 records0 records1 written0 written1 fault
+    GatesPartOf (ReadsGroup info0 info1 tree0 tree1) G records0 records1 written0 written1 fault
+
+-- `GatesStatePart G state0 state1 .. fault`: a part of the report from the file of a state.
+abbrev pub GatesStatePart : VerifyFn → Option (List ℕ) → Option (List ℕ) → Option (List ℕ) → Option (List ℕ)
+    → Option (List ℕ) → Option (List ℕ) → RunFault → Type 0
+GatesStatePart G state0 state1 records0 records1 written0 written1 fault =
+    GatesPartOf (ReadsState state0 state1) G records0 records1 written0 written1 fault

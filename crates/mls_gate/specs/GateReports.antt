@@ -4,7 +4,7 @@ use Rattle.std.specs.Prelude.{◌≡◌, ℕ, List, ◌++◌, Option, Some, opti
 use Rattle.mls_check.specs.Signatures.{VerifyFn}
 use Rattle.mls_report.specs.UniqueReports.{AreAlikeTexts}
 use Rattle.mls_report.specs.declared.verdict.Verdict.{Verdict}
-use Rattle.mls_gate.specs.GateReport.{Gates}
+use Rattle.mls_gate.specs.GateReport.{Gates, GatesState}
 
 -- `IsGateReport G info_bytes tree_bytes records text verdict`: a gate over these bytes has written this text, and has
 -- this verdict.
@@ -17,6 +17,14 @@ pub record IsGateReport (G : VerifyFn) (info_bytes : List ℕ) (tree_bytes : Opt
   pub gates : Gates G (Some info_bytes) info_left (option_map Some tree_bytes) tree_left
       (Some records) records_left (Some before) (Some (before ++ text)) verdict
 
+-- `IsStateGateReport G state_bytes records text verdict`: a gate over the file of a state and these records has written
+-- this text, and has this verdict.
+pub record IsStateGateReport (G : VerifyFn) (state_bytes records text : List ℕ) (verdict : Verdict) : Type 0 where
+  pub state_left : Option (List ℕ)
+  pub records_left : Option (List ℕ)
+  pub before : List ℕ
+  pub gates : GatesState G (Some state_bytes) state_left (Some records) records_left (Some before) (Some (before ++ text)) verdict
+
 -- The bytes of its inputs determine what a gate writes, and its verdict.
 abbrev pub GateIsUnique : Type 0
 GateIsUnique =
@@ -25,8 +33,21 @@ GateIsUnique =
     → IsGateReport G info_bytes tree_bytes records other more
     → AreAlikeTexts text other × (verdict ≡ more)
 
+-- So do those of the file of a state.
+abbrev pub StateGateIsUnique : Type 0
+StateGateIsUnique =
+    (G : VerifyFn) (state_bytes records text other : List ℕ) (verdict more : Verdict)
+    → IsStateGateReport G state_bytes records text verdict → IsStateGateReport G state_bytes records other more
+    → AreAlikeTexts text other × (verdict ≡ more)
+
 -- The bytes of the inputs of a gate have a report.
 abbrev pub GateExists : Type 0
 GateExists =
     (G : VerifyFn) (info_bytes : List ℕ) (tree_bytes : Option (List ℕ)) (records : List ℕ)
     → (text : List ℕ) × (verdict : Verdict) × IsGateReport G info_bytes tree_bytes records text verdict
+
+-- So do those of the file of a state.
+abbrev pub StateGateExists : Type 0
+StateGateExists =
+    (G : VerifyFn) (state_bytes records : List ℕ)
+    → (text : List ℕ) × (verdict : Verdict) × IsStateGateReport G state_bytes records text verdict

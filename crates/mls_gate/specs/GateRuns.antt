@@ -2,13 +2,15 @@
 use Rattle.std.specs.Prelude.{◌≡◌, ◌↔◌, ℕ, List, Result}
 use Rattle.mls_check.specs.Signatures.{VerifyFn, Extends}
 use Rattle.mls_follow.specs.CoveredLogs.{all_good, CoversMessage}
+use Rattle.mls_follow.specs.Resumption.{IsResumed}
 use Rattle.mls_follow.specs.RisingRuns.{Event, IsRisingRun, last_meaning}
 use Rattle.mls_follow.specs.Runs.{IsAnswer}
 use Rattle.mls_follow.specs.State.{State}
+use Rattle.mls_follow.specs.StoredState.{EncodesState}
 use Rattle.mls_follow.specs.Validity.{IsValidState}
 use Rattle.mls_follow.specs.declared.refusal.Refusal.{Refusal}
 use Rattle.mls_follow.specs.declared.taken.Taken.{Taken}
-use Rattle.mls_report.specs.StartInputs.{IsStarted}
+use Rattle.mls_gate.specs.FirstStates.{IsFirstState}
 use Rattle.mls_gate.specs.GateReport.{Turn, AreAnswered, phase_after}
 use Rattle.mls_gate.specs.Phases.{Inputs, Opening, Following}
 
@@ -19,13 +21,13 @@ pub record IsRun (G : VerifyFn) (first : State) (K : VerifyFn) (last : State) : 
   pub rises : IsRisingRun G first events last
   pub meaning : last_meaning G events ≡ K
 
--- `HasStarted i G K s`: a follower has started from the inputs by what was learnt then, which extends `G`, and a rising
--- run led from there to the state `s`, with `K` at last.
+-- `HasStarted i G K s`: a follower has started or resumed from the inputs by what was learnt then, which extends `G`, and
+-- a rising run led from there to the state `s`, with `K` at last.
 pub record HasStarted (i : Inputs) (G K : VerifyFn) (s : State) : Type 0 where
   pub known : VerifyFn
   pub extends : Extends G known
   pub first : State
-  pub started : IsStarted known i.info i.tree first
+  pub started : IsFirstState known i first
   pub run : IsRun known first K s
 
 -- A gate that follows has started a follower, and its records are a rising run of it.
@@ -47,3 +49,9 @@ GateAnswersAreTrusted =
     (i : Inputs) (G K : VerifyFn) (turns : List Turn) (s new : State) (bytes : List ℕ) (answer : Result Taken Refusal)
     → AreAnswered (Opening i G) turns → phase_after (Opening i G) turns ≡ Following K s → CoversMessage K s bytes
     → IsAnswer K s bytes answer new ↔ IsAnswer all_good s bytes answer new
+
+-- From the file of the follower's state a follower resumes in this state, by what was learnt so far.
+abbrev pub GateStatesResume : Type 0
+GateStatesResume =
+    (i : Inputs) (G K : VerifyFn) (turns : List Turn) (s : State) (bytes : List ℕ) → AreAnswered (Opening i G) turns
+    → phase_after (Opening i G) turns ≡ Following K s → EncodesState s bytes → IsResumed K bytes s

@@ -1,5 +1,6 @@
 pub mod Requests
 pub mod Phases
+pub mod FirstStates
 pub mod Answers
 pub mod GateReport
 pub mod GateReports

@@ -5,10 +5,15 @@ use Rattle.mls_follow.specs.State.{State}
 use Rattle.mls_report.specs.declared.verdict.Verdict.{Verdict}
 use Rattle.mls_report.specs.declared.verdict.Verdict.TheVariants.{Yes, No}
 
--- The bytes of the GroupInfo, and of the tree if there is a file of it.
-pub record Inputs : Type 0 where
+-- The bytes of a GroupInfo, and of a tree if there is a file of it.
+pub record GroupFiles : Type 0 where
   pub info : List ℕ
   pub tree : Option (List ℕ)
+
+-- What a gate begins from: a GroupInfo and a tree, or the bytes of the file of a state.
+pub data Inputs : Type 0 where
+  OfGroup : GroupFiles → Inputs
+  OfState : List ℕ → Inputs
 
 -- `Opening i G`: no follower has started yet from the inputs. `Following G s`: a follower is in this state. `G` is the
 -- verification function of what was learnt so far.

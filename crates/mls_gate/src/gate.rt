@@ -1,20 +1,26 @@
 //! The report of the gate.
 
-ghost use Rattle.std.specs.Prelude.{◌≡◌, ◌≢◌, ◌↔◌, ◌⊎◌, Some, Ok, Err, false, true, IfOk, IfErr, OnErr, option_map, string_bytes};
+ghost use Rattle.std.specs.Prelude.{◌≡◌, ◌≢◌, ◌++◌, ◌↔◌, ◌⊎◌, Some, Ok, Err, false, true, IfOk, IfErr, OnErr, option_map, string_bytes};
 ghost use Rattle.mls_wire.specs.Logs.{ReadsRecord, ReaderAfter};
+ghost use Rattle.mls_follow.specs.FollowerModel.{state_of};
+ghost use Rattle.mls_follow.specs.MessageSignatures.{state_signatures};
 ghost use Rattle.mls_report.specs.StartInputs.{has_failed};
 ghost use Rattle.mls_gate.specs.Answers.{broken_line};
-ghost use Rattle.mls_gate.specs.GateReport.{Gates, GatesPart, TellsRecords, RecordsPart};
-ghost use Rattle.mls_gate.specs.GateSteps.{inputs_of, phase_of, IsReadable, IsReady, OpensWith, ReadsUndecided, AnswersRecord, StopsAt, GatesFrom, GatesFromPart};
-ghost use Rattle.mls_gate.specs.Phases.{Phase, Opening};
+ghost use Rattle.mls_gate.specs.FirstStates.{CanStart};
+ghost use Rattle.mls_gate.specs.GateReport.{GatesOf, GatesPartOf, Gates, GatesPart, TellsRecords, RecordsPart};
+ghost use Rattle.mls_gate.specs.GateSteps.{files_of, inputs_of, phase_of, IsReadable, IsReady, ReadsUndecided, AnswersRecord, StopsAt, Are};
+ghost use Rattle.mls_gate.specs.Phases.{OfGroup, Phase, Opening};
 ghost use Rattle.std.specs.Io.KnownBytes.{Appends};
 ghost use Rattle.mls_wire.specs.Devices.{AppendsPrefix};
 
-use crate::opening::opening_query;
+use crate::gate_inputs::GateInputs;
+use crate::opening::opening_start;
+use crate::opening_lines::write_start_query;
 use crate::phase::GatePhase;
 use mls_check::LearningCheck;
 use mls_report::finding::tell;
 use mls_report::read_inputs::{InputBytes, StartFailure, read_inputs_to_end};
+use mls_report::trusting_start::TrustingStart;
 use mls_report::{RunFault, Verdict, write_text};
 use mls_wire::{LogStep, RecordFault, Records, Sink, Source};
 use std::alloc::Global;
@@ -109,9 +115,9 @@ fn serve_records<R: Source, C: LearningCheck, K: Sink>(
 }
 
 /// Answers the records of a gate whose follower has not started.
-fn serve<R: Source, C: LearningCheck, K: Sink>(
+pub(crate) fn serve<R: Source, C: LearningCheck, K: Sink>(
     alloc: Global,
-    inputs: InputBytes,
+    inputs: GateInputs,
     records: &mut R,
     checker: C,
     out: &mut K,
@@ -136,23 +142,24 @@ fn serve<R: Source, C: LearningCheck, K: Sink>(
 fn gate_after<R: Source, C: LearningCheck, K: Sink>(
     alloc: Global,
     inputs: InputBytes,
-    lines: &str,
+    start: TrustingStart,
     records: &mut R,
     checker: C,
     out: &mut K,
 ) -> Result<Verdict, RunFault>
-    requires opens { OpensWith (C.meaning checker) (inputs_of inputs) lines.now }
+    requires opens { CanStart (OfGroup (files_of inputs))
+        (start.info_signatures.items ++ state_signatures (state_of start.follower)) }
     requires records { R.is_failed records.old ≡ false }
     requires out { K.is_failed out.old ≡ false }
-    ensures told { IfOk result (GatesFrom (C.meaning checker) (inputs_of inputs)
+    ensures told { IfOk result (GatesOf (Are (OfGroup (files_of inputs))) (C.meaning checker)
         (R.left records.old) (R.left records.new) (K.written out.old) (K.written out.new)) }
-    ensures part { IfErr result (GatesFromPart (C.meaning checker) (inputs_of inputs)
+    ensures part { IfErr result (GatesPartOf (Are (OfGroup (files_of inputs))) (C.meaning checker)
         (R.left records.old) (R.left records.new) (K.written out.old) (K.written out.new)) }
     ensures read { (result ≡ Err RunFault.Read) ↔ (R.is_failed records.new ≡ true) }
     ensures write { (result ≡ Err RunFault.Write) ↔ (K.is_failed out.new ≡ true) }
 {
-    write_text(out, lines)?;
-    serve(alloc, inputs, records, checker, out)
+    write_start_query(alloc, start, &checker, out)?;
+    serve(alloc, GateInputs::Group(inputs), records, checker, out)
 }
 
 /// Checks that a follower can start if every signature is good, and writes the report.
@@ -165,15 +172,15 @@ fn gate_from<R: Source, C: LearningCheck, K: Sink>(
 ) -> Result<Verdict, RunFault>
     requires records { R.is_failed records.old ≡ false }
     requires out { K.is_failed out.old ≡ false }
-    ensures told { IfOk result (GatesFrom (C.meaning checker) (inputs_of inputs)
+    ensures told { IfOk result (GatesOf (Are (OfGroup (files_of inputs))) (C.meaning checker)
         (R.left records.old) (R.left records.new) (K.written out.old) (K.written out.new)) }
-    ensures part { IfErr result (GatesFromPart (C.meaning checker) (inputs_of inputs)
+    ensures part { IfErr result (GatesPartOf (Are (OfGroup (files_of inputs))) (C.meaning checker)
         (R.left records.old) (R.left records.new) (K.written out.old) (K.written out.new)) }
     ensures read { (result ≡ Err RunFault.Read) ↔ (R.is_failed records.new ≡ true) }
     ensures write { (result ≡ Err RunFault.Write) ↔ (K.is_failed out.new ≡ true) }
 {
-    match opening_query(alloc, &inputs, &checker) {
-        Ok(lines) => gate_after(alloc, inputs, lines.as_str(), records, checker, out),
+    match opening_start(alloc, &inputs) {
+        Ok(start) => gate_after(alloc, inputs, start, records, checker, out),
         Err(StartFailure::Found(finding)) => tell(alloc, &finding, out),
         Err(StartFailure::Fault(fault)) => Err(fault),
     }
@@ -183,17 +190,21 @@ fn gate_from<R: Source, C: LearningCheck, K: Sink>(
 /// each signature is good, it writes the line of [`mls_report::run_validate`]; the verdict is `No` and no record is
 /// read.
 ///
-/// Else it writes a line for each signature of the start that the checker does not accept, and one with their number.
+/// Else it writes a line for each signature of the start that the checker does not accept, and one with their number. It
+/// computes a signature only after the line of the one before is written.
+///
 /// Then it reads records, at most 4,294,967,295, each a variable-length vector (RFC 9420, 2.1.2) of a letter and what
 /// belongs to it, and answers each before it reads on:
 ///
 /// - `r` and receipts of 32 bytes each: these signatures are good. No line.
-/// - `b`: the follower starts by what is known to be good then. The line has the epoch, the number of members and the
+/// - `b`: the follower starts by the signatures that it has learnt to be good by then. The line has the epoch, the number of members and the
 ///   tree hash; or it is that of `run_validate`, and the gate ends with `No`.
 /// - `q` and a message: a line for each signature of the message that is not known to be good
 ///   ([`mls_follow::Follower::wanted`]), and one with their number.
 /// - `m` and a message: the message is processed ([`mls_follow::Follower::take`]). The line says that it was accepted
 ///   and what it led to, or the number and the name of the refusal.
+/// - `s`: the line has the file of the follower's state ([`mls_follow::Follower::encode_state`]), or says that it has
+///   none. The state is unchanged.
 ///
 /// Before `b` only `r` and `b` have an answer, and after it all but `b`. Every other record, and bytes that are no
 /// record, have the line `broken`, and the gate ends with `No`. If the input ends between two records, the verdict is
@@ -203,7 +214,8 @@ fn gate_from<R: Source, C: LearningCheck, K: Sink>(
 ///
 /// - `Read` if an input fails: exactly the records that were read whole are answered.
 /// - `Write` if the output fails: nothing was read after the record in whose answer it failed.
-/// - `Memory`: each record that was read is answered, except the one at which memory ran out.
+/// - `Memory`: the lines of the signatures of the start before are written whole; or each record that was read is
+///   answered, except the one at which memory ran out.
 pub fn run_gate<I: Source, T: Source, R: Source, C: LearningCheck, K: Sink>(
     alloc: Global,
     info: &mut I,

@@ -1,17 +1,22 @@
-//! The live gate: one group is followed record by record. A caller asks which signatures a message needs, verifies them
-//! by its own library, says which are good, and then has the message judged.
+//! The live gate: one group is followed record by record. A caller queries which signatures a message needs, verifies them
+//! by its own library, passes the receipts of the good ones, and then has the message processed.
 //!
-//! [`run_gate`] reads a GroupInfo and records and writes the answers. Everything that it writes is determined by the
-//! bytes that it reads ([`laws`]).
+//! [`run_gate`] reads a GroupInfo and records and writes the answers; [`run_gate_state`] reads the file of a state in
+//! place of the GroupInfo. Everything that they write is determined by the bytes that they read ([`laws`]).
 #![tactic(auto)]
 
 mod gate;
+mod gate_inputs;
 pub mod laws;
 mod learning;
 mod lines;
 mod opening;
+mod opening_lines;
 mod phase;
 mod request;
+mod state_gate;
+mod state_lines;
 
 pub use gate::run_gate;
 pub use request::Request;
+pub use state_gate::run_gate_state;

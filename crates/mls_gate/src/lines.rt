@@ -28,7 +28,7 @@ fn is_known<C: SignatureCheck>(wanted: &SignatureToVerify, checker: &C) -> bool
 }
 
 /// Appends the line of a signature, unless the checker accepts it. Returns how many lines it appended.
-fn put_verify_line<C: SignatureCheck>(
+pub(crate) fn put_verify_line<C: SignatureCheck>(
     alloc: Global,
     text: &mut String,
     wanted: &SignatureToVerify,
@@ -49,21 +49,51 @@ fn put_verify_line<C: SignatureCheck>(
     Ok(1)
 }
 
-/// Returns the lines of the signatures that the checker does not accept, and a last one with their number.
-pub(crate) fn query_text<C: SignatureCheck>(
+/// The lines of signatures that a checker does not accept, and their number.
+#[derive(Drop)]
+pub(crate) struct VerifyLines {
+    pub(crate) text: String,
+    pub(crate) count: usize,
+}
+
+/// Returns the lines of the signatures that the checker does not accept.
+pub(crate) fn verify_lines<C: SignatureCheck>(
     alloc: Global,
-    wanted: &[SignatureToVerify],
+    signatures: &[SignatureToVerify],
     checker: &C,
-) -> Result<String, AllocError>
-    ensures { IfOk result
-        (λ text. string_bytes text ≡ answers.query_text (C.meaning checker.now) wanted.now) }
+) -> Result<VerifyLines, AllocError>
+    ensures text { IfOk result (λ lines. string_bytes lines.text
+        ≡ answers.verify_lines (C.meaning checker.now) signatures.now) }
+    ensures count { IfOk result
+        (λ lines. lines.count ≡ answers.unknown_count (C.meaning checker.now) signatures.now) }
 {
     let mut text = String::new(alloc);
     let mut count: usize = 0;
-    for signature in wanted {
+    for signature in signatures {
         count += put_verify_line(alloc, &mut text, signature, checker)?;
     }
-    let last = format!(in alloc; "queried {count}\n")?;
+    Ok(VerifyLines { text, count })
+}
+
+/// Returns the line with the number of signatures that the checker does not accept.
+pub(crate) fn count_line(alloc: Global, count: usize) -> Result<String, AllocError>
+    ensures { IfOk result (λ text. string_bytes text ≡ answers.count_line count) }
+{
+    format!(in alloc; "queried {count}\n")
+}
+
+/// Returns the lines of the signatures that the checker does not accept, and a last one with their number.
+pub(crate) fn query_text<C: SignatureCheck>(
+    alloc: Global,
+    signatures: &[SignatureToVerify],
+    checker: &C,
+) -> Result<String, AllocError>
+    ensures { IfOk result
+        (λ text. string_bytes text ≡ answers.query_text (C.meaning checker.now) signatures.now) }
+{
+    let lines = verify_lines(alloc, signatures, checker)?;
+    let last = count_line(alloc, lines.count)?;
+    let mut text = lines.text;
     text.push_str(last.as_str())?;
     Ok(text)
 }
@@ -159,7 +189,21 @@ fn commit_line(alloc: Global, epoch: u64, context: &GroupContext) -> Result<Stri
     format!(in alloc; "accepted commit {epoch} {tree_hash} {confirmed}\n")
 }
 
-/// Returns the line of a message that was judged.
+/// Returns the line of a state that has this file. It allocates the text once, beside the hexadecimal digits.
+pub(crate) fn stored_line(alloc: Global, file: Vec<u8>) -> Result<String, AllocError>
+    ensures { IfOk result (λ text. string_bytes text ≡ answers.stored_line file.items) }
+{
+    let digits = hex_of(alloc, file.as_slice());
+    drop(file);
+    let digits = digits?;
+    let mut text = String::with_capacity(alloc, digits.len() + 7)?;
+    text.push_str("state ")?;
+    text.push_str(digits.as_str())?;
+    text.push_str("\n")?;
+    Ok(text)
+}
+
+/// Returns the line of a processed message.
 pub(crate) fn judged_line<C: SignatureCheck>(
     alloc: Global,
     answer: &Result<Taken, Refusal>,

@@ -4,20 +4,21 @@ ghost use Rattle.std.specs.Prelude.{◌≡◌, ℕ, List, Some, [], false, true,
 ghost use Rattle.mls_follow.specs.FollowerModel.{checker_of, state_of};
 ghost use Rattle.mls_report.specs.Finding.{finding_line};
 ghost use Rattle.mls_gate.specs.Answers as answers;
-ghost use Rattle.mls_gate.specs.Answers.{broken_line, Begins, Judges, Queries};
+ghost use Rattle.mls_gate.specs.Answers.{broken_line, Begins, Judges, Queries, StoresState};
 ghost use Rattle.mls_gate.specs.GateSteps.{inputs_of, phase_of, IsReadable, verdict_at, IsReady, RespondsIn, AnswersIn, Replies};
 ghost use Rattle.mls_gate.specs.Phases.{Following};
 
+use crate::gate_inputs::{GateInputs, first_follower};
 use crate::learning::{learn_in_follower, learn_receipts};
-use crate::lines::{judged_line, query_text, ready_line};
-use crate::opening::started;
+use crate::lines::{judged_line, query_text, ready_line, stored_line};
 use crate::request::{Request, request_of};
 use mls_check::{LearningCheck, OutOfMemory, SignatureCheck};
 use mls_follow::{Follower, Refusal, SignatureListFault};
 use mls_report::finding::Finding;
-use mls_report::read_inputs::{InputBytes, StartFailure};
+use mls_report::read_inputs::StartFailure;
 use mls_report::{RunFault, Verdict};
 use mls_signatures::SignatureToVerify;
+use mls_wire::CodecFault;
 use std::alloc::Global;
 use std::mem;
 
@@ -25,7 +26,7 @@ use std::mem;
 #[derive(Drop)]
 pub(crate) enum GatePhase<C: SignatureCheck> {
     /// No follower has started: the bytes of the inputs, and what was learnt.
-    Opening { inputs: InputBytes, checker: C },
+    Opening { inputs: GateInputs, checker: C },
     /// A follower has started.
     Following(Follower<C>),
     /// The gate has ended.
@@ -136,6 +137,46 @@ fn judge_message<C: SignatureCheck>(
     })
 }
 
+/// Returns the answer with the file of a state.
+fn stored(alloc: Global, file: Vec<u8>) -> Result<Answer, RunFault>
+    ensures text { IfOk result (λ a. string_bytes a.text ≡ answers.stored_line file.items) }
+    ensures last { IfOk result (λ a. a.is_last ≡ false) }
+    ensures memory { IfErr result (λ e. e ≡ RunFault.Memory) }
+{
+    Ok(Answer {
+        text: stored_line(alloc, file)?,
+        is_last: false,
+    })
+}
+
+/// Returns the answer that the state has no file.
+fn without_file(alloc: Global) -> Result<Answer, RunFault>
+    ensures text { IfOk result (λ a. string_bytes a.text ≡ answers.no_file_line) }
+    ensures last { IfOk result (λ a. a.is_last ≡ false) }
+    ensures memory { IfErr result (λ e. e ≡ RunFault.Memory) }
+{
+    Ok(Answer {
+        text: String::from_str(alloc, "state TooLong\n")?,
+        is_last: false,
+    })
+}
+
+/// Returns the answer with the state of a follower.
+fn store_state<C: SignatureCheck>(alloc: Global, follower: &Follower<C>) -> Result<Answer, RunFault>
+    ensures replied { let phase =
+        Following (C.meaning (checker_of follower.now)) (state_of follower.now) in
+        IfOk result (λ a. Replies
+        (StoresState (C.meaning (checker_of follower.now)) (state_of follower.now))
+        (string_bytes a.text) a.is_last (Some phase)) }
+    ensures memory { IfErr result (λ e. e ≡ RunFault.Memory) }
+{
+    match follower.encode_state() {
+        Ok(file) => stored(alloc, file),
+        Err(CodecFault::Wire(_)) => without_file(alloc),
+        Err(CodecFault::OutOfMemory) => Err(RunFault::Memory),
+    }
+}
+
 impl<C: LearningCheck> GatePhase<C> {
     /// Learns receipts.
     fn learn(&mut self, alloc: Global, receipts: &[u8]) -> Result<Answer, RunFault>
@@ -157,11 +198,11 @@ impl<C: LearningCheck> GatePhase<C> {
         }
     }
 
-    /// Starts the follower from the bytes of the inputs, by what the checker has learnt.
+    /// Starts or resumes the follower from the bytes of the inputs, by what the checker has learnt.
     fn begin_from(
         &mut self,
         alloc: Global,
-        inputs: InputBytes,
+        inputs: GateInputs,
         checker: C,
     ) -> Result<Answer, RunFault>
         requires { IsReadable (inputs_of inputs) }
@@ -170,7 +211,7 @@ impl<C: LearningCheck> GatePhase<C> {
             (string_bytes a.text) a.is_last (phase_of C.meaning self.new)) }
         ensures memory { IfErr result (λ e. e ≡ RunFault.Memory) }
     {
-        let outcome = started(alloc, &inputs, checker);
+        let outcome = first_follower(alloc, &inputs, checker);
         drop(inputs);
         match outcome {
             Ok(follower) => {
@@ -232,6 +273,20 @@ impl<C: LearningCheck> GatePhase<C> {
         }
     }
 
+    /// Answers the state of the follower, as a file.
+    fn store(&self, alloc: Global) -> Result<Answer, RunFault>
+        ensures answered { (rest : List ℕ) → IfOk result (λ a. Replies
+            (RespondsIn (phase_of C.meaning self.now) (Some Request.Store) rest)
+            (string_bytes a.text) a.is_last (phase_of C.meaning self.now)) }
+        ensures memory { IfErr result (λ e. e ≡ RunFault.Memory) }
+    {
+        match self {
+            GatePhase::Following(follower) => store_state(alloc, follower),
+            GatePhase::Opening { .. } => broken(alloc),
+            GatePhase::Over => broken(alloc),
+        }
+    }
+
     /// Answers a request. `rest` is the record's body after its letter.
     fn respond(&mut self, alloc: Global, request: Request, rest: &[u8]) -> Result<Answer, RunFault>
         requires { IsReady (phase_of C.meaning self.old) }
@@ -245,6 +300,7 @@ impl<C: LearningCheck> GatePhase<C> {
             Request::Begin => self.begin(alloc),
             Request::Query => self.query(alloc, rest),
             Request::Judge => self.judge(alloc, rest),
+            Request::Store => self.store(alloc),
         }
     }
 

@@ -1,9 +1,9 @@
-//! What a record asks for.
+//! The requests of records.
 
 ghost use Rattle.std.specs.Prelude.{◌≡◌};
 ghost use Rattle.mls_gate.specs.Requests.{request_of};
 
-/// What a record of the gate's input asks for.
+/// The request of a record of the gate's input.
 #[derive(Clone, Copy, Debug, PartialEq, Eq)]
 pub enum Request {
     /// To learn that signatures are good, by their receipts.
@@ -14,12 +14,14 @@ pub enum Request {
     Query,
     /// To process a message.
     Judge,
+    /// The file of the follower's state.
+    Store,
 }
 
 /// The number of bytes of a receipt.
 const RECEIPT_SIZE: usize = 32;
 
-/// Returns what a record with this body asks for; `None` if it is none of these.
+/// Returns the request of a record with this body; `None` if it has none.
 pub(crate) fn request_of(body: &[u8]) -> Option<Request>
     ensures { result ≡ request_of body.now }
 {
@@ -29,6 +31,7 @@ pub(crate) fn request_of(body: &[u8]) -> Option<Request>
         b'b' if rest.is_empty() => Some(Request::Begin),
         b'q' => Some(Request::Query),
         b'm' => Some(Request::Judge),
+        b's' if rest.is_empty() => Some(Request::Store),
         _ => None,
     }
 }

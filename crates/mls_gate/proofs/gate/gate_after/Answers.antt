@@ -1,43 +1,41 @@
-use Rattle.std.proofs.Common.{rules, subst, inl, inr, refl}
-use Rattle.std.specs.Io.KnownBytes.{Appends}
+use Rattle.std.proofs.Common.{rules, inl, inr, refl}
 use Rattle.std.proofs.lemmas.Result.{IfOk-weaker, IfErr-weaker}
-use Rattle.mls_wire.specs.Devices.{AppendsPrefix}
-use Rattle.mls_report.specs.declared.verdict.RunFault.TheVariants.{Write}
 use Rattle.mls_report.proofs.Outcomes.{IfErr-is}
-use Rattle.mls_gate.proofs.Starting.{readable}
+use Rattle.mls_gate.specs.GateSteps.{files_of, Are}
+use Rattle.mls_gate.specs.Phases.{OfGroup}
+use Rattle.mls_gate.proofs.FirstStates.{readable}
+use Rattle.mls_gate.proofs.Starting.{part-opening}
 use Rattle.mls_gate.proofs.gate.gate_after.Goals as goal
 
 pub serve-requires-clause-inputs : goal.serve-requires-clause-inputs
-serve-requires-clause-inputs g c = readable _ _ c.requires.opens.can_start
+serve-requires-clause-inputs g c = readable (OfGroup (files_of c.args.inputs)) _ (c.requires.opens)
 
 pub returns-clause-told : goal.returns-clause-told
 returns-clause-told g c =
-    let o = c.requires.opens in
     IfOk-weaker c.serve.result _ _ (λ v h. inr (record {
-      wanted = o.wanted;
-      can_start = o.can_start;
-      between = g.K.Sink.written c.write_text.new.out;
-      wrote = subst (Appends _ _) o.text_is c.in_ok-write_text.ensures.all;
+      i = OfGroup (files_of c.args.inputs);
+      read = refl;
+      signatures = _;
+      can_start = c.requires.opens;
+      between = g.K.Sink.written c.write_start_query.new.out;
+      wrote = c.in_ok-write_start_query.ensures.all;
       tells = h;
     })) c.serve.ensures.told
 
 pub returns-clause-part : goal.returns-clause-part
 returns-clause-part g c =
-    let o = c.requires.opens in
     IfErr-weaker c.serve.result _ _ (λ e h. inr (record {
-      wanted = o.wanted;
-      can_start = o.can_start;
-      between = g.K.Sink.written c.write_text.new.out;
-      wrote = subst (Appends _ _) o.text_is c.in_ok-write_text.ensures.all;
+      i = OfGroup (files_of c.args.inputs);
+      read = refl;
+      signatures = _;
+      can_start = c.requires.opens;
+      between = g.K.Sink.written c.write_start_query.new.out;
+      wrote = c.in_ok-write_start_query.ensures.all;
       tells = h;
     })) c.serve.ensures.part
 
-pub returns-in_err-write_text-clause-part : goal.returns-in_err-write_text-clause-part
-returns-in_err-write_text-clause-part g c =
-    let o = c.requires.opens in
-    IfErr-is c.from_residual.result _ Write (search rules) (inl (inr (record {
-      wanted = o.wanted;
-      can_start = o.can_start;
-      unread = refl;
-      wrote = subst (AppendsPrefix _ _) o.text_is c.in_err-write_text.ensures.part;
-    })))
+pub returns-in_err-write_start_query-clause-part : goal.returns-in_err-write_start_query-clause-part
+returns-in_err-write_start_query-clause-part g c =
+    let i = OfGroup (files_of c.args.inputs) in
+    IfErr-is c.from_residual.result _ c.in_err-write_start_query.field-0.0 (search rules)
+    (part-opening (Are i) (g.C.SignatureCheck.meaning c.args.checker) i refl _ (c.requires.opens) _ _ _ c.in_err-write_start_query.field-0.0 c.in_err-write_start_query.ensures.part)

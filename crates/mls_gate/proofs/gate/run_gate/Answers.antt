@@ -1,18 +1,19 @@
 use Rattle.std.proofs.Common.{rules}
 use Rattle.std.proofs.lemmas.Result.{IfOk-weaker, IfErr-weaker}
 use Rattle.mls_report.proofs.Outcomes.{IfErr-is}
-use Rattle.mls_gate.specs.GateSteps.{inputs_of}
-use Rattle.mls_gate.proofs.Starting.{told-gate, part-gate, part-unread}
+use Rattle.mls_gate.specs.GateSteps.{files_of}
+use Rattle.mls_gate.specs.Phases.{OfGroup}
+use Rattle.mls_gate.proofs.Starting.{told-read, part-read, part-unread}
 use Rattle.mls_gate.proofs.gate.run_gate.Goals as goal
 
 pub returns-clause-told : goal.returns-clause-told
 returns-clause-told g c =
-    IfOk-weaker c.gate_from.result _ _ (λ v h. told-gate _ _ _ _ _ (inputs_of c.in_ok-inputs.inputs) c.in_ok-inputs.ensures.both _ _ _ _ v h) c.gate_from.ensures.told
+    IfOk-weaker c.gate_from.result _ _ (λ v h. told-read _ _ (OfGroup (files_of c.in_ok-inputs.inputs)) c.in_ok-inputs.ensures.both _ _ _ _ v h) c.gate_from.ensures.told
 
 pub returns-clause-part : goal.returns-clause-part
 returns-clause-part g c =
-    IfErr-weaker c.gate_from.result _ _ (λ e h. part-gate _ _ _ _ _ (inputs_of c.in_ok-inputs.inputs) c.in_ok-inputs.ensures.both _ _ _ _ e h) c.gate_from.ensures.part
+    IfErr-weaker c.gate_from.result _ _ (λ e h. part-read _ _ (OfGroup (files_of c.in_ok-inputs.inputs)) c.in_ok-inputs.ensures.both _ _ _ _ e h) c.gate_from.ensures.part
 
 pub returns-in_err-inputs-clause-part : goal.returns-in_err-inputs-clause-part
 returns-in_err-inputs-clause-part g c =
-    IfErr-is c.from_residual.result _ c.in_err-inputs.field-0.0 (search rules) (part-unread _ _ _ _ _ _ _ c.in_err-inputs.field-0.0 c.in_err-inputs.ensures.fault)
+    IfErr-is c.from_residual.result _ c.in_err-inputs.field-0.0 (search rules) (part-unread _ _ _ _ c.in_err-inputs.field-0.0 c.in_err-inputs.ensures.fault)

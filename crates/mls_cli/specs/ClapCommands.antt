@@ -41,22 +41,26 @@ validate_tree_app =
     (needed_rule (codes "context")))
     (needed_rule (codes "tree")))
 
--- `validate --info FILE [--tree FILE]`, and one of `--trust` and `--receipts FILE`
-abbrev pub validate_app : App
-validate_app =
-    with_checker (with_rule (with_rule
-    (new_app (codes "validate"))
-    (needed_rule (codes "info")))
+-- `with_group app` adds the options of what a group is followed from: `--info FILE`, `--tree FILE` and `--state FILE`.
+abbrev pub with_group : App → App
+with_group a =
+    with_rule (with_rule (with_rule a
+    (file_rule (codes "info")))
     (file_rule (codes "tree")))
+    (file_rule (codes "state"))
 
--- `replay --info FILE [--tree FILE] --log FILE`, and one of `--trust` and `--receipts FILE`
+-- `validate --info FILE [--tree FILE]` or `validate --state FILE`, and one of `--trust` and `--receipts FILE`
+abbrev pub validate_app : App
+validate_app = with_checker (with_group (new_app (codes "validate")))
+
+-- `replay --info FILE [--tree FILE] --log FILE [--save FILE]`, or with `--state FILE` in place of the first two, and one of
+-- `--trust` and `--receipts FILE`
 abbrev pub replay_app : App
 replay_app =
-    with_checker (with_rule (with_rule (with_rule
-    (new_app (codes "replay"))
-    (needed_rule (codes "info")))
-    (file_rule (codes "tree")))
+    with_checker (with_rule (with_rule (with_group
+    (new_app (codes "replay")))
     (needed_rule (codes "log")))
+    (file_rule (codes "save")))
 
 -- `signatures --info FILE [--tree FILE] [--log FILE] [--receipts FILE]`
 abbrev pub signatures_app : App
@@ -68,13 +72,9 @@ signatures_app =
     (file_rule (codes "log")))
     (file_rule (codes "receipts"))
 
--- `gate --info FILE [--tree FILE]`, and at most one of `--trust` and `--receipts FILE`
+-- `gate --info FILE [--tree FILE]` or `gate --state FILE`, and at most one of `--trust` and `--receipts FILE`
 abbrev pub gate_app : App
-gate_app =
-    with_checker (with_rule (with_rule
-    (new_app (codes "gate"))
-    (needed_rule (codes "info")))
-    (file_rule (codes "tree")))
+gate_app = with_checker (with_group (new_app (codes "gate")))
 
 -- `check KIND FILE`
 abbrev pub check_app : App

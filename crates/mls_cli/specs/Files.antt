@@ -1,4 +1,4 @@
--- Files that are opened by name, and read. Used by contracts.
+-- Files that are opened by name and read, or stored. Used by contracts.
 use Rattle.std.specs.Prelude.{ℕ, List, [], Bool, true, Option, Some, None, Err, ◌≡◌, ◌≢◌, ◌↔◌, ◌⊎◌}
 use Rattle.std.specs.Io.KnownBytes.{Appends}
 use Rattle.mls_cli.specs.ReportResult.{Outcome}
@@ -7,19 +7,22 @@ use Rattle.mls_report.specs.declared.verdict.RunFault.{RunFault}
 use Rattle.mls_report.specs.declared.verdict.RunFault.TheVariants.{Read, Write}
 
 -- `Opener`: what contracts know of an opener of files. `gives name file`: the file with this name may be opened as
--- `file`. `lacks name`: opening it may fail. `left file` is the bytes left in a file, and `is_failed file` is whether
--- it has failed.
+-- `file`. `lacks name`: opening it may fail. `stores name bytes`: the file with this name may be one that was stored with
+-- exactly these bytes. `refuses name bytes`: storing them may fail. `left file` is the bytes left in a file, and
+-- `is_failed file` is whether it has failed.
 pub record Opener (File : Type 0) : Type 1 where
   pub gives : List ℕ → File → Type 0
   pub lacks : List ℕ → Type 0
+  pub stores : List ℕ → List ℕ → Type 0
+  pub refuses : List ℕ → List ℕ → Type 0
   pub left : File → Option (List ℕ)
   pub is_failed : File → Bool
 
--- `opener` puts these four together.
-abbrev pub opener : {File : Type 0} → (List ℕ → File → Type 0) → (List ℕ → Type 0)
-    → (File → Option (List ℕ)) → (File → Bool) → Opener File
-opener gives lacks left is_failed =
-    record { gives = gives; lacks = lacks; left = left; is_failed = is_failed }
+-- `opener` puts these six together.
+abbrev pub opener : {File : Type 0} → (List ℕ → File → Type 0) → (List ℕ → Type 0) → (List ℕ → List ℕ → Type 0)
+    → (List ℕ → List ℕ → Type 0) → (File → Option (List ℕ)) → (File → Bool) → Opener File
+opener gives lacks stores refuses left is_failed =
+    record { gives = gives; lacks = lacks; stores = stores; refuses = refuses; left = left; is_failed = is_failed }
 
 module _ {File : Type 0} (F : Opener File) where
   -- `Opens name`: a file with this name was opened.

@@ -10,6 +10,9 @@ use Rattle.mls_cli.specs.declared.order.CheckerChoice.{CheckerChoice}
 use Rattle.mls_cli.specs.declared.order.CheckerChoice.TheVariants as checker
 use Rattle.mls_cli.specs.declared.order.CheckedReport.{CheckedReport}
 use Rattle.mls_cli.specs.declared.order.CheckedReport.TheVariants as report
+use Rattle.mls_cli.specs.declared.order.GroupFiles.{GroupFiles}
+use Rattle.mls_cli.specs.declared.order.GroupFiles.TheVariants as groups
+use Rattle.mls_cli.specs.declared.order.ReplayFiles.{ReplayFiles}
 use Rattle.mls_cli.specs.declared.order.Order.{Order}
 use Rattle.mls_cli.specs.declared.order.Order.TheVariants as order
 use Rattle.mls_cli.specs.declared.order.OrderFault.{OrderFault}
@@ -71,7 +74,8 @@ stdin_at rows id = one_if (is_stdin (first_of id rows))
 unfoldable pub stdin_count : List Row → ℕ
 stdin_count rows =
     stdin_at rows (codes "FILE") + stdin_at rows (codes "context") + stdin_at rows (codes "info")
-    + stdin_at rows (codes "tree") + stdin_at rows (codes "log") + stdin_at rows (codes "receipts")
+    + stdin_at rows (codes "tree") + stdin_at rows (codes "state") + stdin_at rows (codes "log")
+    + stdin_at rows (codes "receipts")
 
 -- `IsChecker trust receipts c`: exactly one of `--trust` and `--receipts` is given, and `c` is the choice.
 abbrev pub IsChecker : Option Text → Option Text → CheckerChoice → Type 0
@@ -97,16 +101,29 @@ IsValidateTree rows context tree c =
     (first_of (codes "context") rows ≡ Some context) × (first_of (codes "tree") rows ≡ Some tree)
     × IsChecker (first_of (codes "trust") rows) (first_of (codes "receipts") rows) c
 
--- `IsValidate rows info tree c`: these are the options of `validate`.
-abbrev pub IsValidate : List Row → Text → Option Text → CheckerChoice → Type 0
-IsValidate rows info tree c =
+-- `IsGroup rows group`: this is what a group is followed from: `--info` with or without `--tree`, or else `--state`.
+abbrev pub IsGroup : List Row → GroupFiles → Type 0
+IsGroup rows (groups.Info info tree) =
     (first_of (codes "info") rows ≡ Some info) × (first_of (codes "tree") rows ≡ tree)
-    × IsChecker (first_of (codes "trust") rows) (first_of (codes "receipts") rows) c
+    × (first_of (codes "state") rows ≡ None)
+IsGroup rows (groups.State state) =
+    (first_of (codes "info") rows ≡ None) × (first_of (codes "tree") rows ≡ None)
+    × (first_of (codes "state") rows ≡ Some state)
 
--- `IsReplay rows info tree log c`: these are the options of `replay`.
-abbrev pub IsReplay : List Row → Text → Option Text → Text → CheckerChoice → Type 0
-IsReplay rows info tree log c =
-    IsValidate rows info tree c × (first_of (codes "log") rows ≡ Some log)
+-- `IsValidate rows group c`: these are the options of `validate`.
+abbrev pub IsValidate : List Row → GroupFiles → CheckerChoice → Type 0
+IsValidate rows group c =
+    IsGroup rows group × IsChecker (first_of (codes "trust") rows) (first_of (codes "receipts") rows) c
+
+-- `IsSave given save`: this is the file of `--save`, whose value is `given`. It is not standard input.
+abbrev pub IsSave : Option Text → Option Text → Type 0
+IsSave given save = (given ≡ save) × (is_stdin given ≡ false)
+
+-- `IsReplay rows group files c`: these are the options of `replay`.
+abbrev pub IsReplay : List Row → GroupFiles → ReplayFiles → CheckerChoice → Type 0
+IsReplay rows group files c =
+    IsValidate rows group c × (first_of (codes "log") rows ≡ Some files.log)
+    × IsSave (first_of (codes "save") rows) files.save
 
 -- `IsSignatures rows info tree log c`: these are the options of `signatures`.
 abbrev pub IsSignatures : List Row → Text → Option Text → Option Text → CheckerChoice → Type 0
@@ -114,26 +131,26 @@ IsSignatures rows info tree log c =
     (first_of (codes "info") rows ≡ Some info) × (first_of (codes "tree") rows ≡ tree)
     × (first_of (codes "log") rows ≡ log) × SelectsReceipts (first_of (codes "receipts") rows) c
 
--- `IsGate rows info tree c`: these are the options of `gate`. Neither file is standard input, which has the records.
-abbrev pub IsGate : List Row → Text → Option Text → CheckerChoice → Type 0
-IsGate rows info tree c =
-    (first_of (codes "info") rows ≡ Some info) × (first_of (codes "tree") rows ≡ tree)
-    × IsFirstChecker (first_of (codes "trust") rows) (first_of (codes "receipts") rows) c × (stdin_count rows ≡ 0)
+-- `IsGate rows group c`: these are the options of `gate`. No file is standard input, which has the records.
+abbrev pub IsGate : List Row → GroupFiles → CheckerChoice → Type 0
+IsGate rows group c =
+    IsGroup rows group × IsFirstChecker (first_of (codes "trust") rows) (first_of (codes "receipts") rows) c
+    × (stdin_count rows ≡ 0)
 
 -- `IsJudgedReport found report c`: this is the report that clap found, with this choice of a checker.
 abbrev pub IsJudgedReport : Option (Text × List Row) → CheckedReport → CheckerChoice → Type 0
 IsJudgedReport found (report.ValidateTree context tree) c =
     (rows : List Row) × (found ≡ Some (codes "validate-tree", rows))
     × IsValidateTree rows context tree c
-IsJudgedReport found (report.Validate info tree) c =
-    (rows : List Row) × (found ≡ Some (codes "validate", rows)) × IsValidate rows info tree c
-IsJudgedReport found (report.Replay info tree log) c =
-    (rows : List Row) × (found ≡ Some (codes "replay", rows)) × IsReplay rows info tree log c
+IsJudgedReport found (report.Validate group) c =
+    (rows : List Row) × (found ≡ Some (codes "validate", rows)) × IsValidate rows group c
+IsJudgedReport found (report.Replay group files) c =
+    (rows : List Row) × (found ≡ Some (codes "replay", rows)) × IsReplay rows group files c
 IsJudgedReport found (report.Signatures info tree log) c =
     (rows : List Row) × (found ≡ Some (codes "signatures", rows))
     × IsSignatures rows info tree log c
-IsJudgedReport found (report.Gate info tree) c =
-    (rows : List Row) × (found ≡ Some (codes "gate", rows)) × IsGate rows info tree c
+IsJudgedReport found (report.Gate group) c =
+    (rows : List Row) × (found ≡ Some (codes "gate", rows)) × IsGate rows group c
 
 -- `IsOrder found order`: this is the command that clap found: a subcommand's name, and the values of its arguments.
 abbrev pub IsOrder : Option (Text × List Row) → Order → Type 0

@@ -1,11 +1,11 @@
 -- What the program does with its command line: it executes a command, or says what is wrong, and returns the exit
 -- status. `written0` and `written1` are what its output holds before and after, `noted0` and `noted1` what standard
 -- error holds. Used by contracts.
-use Rattle.std.specs.Prelude.{ℕ, List, [], codes, string_bytes, Bool, true, false, Option, Ok, Err, ◌≡◌, ◌↔◌, ◌⊎◌}
+use Rattle.std.specs.Prelude.{ℕ, List, [], codes, string_bytes, Bool, true, false, Option, Ok, Err, ◌≡◌, ◌⊎◌}
 use Rattle.std.specs.Io.KnownBytes.{Appends}
 use Rattle.clap.specs.Words.{Text}
 use Rattle.mls_wire.specs.Devices.{AppendsPrefix}
-use Rattle.mls_cli.specs.Execution.{ExecutesOrder}
+use Rattle.mls_cli.specs.Execution.{ExecutesOrder, MeansWrite, stores_state}
 use Rattle.mls_cli.specs.Files.{Opener}
 use Rattle.mls_cli.specs.Orders.{IsOrderOf, IsHelp, IsUsage, AsksForHelp, AsksForHelpAlone, Refuses}
 use Rattle.mls_cli.specs.ReportResult.{Outcome}
@@ -62,8 +62,8 @@ module _ {File : Type 0} (F : Opener File) (written0 written1 : Option (List ℕ
   -- `EndsOrder o`: a command is executed.
   pub record EndsOrder (o : Order) : Type 0 where
     pub outcome : Outcome
-    pub carried : ExecutesOrder F o written0 written1 outcome
-    pub failed : (outcome ≡ Err Write) ↔ (is_failed ≡ true)
+    pub carried : ExecutesOrder F o written0 written1 is_failed outcome
+    pub write : MeansWrite (stores_state o) is_failed outcome
     pub ends : Ends noted0 noted1 has_failed_notes exit outcome
 
   -- `RunsOrder words`: the arguments give a command, which is executed.

@@ -1,5 +1,5 @@
 -- The checker of a report, and how a report ends without one. Used by contracts.
-use Rattle.std.specs.Prelude.{ℕ, List, [], true, Option, Err, IfOk, OnErr, ◌≡◌, ◌≢◌, ◌⊎◌}
+use Rattle.std.specs.Prelude.{ℕ, List, [], Bool, true, Option, Err, IfOk, OnErr, ◌≡◌, ◌≢◌, ◌↔◌, ◌⊎◌}
 use Rattle.std.specs.Io.KnownBytes.{Appends}
 use Rattle.mls_wire.specs.Devices.{AppendsPrefix}
 use Rattle.mls_check.specs.Receipts.{listed, IsReceipts, IsReceiptsFault}
@@ -13,7 +13,7 @@ use Rattle.mls_cli.specs.declared.order.CheckerChoice.{CheckerChoice}
 use Rattle.mls_cli.specs.declared.order.CheckerChoice.TheVariants as checker
 use Rattle.mls_report.specs.UnreadableReceipts.{TellsReceipts, receipts_line}
 use Rattle.mls_report.specs.declared.verdict.RunFault.{RunFault}
-use Rattle.mls_report.specs.declared.verdict.RunFault.TheVariants.{Read, Memory}
+use Rattle.mls_report.specs.declared.verdict.RunFault.TheVariants.{Read, Write, Memory}
 
 -- `checker_verify c` is the verification function: it accepts each signature, or those that have a receipt.
 abbrev pub checker_verify : ProgramChecker → VerifyFn
@@ -61,8 +61,9 @@ module _ {File : Type 0} (F : Opener File) where
     pub outcome_is : outcome ≡ Err fault
     pub wrote : Appends written0 written1 []
 
-  -- `EndsRefused c ..`: the receipts file is bad, which is all that is reported.
-  pub record EndsRefused (c : CheckerChoice) (written0 written1 : Option (List ℕ))
+  -- `EndsRefused c ..`: the receipts file is bad, which is all that is reported. `is_failed` is whether the output has
+  -- failed.
+  pub record EndsRefused (c : CheckerChoice) (written0 written1 : Option (List ℕ)) (is_failed : Bool)
       (outcome : Outcome) : Type 0 where
     pub fault : ReceiptsFault
     pub refused : RefusesReceipts c fault
@@ -70,6 +71,7 @@ module _ {File : Type 0} (F : Opener File) where
     pub part : OnErr outcome (AppendsPrefix written0 written1 (receipts_line fault))
     pub memory : outcome ≡ Err Memory → Appends written0 written1 []
     pub own : outcome ≢ Err Read
+    pub write : (outcome ≡ Err Write) ↔ (is_failed ≡ true)
 
   -- `IsJudged c P`: P holds of the verification function of a choice.
   pub record IsJudged (c : CheckerChoice) (P : VerifyFn → Type 0) : Type 0 where
@@ -80,7 +82,7 @@ module _ {File : Type 0} (F : Opener File) where
   -- `IsJudgedBy c P ..`: the receipts are read, if there are any, and the report begins if they are good. That they are
   -- read first, and that no other file is opened if they are bad, is no clause.
   abbrev pub IsJudgedBy : CheckerChoice → (VerifyFn → Type 0) → Option (List ℕ) → Option (List ℕ)
-      → Outcome → Type 0
-  IsJudgedBy c P written0 written1 outcome =
+      → Bool → Outcome → Type 0
+  IsJudgedBy c P written0 written1 is_failed outcome =
       EndsUnread c written0 written1 outcome
-      ⊎ (EndsRefused c written0 written1 outcome ⊎ IsJudged c P)
+      ⊎ (EndsRefused c written0 written1 is_failed outcome ⊎ IsJudged c P)

@@ -41,10 +41,15 @@ Example:
       --tree examples/one-leaf.tree --trust";
 
 const VALIDATE_HELP: &str = "\
+A group is followed from its info, or from the file of a state.
+
 Example:
   mlscheck validate --info examples/one-leaf.info --trust";
 
 const REPLAY_HELP: &str = "\
+A group is followed from its info, or from the file of a state. With --save the
+state after the log is stored, after the report, in place of a file of that name.
+
 Example:
   mlscheck replay --info examples/real/epoch-1.info --log examples/real/handshakes.log \\
       --receipts examples/real/receipts.txt";
@@ -67,6 +72,7 @@ behind its length; each is answered before the next is read:
   b           begin with the signatures that are known to be good
   q MESSAGE   print the signatures of the message that are not known to be good
   m MESSAGE   process the message
+  s           print the state
 Without --trust and --receipts no signature is known to be good at first.
 
 Example:
@@ -216,31 +222,60 @@ fn with_start<'a>(alloc: Global, command: Command<'a>) -> Result<Command<'a>, Al
     with(command, tree)
 }
 
-/// `validate --info FILE [--tree FILE]`, and one of `--trust` and `--receipts FILE`.
+/// Adds the files of what a group is followed from to the command: its GroupInfo and its tree, or a state.
+fn with_group<'a>(alloc: Global, command: Command<'a>) -> Result<Command<'a>, AllocError>
+    requires { (fields_of command).has_globals ≡ false }
+    ensures app { IfOk result (λ r. app_of r ≡ specs.with_group (app_of command.entry)) }
+    ensures own { IfOk result (λ r. (fields_of r).has_globals ≡ false) }
+{
+    let info = file(alloc, "info", "The group info's path");
+    let command = with(command, info)?;
+    let tree = file(
+        alloc,
+        "tree",
+        "The ratchet tree's path, where the info holds none",
+    );
+    let command = with(command, tree)?;
+    let state = file(
+        alloc,
+        "state",
+        "The path of a state, in place of the info and the tree",
+    );
+    with(command, state)
+}
+
+/// `validate --info FILE [--tree FILE]` or `validate --state FILE`, and one of `--trust` and `--receipts FILE`.
 fn validate_command<'a>(alloc: Global) -> Result<Command<'a>, AllocError>
     ensures app { IfOk result (λ c. app_of c ≡ validate_app) }
     ensures own { IfOk result (λ c. (fields_of c).has_globals ≡ false) }
 {
-    let about = "Checks a group as its info shows it";
+    let about = "Checks a group as its info or its state shows it";
     let command = titled(alloc, "validate", about, VALIDATE_HELP);
-    let command = with_start(alloc, command)?;
+    let command = with_group(alloc, command)?;
     with_checker(alloc, command, SIGNATURES)
 }
 
-/// `replay --info FILE [--tree FILE] --log FILE`, and one of `--trust` and `--receipts FILE`.
+/// `replay --info FILE [--tree FILE] --log FILE [--save FILE]`, or with `--state FILE` in place of the first two, and
+/// one of `--trust` and `--receipts FILE`.
 fn replay_command<'a>(alloc: Global) -> Result<Command<'a>, AllocError>
     ensures app { IfOk result (λ c. app_of c ≡ replay_app) }
     ensures own { IfOk result (λ c. (fields_of c).has_globals ≡ false) }
 {
     let about = "Follows a group through a log of its handshakes";
     let command = titled(alloc, "replay", about, REPLAY_HELP);
-    let command = with_start(alloc, command)?;
+    let command = with_group(alloc, command)?;
     let log = needed(
         alloc,
         "log",
         "The path of the handshakes, each behind its length",
     );
     let command = with(command, log)?;
+    let save = file(
+        alloc,
+        "save",
+        "The path under which the state after the log is stored",
+    );
+    let command = with(command, save)?;
     with_checker(alloc, command, SIGNATURES)
 }
 
@@ -262,14 +297,14 @@ fn signatures_command<'a>(alloc: Global) -> Result<Command<'a>, AllocError>
     with(command, receipts)
 }
 
-/// `gate --info FILE [--tree FILE]`, and at most one of `--trust` and `--receipts FILE`.
+/// `gate --info FILE [--tree FILE]` or `gate --state FILE`, and at most one of `--trust` and `--receipts FILE`.
 fn gate_command<'a>(alloc: Global) -> Result<Command<'a>, AllocError>
     ensures app { IfOk result (λ c. app_of c ≡ gate_app) }
     ensures own { IfOk result (λ c. (fields_of c).has_globals ≡ false) }
 {
     let about = "Follows a group live, and says which signatures to verify";
     let command = titled(alloc, "gate", about, GATE_HELP);
-    let command = with_start(alloc, command)?;
+    let command = with_group(alloc, command)?;
     with_checker(alloc, command, KNOWN_SIGNATURES)
 }
 

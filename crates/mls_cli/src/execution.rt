@@ -1,7 +1,10 @@
 //! Executing a command: the files that it names are opened, and its report is made of them.
 
-ghost use Rattle.std.specs.Prelude.{◌≡◌, ◌↔◌, ◌⊎◌, false, true, None, Err, option_map, IfSome};
-ghost use Rattle.mls_cli.specs.Execution.{ExecutesOrder, CarriesReport, CarriesShow, CarriesValidateTree, CarriesValidate, CarriesReplay, CarriesSignatures, CarriesGate, CarriesCheck};
+ghost use Rattle.std.specs.Prelude.{◌≡◌, ◌≢◌, ◌↔◌, ◌⊎◌, false, true, None, is_some, Err, option_map, IfErr, IfSome};
+ghost use Rattle.mls_follow.specs.FollowerModel.{state_of};
+ghost use Rattle.mls_follow.specs.State.{State};
+ghost use Rattle.mls_follow.specs.StoredState.{EncodesState};
+ghost use Rattle.mls_cli.specs.Execution.{ExecutesOrder, EndsStoring, EndsSaved, MeansWrite, report_stores, stores_state, CarriesReport, CarriesShow, CarriesValidateTree, CarriesValidate, CarriesReplay, CarriesSignatures, CarriesGate, CarriesCheck};
 ghost use Rattle.mls_cli.specs.Files.{opener, IsOpened, NamedFileIsMissing};
 ghost use Rattle.mls_cli.specs.ProgramCheckers.{checker_verify, IsJudgedBy, EndsUnread, EndsRefused};
 ghost use Rattle.mls_report.specs.StartInputs.{has_failed};
@@ -10,16 +13,17 @@ ghost use Rattle.mls_cli.specs.CheckerFaults.{IsJudgeFault};
 use crate::file_name::FileName;
 use crate::files::Files;
 use crate::load_checker::read_judge;
-use crate::order::{CheckedReport, CheckerChoice, Order};
+use crate::order::{CheckedReport, CheckerChoice, GroupFiles, Order, ReplayFiles};
 use crate::program_checker::{CheckerFault, ProgramChecker};
-use mls_gate::run_gate;
+use mls_follow::Follower;
+use mls_gate::{run_gate, run_gate_state};
 use mls_msgs::Profile;
 use mls_report::{
-    RunFault, ShowKind, Verdict, run_replay, run_show_in, run_signatures, run_unreadable_receipts,
-    run_validate, run_validate_tree,
+    Replayed, RunFault, ShowKind, Verdict, replay_group, replay_state, run_show_in, run_signatures,
+    run_unreadable_receipts, run_validate, run_validate_state, run_validate_tree,
 };
 use mls_vectors::{CheckKind, run_check};
-use mls_wire::Sink;
+use mls_wire::{CodecFault, Sink};
 use std::alloc::Global;
 
 /// Shows a file. A message is decoded in a profile.
@@ -33,7 +37,8 @@ fn show<F: Files, K: Sink>(
 ) -> Result<Verdict, RunFault>
     requires { K.is_failed out.old ≡ false }
     ensures carried { CarriesShow
-        (opener (F.gives files.now) (F.lacks files.now) F.File.left F.File.is_failed)
+        (opener (F.gives files.now) (F.lacks files.now) (F.stores files.now) (F.refuses files.now)
+        F.File.left F.File.is_failed)
         profile kind file.now (K.written out.old) (K.written out.new) result }
     ensures write { (result ≡ Err RunFault.Write) ↔ (K.is_failed out.new ≡ true) }
 {
@@ -53,7 +58,8 @@ fn check<F: Files, K: Sink>(
 ) -> Result<Verdict, RunFault>
     requires { K.is_failed out.old ≡ false }
     ensures carried { CarriesCheck
-        (opener (F.gives files.now) (F.lacks files.now) F.File.left F.File.is_failed)
+        (opener (F.gives files.now) (F.lacks files.now) (F.stores files.now) (F.refuses files.now)
+        F.File.left F.File.is_failed)
         kind file.now (K.written out.old) (K.written out.new) result }
     ensures write { (result ≡ Err RunFault.Write) ↔ (K.is_failed out.new ≡ true) }
 {
@@ -74,7 +80,8 @@ fn validate_tree<F: Files, K: Sink>(
 ) -> Result<Verdict, RunFault>
     requires { K.is_failed out.old ≡ false }
     ensures carried { CarriesValidateTree
-        (opener (F.gives files.now) (F.lacks files.now) F.File.left F.File.is_failed)
+        (opener (F.gives files.now) (F.lacks files.now) (F.stores files.now) (F.refuses files.now)
+        F.File.left F.File.is_failed)
         (checker_verify judge.now) context.now tree.now
         (K.written out.old) (K.written out.new) result }
     ensures write { (result ≡ Err RunFault.Write) ↔ (K.is_failed out.new ≡ true) }
@@ -91,11 +98,13 @@ fn validate_tree<F: Files, K: Sink>(
 /// Opens a file with an optional name.
 fn open_named<F: Files>(name: &Option<FileName>, files: &F) -> Option<Option<F::File>>
     ensures given { IfSome result (IsOpened
-        (opener (F.gives files.now) (F.lacks files.now) F.File.left F.File.is_failed) name.now) }
+        (opener (F.gives files.now) (F.lacks files.now) (F.stores files.now) (F.refuses files.now)
+        F.File.left F.File.is_failed) name.now) }
     ensures fresh { IfSome result
         (λ file. has_failed (option_map F.File.is_failed file) ≡ false) }
     ensures none { result ≡ None → NamedFileIsMissing
-        (opener (F.gives files.now) (F.lacks files.now) F.File.left F.File.is_failed) name.now }
+        (opener (F.gives files.now) (F.lacks files.now) (F.stores files.now) (F.refuses files.now)
+        F.File.left F.File.is_failed) name.now }
 {
     match name {
         Some(name) => Some(Some(files.open(name.as_str())?)),
@@ -104,7 +113,7 @@ fn open_named<F: Files>(name: &Option<FileName>, files: &F) -> Option<Option<F::
 }
 
 /// Says whether a group can be followed from its GroupInfo.
-fn validate<F: Files, K: Sink>(
+fn validate_info<F: Files, K: Sink>(
     alloc: Global,
     info: &FileName,
     tree: &Option<FileName>,
@@ -114,8 +123,10 @@ fn validate<F: Files, K: Sink>(
 ) -> Result<Verdict, RunFault>
     requires { K.is_failed out.old ≡ false }
     ensures carried { CarriesValidate
-        (opener (F.gives files.now) (F.lacks files.now) F.File.left F.File.is_failed)
-        (checker_verify judge) info.now tree.now (K.written out.old) (K.written out.new) result }
+        (opener (F.gives files.now) (F.lacks files.now) (F.stores files.now) (F.refuses files.now)
+        F.File.left F.File.is_failed)
+        (checker_verify judge) (GroupFiles.Info info.now tree.now)
+        (K.written out.old) (K.written out.new) result }
     ensures write { (result ≡ Err RunFault.Write) ↔ (K.is_failed out.new ≡ true) }
 {
     let Some(mut info) = files.open(info.as_str()) else {
@@ -127,22 +138,126 @@ fn validate<F: Files, K: Sink>(
     run_validate(alloc, &mut info, &mut tree, judge, out)
 }
 
-/// Follows a group from its GroupInfo through a log of handshakes.
-fn replay<F: Files, K: Sink>(
+/// Says whether a follower resumes from the file of a state.
+fn validate_state<F: Files, K: Sink>(
+    alloc: Global,
+    state: &FileName,
+    files: &F,
+    judge: ProgramChecker,
+    out: &mut K,
+) -> Result<Verdict, RunFault>
+    requires { K.is_failed out.old ≡ false }
+    ensures carried { CarriesValidate
+        (opener (F.gives files.now) (F.lacks files.now) (F.stores files.now) (F.refuses files.now)
+        F.File.left F.File.is_failed)
+        (checker_verify judge) (GroupFiles.State state.now)
+        (K.written out.old) (K.written out.new) result }
+    ensures write { (result ≡ Err RunFault.Write) ↔ (K.is_failed out.new ≡ true) }
+{
+    let Some(mut input) = files.open(state.as_str()) else {
+        return Err(RunFault::Read);
+    };
+    run_validate_state(alloc, &mut input, judge, out)
+}
+
+/// Says whether a group can be followed.
+fn validate<F: Files, K: Sink>(
+    alloc: Global,
+    group: &GroupFiles,
+    files: &F,
+    judge: ProgramChecker,
+    out: &mut K,
+) -> Result<Verdict, RunFault>
+    requires { K.is_failed out.old ≡ false }
+    ensures carried { CarriesValidate
+        (opener (F.gives files.now) (F.lacks files.now) (F.stores files.now) (F.refuses files.now)
+        F.File.left F.File.is_failed)
+        (checker_verify judge) group.now (K.written out.old) (K.written out.new) result }
+    ensures write { (result ≡ Err RunFault.Write) ↔ (K.is_failed out.new ≡ true) }
+{
+    match group {
+        GroupFiles::Info { info, tree } => validate_info(alloc, info, tree, files, judge, out),
+        GroupFiles::State(state) => validate_state(alloc, state, files, judge, out),
+    }
+}
+
+/// Stores the bytes of a state, and returns the verdict if they are stored.
+fn store<F: Files>(
+    verdict: Verdict,
+    bytes: &[u8],
+    name: &FileName,
+    files: &F,
+) -> Result<Verdict, RunFault>
+    ensures stored { (s : State) → EncodesState s bytes.now → EndsStoring
+        (opener (F.gives files.now) (F.lacks files.now) (F.stores files.now) (F.refuses files.now)
+        F.File.left F.File.is_failed)
+        name.now s verdict result }
+    ensures fault { IfErr result (λ e. e ≢ RunFault.Read) }
+{
+    if files.save(name.as_str(), bytes) {
+        Ok(verdict)
+    } else {
+        Err(RunFault::Write)
+    }
+}
+
+/// Stores the state of a follower, and returns the verdict if it is stored.
+fn store_state<F: Files>(
+    verdict: Verdict,
+    follower: &Follower<ProgramChecker>,
+    name: &FileName,
+    files: &F,
+) -> Result<Verdict, RunFault>
+    ensures stored { EndsStoring
+        (opener (F.gives files.now) (F.lacks files.now) (F.stores files.now) (F.refuses files.now)
+        F.File.left F.File.is_failed)
+        name.now (state_of follower.now) verdict result }
+    ensures fault { IfErr result (λ e. e ≢ RunFault.Read) }
+{
+    match follower.encode_state() {
+        Ok(bytes) => store(verdict, bytes.as_slice(), name, files),
+        Err(CodecFault::Wire(_)) => Err(RunFault::Write),
+        Err(CodecFault::OutOfMemory) => Err(RunFault::Memory),
+    }
+}
+
+/// Stores the state after a replay if a file is named and a follower has started, and returns the verdict if it is
+/// stored.
+fn store_after<F: Files>(
+    replayed: &Replayed<ProgramChecker>,
+    save: &Option<FileName>,
+    files: &F,
+) -> Result<Verdict, RunFault>
+    ensures saved { EndsSaved
+        (opener (F.gives files.now) (F.lacks files.now) (F.stores files.now) (F.refuses files.now)
+        F.File.left F.File.is_failed)
+        save.now (option_map (λ f. state_of f) replayed.now.follower) replayed.now.verdict result }
+    ensures fault { IfErr result (λ e. e ≢ RunFault.Read) }
+    ensures write { is_some save.now ≡ false → IfErr result (λ e. e ≢ RunFault.Write) }
+{
+    match (save, &replayed.follower) {
+        (Some(name), Some(follower)) => store_state(replayed.verdict, follower, name, files),
+        _ => Ok(replayed.verdict),
+    }
+}
+
+/// Follows a group from its GroupInfo through a log of handshakes, and stores its state if a file is named.
+fn replay_info<F: Files, K: Sink>(
     alloc: Global,
     info: &FileName,
     tree: &Option<FileName>,
-    log: &FileName,
+    replay: &ReplayFiles,
     files: &F,
     judge: ProgramChecker,
     out: &mut K,
 ) -> Result<Verdict, RunFault>
     requires { K.is_failed out.old ≡ false }
     ensures carried { CarriesReplay
-        (opener (F.gives files.now) (F.lacks files.now) F.File.left F.File.is_failed)
-        (checker_verify judge) info.now tree.now log.now
-        (K.written out.old) (K.written out.new) result }
-    ensures write { (result ≡ Err RunFault.Write) ↔ (K.is_failed out.new ≡ true) }
+        (opener (F.gives files.now) (F.lacks files.now) (F.stores files.now) (F.refuses files.now)
+        F.File.left F.File.is_failed)
+        (checker_verify judge) (GroupFiles.Info info.now tree.now) replay.now
+        (K.written out.old) (K.written out.new) (K.is_failed out.new) result }
+    ensures write { MeansWrite (is_some replay.now.save) (K.is_failed out.new) result }
 {
     let Some(mut info) = files.open(info.as_str()) else {
         return Err(RunFault::Read);
@@ -150,10 +265,67 @@ fn replay<F: Files, K: Sink>(
     let Some(mut tree) = open_named(tree, files) else {
         return Err(RunFault::Read);
     };
-    let Some(mut log) = files.open(log.as_str()) else {
+    let Some(mut log) = files.open(replay.log.as_str()) else {
         return Err(RunFault::Read);
     };
-    run_replay(alloc, &mut info, &mut tree, &mut log, judge, out)
+    match replay_group(alloc, &mut info, &mut tree, &mut log, judge, out) {
+        Ok(replayed) => store_after(&replayed, &replay.save, files),
+        Err(fault) => Err(fault),
+    }
+}
+
+/// Follows a group from the file of a state through a log of handshakes, and stores its state if a file is named.
+fn replay_stored<F: Files, K: Sink>(
+    alloc: Global,
+    state: &FileName,
+    replay: &ReplayFiles,
+    files: &F,
+    judge: ProgramChecker,
+    out: &mut K,
+) -> Result<Verdict, RunFault>
+    requires { K.is_failed out.old ≡ false }
+    ensures carried { CarriesReplay
+        (opener (F.gives files.now) (F.lacks files.now) (F.stores files.now) (F.refuses files.now)
+        F.File.left F.File.is_failed)
+        (checker_verify judge) (GroupFiles.State state.now) replay.now
+        (K.written out.old) (K.written out.new) (K.is_failed out.new) result }
+    ensures write { MeansWrite (is_some replay.now.save) (K.is_failed out.new) result }
+{
+    let Some(mut input) = files.open(state.as_str()) else {
+        return Err(RunFault::Read);
+    };
+    let Some(mut log) = files.open(replay.log.as_str()) else {
+        return Err(RunFault::Read);
+    };
+    match replay_state(alloc, &mut input, &mut log, judge, out) {
+        Ok(replayed) => store_after(&replayed, &replay.save, files),
+        Err(fault) => Err(fault),
+    }
+}
+
+/// Follows a group through a log of handshakes, and stores its state if a file is named.
+fn replay<F: Files, K: Sink>(
+    alloc: Global,
+    group: &GroupFiles,
+    replay: &ReplayFiles,
+    files: &F,
+    judge: ProgramChecker,
+    out: &mut K,
+) -> Result<Verdict, RunFault>
+    requires { K.is_failed out.old ≡ false }
+    ensures carried { CarriesReplay
+        (opener (F.gives files.now) (F.lacks files.now) (F.stores files.now) (F.refuses files.now)
+        F.File.left F.File.is_failed)
+        (checker_verify judge) group.now replay.now
+        (K.written out.old) (K.written out.new) (K.is_failed out.new) result }
+    ensures write { MeansWrite (is_some replay.now.save) (K.is_failed out.new) result }
+{
+    match group {
+        GroupFiles::Info { info, tree } => {
+            replay_info(alloc, info, tree, replay, files, judge, out)
+        }
+        GroupFiles::State(state) => replay_stored(alloc, state, replay, files, judge, out),
+    }
 }
 
 /// Prints the signatures to verify of a group's start and its handshakes.
@@ -168,7 +340,8 @@ fn signatures<F: Files, K: Sink>(
 ) -> Result<Verdict, RunFault>
     requires { K.is_failed out.old ≡ false }
     ensures carried { CarriesSignatures
-        (opener (F.gives files.now) (F.lacks files.now) F.File.left F.File.is_failed)
+        (opener (F.gives files.now) (F.lacks files.now) (F.stores files.now) (F.refuses files.now)
+        F.File.left F.File.is_failed)
         (checker_verify receipts.now) info.now tree.now log.now
         (K.written out.old) (K.written out.new) result }
     ensures write { (result ≡ Err RunFault.Write) ↔ (K.is_failed out.new ≡ true) }
@@ -185,8 +358,8 @@ fn signatures<F: Files, K: Sink>(
     run_signatures(alloc, &mut info, &mut tree, &mut log, receipts, out)
 }
 
-/// Answers the records of standard input, one after the other.
-fn gate<F: Files, K: Sink>(
+/// Answers the records of standard input, one after the other, for a group that is followed from its GroupInfo.
+fn gate_info<F: Files, K: Sink>(
     alloc: Global,
     info: &FileName,
     tree: &Option<FileName>,
@@ -196,8 +369,10 @@ fn gate<F: Files, K: Sink>(
 ) -> Result<Verdict, RunFault>
     requires { K.is_failed out.old ≡ false }
     ensures carried { CarriesGate
-        (opener (F.gives files.now) (F.lacks files.now) F.File.left F.File.is_failed)
-        (checker_verify checker) info.now tree.now (K.written out.old) (K.written out.new) result }
+        (opener (F.gives files.now) (F.lacks files.now) (F.stores files.now) (F.refuses files.now)
+        F.File.left F.File.is_failed)
+        (checker_verify checker) (GroupFiles.Info info.now tree.now)
+        (K.written out.old) (K.written out.new) result }
     ensures write { (result ≡ Err RunFault.Write) ↔ (K.is_failed out.new ≡ true) }
 {
     let Some(mut info) = files.open(info.as_str()) else {
@@ -212,6 +387,52 @@ fn gate<F: Files, K: Sink>(
     run_gate(alloc, &mut info, &mut tree, &mut records, checker, out)
 }
 
+/// Answers the records of standard input, one after the other, for a group that is followed from the file of a state.
+fn gate_stored<F: Files, K: Sink>(
+    alloc: Global,
+    state: &FileName,
+    files: &F,
+    checker: ProgramChecker,
+    out: &mut K,
+) -> Result<Verdict, RunFault>
+    requires { K.is_failed out.old ≡ false }
+    ensures carried { CarriesGate
+        (opener (F.gives files.now) (F.lacks files.now) (F.stores files.now) (F.refuses files.now)
+        F.File.left F.File.is_failed)
+        (checker_verify checker) (GroupFiles.State state.now)
+        (K.written out.old) (K.written out.new) result }
+    ensures write { (result ≡ Err RunFault.Write) ↔ (K.is_failed out.new ≡ true) }
+{
+    let Some(mut input) = files.open(state.as_str()) else {
+        return Err(RunFault::Read);
+    };
+    let Some(mut records) = files.open("-") else {
+        return Err(RunFault::Read);
+    };
+    run_gate_state(alloc, &mut input, &mut records, checker, out)
+}
+
+/// Answers the records of standard input, one after the other.
+fn gate<F: Files, K: Sink>(
+    alloc: Global,
+    group: &GroupFiles,
+    files: &F,
+    checker: ProgramChecker,
+    out: &mut K,
+) -> Result<Verdict, RunFault>
+    requires { K.is_failed out.old ≡ false }
+    ensures carried { CarriesGate
+        (opener (F.gives files.now) (F.lacks files.now) (F.stores files.now) (F.refuses files.now)
+        F.File.left F.File.is_failed)
+        (checker_verify checker) group.now (K.written out.old) (K.written out.new) result }
+    ensures write { (result ≡ Err RunFault.Write) ↔ (K.is_failed out.new ≡ true) }
+{
+    match group {
+        GroupFiles::Info { info, tree } => gate_info(alloc, info, tree, files, checker, out),
+        GroupFiles::State(state) => gate_stored(alloc, state, files, checker, out),
+    }
+}
+
 /// Says why there is no checker.
 fn refuse<F: Files, K: Sink>(
     alloc: Global,
@@ -222,12 +443,14 @@ fn refuse<F: Files, K: Sink>(
 ) -> Result<Verdict, RunFault>
     requires out { K.is_failed out.old ≡ false }
     requires fault { IsJudgeFault
-        (opener (F.gives files.now) (F.lacks files.now) F.File.left F.File.is_failed)
+        (opener (F.gives files.now) (F.lacks files.now) (F.stores files.now) (F.refuses files.now)
+        F.File.left F.File.is_failed)
         checker.now fault }
-    ensures ended { let opened = opener (F.gives files.now) (F.lacks files.now)
-        F.File.left F.File.is_failed in
+    ensures ended { let opened = opener (F.gives files.now) (F.lacks files.now) (F.stores files.now)
+        (F.refuses files.now) F.File.left F.File.is_failed in
         EndsUnread opened checker.now (K.written out.old) (K.written out.new) result
-        ⊎ EndsRefused opened checker.now (K.written out.old) (K.written out.new) result }
+        ⊎ EndsRefused opened checker.now (K.written out.old) (K.written out.new)
+        (K.is_failed out.new) result }
     ensures write { (result ≡ Err RunFault.Write) ↔ (K.is_failed out.new ≡ true) }
 {
     match fault {
@@ -246,22 +469,25 @@ fn report_by<F: Files, K: Sink>(
 ) -> Result<Verdict, RunFault>
     requires { K.is_failed out.old ≡ false }
     ensures carried { CarriesReport
-        (opener (F.gives files.now) (F.lacks files.now) F.File.left F.File.is_failed)
-        (checker_verify judge) report.now (K.written out.old) (K.written out.new) result }
-    ensures write { (result ≡ Err RunFault.Write) ↔ (K.is_failed out.new ≡ true) }
+        (opener (F.gives files.now) (F.lacks files.now) (F.stores files.now) (F.refuses files.now)
+        F.File.left F.File.is_failed)
+        (checker_verify judge) report.now (K.written out.old) (K.written out.new)
+        (K.is_failed out.new) result }
+    ensures write { MeansWrite (report_stores report.now) (K.is_failed out.new) result }
 {
     match report {
         CheckedReport::ValidateTree { context, tree } => {
             validate_tree(alloc, context, tree, files, &judge, out)
         }
-        CheckedReport::Validate { info, tree } => validate(alloc, info, tree, files, judge, out),
-        CheckedReport::Replay { info, tree, log } => {
-            replay(alloc, info, tree, log, files, judge, out)
-        }
+        CheckedReport::Validate(group) => validate(alloc, group, files, judge, out),
+        CheckedReport::Replay {
+            group,
+            files: replay_files,
+        } => replay(alloc, group, replay_files, files, judge, out),
         CheckedReport::Signatures { info, tree, log } => {
             signatures(alloc, info, tree, log, files, &judge, out)
         }
-        CheckedReport::Gate { info, tree } => gate(alloc, info, tree, files, judge, out),
+        CheckedReport::Gate(group) => gate(alloc, group, files, judge, out),
     }
 }
 
@@ -275,13 +501,15 @@ fn judged<F: Files, K: Sink>(
 ) -> Result<Verdict, RunFault>
     requires { K.is_failed out.old ≡ false }
     ensures carried { IsJudgedBy
-        (opener (F.gives files.now) (F.lacks files.now) F.File.left F.File.is_failed)
+        (opener (F.gives files.now) (F.lacks files.now) (F.stores files.now) (F.refuses files.now)
+        F.File.left F.File.is_failed)
         checker.now
         (λ G. CarriesReport
-        (opener (F.gives files.now) (F.lacks files.now) F.File.left F.File.is_failed)
-        G report.now (K.written out.old) (K.written out.new) result)
-        (K.written out.old) (K.written out.new) result }
-    ensures write { (result ≡ Err RunFault.Write) ↔ (K.is_failed out.new ≡ true) }
+        (opener (F.gives files.now) (F.lacks files.now) (F.stores files.now) (F.refuses files.now)
+        F.File.left F.File.is_failed)
+        G report.now (K.written out.old) (K.written out.new) (K.is_failed out.new) result)
+        (K.written out.old) (K.written out.new) (K.is_failed out.new) result }
+    ensures write { MeansWrite (report_stores report.now) (K.is_failed out.new) result }
 {
     match read_judge(alloc, checker, files) {
         Ok(judge) => report_by(alloc, report, files, judge, out),
@@ -301,6 +529,9 @@ fn judged<F: Files, K: Sink>(
 /// `Read` if a file cannot be opened, and then nothing is written, or if one fails; `Write` if the output fails;
 /// `Memory`. A prefix of the report may have been written, except if memory runs out in a report other than `replay`,
 /// `signatures` and `gate`.
+///
+/// With `--save`, `replay` stores the state after its last whole message once its report is written whole, if a follower
+/// has started. If the state has no file or its file cannot be stored, the fault is `Write` too, after the whole report.
 pub fn execute_order<F: Files, K: Sink>(
     alloc: Global,
     order: &Order,
@@ -309,9 +540,10 @@ pub fn execute_order<F: Files, K: Sink>(
 ) -> Result<Verdict, RunFault>
     requires { K.is_failed out.old ≡ false }
     ensures carried { ExecutesOrder
-        (opener (F.gives files.now) (F.lacks files.now) F.File.left F.File.is_failed)
-        order.now (K.written out.old) (K.written out.new) result }
-    ensures write { (result ≡ Err RunFault.Write) ↔ (K.is_failed out.new ≡ true) }
+        (opener (F.gives files.now) (F.lacks files.now) (F.stores files.now) (F.refuses files.now)
+        F.File.left F.File.is_failed)
+        order.now (K.written out.old) (K.written out.new) (K.is_failed out.new) result }
+    ensures write { MeansWrite (stores_state order.now) (K.is_failed out.new) result }
 {
     match order {
         Order::Show {

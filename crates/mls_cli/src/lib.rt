@@ -17,11 +17,12 @@ pub use file_name::FileName;
 pub use files::Files;
 pub use mls_msgs::Profile;
 pub use mls_report::{
-    RunFault, ShowKind, Verdict, read_all, run_replay, run_show, run_show_in, run_signatures,
-    run_unreadable_receipts, run_validate, run_validate_tree, status_of,
+    RunFault, ShowKind, Verdict, read_all, run_replay, run_replay_state, run_show, run_show_in,
+    run_signatures, run_unreadable_receipts, run_validate, run_validate_state, run_validate_tree,
+    status_of,
 };
 pub use mls_vectors::{CheckKind, run_check};
-pub use order::{CheckedReport, CheckerChoice, Order, OrderFault};
+pub use order::{CheckedReport, CheckerChoice, GroupFiles, Order, OrderFault, ReplayFiles};
 pub use parse_order::order_of;
 pub use program::{run_fault, run_program};
 pub use progress::Progress;

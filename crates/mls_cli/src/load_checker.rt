@@ -17,10 +17,12 @@ use std::alloc::Global;
 /// Returns the bytes of a file.
 fn read_file<F: Files>(alloc: Global, file: &FileName, files: &F) -> Result<Vec<u8>, RunFault>
     ensures all { IfOk result (λ bytes. ReadsFile
-        (opener (F.gives files.now) (F.lacks files.now) F.File.left F.File.is_failed)
+        (opener (F.gives files.now) (F.lacks files.now) (F.stores files.now) (F.refuses files.now)
+        F.File.left F.File.is_failed)
         file.now bytes.items) }
     ensures lost { IfErr result (CannotReadFile
-        (opener (F.gives files.now) (F.lacks files.now) F.File.left F.File.is_failed)
+        (opener (F.gives files.now) (F.lacks files.now) (F.stores files.now) (F.refuses files.now)
+        F.File.left F.File.is_failed)
         file.now) }
 {
     let Some(mut input) = files.open(file.as_str()) else {
@@ -36,10 +38,12 @@ fn read_listed<F: Files>(
     files: &F,
 ) -> Result<ProgramChecker, CheckerFault>
     ensures judge { IfOk result (λ judge. IsMeaning
-        (opener (F.gives files.now) (F.lacks files.now) F.File.left F.File.is_failed)
+        (opener (F.gives files.now) (F.lacks files.now) (F.stores files.now) (F.refuses files.now)
+        F.File.left F.File.is_failed)
         (choices.Receipts file.now) (checker_verify judge)) }
     ensures fault { IfErr result (IsJudgeFault
-        (opener (F.gives files.now) (F.lacks files.now) F.File.left F.File.is_failed)
+        (opener (F.gives files.now) (F.lacks files.now) (F.stores files.now) (F.refuses files.now)
+        F.File.left F.File.is_failed)
         (choices.Receipts file.now)) }
 {
     let bytes = match read_file(alloc, file, files) {
@@ -59,10 +63,12 @@ pub(crate) fn read_judge<F: Files>(
     files: &F,
 ) -> Result<ProgramChecker, CheckerFault>
     ensures judge { IfOk result (λ judge. IsMeaning
-        (opener (F.gives files.now) (F.lacks files.now) F.File.left F.File.is_failed)
+        (opener (F.gives files.now) (F.lacks files.now) (F.stores files.now) (F.refuses files.now)
+        F.File.left F.File.is_failed)
         checker.now (checker_verify judge)) }
     ensures fault { IfErr result (IsJudgeFault
-        (opener (F.gives files.now) (F.lacks files.now) F.File.left F.File.is_failed)
+        (opener (F.gives files.now) (F.lacks files.now) (F.stores files.now) (F.refuses files.now)
+        F.File.left F.File.is_failed)
         checker.now) }
 {
     match checker {

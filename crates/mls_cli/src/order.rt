@@ -21,6 +21,29 @@ pub enum CheckerChoice {
     Nobody,
 }
 
+/// What a group is followed from.
+#[derive(Debug, Drop)]
+pub enum GroupFiles {
+    /// `--info FILE [--tree FILE]`: its GroupInfo.
+    Info {
+        /// The file of the GroupInfo.
+        info: FileName,
+        /// The file of the ratchet tree, if one is named.
+        tree: Option<FileName>,
+    },
+    /// `--state FILE`: the file of a stored state.
+    State(FileName),
+}
+
+/// What a replay reads and stores.
+#[derive(Debug, Drop)]
+pub struct ReplayFiles {
+    /// The file of the log.
+    pub log: FileName,
+    /// `--save FILE`: the file in which the state after the log is stored, if one is named.
+    pub save: Option<FileName>,
+}
+
 /// A report with a checker.
 #[derive(Debug, Drop)]
 pub enum CheckedReport {
@@ -31,21 +54,14 @@ pub enum CheckedReport {
         /// The file of the ratchet tree.
         tree: FileName,
     },
-    /// `validate`: say whether a group can be followed from its GroupInfo.
-    Validate {
-        /// The file of the GroupInfo.
-        info: FileName,
-        /// The file of the ratchet tree, if one is named.
-        tree: Option<FileName>,
-    },
-    /// `replay`: follow a group from its GroupInfo through a log of handshakes.
+    /// `validate`: say whether a group can be followed.
+    Validate(GroupFiles),
+    /// `replay`: follow a group through a log of handshakes.
     Replay {
-        /// The file of the GroupInfo.
-        info: FileName,
-        /// The file of the ratchet tree, if one is named.
-        tree: Option<FileName>,
-        /// The file of the log.
-        log: FileName,
+        /// What the group is followed from.
+        group: GroupFiles,
+        /// The log, and where the state after it is stored.
+        files: ReplayFiles,
     },
     /// `signatures`: print the signatures to verify of a group's start and its handshakes.
     Signatures {
@@ -57,12 +73,7 @@ pub enum CheckedReport {
         log: Option<FileName>,
     },
     /// `gate`: answer the records of standard input, one after the other.
-    Gate {
-        /// The file of the GroupInfo.
-        info: FileName,
-        /// The file of the ratchet tree, if one is named.
-        tree: Option<FileName>,
-    },
+    Gate(GroupFiles),
 }
 
 /// What the program is to do.

@@ -3,12 +3,12 @@
 ghost use Rattle.std.specs.Prelude.{◌≡◌, ◌≢◌, ◌↔◌, ◌⊎◌, IsTrue, IfOk, IfErr, codes, Some, option_map, map, string_bytes};
 ghost use Rattle.clap.specs.Values.{kind_of};
 ghost use Rattle.clap.specs.Words.{first_of, rows_of, found_of, subcommand_rows_of};
-ghost use Rattle.mls_cli.specs.Orders.{IsProfile, IsChecker, IsFirstChecker, SelectsReceipts, IsOrder, IsGiven, IsOrderOf, stdin_count, IsHelp, IsUsage, AsksForHelp, AsksForHelpAlone, Refuses, kind_text, check_kind_text};
+ghost use Rattle.mls_cli.specs.Orders.{IsProfile, IsChecker, IsGroup, IsSave, IsFirstChecker, SelectsReceipts, IsOrder, IsGiven, IsOrderOf, stdin_count, IsHelp, IsUsage, AsksForHelp, AsksForHelpAlone, Refuses, kind_text, check_kind_text};
 ghost use Rattle.mls_cli.specs.Orders as specs;
 
 use crate::clap_command::mlscheck_command;
 use crate::file_name::FileName;
-use crate::order::{CheckedReport, CheckerChoice, Order, OrderFault};
+use crate::order::{CheckedReport, CheckerChoice, GroupFiles, Order, OrderFault, ReplayFiles};
 use clap::error::ErrorKind;
 use clap::{ArgMatches, Error};
 use mls_msgs::Profile;
@@ -175,6 +175,30 @@ fn validate_tree_order(alloc: Global, matches: &ArgMatches<'_>) -> Result<Order,
     Ok(Order::Judged { report, checker })
 }
 
+/// Returns what a group is followed from: a GroupInfo, with or without a tree, or the file of a state.
+fn group_of(alloc: Global, matches: &ArgMatches<'_>) -> Result<GroupFiles, OrderFault>
+    ensures group { IfOk result (IsGroup (rows_of (found_of matches.now))) }
+    ensures refused { IfErr result (Refuses (IsGroup (rows_of (found_of matches.now)))) }
+    ensures own { IfErr result (λ e. IsHelp e → ⊥) }
+{
+    match (
+        value(matches, "info"),
+        value(matches, "tree"),
+        value(matches, "state"),
+    ) {
+        (Some(info), _, None) => {
+            let info = FileName::new(alloc, info)?;
+            let tree = optional_file_of(alloc, matches, "tree")?;
+            Ok(GroupFiles::Info { info, tree })
+        }
+        (None, None, Some(state)) => Ok(GroupFiles::State(FileName::new(alloc, state)?)),
+        _ => Err(usage(
+            alloc,
+            "usage: give --info, with --tree or without it, or --state\n",
+        )),
+    }
+}
+
 /// Returns the command `validate`.
 fn validate_order(alloc: Global, matches: &ArgMatches<'_>) -> Result<Order, OrderFault>
     ensures order { IfOk result
@@ -184,10 +208,38 @@ fn validate_order(alloc: Global, matches: &ArgMatches<'_>) -> Result<Order, Orde
     ensures own { IfErr result (λ e. IsHelp e → ⊥) }
 {
     let checker = chosen_checker(alloc, matches)?;
-    let info = file_of(alloc, matches, "info")?;
-    let tree = optional_file_of(alloc, matches, "tree")?;
-    let report = CheckedReport::Validate { info, tree };
+    let report = CheckedReport::Validate(group_of(alloc, matches)?);
     Ok(Order::Judged { report, checker })
+}
+
+/// Returns the file under which a state is stored, if one is named. It is not standard input.
+fn save_of(alloc: Global, matches: &ArgMatches<'_>) -> Result<Option<FileName>, OrderFault>
+    ensures save { IfOk result (IsSave (first_of (codes "save") (rows_of (found_of matches.now)))) }
+    ensures refused { IfErr result
+        (Refuses (IsSave (first_of (codes "save") (rows_of (found_of matches.now))))) }
+    ensures own { IfErr result (λ e. IsHelp e → ⊥) }
+{
+    match value(matches, "save") {
+        Some("-") => Err(usage(alloc, "usage: a state is stored in a file with a name\n")),
+        Some(file) => Ok(Some(FileName::new(alloc, file)?)),
+        None => Ok(None),
+    }
+}
+
+/// Returns the log of a replay, and where the state after it is stored.
+fn replay_files(alloc: Global, matches: &ArgMatches<'_>) -> Result<ReplayFiles, OrderFault>
+    ensures log { IfOk result (λ files.
+        first_of (codes "log") (rows_of (found_of matches.now)) ≡ Some files.log) }
+    ensures save { IfOk result (λ files.
+        IsSave (first_of (codes "save") (rows_of (found_of matches.now))) files.save) }
+    ensures refused { IfErr result (Refuses (λ (files : ReplayFiles).
+        (first_of (codes "log") (rows_of (found_of matches.now)) ≡ Some files.log)
+        × IsSave (first_of (codes "save") (rows_of (found_of matches.now))) files.save)) }
+    ensures own { IfErr result (λ e. IsHelp e → ⊥) }
+{
+    let log = file_of(alloc, matches, "log")?;
+    let save = save_of(alloc, matches)?;
+    Ok(ReplayFiles { log, save })
 }
 
 /// Returns the command `replay`.
@@ -199,10 +251,9 @@ fn replay_order(alloc: Global, matches: &ArgMatches<'_>) -> Result<Order, OrderF
     ensures own { IfErr result (λ e. IsHelp e → ⊥) }
 {
     let checker = chosen_checker(alloc, matches)?;
-    let info = file_of(alloc, matches, "info")?;
-    let tree = optional_file_of(alloc, matches, "tree")?;
-    let log = file_of(alloc, matches, "log")?;
-    let report = CheckedReport::Replay { info, tree, log };
+    let group = group_of(alloc, matches)?;
+    let files = replay_files(alloc, matches)?;
+    let report = CheckedReport::Replay { group, files };
     Ok(Order::Judged { report, checker })
 }
 
@@ -261,9 +312,7 @@ fn gate_order(alloc: Global, matches: &ArgMatches<'_>) -> Result<Order, OrderFau
         return Err(usage(alloc, "usage: standard input has the records of the gate\n"));
     }
     let checker = first_checker(alloc, matches)?;
-    let info = file_of(alloc, matches, "info")?;
-    let tree = optional_file_of(alloc, matches, "tree")?;
-    let report = CheckedReport::Gate { info, tree };
+    let report = CheckedReport::Gate(group_of(alloc, matches)?);
     Ok(Order::Judged { report, checker })
 }
 
@@ -347,9 +396,10 @@ fn stdin_count(matches: &ArgMatches<'_>) -> u32
     let context = stdin_at(matches, "context");
     let info = stdin_at(matches, "info");
     let tree = stdin_at(matches, "tree");
+    let state = stdin_at(matches, "state");
     let log = stdin_at(matches, "log");
     let receipts = stdin_at(matches, "receipts");
-    file + context + info + tree + log + receipts
+    file + context + info + tree + state + log + receipts
 }
 
 /// Returns the command of the subcommand with this name, at most one of whose files is standard input.

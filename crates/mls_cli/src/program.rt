@@ -54,7 +54,8 @@ fn run_order<F: Files, K: Sink, N: Sink>(
     requires out { K.is_failed out.old ≡ false }
     requires notes { N.is_failed notes.old ≡ false }
     ensures { EndsOrder
-        (opener (F.gives files.now) (F.lacks files.now) F.File.left F.File.is_failed)
+        (opener (F.gives files.now) (F.lacks files.now) (F.stores files.now) (F.refuses files.now)
+        F.File.left F.File.is_failed)
         (K.written out.old) (K.written out.new) (K.is_failed out.new)
         (N.written notes.old) (N.written notes.new) (N.is_failed notes.new) result order.now }
 {
@@ -107,7 +108,8 @@ pub fn run_program<F: Files, K: Sink, N: Sink>(
     requires out { K.is_failed out.old ≡ false }
     requires notes { N.is_failed notes.old ≡ false }
     ensures { RunsProgram
-        (opener (F.gives files.now) (F.lacks files.now) F.File.left F.File.is_failed)
+        (opener (F.gives files.now) (F.lacks files.now) (F.stores files.now) (F.refuses files.now)
+        F.File.left F.File.is_failed)
         (K.written out.old) (K.written out.new) (K.is_failed out.new)
         (N.written notes.old) (N.written notes.new) (N.is_failed notes.new) result
         (map string_bytes words.now) }

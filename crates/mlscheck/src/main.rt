@@ -6,7 +6,9 @@ ghost use Rattle.std.specs.Prelude.{◌≡◌, false};
 
 use mls_cli::{Files, OrderFault, Progress, run_fault, run_program};
 use mls_wire::{Sink, StdSink, StdSource};
-use std::io::{IsTerminal, Read, Stdin};
+use std::alloc::Global;
+use std::fs::OpenFile;
+use std::io::{IsTerminal, Read, Stdin, Write};
 use std::process::ExitCode;
 use std::{env, fs, io};
 
@@ -28,10 +30,42 @@ impl<F: Read + Drop> Read for Input<F> {
     }
 }
 
-/// The files that std opens, and standard input, whose name is `-`.
+/// Writes a file with this name and these bytes, and waits until the device has them.
+fn write_new<R: fs::Files>(rt: &R, name: &str, bytes: &[u8]) -> io::Result<()> {
+    let mut file = fs::create(rt, name)?;
+    file.write_all(bytes)?;
+    file.sync_all()
+}
+
+/// Returns the folder of a file with this name.
+fn folder_of(name: &str) -> &str {
+    match name.rsplit_once('/') {
+        Some(("", _)) => "/",
+        Some((folder, _)) => folder,
+        None => ".",
+    }
+}
+
+/// Waits until the device has the names of a folder.
+fn sync_folder<R: fs::Files>(rt: &R, folder: &str) -> io::Result<()> {
+    fs::open(rt, folder)?.sync_all()
+}
+
+/// Writes a file under the name `beside`, and then renames it to `name`. If that fails, no file `beside` is left.
+fn replace<R: fs::Files>(rt: &R, name: &str, beside: &str, bytes: &[u8]) -> io::Result<()> {
+    let written = write_new(rt, beside, bytes);
+    let replaced = written.and_then(|()| fs::rename(rt, beside, name));
+    if replaced.is_err() {
+        let _ = fs::remove_file(rt, beside);
+    }
+    replaced
+}
+
+/// The files that std opens and stores, and standard input, whose name is `-`.
 #[derive(Drop)]
 struct StdFiles<'a, R> {
     rt: &'a R,
+    alloc: Global,
     stdin: Stdin,
 }
 
@@ -42,6 +76,10 @@ impl<R: fs::Files> Files for StdFiles<'_, R> {
 
     ghost lacks = { λ _ _. Unit {0} };
 
+    ghost stores = { λ _ _ _. Unit {0} };
+
+    ghost refuses = { λ _ _ _. Unit {0} };
+
     fn open(&self, name: &str) -> Option<StdSource<Input<R::File>>> {
         if name == "-" {
             return Some(StdSource::new(Input::Stdin(self.stdin)));
@@ -49,6 +87,23 @@ impl<R: fs::Files> Files for StdFiles<'_, R> {
         match fs::open(self.rt, name) {
             Ok(file) => Some(StdSource::new(Input::File(file))),
             Err(_) => None,
+        }
+    }
+
+    /// Stores a file in place of one that has the name. The bytes are written to a file whose name ends in `.new`, and
+    /// the device has them before this file is renamed. So at any time the name has the old file or the new one, whole,
+    /// also if the disk is full or the machine stops.
+    ///
+    /// If the folder's names can't be written to the device, the new file is in place, and `false` says that the old one
+    /// may come back if the machine stops. Two processes must not store the same name at once. A name that is a symbolic
+    /// link becomes a file. The new file has the owner and the permissions of any file that the process creates.
+    fn save(&self, name: &str, bytes: &[u8]) -> bool {
+        let Ok(beside) = format!(in self.alloc; "{name}.new") else {
+            return false;
+        };
+        match replace(self.rt, name, beside.as_str(), bytes) {
+            Ok(()) => sync_folder(self.rt, folder_of(name)).is_ok(),
+            Err(_) => false,
         }
     }
 }
@@ -83,6 +138,7 @@ fn run<K: Sink>(rt: &HostRuntime, words: &[String], out: &mut K) -> u8
 {
     let files = StdFiles {
         rt,
+        alloc: rt.alloc(),
         stdin: rt.stdin(),
     };
     let mut notes = StdSink::new(rt.stderr());

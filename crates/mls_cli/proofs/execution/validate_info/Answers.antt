@@ -1,5 +1,5 @@
 use Rattle.std.proofs.Common.{inr, rules}
-use Rattle.mls_cli.proofs.execution.validate.Goals as goal
+use Rattle.mls_cli.proofs.execution.validate_info.Goals as goal
 
 pub returns-clause-carried : goal.returns-clause-carried
 returns-clause-carried g c =

@@ -1,0 +1,16 @@
+use Rattle.std.proofs.Common.{inr, rules}
+use Rattle.mls_cli.proofs.execution.gate_stored.Goals as goal
+
+pub returns-clause-carried : goal.returns-clause-carried
+returns-clause-carried g c =
+    inr (inr (record {
+      state_opened = c.in-Some.input;
+      state_ended = c.run_gate_state.new.state;
+      records_opened = c.in-Some-open.records;
+      records_ended = c.run_gate_state.new.records;
+      state_given = search rules;
+      records_given = search rules;
+      told = c.run_gate_state.ensures.told;
+      part = c.run_gate_state.ensures.part;
+      failed = c.run_gate_state.ensures.read;
+    }))

@@ -1,0 +1,3 @@
+module mlscheck
+
+go 1.21

@@ -1,0 +1,257 @@
+// Package mlscheck follows MLS groups (RFC 9420) from outside, by the proved library libmls_check, which tools/library makes.
+//
+// A service starts a Follower from a GroupInfo. For each message it calls Query, verifies the signatures that are listed, calls
+// Learn with the receipts of the good ones, and then Judge.
+//
+// What is proved is the library behind the border. This package meets the conditions of include/mls_check.h if a Follower is
+// used by one goroutine at a time.
+package mlscheck
+
+/*
+#cgo CFLAGS: -I${SRCDIR}/../../include
+#cgo LDFLAGS: -L${SRCDIR}/../../build -l:libmls_check.a
+#include "mls_check.h"
+*/
+import "C"
+
+import (
+	"encoding/binary"
+	"errors"
+	"fmt"
+	"unsafe"
+)
+
+// A Signature has to be verified: whether it is good for Content under the public key Key in the cipher suite Suite (5.1.2).
+type Signature struct {
+	Receipt                 [32]byte
+	Suite                   uint16
+	Key, Content, Signature []byte
+}
+
+// Refused says why a call on a group's inputs has no result.
+type Refused struct {
+	Number, Inner uint32
+	Place         uint64
+}
+
+func (r Refused) Error() string { return fmt.Sprintf("refused %d %d %d", r.Number, r.Inner, r.Place) }
+
+// Accepted says what an accepted message is: a proposal with its reference (5.2), or a commit with the epoch that it begins.
+type Accepted struct {
+	Reference []byte
+	Epoch     uint64
+}
+
+// Refusal says why a message is refused. Inner and Leaf are those of 25, otherwise 0.
+type Refusal struct {
+	Number, Inner, Leaf uint32
+}
+
+func (r Refusal) Error() string { return fmt.Sprintf("refused %d %s", r.Number, r.Name()) }
+
+// Name returns the name of the rule, as mlscheck prints it.
+func (r Refusal) Name() string { return C.GoString(C.mls_refusal_name(C.uint32_t(r.Number))) }
+
+// Fault says that the library could not do what it was to do, as when memory runs out.
+type Fault uint32
+
+func (f Fault) Error() string { return fmt.Sprintf("fault %d", uint32(f)) }
+
+var noBytes [1]byte
+
+// at returns a pointer that is not nil, also if there are no bytes.
+func at(data []byte) *C.uint8_t {
+	if len(data) == 0 {
+		return (*C.uint8_t)(unsafe.Pointer(&noBytes[0]))
+	}
+	return (*C.uint8_t)(unsafe.Pointer(&data[0]))
+}
+
+func size(data []byte) C.size_t { return C.size_t(len(data)) }
+
+func joined(receipts [][32]byte) []byte {
+	all := make([]byte, 0, 32*len(receipts))
+	for _, receipt := range receipts {
+		all = append(all, receipt[:]...)
+	}
+	return all
+}
+
+// filled returns what call writes into a buffer. It is called again with a longer one if the first is too small.
+func filled(call func(buffer []byte, needed *C.size_t) uint32) ([]byte, error) {
+	buffer := make([]byte, 256)
+	for {
+		var needed C.size_t
+		switch number := call(buffer, &needed); number {
+		case 0:
+			return buffer[:needed], nil
+		case C.MLS_BUFFER_TOO_SMALL:
+			buffer = make([]byte, needed)
+		default:
+			return nil, Fault(number)
+		}
+	}
+}
+
+func refused(verdict C.mls_verdict) error {
+	if verdict.number == 0 {
+		return nil
+	}
+	return Refused{uint32(verdict.number), uint32(verdict.inner), uint64(verdict.place)}
+}
+
+func filledOrRefused(call func(buffer []byte, needed *C.size_t) C.mls_verdict) ([]byte, error) {
+	var verdict C.mls_verdict
+	data, err := filled(func(buffer []byte, needed *C.size_t) uint32 {
+		verdict = call(buffer, needed)
+		return uint32(verdict.number)
+	})
+	if err != nil {
+		return nil, refused(verdict)
+	}
+	return data, nil
+}
+
+// TakeVector returns the body of the vector (2.1.2) at the front, and what follows it.
+func TakeVector(data []byte) (body, rest []byte) {
+	size := 1 << (data[0] >> 6)
+	count := int(data[0] & 0x3f)
+	for _, b := range data[1:size] {
+		count = count<<8 | int(b)
+	}
+	return data[size : size+count], data[size+count:]
+}
+
+func signatures(records []byte) []Signature {
+	var list []Signature
+	for len(records) > 0 {
+		var body []byte
+		body, records = TakeVector(records)
+		wanted := Signature{Suite: binary.BigEndian.Uint16(body[32:34])}
+		copy(wanted.Receipt[:], body)
+		wanted.Key, body = TakeVector(body[34:])
+		wanted.Content, body = TakeVector(body)
+		wanted.Signature, _ = TakeVector(body)
+		list = append(list, wanted)
+	}
+	return list
+}
+
+// ValidateTree checks a ratchet tree against a GroupContext (7.3, 7.9.2, 12.4.3.1), and returns its tree hash.
+func ValidateTree(context, tree []byte, receipts [][32]byte) ([]byte, error) {
+	good := joined(receipts)
+	return filledOrRefused(func(hash []byte, needed *C.size_t) C.mls_verdict {
+		return C.mls_validate_tree(at(context), size(context), at(tree), size(tree), at(good), size(good), at(hash),
+			size(hash), needed)
+	})
+}
+
+// StartQuery returns the signatures of a start that have no receipt. A nil tree is the one in the GroupInfo.
+func StartQuery(info, tree []byte, receipts [][32]byte) ([]Signature, error) {
+	good := joined(receipts)
+	records, err := filledOrRefused(func(buffer []byte, needed *C.size_t) C.mls_verdict {
+		return C.mls_start_query(at(info), size(info), at(tree), size(tree), at(good), size(good), at(buffer),
+			size(buffer), needed)
+	})
+	return signatures(records), err
+}
+
+// A Follower follows a group by the handshakes of its members.
+type Follower struct {
+	handle C.mls_follower
+}
+
+func begun(f *Follower, verdict C.mls_verdict) (*Follower, error) {
+	if err := refused(verdict); err != nil {
+		return nil, err
+	}
+	return f, nil
+}
+
+// Start starts a follower from a GroupInfo (12.4.3) and a tree, by these receipts. Close frees it.
+func Start(info, tree []byte, receipts [][32]byte) (*Follower, error) {
+	f, good := new(Follower), joined(receipts)
+	return begun(f, C.mls_follower_start(at(info), size(info), at(tree), size(tree), at(good), size(good),
+		C.MLS_PROFILE_MEMBERS, &f.handle))
+}
+
+// Resume resumes a follower from a state, by these receipts. Close frees it.
+func Resume(state []byte, receipts [][32]byte) (*Follower, error) {
+	f, good := new(Follower), joined(receipts)
+	return begun(f, C.mls_follower_resume(at(state), size(state), at(good), size(good), C.MLS_PROFILE_MEMBERS, &f.handle))
+}
+
+// Close frees the follower.
+func (f *Follower) Close() { C.mls_follower_free(&f.handle) }
+
+// Epoch returns the epoch (8.1).
+func (f *Follower) Epoch() uint64 {
+	var epoch C.uint64_t
+	C.mls_follower_epoch(&f.handle, &epoch)
+	return uint64(epoch)
+}
+
+// Members returns the number of members.
+func (f *Follower) Members() uint32 {
+	var members C.uint32_t
+	C.mls_follower_members(&f.handle, &members)
+	return uint32(members)
+}
+
+// TreeHash returns the tree hash (7.8, 8.1).
+func (f *Follower) TreeHash() ([]byte, error) {
+	return filled(func(hash []byte, needed *C.size_t) uint32 {
+		return uint32(C.mls_follower_tree_hash(&f.handle, at(hash), size(hash), needed))
+	})
+}
+
+// ConfirmedHash returns the confirmed transcript hash (8.2).
+func (f *Follower) ConfirmedHash() ([]byte, error) {
+	return filled(func(hash []byte, needed *C.size_t) uint32 {
+		return uint32(C.mls_follower_confirmed_hash(&f.handle, at(hash), size(hash), needed))
+	})
+}
+
+// State returns the state as a file, from which Resume resumes.
+func (f *Follower) State() ([]byte, error) {
+	return filled(func(state []byte, needed *C.size_t) uint32 {
+		return uint32(C.mls_follower_state(&f.handle, at(state), size(state), needed))
+	})
+}
+
+// Query returns the signatures of a message that have no receipt yet. Bytes that are no message have none.
+func (f *Follower) Query(message []byte) ([]Signature, error) {
+	records, err := filled(func(buffer []byte, needed *C.size_t) uint32 {
+		return uint32(C.mls_follower_query(&f.handle, at(message), size(message), at(buffer), size(buffer), needed))
+	})
+	if errors.Is(err, Fault(C.MLS_REFUSED_MALFORMED)) {
+		return nil, nil
+	}
+	return signatures(records), err
+}
+
+// Learn learns that the signatures with these receipts are good.
+func (f *Follower) Learn(receipts [][32]byte) error {
+	good := joined(receipts)
+	if number := C.mls_follower_learn(&f.handle, at(good), size(good)); number != 0 {
+		return Fault(number)
+	}
+	return nil
+}
+
+// Judge processes a message (6), and accepts it if and only if it satisfies every rule. The error is a Refusal if it does not,
+// and nothing has changed then.
+func (f *Follower) Judge(message []byte) (Accepted, error) {
+	reference := make([]byte, C.MLS_REFERENCE_SIZE)
+	answer := C.mls_follower_judge(&f.handle, at(message), size(message), at(reference), size(reference))
+	switch {
+	case answer.number >= 100:
+		return Accepted{}, Fault(answer.number)
+	case answer.number != 0:
+		return Accepted{}, Refusal{uint32(answer.number), uint32(answer.inner), uint32(answer.leaf)}
+	case answer.kind == C.MLS_COMMIT:
+		return Accepted{Epoch: uint64(answer.epoch)}, nil
+	}
+	hash, err := f.TreeHash()
+	return Accepted{Reference: reference[:len(hash)]}, err
+}

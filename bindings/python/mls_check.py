@@ -1,0 +1,243 @@
+"""Follows MLS groups (RFC 9420) from outside, by the proved library libmls_check.
+
+A service starts a Follower from a GroupInfo. For each message it calls `query`, verifies the signatures that are listed, calls
+`learn` with the receipts of the good ones, and then `judge`. MLS_CHECK_LIB names libmls_check.so, which tools/library makes.
+
+What is proved is the library behind the border. This module meets the conditions of include/mls_check.h as long as a Follower is
+used by one thread at a time.
+"""
+
+import ctypes
+import os
+from collections import namedtuple
+
+RECEIPT_SIZE = 32
+REFERENCE_SIZE = 64
+BUFFER_TOO_SMALL = 101
+PROFILE_MEMBERS = 1
+MALFORMED = 1
+
+NAMES = (
+    "", "Malformed", "NotPublic", "WrongGroup", "WrongEpoch", "SenderNotMember", "NotHandshake", "BadSignature",
+    "KnownProposal", "AddInvalid", "UpdateInvalid", "RemoveInvalid", "LastEpoch", "UnknownReference", "UpdateByCommitter",
+    "RemovesCommitter", "SameLeafTwice", "PathMissing", "TooManyLeaves", "PathLength", "PathSource", "PathKeyUsed",
+    "CiphertextCount", "PathParentHash", "KeyRepeated", "Member", "TwoContextExtensions", "ContextExtensionsInvalid",
+)
+
+# A signature that has to be verified: whether it is good for `content` under `key` in the cipher suite `suite` (5.1.2).
+Signature = namedtuple("Signature", "receipt suite key content signature")
+
+# What an accepted message is: `reference` of a proposal or `epoch` that a commit begins; the other is None.
+Accepted = namedtuple("Accepted", "reference epoch")
+
+# Why a message is refused. `inner` and `leaf` are those of 25, otherwise 0.
+Refusal = namedtuple("Refusal", "number name inner leaf")
+
+
+class Refused(Exception):
+    """Why a call on a group's inputs has no result: number, inner and place."""
+
+    def __init__(self, number, inner, place):
+        super().__init__(f"{number} {inner} {place}")
+        self.number, self.inner, self.place = number, inner, place
+
+
+class Fault(Exception):
+    """The library could not do what it was to do, as when memory runs out."""
+
+
+class _Handle(ctypes.Structure):
+    _fields_ = [("at", ctypes.c_void_p)]
+
+
+class _Verdict(ctypes.Structure):
+    _fields_ = [("number", ctypes.c_uint32), ("inner", ctypes.c_uint32), ("place", ctypes.c_uint64)]
+
+
+class _Judgement(ctypes.Structure):
+    _fields_ = [
+        ("number", ctypes.c_uint32),
+        ("kind", ctypes.c_uint32),
+        ("inner", ctypes.c_uint32),
+        ("leaf", ctypes.c_uint32),
+        ("epoch", ctypes.c_uint64),
+    ]
+
+
+def _load():
+    here = os.path.dirname(os.path.abspath(__file__))
+    library = ctypes.CDLL(os.environ.get("MLS_CHECK_LIB", os.path.join(here, "../../build/libmls_check.so")))
+    sized = [ctypes.c_char_p, ctypes.c_size_t]
+    handle, size = ctypes.POINTER(_Handle), ctypes.POINTER(ctypes.c_size_t)
+    number = ctypes.c_uint32
+    for name, result, words in (
+        ("mls_validate_tree", _Verdict, sized * 4 + [size]),
+        ("mls_start_query", _Verdict, sized * 4 + [size]),
+        ("mls_follower_start", _Verdict, sized * 3 + [number, handle]),
+        ("mls_follower_resume", _Verdict, sized * 2 + [number, handle]),
+        ("mls_follower_free", None, [handle]),
+        ("mls_follower_epoch", number, [handle, ctypes.POINTER(ctypes.c_uint64)]),
+        ("mls_follower_members", number, [handle, ctypes.POINTER(ctypes.c_uint32)]),
+        ("mls_follower_tree_hash", number, [handle] + sized + [size]),
+        ("mls_follower_confirmed_hash", number, [handle] + sized + [size]),
+        ("mls_follower_query", number, [handle] + sized * 2 + [size]),
+        ("mls_follower_learn", number, [handle] + sized),
+        ("mls_follower_judge", _Judgement, [handle] + sized * 2),
+        ("mls_follower_state", number, [handle] + sized + [size]),
+    ):
+        call = getattr(library, name)
+        call.restype, call.argtypes = result, words
+    return library
+
+
+_library = _load()
+
+
+def _filled(call):
+    """What `call` writes into a buffer. It is called again with a longer one if the first is too small."""
+    length, needed = 256, ctypes.c_size_t()
+    while True:
+        buffer = ctypes.create_string_buffer(length)
+        number = call(buffer, length, ctypes.byref(needed))
+        if number == 0:
+            return buffer.raw[: needed.value]
+        if number != BUFFER_TOO_SMALL:
+            raise Fault(number)
+        length = needed.value
+
+
+def _filled_or_refused(call, *words):
+    def by(*buffer):
+        verdict = call(*words, *buffer)
+        if verdict.number not in (0, BUFFER_TOO_SMALL):
+            raise Refused(verdict.number, verdict.inner, verdict.place)
+        return verdict.number
+
+    return _filled(by)
+
+
+def take_vector(data):
+    """The body of the vector (RFC 9420, 2.1.2) at the front, and what follows it."""
+    size = 1 << (data[0] >> 6)
+    count = int.from_bytes(data[:size], "big") & ((1 << (8 * size - 2)) - 1)
+    return data[size : size + count], data[size + count :]
+
+
+def vectors(data):
+    """The bodies of vectors, one after the other."""
+    while data:
+        body, data = take_vector(data)
+        yield body
+
+
+def _signatures(records):
+    return [Signature(r[:32], int.from_bytes(r[32:34], "big"), *vectors(r[34:])) for r in vectors(records)]
+
+
+def validate_tree(context, tree, receipts=()):
+    """Checks a ratchet tree against a GroupContext (7.3, 7.9.2, 12.4.3.1). Returns its tree hash, or raises Refused."""
+    good = b"".join(receipts)
+    words = (context, len(context), tree, len(tree), good, len(good))
+    return _filled_or_refused(_library.mls_validate_tree, *words)
+
+
+def start_query(info, tree=b"", receipts=()):
+    """The signatures of a start that have no receipt. Raises Refused if no follower starts though each were good."""
+    good = b"".join(receipts)
+    return _signatures(_filled_or_refused(_library.mls_start_query, info, len(info), tree, len(tree), good, len(good)))
+
+
+class Follower:
+    """A follower of a group, by the handshakes of its members."""
+
+    def __init__(self, info, tree=b"", receipts=()):
+        """Starts from a GroupInfo (12.4.3), by these receipts. Raises Refused."""
+        good = b"".join(receipts)
+        self._begin(_library.mls_follower_start, info, len(info), tree, len(tree), good, len(good))
+
+    @classmethod
+    def resume(cls, state, receipts=()):
+        """Resumes from a state, by these receipts. Raises Refused."""
+        follower, good = cls.__new__(cls), b"".join(receipts)
+        follower._begin(_library.mls_follower_resume, state, len(state), good, len(good))
+        return follower
+
+    def _begin(self, call, *words):
+        self._handle = _Handle()
+        verdict = call(*words, PROFILE_MEMBERS, ctypes.byref(self._handle))
+        if verdict.number:
+            raise Refused(verdict.number, verdict.inner, verdict.place)
+
+    def close(self):
+        """Frees the follower."""
+        _library.mls_follower_free(ctypes.byref(self._handle))
+
+    def __enter__(self):
+        return self
+
+    def __exit__(self, *_):
+        self.close()
+
+    def __del__(self):
+        if hasattr(self, "_handle"):
+            self.close()
+
+    def _number(self, call, kind):
+        value = kind()
+        number = call(ctypes.byref(self._handle), ctypes.byref(value))
+        if number:
+            raise Fault(number)
+        return value.value
+
+    def _bytes(self, call, *words):
+        return _filled(lambda *buffer: call(ctypes.byref(self._handle), *words, *buffer))
+
+    @property
+    def epoch(self):
+        return self._number(_library.mls_follower_epoch, ctypes.c_uint64)
+
+    @property
+    def members(self):
+        return self._number(_library.mls_follower_members, ctypes.c_uint32)
+
+    @property
+    def tree_hash(self):
+        return self._bytes(_library.mls_follower_tree_hash)
+
+    @property
+    def confirmed_hash(self):
+        return self._bytes(_library.mls_follower_confirmed_hash)
+
+    @property
+    def state(self):
+        """The state as a file, from which `resume` resumes."""
+        return self._bytes(_library.mls_follower_state)
+
+    def query(self, message):
+        """The signatures of a message that have no receipt yet. Bytes that are no message have none."""
+        try:
+            return _signatures(self._bytes(_library.mls_follower_query, message, len(message)))
+        except Fault as fault:
+            if fault.args == (MALFORMED,):
+                return []
+            raise
+
+    def learn(self, receipts):
+        """Learns that the signatures with these receipts are good."""
+        good = b"".join(receipts)
+        number = _library.mls_follower_learn(ctypes.byref(self._handle), good, len(good))
+        if number:
+            raise Fault(number)
+
+    def judge(self, message):
+        """Processes a message (6): Accepted if it satisfies every rule, otherwise Refusal, and nothing has changed."""
+        buffer = ctypes.create_string_buffer(REFERENCE_SIZE)
+        handle = ctypes.byref(self._handle)
+        answer = _library.mls_follower_judge(handle, message, len(message), buffer, REFERENCE_SIZE)
+        if answer.number >= 100:
+            raise Fault(answer.number)
+        if answer.number:
+            return Refusal(answer.number, NAMES[answer.number], answer.inner, answer.leaf)
+        if answer.kind == 1:
+            return Accepted(buffer.raw[: len(self.tree_hash)], None)
+        return Accepted(None, answer.epoch)

@@ -1,0 +1,340 @@
+//! Follows MLS groups (RFC 9420) from outside, by the proved library `libmls_check`.
+//!
+//! A service starts a [`Follower`] from a GroupInfo. For each message it calls [`Follower::query`], verifies the signatures
+//! that are listed, calls [`Follower::learn`] with the receipts of the good ones, and then [`Follower::judge`].
+//!
+//! What is proved is the library behind the border. This crate meets the conditions of `include/mls_check.h` by Rust's types:
+//! a slice is never null, a `&mut` overlaps nothing else, and a `Follower` owns its handle and is neither copied nor shared.
+
+/// The receipt of a signature: a digest of the suite, the key, the content and the signature.
+pub type Receipt = [u8; 32];
+
+/// A signature that has to be verified: whether it is good for `content` under the public key `key` in the cipher suite
+/// `suite` (RFC 9420, 5.1.2).
+#[derive(Clone, Debug, PartialEq, Eq)]
+pub struct Signature {
+    pub receipt: Receipt,
+    pub suite: u16,
+    pub key: Vec<u8>,
+    pub content: Vec<u8>,
+    pub signature: Vec<u8>,
+}
+
+/// Why a call on a group's inputs has no result: the numbers of `mls_verdict`.
+#[derive(Clone, Copy, Debug, PartialEq, Eq)]
+pub struct Refused {
+    pub number: u32,
+    pub inner: u32,
+    pub place: u64,
+}
+
+/// What an accepted message is.
+#[derive(Clone, Debug, PartialEq, Eq)]
+pub enum Accepted {
+    /// A proposal, with its reference (RFC 9420, 5.2).
+    Proposal(Vec<u8>),
+    /// A commit, with the epoch that it begins.
+    Commit(u64),
+}
+
+/// Why a message is refused: the rule, and for 25 the number and the leaf index of the fault of the leaf node.
+#[derive(Clone, Copy, Debug, PartialEq, Eq)]
+pub struct Refusal {
+    pub number: u32,
+    pub inner: u32,
+    pub leaf: u32,
+}
+
+impl Refusal {
+    /// Returns the name of the rule, as `mlscheck` prints it.
+    pub fn name(&self) -> &'static str {
+        const NAMES: [&str; 28] = [
+            "", "Malformed", "NotPublic", "WrongGroup", "WrongEpoch", "SenderNotMember", "NotHandshake",
+            "BadSignature", "KnownProposal", "AddInvalid", "UpdateInvalid", "RemoveInvalid", "LastEpoch",
+            "UnknownReference", "UpdateByCommitter", "RemovesCommitter", "SameLeafTwice", "PathMissing",
+            "TooManyLeaves", "PathLength", "PathSource", "PathKeyUsed", "CiphertextCount", "PathParentHash",
+            "KeyRepeated", "Member", "TwoContextExtensions", "ContextExtensionsInvalid",
+        ];
+        NAMES.get(self.number as usize).unwrap_or(&"")
+    }
+}
+
+/// Memory ran out, or the state has no file. The follower is unchanged, but may have learnt some of the receipts.
+#[derive(Clone, Copy, Debug, PartialEq, Eq)]
+pub struct Fault {
+    pub number: u32,
+}
+
+mod sys {
+    #[repr(C)]
+    pub struct Handle {
+        pub at: *mut u8,
+    }
+
+    #[repr(C)]
+    pub struct Verdict {
+        pub number: u32,
+        pub inner: u32,
+        pub place: u64,
+    }
+
+    #[repr(C)]
+    pub struct Judgement {
+        pub number: u32,
+        pub kind: u32,
+        pub inner: u32,
+        pub leaf: u32,
+        pub epoch: u64,
+    }
+
+    extern "C" {
+        pub fn mls_validate_tree(
+            context: *const u8, context_len: usize, tree: *const u8, tree_len: usize, receipts: *const u8,
+            receipts_len: usize, hash: *mut u8, hash_len: usize, needed: *mut usize,
+        ) -> Verdict;
+        pub fn mls_start_query(
+            info: *const u8, info_len: usize, tree: *const u8, tree_len: usize, receipts: *const u8,
+            receipts_len: usize, records: *mut u8, records_len: usize, needed: *mut usize,
+        ) -> Verdict;
+        pub fn mls_follower_start(
+            info: *const u8, info_len: usize, tree: *const u8, tree_len: usize, receipts: *const u8,
+            receipts_len: usize, profile: u32, follower: *mut Handle,
+        ) -> Verdict;
+        pub fn mls_follower_resume(
+            state: *const u8, state_len: usize, receipts: *const u8, receipts_len: usize, profile: u32,
+            follower: *mut Handle,
+        ) -> Verdict;
+        pub fn mls_follower_free(follower: *mut Handle);
+        pub fn mls_follower_epoch(follower: *mut Handle, epoch: *mut u64) -> u32;
+        pub fn mls_follower_members(follower: *mut Handle, members: *mut u32) -> u32;
+        pub fn mls_follower_tree_hash(follower: *mut Handle, hash: *mut u8, len: usize, needed: *mut usize) -> u32;
+        pub fn mls_follower_confirmed_hash(follower: *mut Handle, hash: *mut u8, len: usize, needed: *mut usize) -> u32;
+        pub fn mls_follower_query(
+            follower: *mut Handle, message: *const u8, message_len: usize, records: *mut u8, records_len: usize,
+            needed: *mut usize,
+        ) -> u32;
+        pub fn mls_follower_learn(follower: *mut Handle, receipts: *const u8, receipts_len: usize) -> u32;
+        pub fn mls_follower_judge(
+            follower: *mut Handle, message: *const u8, message_len: usize, reference: *mut u8, reference_len: usize,
+        ) -> Judgement;
+        pub fn mls_follower_state(follower: *mut Handle, state: *mut u8, state_len: usize, needed: *mut usize) -> u32;
+    }
+}
+
+const BUFFER_TOO_SMALL: u32 = 101;
+const PROFILE_MEMBERS: u32 = 1;
+
+/// Calls `call` with a buffer, and again with a longer one if it is too small.
+fn filled(mut call: impl FnMut(&mut [u8], &mut usize) -> u32) -> Result<Vec<u8>, u32> {
+    let mut buffer = vec![0; 256];
+    loop {
+        let mut needed = 0;
+        match call(&mut buffer, &mut needed) {
+            0 => {
+                buffer.truncate(needed);
+                return Ok(buffer);
+            }
+            BUFFER_TOO_SMALL => buffer.resize(needed, 0),
+            number => return Err(number),
+        }
+    }
+}
+
+fn checked(verdict: sys::Verdict) -> Result<(), Refused> {
+    match verdict {
+        sys::Verdict { number: 0, .. } => Ok(()),
+        sys::Verdict { number, inner, place } => Err(Refused { number, inner, place }),
+    }
+}
+
+fn filled_or_refused(mut call: impl FnMut(&mut [u8], &mut usize) -> sys::Verdict) -> Result<Vec<u8>, Refused> {
+    let mut refused = Refused { number: 0, inner: 0, place: 0 };
+    let result = filled(|buffer, needed| {
+        let verdict = call(buffer, needed);
+        refused = Refused { number: verdict.number, inner: verdict.inner, place: verdict.place };
+        verdict.number
+    });
+    result.map_err(|_| refused)
+}
+
+/// Takes a vector (RFC 9420, 2.1.2) from the front of `rest`.
+fn take_vector<'a>(rest: &mut &'a [u8]) -> &'a [u8] {
+    let size = 1 << (rest[0] >> 6);
+    let len = rest[1..size].iter().fold(usize::from(rest[0] & 0x3f), |len, byte| len << 8 | usize::from(*byte));
+    let body = &rest[size..size + len];
+    *rest = &rest[size + len..];
+    body
+}
+
+fn signatures_in(records: &[u8]) -> Vec<Signature> {
+    let mut rest = records;
+    let mut list = Vec::new();
+    while !rest.is_empty() {
+        let mut body = take_vector(&mut rest);
+        let (receipt, after) = body.split_at(32);
+        let suite = u16::from_be_bytes([after[0], after[1]]);
+        body = &after[2..];
+        list.push(Signature {
+            receipt: receipt.try_into().unwrap(),
+            suite,
+            key: take_vector(&mut body).to_vec(),
+            content: take_vector(&mut body).to_vec(),
+            signature: take_vector(&mut body).to_vec(),
+        });
+    }
+    list
+}
+
+/// Checks that a ratchet tree belongs to a GroupContext and is valid, and that its leaf nodes are valid (RFC 9420, 7.3, 7.9.2
+/// and 12.4.3.1), by these receipts. Returns its tree hash.
+pub fn validate_tree(context: &[u8], tree: &[u8], receipts: &[Receipt]) -> Result<Vec<u8>, Refused> {
+    let receipts = receipts.concat();
+    filled_or_refused(|hash, needed| unsafe {
+        sys::mls_validate_tree(
+            context.as_ptr(), context.len(), tree.as_ptr(), tree.len(), receipts.as_ptr(), receipts.len(),
+            hash.as_mut_ptr(), hash.len(), needed,
+        )
+    })
+}
+
+/// Returns the signatures of a start that have no receipt. With no tree, the tree is the one in the GroupInfo.
+pub fn start_query(info: &[u8], tree: Option<&[u8]>, receipts: &[Receipt]) -> Result<Vec<Signature>, Refused> {
+    let tree = tree.unwrap_or(&[]);
+    let receipts = receipts.concat();
+    let records = filled_or_refused(|records, needed| unsafe {
+        sys::mls_start_query(
+            info.as_ptr(), info.len(), tree.as_ptr(), tree.len(), receipts.as_ptr(), receipts.len(),
+            records.as_mut_ptr(), records.len(), needed,
+        )
+    })?;
+    Ok(signatures_in(&records))
+}
+
+/// A follower of a group, by the handshakes of its members.
+pub struct Follower {
+    handle: sys::Handle,
+}
+
+// Proved of the handle: `FollowerHandle` of the crate `mls_c` is `Send`.
+unsafe impl Send for Follower {}
+
+impl Follower {
+    fn new() -> Follower {
+        Follower { handle: sys::Handle { at: std::ptr::null_mut() } }
+    }
+
+    /// Starts a follower from a GroupInfo (RFC 9420, 12.4.3) and a tree, by these receipts. With no tree, the tree is the one
+    /// in the GroupInfo.
+    pub fn start(info: &[u8], tree: Option<&[u8]>, receipts: &[Receipt]) -> Result<Follower, Refused> {
+        let mut follower = Follower::new();
+        let tree = tree.unwrap_or(&[]);
+        let receipts = receipts.concat();
+        checked(unsafe {
+            sys::mls_follower_start(
+                info.as_ptr(), info.len(), tree.as_ptr(), tree.len(), receipts.as_ptr(), receipts.len(),
+                PROFILE_MEMBERS, &mut follower.handle,
+            )
+        })?;
+        Ok(follower)
+    }
+
+    /// Resumes a follower from a state ([`Follower::state`]), by these receipts.
+    pub fn resume(state: &[u8], receipts: &[Receipt]) -> Result<Follower, Refused> {
+        let mut follower = Follower::new();
+        let receipts = receipts.concat();
+        checked(unsafe {
+            sys::mls_follower_resume(
+                state.as_ptr(), state.len(), receipts.as_ptr(), receipts.len(), PROFILE_MEMBERS,
+                &mut follower.handle,
+            )
+        })?;
+        Ok(follower)
+    }
+
+    /// Returns the epoch (RFC 9420, 8.1).
+    pub fn epoch(&mut self) -> u64 {
+        let mut epoch = 0;
+        unsafe { sys::mls_follower_epoch(&mut self.handle, &mut epoch) };
+        epoch
+    }
+
+    /// Returns the number of members.
+    pub fn members(&mut self) -> u32 {
+        let mut members = 0;
+        unsafe { sys::mls_follower_members(&mut self.handle, &mut members) };
+        members
+    }
+
+    /// Returns the tree hash (RFC 9420, 7.8, 8.1).
+    pub fn tree_hash(&mut self) -> Vec<u8> {
+        let handle = &mut self.handle;
+        filled(|hash, needed| unsafe { sys::mls_follower_tree_hash(handle, hash.as_mut_ptr(), hash.len(), needed) })
+            .unwrap()
+    }
+
+    /// Returns the confirmed transcript hash (RFC 9420, 8.2).
+    pub fn confirmed_hash(&mut self) -> Vec<u8> {
+        let handle = &mut self.handle;
+        filled(|hash, needed| unsafe {
+            sys::mls_follower_confirmed_hash(handle, hash.as_mut_ptr(), hash.len(), needed)
+        })
+        .unwrap()
+    }
+
+    /// Returns the signatures of a message that have no receipt yet. Bytes that are no message have none.
+    pub fn query(&mut self, message: &[u8]) -> Result<Vec<Signature>, Fault> {
+        let handle = &mut self.handle;
+        let records = filled(|records, needed| unsafe {
+            sys::mls_follower_query(
+                handle, message.as_ptr(), message.len(), records.as_mut_ptr(), records.len(), needed,
+            )
+        });
+        match records {
+            Ok(records) => Ok(signatures_in(&records)),
+            Err(1) => Ok(Vec::new()),
+            Err(number) => Err(Fault { number }),
+        }
+    }
+
+    /// Learns that the signatures with these receipts are good.
+    pub fn learn(&mut self, receipts: &[Receipt]) -> Result<(), Fault> {
+        let receipts = receipts.concat();
+        match unsafe { sys::mls_follower_learn(&mut self.handle, receipts.as_ptr(), receipts.len()) } {
+            0 => Ok(()),
+            number => Err(Fault { number }),
+        }
+    }
+
+    /// Processes a message (RFC 9420, 6), and accepts it if and only if it satisfies every rule. A refused message changes
+    /// nothing.
+    pub fn judge(&mut self, message: &[u8]) -> Result<Result<Accepted, Refusal>, Fault> {
+        let mut reference = [0; 64];
+        let judgement = unsafe {
+            sys::mls_follower_judge(
+                &mut self.handle, message.as_ptr(), message.len(), reference.as_mut_ptr(), reference.len(),
+            )
+        };
+        match judgement {
+            sys::Judgement { number: 0, kind: 1, .. } => {
+                let size = self.tree_hash().len();
+                Ok(Ok(Accepted::Proposal(reference[..size].to_vec())))
+            }
+            sys::Judgement { number: 0, epoch, .. } => Ok(Ok(Accepted::Commit(epoch))),
+            sys::Judgement { number, .. } if number >= 100 => Err(Fault { number }),
+            sys::Judgement { number, inner, leaf, .. } => Ok(Err(Refusal { number, inner, leaf })),
+        }
+    }
+
+    /// Returns the state as a file, from which [`Follower::resume`] resumes.
+    pub fn state(&mut self) -> Result<Vec<u8>, Fault> {
+        let handle = &mut self.handle;
+        filled(|state, needed| unsafe { sys::mls_follower_state(handle, state.as_mut_ptr(), state.len(), needed) })
+            .map_err(|number| Fault { number })
+    }
+}
+
+impl Drop for Follower {
+    fn drop(&mut self) {
+        unsafe { sys::mls_follower_free(&mut self.handle) }
+    }
+}

@@ -1,0 +1,6 @@
+mod HandleValues
+mod Moving
+mod Learning
+mod Starting
+mod Judging
+mod Verdicts

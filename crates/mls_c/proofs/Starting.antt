@@ -1,0 +1,61 @@
+-- Which records a start has, and why none starts.
+use Rattle.std.proofs.Common.{◌≡◌, ◌≢◌, ◌∙◌, ℕ, List, Option, Some, None, refl, sym, ap, subst}
+use Rattle.mls_tree.specs.RatchetTree.{RatchetTree}
+use Rattle.mls_check.specs.Signatures.{VerifyFn}
+use Rattle.mls_msgs.specs.declared.group_info.GroupInfo.{GroupInfo}
+use Rattle.mls_signatures.specs.SignaturesToVerify.{start_signatures}
+use Rattle.mls_follow.specs.CoveredLogs.{all_good}
+use Rattle.mls_follow.specs.Start.{UsesTree, UsesNoTree, IsStart}
+use Rattle.mls_follow.specs.State.{State}
+use Rattle.mls_report.specs.StartInputs.{IsReadAs}
+use Rattle.mls_report.specs.StartSteps.{Says, IsUnread}
+use Rattle.mls_report.specs.declared.finding.Finding.{Finding}
+use Rattle.mls_report.specs.declared.read_inputs.StartFailure.{StartFailure}
+use Rattle.mls_report.specs.declared.read_inputs.StartFailure.TheVariants.{Found, Fault}
+use Rattle.mls_report.proofs.StartsOnce.{one_tree}
+use Rattle.mls_c.specs.Queries.{query_records}
+use Rattle.mls_c.specs.Starts.{passed}
+use Rattle.mls_c.specs.StartSteps.{IsStartQuery, ListsStart, ListsFrom, FailsStart, Declines}
+
+-- the records by the tree in the GroupInfo
+pub records-own : (G : VerifyFn) (info : GroupInfo) (h : RatchetTree) (records : List ℕ) → UsesTree None info.extensions h
+    → records ≡ query_records G (start_signatures info h.tree) → IsStartQuery G info None records
+records-own G info h records own e t uses =
+    e ∙ ap (λ (v : RatchetTree). query_records G (start_signatures info v.tree)) (one_tree None info.extensions h t own uses)
+
+-- the records by the tree that is passed
+pub records-handed : (G : VerifyFn) (info : GroupInfo) (h : RatchetTree) (records : List ℕ)
+    → records ≡ query_records G (start_signatures info h.tree) → IsStartQuery G info (Some h) records
+records-handed G info h records e t uses = e ∙ ap (λ (v : RatchetTree). query_records G (start_signatures info v.tree)) (sym uses)
+
+-- a follower starts, so the tree that it uses is there
+pub records-start : (G : VerifyFn) (info : GroupInfo) (handed : Option RatchetTree) (s : State) (records : List ℕ) → IsStart all_good info handed s
+    → IsStartQuery G info handed records → ListsStart G info handed records
+records-start G info handed s records start lines = record {
+  state = s;
+  start = start;
+  records_are =
+      lines start.tree start.has_signer.has_members.valid_tree.readable.has_tree.uses
+      ∙ ap (λ (st : State). query_records G (start_signatures info st.tree)) (sym start.state);
+}
+
+module _ (info_bytes tree_bytes : List ℕ) (info : GroupInfo) (handed : Option RatchetTree) (is_read : IsReadAs info_bytes (passed tree_bytes) info handed) where
+  pub lists-from : (G : VerifyFn) (records : List ℕ) → ListsStart G info handed records → ListsFrom G info_bytes tree_bytes records
+  lists-from G records q = record {
+    wanted = start_signatures info q.state.tree;
+    can_start = record { info = info; handed = handed; is_read = is_read; state = q.state; has_signatures = record { start = q.start; wanted_is = refl } };
+    records_are = q.records_are;
+  }
+
+  declines : (G : VerifyFn) (finding : Finding) → FailsStart G info handed finding → Declines G info_bytes tree_bytes finding
+  declines G finding f =
+      subst (Declines G info_bytes tree_bytes) (sym f.finding_is) (record { found = (info, handed, is_read, f.own, f.fails); verdict = refl })
+
+  pub says-declines : (G : VerifyFn) (failure : StartFailure) → Says (FailsStart G info handed) failure → Says (Declines G info_bytes tree_bytes) failure
+  says-declines G (Found finding) f = declines G finding f
+  says-declines G (Fault e) f = f
+
+pub says-unread : (G : VerifyFn) (info_bytes tree_bytes : List ℕ) (failure : StartFailure) → Says (IsUnread info_bytes (passed tree_bytes)) failure
+    → Says (Declines G info_bytes tree_bytes) failure
+says-unread G info_bytes tree_bytes (Found finding) u = record { found = u.found G; verdict = u.verdict }
+says-unread G info_bytes tree_bytes (Fault e) u = u

@@ -1,0 +1,193 @@
+-- The numbers by which the calls for C name what came of a call: 0 for success, up to 99 those of the reports
+-- (docs/FORMATS.md), from 100 on their own. Used by contracts.
+use Rattle.std.specs.Prelude.{ℕ, Result, Ok, Err}
+use Rattle.mls_wire.specs.declared.fault.WireFault.{WireFault}
+use Rattle.mls_wire.specs.declared.fault.WireFaultKind.{WireFaultKind}
+use Rattle.mls_wire.specs.declared.fault.WireFaultKind.TheVariants as kinds
+use Rattle.mls_nodes.specs.declared.fault.NodeFault.{NodeFault}
+use Rattle.mls_nodes.specs.declared.fault.NodeFault.TheVariants as nodes
+use Rattle.mls_check.specs.declared.members.MemberFault.{MemberFault}
+use Rattle.mls_check.specs.declared.members.MemberFault.TheVariants as members
+use Rattle.mls_check.specs.declared.tree_validation.TreeFault.{TreeFault}
+use Rattle.mls_check.specs.declared.tree_validation.TreeFault.TheVariants as trees
+use Rattle.mls_follow.specs.RefusalNumbers.{number_of, start_number_of}
+use Rattle.mls_follow.specs.declared.refusal.Refusal.{Refusal}
+use Rattle.mls_follow.specs.declared.refusal.Refusal.TheVariants as refusals
+use Rattle.mls_follow.specs.declared.resume_fault.ResumeFault.{ResumeFault}
+use Rattle.mls_follow.specs.declared.resume_fault.ResumeFault.TheVariants as resumes
+use Rattle.mls_follow.specs.declared.start_fault.StartFault.{StartFault}
+use Rattle.mls_follow.specs.declared.start_fault.StartFault.TheVariants as starts
+use Rattle.mls_follow.specs.declared.taken.Taken.{Taken}
+use Rattle.mls_follow.specs.declared.taken.Taken.TheVariants.{Proposal, Commit}
+use Rattle.mls_report.specs.FaultText.{member_number}
+use Rattle.mls_report.specs.declared.finding.Finding.{Finding}
+use Rattle.mls_report.specs.declared.finding.Finding.TheVariants as findings
+use Rattle.mls_c.specs.declared.input_verdict.InputVerdict.{InputVerdict}
+use Rattle.mls_c.specs.declared.judgement.Judgement.{Judgement}
+
+-- ---- numbers of the calls' own
+
+-- an allocation failed
+abbrev pub out_of_memory : ℕ
+out_of_memory = 100
+
+-- the value is longer than the buffer
+abbrev pub buffer_too_small : ℕ
+buffer_too_small = 101
+
+-- the handle has no follower
+abbrev pub no_follower : ℕ
+no_follower = 102
+
+-- the profile is not one that is supported
+abbrev pub unsupported_profile : ℕ
+unsupported_profile = 103
+
+-- the receipts are not of 32 bytes each
+abbrev pub bad_receipts : ℕ
+bad_receipts = 104
+
+-- the value has no encoding within the limits
+abbrev pub too_long : ℕ
+too_long = 105
+
+-- the bytes of the GroupInfo are no message
+abbrev pub info_unreadable : ℕ
+info_unreadable = 106
+
+-- the message is no GroupInfo
+abbrev pub not_group_info : ℕ
+not_group_info = 107
+
+-- the bytes of the tree are no ratchet_tree
+abbrev pub tree_unreadable : ℕ
+tree_unreadable = 108
+
+-- the bytes of the context are no GroupContext
+abbrev pub context_unreadable : ℕ
+context_unreadable = 109
+
+-- the profile in which a group is followed by the handshakes of its members
+abbrev pub members_profile : ℕ
+members_profile = 1
+
+-- ---- verdicts
+
+-- `verdict number inner place` has these three numbers.
+abbrev pub verdict : ℕ → ℕ → ℕ → InputVerdict
+verdict number inner place = record { number = number; inner = inner; place = place }
+
+-- `plain_verdict number` is a verdict with this number alone.
+abbrev pub plain_verdict : ℕ → InputVerdict
+plain_verdict number = verdict number 0 0
+
+-- `wire_number kind` is the number of what is wrong with bytes that cannot be read.
+abbrev pub wire_number : WireFaultKind → ℕ
+wire_number kinds.Truncated = 1
+wire_number kinds.NotShortest = 2
+wire_number kinds.BadPrefix = 3
+wire_number kinds.BadOptional = 4
+wire_number (kinds.BadTag value) = 5
+wire_number kinds.OddLength = 6
+wire_number kinds.Trailing = 7
+wire_number kinds.TooLong = 8
+
+-- `unreadable_by number fault` is the verdict of bytes that cannot be read: what is wrong, and the offset.
+abbrev pub unreadable_by : ℕ → WireFault → InputVerdict
+unreadable_by number fault = verdict number (wire_number fault.kind) fault.at
+
+-- `node_verdict number fault` is the verdict of a ratchet tree that cannot be read: what is wrong, and the offset or the
+-- node index.
+abbrev pub node_verdict : ℕ → NodeFault → InputVerdict
+node_verdict number (nodes.Wire fault) = unreadable_by number fault
+node_verdict number (nodes.WrongNodeKind place) = verdict number 9 place
+node_verdict number nodes.LastBlank = verdict number 10 0
+node_verdict number nodes.EmptyTree = verdict number 11 0
+node_verdict number nodes.TooManyLeaves = verdict number 12 0
+node_verdict number nodes.OutOfMemory = plain_verdict out_of_memory
+
+-- `tree_verdict number fault` is the verdict of a tree that is not valid: what is wrong, and the node index.
+abbrev pub tree_verdict : ℕ → TreeFault → InputVerdict
+tree_verdict number trees.HashDiffers = verdict number 1 0
+tree_verdict number (trees.UnmergedUnsorted place) = verdict number 2 place
+tree_verdict number (trees.UnmergedUnsound place) = verdict number 3 place
+tree_verdict number (trees.KeyRepeated place) = verdict number 4 place
+tree_verdict number (trees.ParentHashInvalid place) = verdict number 5 place
+tree_verdict number trees.OutOfMemory = plain_verdict out_of_memory
+
+-- `leaf_of fault` is the leaf index of a fault of a leaf node.
+abbrev pub leaf_of : MemberFault → ℕ
+leaf_of (members.ExtensionUnlisted leaf) = leaf
+leaf_of (members.RequirementUnmet leaf) = leaf
+leaf_of (members.CredentialUnsupported leaf) = leaf
+leaf_of (members.SignatureKeyRepeated leaf) = leaf
+leaf_of (members.LeafSignature leaf) = leaf
+leaf_of members.OutOfMemory = 0
+
+-- `member_verdict number fault` is the verdict of a leaf node that is not valid: what is wrong, and the leaf index.
+abbrev pub member_verdict : ℕ → MemberFault → InputVerdict
+member_verdict number members.OutOfMemory = plain_verdict out_of_memory
+member_verdict number fault = verdict number (member_number fault) (leaf_of fault)
+
+-- `start_verdict fault` is the verdict of a start that is refused.
+abbrev pub start_verdict : StartFault → InputVerdict
+start_verdict starts.OutOfMemory = plain_verdict out_of_memory
+start_verdict (starts.Tree fault) = tree_verdict 5 fault
+start_verdict (starts.Member fault) = member_verdict 6 fault
+start_verdict fault = plain_verdict (start_number_of fault)
+
+-- `resume_verdict fault` is the verdict of a resumption that is refused: the number of the fault, from 1 on in the order of
+-- the conditions, and what is wrong.
+abbrev pub resume_verdict : ResumeFault → InputVerdict
+resume_verdict (resumes.Unreadable fault) = node_verdict 1 fault
+resume_verdict resumes.ChecksumDiffers = plain_verdict 2
+resume_verdict resumes.UnsupportedVersion = plain_verdict 3
+resume_verdict resumes.UnsupportedSuite = plain_verdict 4
+resume_verdict resumes.RequirementsUnreadable = plain_verdict 5
+resume_verdict (resumes.Tree fault) = tree_verdict 6 fault
+resume_verdict (resumes.Member fault) = member_verdict 7 fault
+resume_verdict resumes.InterimLength = plain_verdict 8
+resume_verdict (resumes.KnownInvalid n) = verdict 9 0 n
+resume_verdict resumes.OutOfMemory = plain_verdict out_of_memory
+
+-- `verdict_of finding` is the verdict of what is found of a group's inputs. The numbers of a GroupContext with its
+-- tree are those of a start.
+abbrev pub verdict_of : Finding → InputVerdict
+verdict_of (findings.ContextUnreadable fault) = unreadable_by context_unreadable fault
+verdict_of (findings.InfoUnreadable fault) = unreadable_by info_unreadable fault
+verdict_of findings.NotGroupInfo = plain_verdict not_group_info
+verdict_of (findings.TreeUnreadable fault) = node_verdict tree_unreadable fault
+verdict_of findings.UnsupportedVersion = plain_verdict 1
+verdict_of findings.UnsupportedSuite = plain_verdict 2
+verdict_of findings.RequirementsUnreadable = plain_verdict 4
+verdict_of (findings.TreeRefused fault) = tree_verdict 5 fault
+verdict_of (findings.MembersRefused fault) = member_verdict 6 fault
+verdict_of (findings.StartRefused fault) = start_verdict fault
+verdict_of (findings.StateRefused fault) = resume_verdict fault
+verdict_of (findings.TreeValid tree_hash) = plain_verdict 0
+verdict_of (findings.Starts started) = plain_verdict 0
+
+-- ---- judgements
+
+-- `not_judged number` is the answer to a message that was not processed.
+abbrev pub not_judged : ℕ → Judgement
+not_judged number = record { number = number; kind = 0; inner = 0; leaf = 0; epoch = 0 }
+
+-- `leaf_judgement fault` is the answer to a message that is refused for a leaf node: 25, the number of the fault, and the
+-- leaf index.
+abbrev pub leaf_judgement : MemberFault → Judgement
+leaf_judgement fault =
+    record { number = 25; kind = 0; inner = member_number fault; leaf = leaf_of fault; epoch = 0 }
+
+-- `refused_judgement e` is the answer to a message that is refused, by the number of the rule.
+abbrev pub refused_judgement : Refusal → Judgement
+refused_judgement refusals.OutOfMemory = not_judged out_of_memory
+refused_judgement (refusals.Member fault) = leaf_judgement fault
+refused_judgement e = not_judged (number_of e)
+
+-- `judgement_of answer` is the answer to a message that was processed: kind 1 for a proposal that is accepted, 2 for a
+-- commit, with the epoch that it begins.
+abbrev pub judgement_of : Result Taken Refusal → Judgement
+judgement_of (Ok (Proposal reference)) = record { number = 0; kind = 1; inner = 0; leaf = 0; epoch = 0 }
+judgement_of (Ok (Commit epoch)) = record { number = 0; kind = 2; inner = 0; leaf = 0; epoch = epoch }
+judgement_of (Err e) = refused_judgement e

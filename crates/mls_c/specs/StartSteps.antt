@@ -1,0 +1,54 @@
+-- What the steps of a start return. `G` is the verification function of the checker. Internal: no public contract uses
+-- this.
+use Rattle.std.specs.Prelude.{◌≡◌, ◌≢◌, ℕ, List, Option}
+use Rattle.mls_check.specs.Signatures.{VerifyFn}
+use Rattle.mls_msgs.specs.declared.group_info.GroupInfo.{GroupInfo}
+use Rattle.mls_tree.specs.RatchetTree.{RatchetTree}
+use Rattle.mls_signatures.specs.SignaturesToVerify.{start_signatures}
+use Rattle.mls_signatures.specs.declared.signature_to_verify.SignatureToVerify.{SignatureToVerify}
+use Rattle.mls_follow.specs.CoveredLogs.{all_good}
+use Rattle.mls_follow.specs.Start.{UsesTree, IsStart, IsStartFault}
+use Rattle.mls_follow.specs.State.{State}
+use Rattle.mls_follow.specs.declared.start_fault.StartFault.{StartFault}
+use Rattle.mls_follow.specs.declared.start_fault.StartFault.TheVariants as starts
+use Rattle.mls_report.specs.Finding.{finding_verdict}
+use Rattle.mls_report.specs.StartInputs.{IsStartFinding}
+use Rattle.mls_report.specs.declared.finding.Finding.{Finding}
+use Rattle.mls_report.specs.declared.finding.Finding.TheVariants.{StartRefused}
+use Rattle.mls_report.specs.declared.verdict.Verdict.TheVariants.{No}
+use Rattle.mls_c.specs.Queries.{query_records}
+use Rattle.mls_c.specs.Starts.{passed, CanStartFrom}
+
+-- `FailsStart G info handed finding`: no follower starts from a GroupInfo and a tree, and this is the finding.
+pub record FailsStart (G : VerifyFn) (info : GroupInfo) (handed : Option RatchetTree) (finding : Finding)
+    : Type 0 where
+  pub fault : StartFault
+  pub own : fault ≢ starts.OutOfMemory
+  pub fails : IsStartFault G info handed fault
+  pub finding_is : finding ≡ StartRefused fault
+
+-- `Declines G info_bytes tree_bytes finding`: no follower starts from these bytes, and this is the finding.
+pub record Declines (G : VerifyFn) (info_bytes tree_bytes : List ℕ) (finding : Finding) : Type 0 where
+  pub found : IsStartFinding G info_bytes (passed tree_bytes) finding
+  pub verdict : finding_verdict finding ≡ No
+
+-- `IsStartQuery G info handed records`: the records of the start, by the tree that it uses.
+abbrev pub IsStartQuery : VerifyFn → GroupInfo → Option RatchetTree → List ℕ → Type 0
+IsStartQuery G info handed records =
+    (t : RatchetTree) → UsesTree handed info.extensions t
+    → records ≡ query_records G (start_signatures info t.tree)
+
+-- `ListsStart G info handed records`: a follower can start from a GroupInfo and a tree, each signature being good, and these
+-- are the records of the start.
+pub record ListsStart (G : VerifyFn) (info : GroupInfo) (handed : Option RatchetTree) (records : List ℕ)
+    : Type 0 where
+  pub state : State
+  pub start : IsStart all_good info handed state
+  pub records_are : records ≡ query_records G (start_signatures info state.tree)
+
+-- `ListsFrom G info_bytes tree_bytes records`: a follower can start from these bytes, each signature being good, and these
+-- are the records of the start.
+pub record ListsFrom (G : VerifyFn) (info_bytes tree_bytes records : List ℕ) : Type 0 where
+  pub wanted : List SignatureToVerify
+  pub can_start : CanStartFrom info_bytes tree_bytes wanted
+  pub records_are : records ≡ query_records G wanted

@@ -1,0 +1,97 @@
+//! The calls of a follower.
+
+ghost use Rattle.std.specs.Prelude.{◌≡◌};
+ghost use Rattle.mls_c.specs.Followers.{state_in, meaning_in};
+ghost use Rattle.mls_c.specs.Messages as messages;
+ghost use Rattle.mls_c.specs.Messages.{Queries, Learns, Judges, Stores};
+
+use crate::buffer::{put, put_sized};
+use crate::group_follower::GroupFollower;
+use crate::input_verdict::{BAD_RECEIPTS, BUFFER_TOO_SMALL, OUT_OF_MEMORY, TOO_LONG};
+use crate::judgement::{Judgement, judgement_of, not_judged};
+use crate::query::query_records;
+use crate::receipts::{are_whole, learn_in};
+use mls_check::OutOfMemory;
+use mls_follow::{Refusal, SignatureListFault, Taken};
+use mls_wire::CodecFault;
+use std::alloc::{AllocError, Global};
+
+/// The size of a buffer for each reference of a proposal.
+const REFERENCE_SIZE: usize = 64;
+
+/// The number of a message that cannot be read.
+const MALFORMED: u32 = 1;
+
+/// Puts the reference of a proposal that was accepted into a buffer.
+fn put_reference(answer: &Result<Taken, Refusal>, reference: &mut [u8])
+    ensures { reference.new ≡ messages.put_reference answer.now reference.old }
+{
+    if let Ok(Taken::Proposal(hash)) = answer {
+        let _number = put(hash.as_slice(), reference);
+    }
+}
+
+impl GroupFollower {
+    /// Puts the records of the signatures of a message that are not known to be good into a buffer. Returns 0 or why not.
+    pub(crate) fn query(
+        &mut self,
+        alloc: Global,
+        message: &[u8],
+        buffer: &mut [u8],
+        needed: &mut usize,
+    ) -> u32
+        ensures queries { Queries self.old message.now buffer.old buffer.new needed.new result }
+        ensures state { state_in self.new ≡ state_in self.old }
+        ensures meaning { meaning_in self.new ≡ meaning_in self.old }
+    {
+        *needed = 0;
+        let wanted = match self.follower.wanted(message) {
+            Ok(wanted) => wanted,
+            Err(SignatureListFault::Malformed) => return MALFORMED,
+            Err(SignatureListFault::OutOfMemory) => return OUT_OF_MEMORY,
+        };
+        let records = query_records(alloc, wanted.as_slice(), self.follower.checker());
+        drop(wanted);
+        match records {
+            Ok(records) => put_sized(records.as_slice(), buffer, needed),
+            Err(AllocError) => OUT_OF_MEMORY,
+        }
+    }
+
+    /// Learns receipts. Returns 0 or why not.
+    pub(crate) fn learn(&mut self, receipts: &[u8]) -> u32
+        ensures { Learns self.old self.new receipts.now result }
+    {
+        if !are_whole(receipts) {
+            return BAD_RECEIPTS;
+        }
+        match learn_in(&mut self.follower, receipts) {
+            Ok(()) => 0,
+            Err(OutOfMemory) => OUT_OF_MEMORY,
+        }
+    }
+
+    /// Processes a message, and puts the reference of a proposal that is accepted into a buffer.
+    pub(crate) fn judge(&mut self, message: &[u8], reference: &mut [u8]) -> Judgement
+        ensures { Judges self.old self.new message.now reference.old reference.new result }
+    {
+        if reference.len() < REFERENCE_SIZE {
+            return not_judged(BUFFER_TOO_SMALL);
+        }
+        let answer = self.follower.take(message);
+        put_reference(&answer, reference);
+        judgement_of(&answer)
+    }
+
+    /// Puts the file of the state into a buffer. Returns 0 or why not.
+    pub(crate) fn store(&self, buffer: &mut [u8], needed: &mut usize) -> u32
+        ensures { Stores self.now buffer.old buffer.new needed.new result }
+    {
+        *needed = 0;
+        match self.follower.encode_state() {
+            Ok(bytes) => put_sized(bytes.as_slice(), buffer, needed),
+            Err(CodecFault::Wire(_)) => TOO_LONG,
+            Err(CodecFault::OutOfMemory) => OUT_OF_MEMORY,
+        }
+    }
+}

@@ -1,0 +1,26 @@
+//! The calls of these libraries for C, and so for any other language: a tree is validated, and a follower of a group is
+//! started, queried, taught and given messages. `include/mls_check.h` has their conditions.
+//!
+//! What crosses is numbers, bytes and handles. Each call does what one of a library below does, and its postconditions
+//! are those of that call.
+#![tactic(auto)]
+
+mod buffer;
+mod follower_calls;
+mod follower_exports;
+mod follower_handle;
+mod group_follower;
+mod input_exports;
+mod input_verdict;
+mod judgement;
+mod loose;
+mod query;
+mod receipts;
+mod start;
+mod start_query;
+mod tree_finding;
+
+pub use follower_handle::FollowerHandle;
+pub use group_follower::GroupFollower;
+pub use input_verdict::InputVerdict;
+pub use judgement::Judgement;

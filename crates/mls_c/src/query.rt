@@ -1,0 +1,113 @@
+//! The records of the signatures that have to be verified.
+
+ghost use Rattle.std.specs.Prelude.{◌≡◌, ◌++◌, IfOk, OnOk};
+ghost use Rattle.mls_wire.specs.Encoding.{vector};
+ghost use Rattle.mls_wire.specs.ReadContracts.{seen};
+ghost use Rattle.mls_wire.specs.WriteContracts.{Makes};
+ghost use Rattle.mls_check.specs.Receipts.{receipt_input};
+ghost use Rattle.mls_c.specs.Queries.{bytes_or_none, signature_record, record_unless, query_records};
+
+use mls_check::{SignatureCheck, receipt};
+use mls_signatures::SignatureToVerify;
+use mls_wire::{CodecFault, Draft, Writer};
+use std::alloc::{AllocError, Global};
+
+/// Returns the input of the receipt of a signature.
+#[tactic(auto, using(mls_wire::specs::WriteSequences::written), unfolding(mls_check::specs::Receipts::receipt_input))]
+fn input_of(alloc: Global, wanted: &SignatureToVerify) -> Result<Vec<u8>, CodecFault>
+    ensures { let input = receipt_input wanted.now.suite wanted.now.key wanted.now.content
+        wanted.now.signature in Makes input (seen (λ v. v.items) result) }
+{
+    let mut draft = Draft::new(alloc);
+    draft.put_u16(wanted.suite)?;
+    draft.put_vec(wanted.key.as_slice())?;
+    draft.put_vec(wanted.content.as_slice())?;
+    draft.put_vec(wanted.signature.as_slice())?;
+    Ok(draft.finish())
+}
+
+/// Appends a vector, if its body is not too long for one.
+fn push_vector(alloc: Global, body: &[u8], records: &mut Vec<u8>) -> Result<(), AllocError>
+    ensures { OnOk result
+        (records.new.items ≡ records.old.items ++ bytes_or_none (vector body.now)) }
+{
+    let mut writer = Writer::new(alloc);
+    match writer.write_vec(body) {
+        Ok(()) => records.extend_from_slice(writer.bytes()),
+        Err(CodecFault::Wire(_)) => Ok(()),
+        Err(CodecFault::OutOfMemory) => Err(AllocError),
+    }
+}
+
+/// Appends the record with a receipt and its input.
+fn push_receipt(
+    alloc: Global,
+    digest: &[u8; 32],
+    input: &[u8],
+    records: &mut Vec<u8>,
+) -> Result<(), AllocError>
+    ensures { OnOk result (records.new.items
+        ≡ records.old.items ++ bytes_or_none (vector (digest.now ++ input.now))) }
+{
+    let mut body = Vec::new(alloc);
+    body.extend_from_slice(digest)?;
+    body.extend_from_slice(input)?;
+    push_vector(alloc, body.as_slice(), records)
+}
+
+/// Appends the record of a signature.
+fn push_record(
+    alloc: Global,
+    wanted: &SignatureToVerify,
+    records: &mut Vec<u8>,
+) -> Result<(), AllocError>
+    ensures { OnOk result
+        (records.new.items ≡ records.old.items ++ signature_record wanted.now) }
+{
+    let input = match input_of(alloc, wanted) {
+        Ok(input) => input,
+        Err(CodecFault::Wire(_)) => return Ok(()),
+        Err(CodecFault::OutOfMemory) => return Err(AllocError),
+    };
+    let key = wanted.key.as_slice();
+    let content = wanted.content.as_slice();
+    let signature = wanted.signature.as_slice();
+    match receipt(wanted.suite, key, content, signature) {
+        Some(digest) => push_receipt(alloc, &digest, input.as_slice(), records),
+        None => Ok(()),
+    }
+}
+
+/// Appends the record of a signature, unless the checker accepts it.
+fn push_record_unless<C: SignatureCheck>(
+    alloc: Global,
+    wanted: &SignatureToVerify,
+    checker: &C,
+    records: &mut Vec<u8>,
+) -> Result<(), AllocError>
+    ensures { OnOk result (records.new.items ≡ records.old.items
+        ++ record_unless (C.meaning checker.now) wanted.now) }
+{
+    let key = wanted.key.as_slice();
+    let content = wanted.content.as_slice();
+    if checker.good(wanted.suite, key, content, wanted.signature.as_slice()) {
+        return Ok(());
+    }
+    push_record(alloc, wanted, records)
+}
+
+/// Returns the records of the signatures that the checker does not accept.
+pub(crate) fn query_records<C: SignatureCheck>(
+    alloc: Global,
+    wanted: &[SignatureToVerify],
+    checker: &C,
+) -> Result<Vec<u8>, AllocError>
+    ensures { IfOk result
+        (λ records. records.items ≡ query_records (C.meaning checker.now) wanted.now) }
+{
+    let mut records = Vec::new(alloc);
+    for signature in wanted {
+        push_record_unless(alloc, signature, checker, &mut records)?;
+    }
+    Ok(records)
+}

@@ -1,10 +1,13 @@
 #!/usr/bin/env python3
 """Drives the live gate: has each message of a log judged by `mlscheck gate`, with the signatures checked here.
 
-    gate.py [--forge] --info FILE [--tree FILE] --log FILE
+    gate.py [--forge] --info FILE [--tree FILE] --log FILE [--save FILE]
+    gate.py [--forge] --state FILE --log FILE [--save FILE]
 
 The class `Gate` is all that a service needs: it asks the gate which signatures a message needs, checks those, tells the gate
 which are good, and has the message judged. The gate's answer to each message is printed.
+
+With `--save` the state after the log is stored in a file, from which a later run begins with `--state`.
 
 With `--forge` each message is first sent with another signature, one bit of it changed; the gate has to refuse it by rule 7
 and to go on. The arithmetic is that of the Python package `cryptography` (see receipts.py). Nothing here is proved.
@@ -80,6 +83,14 @@ class Gate:
         self.send(b"m", message)
         return self.line()
 
+    def state(self):
+        """The file of the state, from which a gate can be started with `--state`."""
+        self.send(b"s")
+        line = self.line()
+        if not line.startswith("state ") or line == "state TooLong":
+            raise RuntimeError(line or "the gate has ended")
+        return bytes.fromhex(line.removeprefix("state "))
+
     def end(self):
         self.process.stdin.close()
         return self.process.wait()
@@ -91,14 +102,24 @@ def forged(gate, message):
     return message.replace(signature, signature[:-1] + bytes([signature[-1] ^ 1]))
 
 
+def save(state, path):
+    """Stores a state: a reader finds the file as it was, or the new one."""
+    with open(path + ".new", "wb") as new:
+        new.write(state)
+        new.flush()
+        os.fsync(new.fileno())
+    os.replace(path + ".new", path)
+
+
 def main():
     parser = argparse.ArgumentParser()
     parser.add_argument("--forge", action="store_true")
-    parser.add_argument("--info", required=True)
-    parser.add_argument("--tree")
+    for name in ("info", "tree", "state", "save"):
+        parser.add_argument("--" + name)
     parser.add_argument("--log", required=True)
     words = parser.parse_args()
-    gate = Gate("--info", words.info, *(["--tree", words.tree] if words.tree else []))
+    files = [(name, getattr(words, name)) for name in ("info", "tree", "state")]
+    gate = Gate(*(word for name, path in files if path for word in ("--" + name, path)))
     print(gate.begin())
     with open(words.log, "rb") as log:
         messages = list(records(log.read()))
@@ -108,6 +129,8 @@ def main():
             if answer != "refused 7 BadSignature":
                 sys.exit(f"a forged message is answered: {answer}")
         print(gate.judge(message))
+    if words.save:
+        save(gate.state(), words.save)
     sys.exit(gate.end())
 
 

@@ -24,6 +24,7 @@ mod replay_devices;
 #[cfg(test)]
 mod report_devices;
 #[cfg(test)]
+mod stored_states;
 #[cfg(test)]
 mod support;
 #[cfg(test)]

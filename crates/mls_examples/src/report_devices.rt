@@ -230,12 +230,20 @@ impl<'a> Files for OneFile<'a> {
 
     ghost lacks = { λ _ _. Unit {0} };
 
+    ghost stores = { λ _ _ _. Unit {0} };
+
+    ghost refuses = { λ _ _ _. Unit {0} };
+
     fn open(&self, name: &str) -> Option<MemorySource<'a>> {
         if name == self.name {
             Some(MemorySource::new(self.bytes, 40, None))
         } else {
             None
         }
+    }
+
+    fn save(&self, _name: &str, _bytes: &[u8]) -> bool {
+        false
     }
 }
 

@@ -124,7 +124,22 @@ const CALLS: &[(&str, Call, &str)] = &[
         Call::Report(Report::Signatures),
         "no, 1821 bytes",
     ),
-    ("run_gate", Call::Report(Report::Gate), "no, 2046 bytes"),
+    ("run_gate", Call::Report(Report::Gate), "no, 2555 bytes"),
+    (
+        "run_gate_state",
+        Call::Report(Report::GateState),
+        "yes, 1703 bytes",
+    ),
+    (
+        "run_validate_state",
+        Call::Report(Report::ValidateState),
+        "yes, 94 bytes",
+    ),
+    (
+        "replay_state and encode_state",
+        Call::Report(Report::ReplayState),
+        "no, 200 bytes",
+    ),
 ];
 
 /// Makes a call.

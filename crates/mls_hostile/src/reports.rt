@@ -1,15 +1,20 @@
 //! Reports over devices in memory.
 
 use crate::group::{
-    CHECKED, GATE_RECORDS, GATED, GROUP_INFO, LOG, REPLAYED, SIGNATURES, TREE, TREE_CONTEXT,
-    VALIDATED, VALIDATED_TREE, VECTORS,
+    CHECKED, COMMIT, GATE_RECORDS, GATED, GROUP_INFO, LOG, NEXT_STATE, REPLAYED, RESUMED,
+    SIGNATURES, STATE, STATE_GATED, STATE_RECORDS, STATE_VALIDATED, TREE, TREE_CONTEXT, VALIDATED,
+    VALIDATED_TREE, VECTORS,
 };
 use crate::told::{Stop, Told, have};
 use mls_check::{Receipts, Trusting};
-use mls_gate::run_gate;
-use mls_report::{RunFault, Verdict, run_replay, run_signatures, run_validate, run_validate_tree};
+use mls_follow::Follower;
+use mls_gate::{run_gate, run_gate_state};
+use mls_report::{
+    RunFault, Verdict, replay_state, run_replay, run_signatures, run_validate, run_validate_state,
+    run_validate_tree,
+};
 use mls_vectors::{CheckKind, run_check};
-use mls_wire::{MemorySink, MemorySource};
+use mls_wire::{CodecFault, MemorySink, MemorySource};
 use std::alloc::Global;
 
 /// A report.
@@ -27,6 +32,12 @@ pub(crate) enum Report {
     Signatures,
     /// `gate` of the group of member 0 alone and of records, with no receipts at first.
     Gate,
+    /// `gate` of a state with a pending proposal and of records, with no receipts at first.
+    GateState,
+    /// `validate` of the state after the proposal.
+    ValidateState,
+    /// `replay` from this state, and the state after it.
+    ReplayState,
 }
 
 /// How a report ends, and what is written then.
@@ -111,6 +122,77 @@ fn gate_ended(alloc: Global) -> Result<Ended, Stop> {
     Ok((outcome, out))
 }
 
+/// Returns how `gate` from a state ends.
+fn gate_state_ended(alloc: Global) -> Result<Ended, Stop> {
+    let Ok(mut out) = MemorySink::new(alloc, 3000, 40, None) else {
+        return Err(Stop::Memory);
+    };
+    let state = have(hex::decode(alloc, STATE))?;
+    let records = have(hex::decode(alloc, STATE_RECORDS))?;
+    let mut state = MemorySource::new(state.as_slice(), 40, None);
+    let mut records = MemorySource::new(records.as_slice(), 40, None);
+    let known = Receipts::new(alloc);
+    let outcome = run_gate_state(alloc, &mut state, &mut records, known, &mut out);
+    Ok((outcome, out))
+}
+
+/// Returns how `validate` of a state ends.
+fn validate_state_ended(alloc: Global) -> Result<Ended, Stop> {
+    let Ok(mut out) = MemorySink::new(alloc, 1000, 40, None) else {
+        return Err(Stop::Memory);
+    };
+    let state = have(hex::decode(alloc, STATE))?;
+    let mut state = MemorySource::new(state.as_slice(), 40, None);
+    let outcome = run_validate_state(alloc, &mut state, Trusting, &mut out);
+    Ok((outcome, out))
+}
+
+/// Returns the verdict if the state of a follower, if there is one, is that after the commit.
+fn stored_ended(
+    verdict: Verdict,
+    follower: &Option<Follower<Trusting>>,
+    wanted: &[u8],
+) -> Result<Verdict, RunFault> {
+    match follower {
+        Some(follower) => match follower.encode_state() {
+            Ok(bytes) if bytes.as_slice() == wanted => Ok(verdict),
+            Err(CodecFault::OutOfMemory) => Err(RunFault::Memory),
+            _ => Err(RunFault::Write),
+        },
+        None => Err(RunFault::Write),
+    }
+}
+
+/// Returns the log of the commit and an empty record.
+fn commit_log(alloc: Global) -> Result<Vec<u8>, Stop> {
+    let mut log = Vec::new(alloc);
+    let commit = have(hex::decode(alloc, COMMIT))?;
+    let Ok(length) = u8::try_from(commit.len()) else {
+        return Err(Stop::NotRead);
+    };
+    have(log.push(length))?;
+    have(log.extend_from_slice(commit.as_slice()))?;
+    have(log.push(0))?;
+    Ok(log)
+}
+
+/// Returns how `replay` from a state ends, once the state after it is stored.
+fn replay_state_ended(alloc: Global) -> Result<Ended, Stop> {
+    let Ok(mut out) = MemorySink::new(alloc, 1000, 40, None) else {
+        return Err(Stop::Memory);
+    };
+    let state = have(hex::decode(alloc, STATE))?;
+    let wanted = have(hex::decode(alloc, NEXT_STATE))?;
+    let log = commit_log(alloc)?;
+    let mut state = MemorySource::new(state.as_slice(), 40, None);
+    let mut log = MemorySource::new(log.as_slice(), 40, None);
+    let outcome = match replay_state(alloc, &mut state, &mut log, Trusting, &mut out) {
+        Ok(replayed) => stored_ended(replayed.verdict, &replayed.follower, wanted.as_slice()),
+        Err(fault) => Err(fault),
+    };
+    Ok((outcome, out))
+}
+
 /// Returns how a report ends.
 fn ended(alloc: Global, report: Report) -> Result<Ended, Stop> {
     match report {
@@ -120,6 +202,9 @@ fn ended(alloc: Global, report: Report) -> Result<Ended, Stop> {
         Report::ValidateTree => validate_tree_ended(alloc),
         Report::Signatures => signatures_ended(alloc),
         Report::Gate => gate_ended(alloc),
+        Report::GateState => gate_state_ended(alloc),
+        Report::ValidateState => validate_state_ended(alloc),
+        Report::ReplayState => replay_state_ended(alloc),
     }
 }
 
@@ -132,6 +217,9 @@ fn usual(report: Report) -> (&'static str, &'static str) {
         Report::ValidateTree => ("yes", VALIDATED_TREE),
         Report::Signatures => ("no", SIGNATURES),
         Report::Gate => ("no", GATED),
+        Report::GateState => ("yes", STATE_GATED),
+        Report::ValidateState => ("yes", STATE_VALIDATED),
+        Report::ReplayState => ("no", RESUMED),
     }
 }
 
@@ -143,8 +231,12 @@ pub(crate) fn tell_report(alloc: Global, report: Report) -> Result<Told, Stop> {
     let was_refused = matches!(outcome, Err(RunFault::Memory));
     if was_refused {
         let front = match report {
-            Report::Replay | Report::Signatures | Report::Gate => usual_text.as_bytes(),
-            Report::Check | Report::Validate | Report::ValidateTree => b"",
+            Report::Replay
+            | Report::ReplayState
+            | Report::Signatures
+            | Report::Gate
+            | Report::GateState => usual_text.as_bytes(),
+            Report::Check | Report::Validate | Report::ValidateState | Report::ValidateTree => b"",
         };
         if !front.starts_with(out.bytes()) {
             return Err(Stop::OtherReport);

@@ -99,6 +99,7 @@ fn story_call(row: &Row) -> Result<CallResult, RowFault> {
         "cut" => hostile_calls::cut(row),
         "cut_message" => hostile_calls::cut_message(row),
         "bits" => hostile_calls::bits(row),
+        "state_bits" => hostile_calls::state_bits(row),
         "run" => run_calls::run(row),
         "run_in_pieces" => run_calls::run_in_pieces(row),
         "first_words" => run_calls::first_words(row),

@@ -6,7 +6,7 @@ use crate::row::Row;
 use crate::state::brief_state;
 use crate::stories::{started, taken_text};
 use mls_check::{Receipts, SignatureCheck, Trusting};
-use mls_follow::{Follower, Refusal};
+use mls_follow::{Follower, Refusal, ResumeFault};
 use mls_msgs::decode_message;
 use mls_nodes::{NodeFault, decode_leaf, decode_ratchet_tree};
 use mls_wire::{CodecFault, WireFault, WireFaultKind};
@@ -14,6 +14,20 @@ use std::alloc::Global;
 use std::mem;
 
 // ---- cut inputs
+
+/// Why no follower resumes from bytes, if they can't be read.
+fn state_fault(alloc: Global, bytes: &[u8]) -> Option<CodecFault> {
+    match Follower::resume(alloc, bytes, Trusting) {
+        Ok(follower) => {
+            drop(follower);
+            None
+        }
+        Err(refused) => match refused.fault {
+            ResumeFault::Unreadable(NodeFault::Wire(fault)) => Some(CodecFault::Wire(fault)),
+            _ => Some(CodecFault::OutOfMemory),
+        },
+    }
+}
 
 /// Why bytes are no encoding, if they are none.
 fn fault_of(alloc: Global, what: &str, bytes: &[u8]) -> Option<WireFault> {
@@ -23,6 +37,7 @@ fn fault_of(alloc: Global, what: &str, bytes: &[u8]) -> Option<WireFault> {
             _ => CodecFault::OutOfMemory,
         },
         "leaf" => decode_leaf(alloc, bytes).err()?,
+        "state" => state_fault(alloc, bytes)?,
         _ => decode_message(alloc, bytes).err()?,
     };
     match fault {
@@ -46,7 +61,7 @@ fn is_truncated(alloc: Global, what: &str, front: &[u8]) -> bool {
     }
 }
 
-/// `cut | tree, leaf or message | BYTES`: how many bytes an encoding has. Each shorter front of it has to be truncated.
+/// `cut | tree, leaf, state or message | BYTES`: how many bytes an encoding has. Each shorter front of it has to be truncated.
 pub(crate) fn cut(row: &Row) -> Result<CallResult, RowFault> {
     row.has(2)?;
     let bytes = row.bytes(2)?;
@@ -171,6 +186,42 @@ fn flip(message: &mut Vec<u8>, at: usize, bit: u8) {
     if let Some(byte) = message.get_mut(at) {
         *byte ^= bit;
     }
+}
+
+/// Whether a follower resumes from bytes, if each signature is good.
+fn resumes(alloc: Global, bytes: &[u8]) -> bool {
+    match Follower::resume(alloc, bytes, Trusting) {
+        Ok(follower) => {
+            drop(follower);
+            true
+        }
+        Err(refused) => {
+            drop(refused);
+            false
+        }
+    }
+}
+
+/// `state_bits | STATE`: how many bits the file of a state has from which a follower resumes. None may resume where one of them is
+/// changed.
+pub(crate) fn state_bits(row: &Row) -> Result<CallResult, RowFault> {
+    row.has(1)?;
+    let mut state = row.bytes(1)?;
+    if !resumes(row.alloc, state.as_slice()) {
+        return Err(RowFault::Field(1, "a state"));
+    }
+    let mut count = 0usize;
+    for at in 0..state.len() {
+        for bit in [1u8, 2, 4, 8, 16, 32, 64, 128] {
+            flip(&mut state, at, bit);
+            if resumes(row.alloc, state.as_slice()) {
+                return Err(RowFault::Changed(at));
+            }
+            flip(&mut state, at, bit);
+            count = count.saturating_add(1);
+        }
+    }
+    Ok(CallResult::text(format!(in row.alloc; "{count}")?))
 }
 
 /// Those of the bytes from `first` to before `end` of which no bit is checked.

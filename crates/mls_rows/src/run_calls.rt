@@ -5,11 +5,12 @@ use crate::fault::RowFault;
 use crate::row::{Row, have};
 use crate::token::Token;
 use mls_cli::{
-    CheckKind, CheckedReport, CheckerChoice, FileName, Files, Order, Profile, ShowKind, order_of,
-    run_program,
+    CheckKind, CheckedReport, CheckerChoice, FileName, Files, GroupFiles, Order, Profile, ShowKind,
+    order_of, run_program,
 };
 use mls_wire::{LogStep, MemorySink, MemorySource, RecordReader, Records};
-use std::alloc::Global;
+use std::alloc::{AllocError, Global};
+use std::cell::Cell;
 
 /// A file by its name.
 #[derive(Drop)]
@@ -18,11 +19,20 @@ struct NamedFile {
     bytes: Vec<u8>,
 }
 
-/// Files in memory, which are read in pieces of a size.
+/// Files in memory, which are read in pieces of a size, and the last one that was stored.
 #[derive(Drop)]
 struct Shelf<'a> {
+    alloc: Global,
     files: &'a [NamedFile],
     piece: usize,
+    stored: Cell<Option<NamedFile>>,
+}
+
+/// A file with this name and these bytes.
+fn named_file(alloc: Global, name: &str, bytes: &[u8]) -> Result<NamedFile, AllocError> {
+    let name = String::from_str(alloc, name)?;
+    let bytes = Vec::from_slice(alloc, bytes)?;
+    Ok(NamedFile { name, bytes })
 }
 
 impl<'a> Files for Shelf<'a> {
@@ -32,6 +42,10 @@ impl<'a> Files for Shelf<'a> {
 
     ghost lacks = { λ _ _. Unit {0} };
 
+    ghost stores = { λ _ _ _. Unit {0} };
+
+    ghost refuses = { λ _ _ _. Unit {0} };
+
     fn open(&self, name: &str) -> Option<MemorySource<'a>> {
         for file in self.files {
             if file.name.as_str() == name {
@@ -39,6 +53,20 @@ impl<'a> Files for Shelf<'a> {
             }
         }
         None
+    }
+
+    /// A file whose name begins with `full` can't be stored.
+    fn save(&self, name: &str, bytes: &[u8]) -> bool {
+        if name.starts_with("full") {
+            return false;
+        }
+        match named_file(self.alloc, name, bytes) {
+            Ok(file) => {
+                self.stored.set(Some(file));
+                true
+            }
+            Err(_) => false,
+        }
     }
 }
 
@@ -86,28 +114,36 @@ fn text_of(alloc: Global, sink: &MemorySink) -> Result<String, RowFault> {
     }
 }
 
-/// What a command prints, and its exit status.
+/// What a command prints, its exit status, and the file that it stored, if it did.
 #[derive(Drop)]
 struct Printed {
     status: u8,
     output: String,
     notes: String,
+    stored: Option<NamedFile>,
 }
 
 /// Runs the program over files, which are read and printed in pieces of a size.
 fn run_over(row: &Row, files: &[NamedFile], piece: usize) -> Result<Printed, RowFault> {
     let alloc = row.alloc;
     let words = words_at(row, 1)?;
-    let shelf = Shelf { files, piece };
+    let shelf = Shelf {
+        alloc,
+        files,
+        piece,
+        stored: Cell::new(None),
+    };
     let mut out = have(MemorySink::new(alloc, 100_000, piece.max(1), None))?;
     let mut notes = have(MemorySink::new(alloc, 10_000, piece.max(1), None))?;
     let status = run_program(alloc, words.as_slice(), &shelf, &mut out, &mut notes);
     let output = text_of(alloc, &out)?;
     let notes = text_of(alloc, &notes)?;
+    let stored = shelf.stored.take();
     Ok(Printed {
         status,
         output,
         notes,
+        stored,
     })
 }
 
@@ -122,15 +158,21 @@ fn add_lines(all: &mut String, text: &str, mark: &str) -> Result<(), RowFault> {
     Ok(())
 }
 
-/// The exit status, each line of the output after `/`, and each one of the notes after `|`.
+/// The exit status, each line of the output after `/`, each one of the notes after `|`, and the name and the bytes of a file
+/// that was stored after `+`.
 fn printed_text(alloc: Global, printed: &Printed) -> Result<String, RowFault> {
     let mut all = format!(in alloc; "{}", printed.status)?;
     add_lines(&mut all, printed.output.as_str(), "/")?;
     add_lines(&mut all, printed.notes.as_str(), "|")?;
+    if let Some(file) = &printed.stored {
+        let bytes = hex::encode(alloc, file.bytes.as_slice())?;
+        let name = file.name.as_str();
+        write!(all, " + {name} {bytes}")?;
+    }
     Ok(all)
 }
 
-/// `run | COMMAND | FILE | ..`: the exit status of the program, and what it prints.
+/// `run | COMMAND | FILE | ..`: the exit status of the program, what it prints, and the file that it stores.
 pub(crate) fn run(row: &Row) -> Result<CallResult, RowFault> {
     let files = files_from(row, 2)?;
     let printed = run_over(row, files.as_slice(), 40)?;
@@ -202,6 +244,20 @@ fn file_name(file: &Option<FileName>) -> &str {
     }
 }
 
+/// What a group is followed from, in words.
+fn group_text(alloc: Global, group: &GroupFiles) -> Result<String, RowFault> {
+    match group {
+        GroupFiles::Info { info, tree } => {
+            let (info, tree) = (info.as_str(), file_name(tree));
+            Ok(format!(in alloc; "{info} {tree}")?)
+        }
+        GroupFiles::State(state) => {
+            let state = state.as_str();
+            Ok(format!(in alloc; "state {state}")?)
+        }
+    }
+}
+
 /// A report that checks signatures, in words.
 fn report_text(alloc: Global, report: &CheckedReport, receipts: &str) -> Result<String, RowFault> {
     match report {
@@ -209,21 +265,22 @@ fn report_text(alloc: Global, report: &CheckedReport, receipts: &str) -> Result<
             let (context, tree) = (context.as_str(), tree.as_str());
             Ok(format!(in alloc; "validate {context} {tree} {receipts}")?)
         }
-        CheckedReport::Validate { info, tree } => {
-            let (info, tree) = (info.as_str(), file_name(tree));
-            Ok(format!(in alloc; "start {info} {tree} {receipts}")?)
+        CheckedReport::Validate(group) => {
+            let group = group_text(alloc, group)?;
+            Ok(format!(in alloc; "start {group} {receipts}")?)
         }
-        CheckedReport::Replay { info, tree, log } => {
-            let (info, tree, log) = (info.as_str(), file_name(tree), log.as_str());
-            Ok(format!(in alloc; "replay {info} {tree} {log} {receipts}")?)
+        CheckedReport::Replay { group, files } => {
+            let group = group_text(alloc, group)?;
+            let (log, save) = (files.log.as_str(), file_name(&files.save));
+            Ok(format!(in alloc; "replay {group} {log} {save} {receipts}")?)
         }
         CheckedReport::Signatures { info, tree, log } => {
             let (info, tree, log) = (info.as_str(), file_name(tree), file_name(log));
             Ok(format!(in alloc; "signatures {info} {tree} {log} {receipts}")?)
         }
-        CheckedReport::Gate { info, tree } => {
-            let (info, tree) = (info.as_str(), file_name(tree));
-            Ok(format!(in alloc; "gate {info} {tree} {receipts}")?)
+        CheckedReport::Gate(group) => {
+            let group = group_text(alloc, group)?;
+            Ok(format!(in alloc; "gate {group} {receipts}")?)
         }
     }
 }

@@ -20,7 +20,7 @@ import sys
 
 from receipts import bytes_of, is_good
 
-PROGRAM = os.path.join(os.path.dirname(os.path.abspath(__file__)), "..", "mlscheck")
+PROGRAM = os.environ.get("PROGRAM") or os.path.join(os.path.dirname(os.path.abspath(__file__)), "..", "mlscheck")
 
 
 def record(body):

@@ -46,13 +46,15 @@ pub some_list_answer : ListAnswerExists
 unfolding list_refusal
 some_list_answer committer items has_path =
     judged (λ _. list_refusal committer items has_path ≡ None) (list_rules committer items has_path)
-    (one_more (λ e. cc) (one_more (λ e. cc) (one_more (λ e. cc) (one_more (λ e. cc) (one_more (λ e. cc) no_rules))))) (λ kept. (tt, kept))
+    (one_more (λ e. cc) (one_more (λ e. cc) (one_more (λ e. cc) (one_more (λ e. cc) (one_more (λ e. cc) (one_more (λ e. cc) (one_more (λ e. cc) no_rules)))))))
+    (λ kept. (tt, kept))
 
 pub some_proposal_answer : ProposalAnswerExists
 unfolding checked_refusal
 some_proposal_answer G context t sender p =
     judged (λ _. checked_refusal G context t sender p ≡ None) (checked_rules G context t sender p)
-    (one_more (λ e. cc) (one_more (λ e. cc) (one_more (λ e. cc) (one_more (λ e. cc) (one_more (λ e. cc) no_rules))))) (λ kept. (tt, kept))
+    (one_more (λ e. cc) (one_more (λ e. cc) (one_more (λ e. cc) (one_more (λ e. cc) (one_more (λ e. cc) (one_more (λ e. cc) (one_more (λ e. cc)
+    (one_more (λ e. cc) no_rules)))))))) (λ kept. (tt, kept))
 
 pub some_outcome : OutcomeExists
 some_outcome items t = go (without_adds items t) refl (outcome items t) refl

@@ -8,6 +8,7 @@ use Rattle.std.proofs.lemmas.List.{get_or-set_same, get_or-set_other, get_or-rep
 use Rattle.std.proofs.lemmas.Option.{none-some, same_Some, option_and_then_some, cond_some}
 use Rattle.mls_nodes.specs.Limits.{leaf_limit}
 use Rattle.mls_nodes.specs.declared.leaf.LeafNode.{LeafNode}
+use Rattle.mls_msgs.specs.declared.framed_content.Sender.{Sender}
 use Rattle.mls_msgs.specs.declared.proposal.Proposal.{Proposal}
 use Rattle.mls_msgs.specs.declared.proposal.Proposal.TheVariants.{Add, Update, Remove, ContextExtensions, PreSharedKey, ReInit, ExternalInit}
 use Rattle.mls_tree.specs.Tree.{Tree, member_count, leaf_at}
@@ -17,9 +18,10 @@ use Rattle.mls_tree.proofs.Counting.{member_count-low}
 use Rattle.mls_tree.proofs.Descent.{leaf_count-limit}
 use Rattle.mls_tree.proofs.Kept.{leaf_at-shrink}
 use Rattle.mls_apply.specs.declared.list_item.ListItem.{ListItem}
-use Rattle.mls_apply.specs.ListRules.{replaced_leaf, removed_leaf, target_leaf, item_target, is_leaf_number, tells, tells_once}
-use Rattle.mls_apply.specs.AppliedList.{after_update, after_updates, after_remove, after_removes, without_adds, new_members, ExceedsCapacity}
-use Rattle.mls_apply.specs.TargetLeaves.{replaced_by, removed_by, removed_leaves, number_in, removed_in, is_set_if_told, tell_set_leaves}
+use Rattle.mls_apply.specs.ListRules.{removed_leaf, is_leaf_number, tells, tells_once}
+use Rattle.mls_apply.specs.Senders.{member_index, leaf_of_member}
+use Rattle.mls_apply.specs.AppliedList.{updated_at, after_update, after_updates, after_remove, after_removes, without_adds, new_members, ExceedsCapacity}
+use Rattle.mls_apply.specs.TargetLeaves.{removed_by, removed_leaves, number_in, removed_in, is_set_if_told, updates_set_leaf, update_set_leaves, concerns_set_leaf, concern_set_leaves, tell_set_leaves}
 use Rattle.mls_apply.proofs.Leaves.{leaf_inside, kept_beside, put_there}
 use Rattle.mls_apply.proofs.Spellings.{taken_out}
 use Rattle.mls_apply.proofs.LeavesAreValid.{member_count-change_above, member_count-replaced, member_count-blanked, member_count-shrink}
@@ -110,26 +112,35 @@ module _ (f : ListItem → Option ℕ) where
           ap (λ k. is_some (leaf_at 0 t k)) (sym same) ∙ sym (ap (is_set_if_told t) h) ∙ (both (is_set_if_told t (f x)) (tell_set_leaves f t xs) all).0
 
 -- those that Updates and those that Removes concern
-concerned-parts : (t : Tree) (xs : List ListItem) → tell_set_leaves item_target t xs ≡ (tell_set_leaves replaced_by t xs && tell_set_leaves removed_by t xs)
+concerned-parts : (t : Tree) (xs : List ListItem) → concern_set_leaves t xs ≡ (update_set_leaves t xs && tell_set_leaves removed_by t xs)
 concerned-parts t [] = refl
 concerned-parts t (x ∷ xs) =
-    (λ k. one x.proposal k && concerned-parts t xs k)
-    ∙ regrouped (is_set_if_told t (replaced_by x)) (is_set_if_told t (removed_by x)) (tell_set_leaves replaced_by t xs) (tell_set_leaves removed_by t xs)
+    ap (λ b. concerns_set_leaf t x && b) (concerned-parts t xs)
+    ∙ regrouped (updates_set_leaf t x.sender x.proposal) (is_set_if_told t (removed_by x)) (update_set_leaves t xs) (tell_set_leaves removed_by t xs)
   where
-    one : (p : Proposal) → is_set_if_told t (target_leaf x.sender p) ≡ (is_set_if_told t (replaced_leaf x.sender p) && is_set_if_told t (removed_leaf p))
-    one (Add k) = refl
-    one (Update y) = and_true (is_some (leaf_at 0 t x.sender))
-    one (Remove i) = refl
-    one (ContextExtensions es) = refl
-    one (PreSharedKey es) = refl
-    one (ReInit es) = refl
-    one (ExternalInit es) = refl
-
     regrouped : (a b c d : Bool) → ((a && b) && (c && d)) ≡ ((a && c) && (b && d))
     regrouped true true c d = refl
     regrouped true false true d = refl
     regrouped true false false d = refl
     regrouped false b c d = refl
+
+-- the members that update their leaves, in trees whose set leaves are the same
+updates-alike : (t u : Tree) → ((j : ℕ) → is_some (leaf_at 0 u j) ≡ is_some (leaf_at 0 t j)) → (xs : List ListItem) → update_set_leaves u xs ≡ update_set_leaves t xs
+updates-alike t u alike [] = refl
+updates-alike t u alike (x ∷ xs) = (λ i. one x.proposal i && updates-alike t u alike xs i)
+  where
+    of_member : (o : Option ℕ) → is_some (leaf_of_member u o) ≡ is_some (leaf_of_member t o)
+    of_member None = refl
+    of_member (Some j) = alike j
+
+    one : (p : Proposal) → updates_set_leaf u x.sender p ≡ updates_set_leaf t x.sender p
+    one (Add k) = refl
+    one (Update y) = of_member (member_index x.sender)
+    one (Remove i) = refl
+    one (ContextExtensions es) = refl
+    one (PreSharedKey id) = refl
+    one (ReInit r) = refl
+    one (ExternalInit output) = refl
 
 -- a tree has no more members than leaves
 pub members_low : (t : Tree) → HasShape t → member_count t ≤ leaf_limit
@@ -137,27 +148,32 @@ members_low t shape = omega (arith, member_count-low t, leaf_count-limit (record
 
 -- ---- Updates
 
-updates_set : (xs : List ListItem) (t : Tree) → is_some (after_updates xs t) ≡ tell_set_leaves replaced_by t xs
+updates_set : (xs : List ListItem) (t : Tree) → is_some (after_updates xs t) ≡ update_set_leaves t xs
 unfolding after_updates
 updates_set [] t = refl
 updates_set (x ∷ xs) t = go (updates_set xs) x.proposal
   where
     Later : Type 0
-    Later = (u : Tree) → is_some (after_updates xs u) ≡ tell_set_leaves replaced_by u xs
+    Later = (u : Tree) → is_some (after_updates xs u) ≡ update_set_leaves u xs
 
-    at : Later → (y : LeafNode) (b : Bool) → is_some (leaf_at 0 t x.sender) ≡ b
-        → is_some (option_and_then (after_updates xs) (if b then Some (update t x.sender y) else None)) ≡ (b && tell_set_leaves replaced_by t xs)
-    at later y true set = later (update t x.sender y) ∙ told-alike replaced_by t (update t x.sender y) (set-update t x.sender y set) xs
-    at later y false blank = refl
+    at : Later → (i : ℕ) (y : LeafNode) (b : Bool) → is_some (leaf_at 0 t i) ≡ b
+        → is_some (option_and_then (after_updates xs) (if b then Some (update t i y) else None)) ≡ (b && update_set_leaves t xs)
+    at later i y true set = later (update t i y) ∙ updates-alike t (update t i y) (set-update t i y set) xs
+    at later i y false blank = refl
 
-    go : Later → (p : Proposal) → is_some (option_and_then (after_updates xs) (after_update x.sender p t)) ≡ (is_set_if_told t (replaced_leaf x.sender p) && tell_set_leaves replaced_by t xs)
+    of_member : Later → (y : LeafNode) (o : Option ℕ)
+        → is_some (option_and_then (after_updates xs) (updated_at o y t)) ≡ (is_some (leaf_of_member t o) && update_set_leaves t xs)
+    of_member later y None = refl
+    of_member later y (Some i) = at later i y (is_some (leaf_at 0 t i)) refl
+
+    go : Later → (p : Proposal) → is_some (option_and_then (after_updates xs) (after_update x.sender p t)) ≡ (updates_set_leaf t x.sender p && update_set_leaves t xs)
     go later (Add k) = later t
     go later (Remove i) = later t
     go later (ContextExtensions es) = later t
     go later (PreSharedKey es) = later t
     go later (ReInit es) = later t
     go later (ExternalInit es) = later t
-    go later (Update y) = at later y (is_some (leaf_at 0 t x.sender)) refl
+    go later (Update y) = of_member later y (member_index x.sender)
 
 -- the same leaves are set after them, and as many
 pub record KeepsMembers (t u : Tree) : Type 0 where
@@ -167,25 +183,29 @@ pub record KeepsMembers (t u : Tree) : Type 0 where
 kept_members : (t u : Tree) → u ≡ t → KeepsMembers t u
 kept_members t u e = record { alike = λ j. ap (λ (v : Tree). is_some (leaf_at 0 v j)) e; count = ap member_count e }
 
-updated : (sender : ℕ) (p : Proposal) (t u : Tree) → after_update sender p t ≡ Some u → KeepsMembers t u
+updated_member : (o : Option ℕ) (y : LeafNode) (t u : Tree) → updated_at o y t ≡ Some u → KeepsMembers t u
+updated_member None y t u e = absurd (none-some u e)
+updated_member (Some i) y t u e =
+    let parts = cond_some (is_some (leaf_at 0 t i)) (update t i y) u e in
+    let inside = leaf_inside t i parts.0 in
+    record {
+      alike = λ j. ap (λ (v : Tree). is_some (leaf_at 0 v j)) (sym parts.1) ∙ set-update t i y parts.0 j;
+      count =
+          ap member_count (sym parts.1)
+          ∙ member_count-change_above (λ _. None) 0 (put_leaf 0 t i (Some y)) i
+          ∙ member_count-replaced 0 t i y (omega arith) (omega arith) parts.0;
+    }
+
+updated : (sender : Sender) (p : Proposal) (t u : Tree) → after_update sender p t ≡ Some u → KeepsMembers t u
 updated sender (Add k) t u e = kept_members t u (sym (same_Some t u e))
 updated sender (Remove i) t u e = kept_members t u (sym (same_Some t u e))
 updated sender (ContextExtensions es) t u e = kept_members t u (sym (same_Some t u e))
 updated sender (PreSharedKey es) t u e = kept_members t u (sym (same_Some t u e))
 updated sender (ReInit es) t u e = kept_members t u (sym (same_Some t u e))
 updated sender (ExternalInit es) t u e = kept_members t u (sym (same_Some t u e))
-updated sender (Update y) t u e =
-    let parts = cond_some (is_some (leaf_at 0 t sender)) (update t sender y) u e in
-    let inside = leaf_inside t sender parts.0 in
-    record {
-      alike = λ j. ap (λ (v : Tree). is_some (leaf_at 0 v j)) (sym parts.1) ∙ set-update t sender y parts.0 j;
-      count =
-          ap member_count (sym parts.1)
-          ∙ member_count-change_above (λ _. None) 0 (put_leaf 0 t sender (Some y)) sender
-          ∙ member_count-replaced 0 t sender y (omega arith) (omega arith) parts.0;
-    }
+updated sender (Update y) t u e = updated_member (member_index sender) y t u e
 
-updates_keep : (xs : List ListItem) (t u : Tree) → after_updates xs t ≡ Some u → KeepsMembers t u
+pub updates_keep : (xs : List ListItem) (t u : Tree) → after_updates xs t ≡ Some u → KeepsMembers t u
 unfolding after_updates
 updates_keep [] t u e = kept_members t u (sym (same_Some t u e))
 updates_keep (x ∷ xs) t u e =
@@ -380,18 +400,18 @@ module _ (items : List ListItem) (t : Tree) where
       removes_count items s.0 v s.2 ∙ (updates_keep items t s.0 s.1).count
 
   -- each leaf that is removed may be one of a tree's
-  pub removed_low : (shape : HasShape t) → tell_set_leaves item_target t items ≡ true → (i : ℕ) → tells removed_by items (Some i) ≡ true → i < leaf_limit
+  pub removed_low : (shape : HasShape t) → concern_set_leaves t items ≡ true → (i : ℕ) → tells removed_by items (Some i) ≡ true → i < leaf_limit
   removed_low shape all i e =
-      let parts = both (tell_set_leaves replaced_by t items) (tell_set_leaves removed_by t items) (sym (concerned-parts t items) ∙ all) in
+      let parts = both (update_set_leaves t items) (tell_set_leaves removed_by t items) (sym (concerned-parts t items) ∙ all) in
       let inside = leaf_inside t i (told_set removed_by t items parts.1 i e) in
       let limit = leaf_count-limit (record { tree = t; shape = shape }) in
       omega arith
 
   -- a list whose leaves are set, none of which is removed twice, can be applied but for its Adds
   pub room_lacking : (leaf_limit + length (removed_leaves items) < member_count t + length (new_members items))
-      → tell_set_leaves item_target t items ≡ true → tells_once removed_by items ≡ true → ExceedsCapacity items t
+      → concern_set_leaves t items ≡ true → tells_once removed_by items ≡ true → ExceedsCapacity items t
   room_lacking many all once =
-      let parts = both (tell_set_leaves replaced_by t items) (tell_set_leaves removed_by t items) (sym (concerned-parts t items) ∙ all) in
+      let parts = both (update_set_leaves t items) (tell_set_leaves removed_by t items) (sym (concerned-parts t items) ∙ all) in
       let u = taken_out (after_updates items t) (updates_set items t ∙ parts.0) in
       let v = taken_out (after_removes items u.0) (removes_after u.0 u.1 ∙ (λ k. parts.1 k && once k)) in
       let applied : without_adds items t ≡ Some v.0 = ap (option_and_then (after_removes items)) u.1 ∙ v.1 in
@@ -400,7 +420,7 @@ module _ (items : List ListItem) (t : Tree) where
 
   -- and no other one lacks room
   pub lacking_room : ExceedsCapacity items t
-      → (leaf_limit + length (removed_leaves items) < member_count t + length (new_members items)) × (tell_set_leaves item_target t items ≡ true) × (tells_once removed_by items ≡ true)
+      → (leaf_limit + length (removed_leaves items) < member_count t + length (new_members items)) × (concern_set_leaves t items ≡ true) × (tells_once removed_by items ≡ true)
   lacking_room h =
       let s = steps items t h.tree h.applied in
       let replaced = sym (updates_set items t) ∙ ap is_some s.1 in

@@ -4,11 +4,8 @@ use Rattle.std.specs.Prelude.{nat_le, if◌then◌else◌, is_some, option_and_t
 use Rattle.std.proofs.lemmas.Bool.{cases_lt, false≢true, or_parts}
 use Rattle.std.proofs.lemmas.Bool.Decides.{nat_tests}
 use Rattle.mls_nodes.specs.Limits.{leaf_limit}
-use Rattle.mls_msgs.specs.declared.proposal.Proposal.{Proposal}
-use Rattle.mls_msgs.specs.declared.proposal.Proposal.TheVariants.{Add, Update, Remove, ContextExtensions, PreSharedKey, ReInit, ExternalInit}
 use Rattle.mls_tree.specs.Tree.{Tree, member_count}
-use Rattle.mls_apply.specs.ListRules.{target_leaf, has_target_leaf}
-use Rattle.mls_apply.specs.AppliedList.{after_update, after_updates, after_remove, after_removes, after_adds, new_members, without_adds, with_members, outcome, ExceedsCapacity}
+use Rattle.mls_apply.specs.AppliedList.{after_updates, after_removes, after_adds, new_members, without_adds, with_members, outcome, ExceedsCapacity}
 use Rattle.mls_apply.specs.declared.list_item.ListItem.{ListItem}
 
 -- an Update can't be applied
@@ -57,28 +54,3 @@ outcome-lacking items t h =
       ap is_some h.applied,
       ap (option_and_then (with_members (new_members items))) h.applied ∙ ap (λ b. if b then after_adds (new_members items) h.tree else None) e,
     )
-
--- ---- a list without Updates and Removes
-
-adds_alone : (sender : ℕ) (p : Proposal) (t : Tree) → is_some (target_leaf sender p) ≡ false → (after_update sender p t ≡ Some t) × (after_remove p t ≡ Some t)
-adds_alone sender (Add k) t e = (refl, refl)
-adds_alone sender (Update x) t e = absurd (false≢true (sym e))
-adds_alone sender (Remove i) t e = absurd (false≢true (sym e))
-adds_alone sender (ContextExtensions es) t e = (refl, refl)
-adds_alone sender (PreSharedKey es) t e = (refl, refl)
-adds_alone sender (ReInit es) t e = (refl, refl)
-adds_alone sender (ExternalInit es) t e = (refl, refl)
-
-pub updates-no_leaf : (items : List ListItem) (t : Tree) → has_target_leaf items ≡ false → after_updates items t ≡ Some t
-unfolding after_updates
-updates-no_leaf [] t e = refl
-updates-no_leaf (x ∷ xs) t e =
-    let parts = or_parts (is_some (target_leaf x.sender x.proposal)) (has_target_leaf xs) e in
-    ap (option_and_then (after_updates xs)) (adds_alone x.sender x.proposal t parts.0).0 ∙ updates-no_leaf xs t parts.1
-
-pub removes-no_leaf : (items : List ListItem) (t : Tree) → has_target_leaf items ≡ false → after_removes items t ≡ Some t
-unfolding after_removes
-removes-no_leaf [] t e = refl
-removes-no_leaf (x ∷ xs) t e =
-    let parts = or_parts (is_some (target_leaf x.sender x.proposal)) (has_target_leaf xs) e in
-    ap (option_and_then (after_removes xs)) (adds_alone x.sender x.proposal t parts.0).1 ∙ removes-no_leaf xs t parts.1

@@ -4,13 +4,15 @@ use Rattle.std.specs.Prelude.{if◌then◌else◌, nat_le, option_map}
 use Rattle.std.proofs.lemmas.Option.{none-some, same_Some, option_and_then_some, cond_some}
 use Rattle.mls_nodes.specs.Limits.{leaf_limit}
 use Rattle.mls_nodes.specs.declared.leaf.LeafNode.{LeafNode}
+use Rattle.mls_msgs.specs.declared.framed_content.Sender.{Sender}
 use Rattle.mls_msgs.specs.declared.proposal.Proposal.{Proposal}
 use Rattle.mls_msgs.specs.declared.proposal.Proposal.TheVariants.{Add, Update, Remove, ContextExtensions, PreSharedKey, ReInit, ExternalInit}
 use Rattle.mls_tree.specs.Tree.{Tree, member_count, leaf_at}
 use Rattle.mls_tree.specs.BlankLeaves.{first_blank_leaf}
 use Rattle.mls_tree.specs.TreeOperations.{update, remove, add, added_leaf, grown_for, is_overfilled_above}
 use Rattle.mls_apply.specs.declared.list_item.ListItem.{ListItem}
-use Rattle.mls_apply.specs.AppliedList.{Grown, grown, outcome, with_members, new_members, without_adds, after_leaf, after_adds, after_update, after_updates, after_remove, after_removes}
+use Rattle.mls_apply.specs.Senders.{member_index}
+use Rattle.mls_apply.specs.AppliedList.{Grown, grown, outcome, with_members, new_members, without_adds, after_leaf, after_adds, updated_at, after_update, after_updates, after_remove, after_removes}
 use Rattle.mls_check.specs.PreservedValidity.{IsParentHashValidTree}
 use Rattle.mls_check.proofs.Remaining.{update_parents, remove_parents, parts_sound}
 use Rattle.mls_check.proofs.Adding.{sound_add}
@@ -28,15 +30,19 @@ mapped j None g e = absurd (none-some g e)
 mapped j (Some h) g e = (h, refl, ap (λ (v : Grown). v.tree) (same_Some (after_leaf j h) g e))
 
 module _ (H : List ℕ → List ℕ) where
-  update-sound : (sender : ℕ) (p : Proposal) (t u : Tree) → after_update sender p t ≡ Some u → IsParentHashValidTree H t → IsParentHashValidTree H u
+  member-sound : (o : Option ℕ) (x : LeafNode) (t u : Tree) → updated_at o x t ≡ Some u → IsParentHashValidTree H t → IsParentHashValidTree H u
+  member-sound None x t u e h = absurd (none-some u e)
+  member-sound (Some i) x t u e h =
+      subst (IsParentHashValidTree H) (cond_some (is_some (leaf_at 0 t i)) (update t i x) u e).1 (parts_sound H (update t i x) t (update_parents t i x) h)
+
+  update-sound : (sender : Sender) (p : Proposal) (t u : Tree) → after_update sender p t ≡ Some u → IsParentHashValidTree H t → IsParentHashValidTree H u
   update-sound sender (Add k) t u e h = subst (IsParentHashValidTree H) (same_Some t u e) h
   update-sound sender (Remove i) t u e h = subst (IsParentHashValidTree H) (same_Some t u e) h
   update-sound sender (ContextExtensions es) t u e h = subst (IsParentHashValidTree H) (same_Some t u e) h
   update-sound sender (PreSharedKey es) t u e h = subst (IsParentHashValidTree H) (same_Some t u e) h
   update-sound sender (ReInit es) t u e h = subst (IsParentHashValidTree H) (same_Some t u e) h
   update-sound sender (ExternalInit es) t u e h = subst (IsParentHashValidTree H) (same_Some t u e) h
-  update-sound sender (Update x) t u e h =
-      subst (IsParentHashValidTree H) (cond_some (is_some (leaf_at 0 t sender)) (update t sender x) u e).1 (parts_sound H (update t sender x) t (update_parents t sender x) h)
+  update-sound sender (Update x) t u e h = member-sound (member_index sender) x t u e h
 
   remove-sound : (p : Proposal) (t u : Tree) → after_remove p t ≡ Some u → IsParentHashValidTree H t → IsParentHashValidTree H u
   remove-sound (Add k) t u e h = subst (IsParentHashValidTree H) (same_Some t u e) h

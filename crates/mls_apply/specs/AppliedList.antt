@@ -1,21 +1,29 @@
 -- The tree after the proposal list of a commit (RFC 9420, 12.3): its Updates, then its Removes, then its Adds.
--- GroupContextExtensions proposals, which come first, change no tree. `items` is the list, with the sender of each
--- proposal. Used by contracts.
+-- Other proposals change no tree: GroupContextExtensions, which come first, PreSharedKey, ReInit and ExternalInit. `items`
+-- is the list, with the sender of each proposal. Used by contracts.
 use Rattle.std.specs.Prelude.{◌≡◌, ℕ, ◌+◌, ◌<◌, nat_le, if◌then◌else◌, is_some, List, [], ◌∷◌, length, Option, Some, None, option_map, option_and_then}
 use Rattle.mls_nodes.specs.Limits.{leaf_limit}
 use Rattle.mls_nodes.specs.declared.leaf.LeafNode.{LeafNode}
+use Rattle.mls_msgs.specs.declared.framed_content.Sender.{Sender}
 use Rattle.mls_msgs.specs.declared.proposal.Proposal.{Proposal}
 use Rattle.mls_msgs.specs.declared.proposal.Proposal.TheVariants.{Add, Update, Remove, ContextExtensions, PreSharedKey, ReInit, ExternalInit}
 use Rattle.mls_tree.specs.Tree.{Tree, member_count, leaf_at}
 use Rattle.mls_tree.specs.BlankLeaves.{first_blank_leaf}
 use Rattle.mls_tree.specs.TreeOperations.{update, remove, add, added_leaf, grown_for, is_overfilled_above}
 use Rattle.mls_apply.specs.declared.list_item.ListItem.{ListItem}
+use Rattle.mls_apply.specs.Senders.{member_index}
 
--- `after_update sender p t` is the tree after a proposal, if it is an Update. The sender's leaf must be non-blank
--- (RFC 9420, 12.1.2).
-abbrev pub after_update : ℕ → Proposal → Tree → Option Tree
+-- `updated_at o x t` is the tree with `x` in place of the leaf at a leaf index. There must be one, and its leaf must be
+-- non-blank.
+abbrev pub updated_at : Option ℕ → LeafNode → Tree → Option Tree
+updated_at None x t = None
+updated_at (Some i) x t = if is_some (leaf_at 0 t i) then Some (update t i x) else None
+
+-- `after_update sender p t` is the tree after a proposal, if it is an Update. The sender must be a member, whose leaf is
+-- non-blank (RFC 9420, 12.1.2).
+abbrev pub after_update : Sender → Proposal → Tree → Option Tree
 after_update sender (Add _) t = Some t
-after_update sender (Update x) t = if is_some (leaf_at 0 t sender) then Some (update t sender x) else None
+after_update sender (Update x) t = updated_at (member_index sender) x t
 after_update sender (Remove _) t = Some t
 after_update sender (ContextExtensions _) t = Some t
 after_update sender (PreSharedKey _) t = Some t
@@ -88,7 +96,8 @@ unfoldable pub with_members : List LeafNode → Tree → Option Grown
 with_members xs t = if nat_le (member_count t + length xs) leaf_limit then after_adds xs t else None
 
 -- `outcome items t` is the tree after the proposal list (RFC 9420, 12.3), with the indices of the added leaves in the
--- order of the list. `None` if the leaf of an Update or Remove is blank at that point, or the Adds exceed a limit.
+-- order of the list. `None` if the leaf of an Update or Remove is blank at that point, an Update is from no member, or the
+-- Adds exceed a limit.
 unfoldable pub outcome : List ListItem → Tree → Option Grown
 outcome items t = option_and_then (with_members (new_members items)) (without_adds items t)
 

@@ -7,6 +7,7 @@ use Rattle.mls_tree.specs.Tree.{Tree}
 use Rattle.mls_tree.specs.TreeHash.{tree_hash}
 use Rattle.mls_check.specs.Signatures.{VerifyFn}
 use Rattle.mls_msgs.specs.declared.commit.UpdatePath.{UpdatePath}
+use Rattle.mls_msgs.specs.declared.framed_content.Sender.{Sender}
 use Rattle.mls_msgs.specs.declared.proposal.Proposal.{Proposal}
 use Rattle.mls_msgs.specs.declared.proposal.ProposalOrRef.{ProposalOrRef}
 use Rattle.mls_apply.specs.declared.fault.ApplyFault.{ApplyFault}
@@ -27,26 +28,26 @@ IsAnswered {A} Right Wrong = ((x : A) × Right x) ⊎ ((e : ApplyFault) × (e �
 -- The entries of a commit are resolved, or a reference is unknown (RFC 9420, 12.4).
 abbrev pub ItemsExists : Type 0
 ItemsExists =
-    (committer : ℕ) (known : List KnownProposal) (entries : List ProposalOrRef)
+    (committer : Sender) (known : List KnownProposal) (entries : List ProposalOrRef)
     → IsAnswered (λ items. resolved committer known entries ≡ Some items)
     (λ e. (e ≡ UnknownReference) × (resolved committer known entries ≡ None))
 
 -- A list satisfies the rules for lists, or fails one (RFC 9420, 12.2 and 12.4).
 abbrev pub ListAnswerExists : Type 0
 ListAnswerExists =
-    (committer : ℕ) (items : List ListItem) (has_path : Bool)
+    (committer : Sender) (items : List ListItem) (has_path : Bool)
     → IsAnswered (λ (_ : Unit {0}). list_refusal committer items has_path ≡ None)
     (λ e. list_refusal committer items has_path ≡ Some e)
 
 -- A proposal satisfies the rules for proposals, or fails one (RFC 9420, 12.1).
 abbrev pub ProposalAnswerExists : Type 0
 ProposalAnswerExists =
-    (G : VerifyFn) (context : GroupContext) (t : Tree) (sender : ℕ) (p : Proposal)
+    (G : VerifyFn) (context : GroupContext) (t : Tree) (sender : Sender) (p : Proposal)
     → IsAnswered (λ (_ : Unit {0}). checked_refusal G context t sender p ≡ None)
     (λ e. checked_refusal G context t sender p ≡ Some e)
 
--- `FailsList items t e`: the list cannot be applied for this fault. A leaf is blank when it is updated or removed, or
--- there are too many members (RFC 9420, 12.3).
+-- `FailsList items t e`: the list cannot be applied for this fault. A leaf is blank when it is updated or removed, or an
+-- Update is from no member; or there are too many members (RFC 9420, 12.3).
 abbrev pub FailsList : List ListItem → Tree → ApplyFault → Type 0
 FailsList items t e =
     ((e ≡ NoSuchLeaf) × (without_adds items t ≡ None))

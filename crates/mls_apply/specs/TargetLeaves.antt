@@ -1,13 +1,13 @@
 -- The leaves to which Updates and Removes apply, in the tree before a list. Internal: no public contract uses this.
 use Rattle.std.specs.Prelude.{ℕ, ◌+◌, ◌-◌, nat_le, nat_lt, ◌&&◌, if◌then◌else◌, is_some, List, filter_map, Bool, true, Option, Some, None}
 use Rattle.std.specs.List.{list_all}
+use Rattle.mls_msgs.specs.declared.framed_content.Sender.{Sender}
+use Rattle.mls_msgs.specs.declared.proposal.Proposal.{Proposal}
+use Rattle.mls_msgs.specs.declared.proposal.Proposal.TheVariants.{Add, Update, Remove, ContextExtensions, PreSharedKey, ReInit, ExternalInit}
 use Rattle.mls_tree.specs.Tree.{Tree, leaf_at}
 use Rattle.mls_apply.specs.declared.list_item.ListItem.{ListItem}
-use Rattle.mls_apply.specs.ListRules.{replaced_leaf, removed_leaf}
-
--- `replaced_by x` is the leaf that an item replaces.
-abbrev pub replaced_by : ListItem → Option ℕ
-replaced_by x = replaced_leaf x.sender x.proposal
+use Rattle.mls_apply.specs.ListRules.{removed_leaf}
+use Rattle.mls_apply.specs.Senders.{sender_leaf}
 
 -- `removed_by x` is the leaf that an item removes.
 abbrev pub removed_by : ListItem → Option ℕ
@@ -30,6 +30,29 @@ removed_in first x = number_in first (removed_by x)
 abbrev pub is_set_if_told : Tree → Option ℕ → Bool
 is_set_if_told t None = true
 is_set_if_told t (Some i) = is_some (leaf_at 0 t i)
+
+-- `updates_set_leaf t sender p`: if the proposal is an Update, its sender is a member whose leaf is non-blank.
+abbrev pub updates_set_leaf : Tree → Sender → Proposal → Bool
+updates_set_leaf t sender (Add _) = true
+updates_set_leaf t sender (Update _) = is_some (sender_leaf t sender)
+updates_set_leaf t sender (Remove _) = true
+updates_set_leaf t sender (ContextExtensions _) = true
+updates_set_leaf t sender (PreSharedKey _) = true
+updates_set_leaf t sender (ReInit _) = true
+updates_set_leaf t sender (ExternalInit _) = true
+
+-- `update_set_leaves t items`: this holds of each item.
+abbrev pub update_set_leaves : Tree → List ListItem → Bool
+update_set_leaves t items = list_all (λ x. updates_set_leaf t x.sender x.proposal) items
+
+-- `concerns_set_leaf t x`: if the item is an Update or a Remove, there is a leaf to which it applies, and the leaf is
+-- non-blank.
+abbrev pub concerns_set_leaf : Tree → ListItem → Bool
+concerns_set_leaf t x = updates_set_leaf t x.sender x.proposal && is_set_if_told t (removed_by x)
+
+-- `concern_set_leaves t items`: this holds of each item.
+abbrev pub concern_set_leaves : Tree → List ListItem → Bool
+concern_set_leaves t items = list_all (concerns_set_leaf t) items
 
 -- `tell_set_leaves f t items`: each leaf to which `f` maps an item is non-blank.
 abbrev pub tell_set_leaves : (ListItem → Option ℕ) → Tree → List ListItem → Bool

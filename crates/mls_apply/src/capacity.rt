@@ -8,12 +8,13 @@ ghost use Rattle.std.specs.Prelude.{◌≡◌, ◌≤◌, ◌<◌, ◌+◌, ◌�
 ghost use Rattle.mls_nodes.specs.Limits.{leaf_limit};
 ghost use Rattle.mls_tree.specs.Tree.{member_count};
 ghost use Rattle.mls_apply.specs.AddSteps.{is_add};
-ghost use Rattle.mls_apply.specs.ListRules.{item_target, tells, tells_once};
+ghost use Rattle.mls_apply.specs.ListRules.{tells, tells_once};
 ghost use Rattle.mls_apply.specs.AppliedList.{new_members, ExceedsCapacity};
-ghost use Rattle.mls_apply.specs.TargetLeaves.{removed_by, removed_leaves, removed_in, is_set_if_told, tell_set_leaves};
+ghost use Rattle.mls_apply.specs.TargetLeaves.{removed_by, removed_leaves, removed_in, is_set_if_told, updates_set_leaf, concern_set_leaves};
 
 use crate::list_item::ListItem;
-use crate::list_rules::target_leaf;
+use crate::list_rules::removed_leaf;
+use crate::senders::sender_leaf;
 use mls_msgs::Proposal;
 use mls_tree::PublicTree;
 
@@ -51,21 +52,6 @@ fn add_count(items: &[ListItem<'_>]) -> usize
     count
 }
 
-/// The leaf that an item removes.
-fn removed_leaf(item: &ListItem<'_>) -> Option<u32>
-    ensures { result ≡ removed_by item.now }
-{
-    match item.proposal {
-        Proposal::Remove(leaf) => Some(*leaf),
-        Proposal::Add(_) => None,
-        Proposal::Update(_) => None,
-        Proposal::ContextExtensions(_) => None,
-        Proposal::PreSharedKey(_) => None,
-        Proposal::ReInit(_) => None,
-        Proposal::ExternalInit(_) => None,
-    }
-}
-
 /// How many items are Removes.
 fn remove_count(items: &[ListItem<'_>]) -> usize
     ensures { result ≡ length (removed_leaves items.now) }
@@ -94,21 +80,36 @@ fn exceeds_member_limit(tree: &PublicTree, items: &[ListItem<'_>]) -> bool
     added - removed > MAX_MEMBERS - members
 }
 
-/// Whether the leaf that an item replaces or removes is set in a tree, where there is one.
-fn is_concerned_set(tree: &PublicTree, item: &ListItem<'_>) -> bool
-    ensures { result ≡ is_set_if_told tree.now.tree (item_target item.now) }
+/// Whether the leaf that an item removes is set in a tree, if there is one.
+fn is_removed_set(tree: &PublicTree, item: &ListItem<'_>) -> bool
+    ensures { result ≡ is_set_if_told tree.now.tree (removed_by item.now) }
 {
-    match target_leaf(item) {
+    match removed_leaf(item) {
         Some(leaf) => tree.leaf(leaf).is_some(),
         None => true,
     }
 }
 
+/// Whether the sender of an item is a member whose leaf is set in a tree, if the item is an Update.
+fn updates_set_leaf(tree: &PublicTree, item: &ListItem<'_>) -> bool
+    ensures { result ≡ updates_set_leaf tree.now.tree item.now.sender item.now.proposal }
+{
+    match item.proposal {
+        Proposal::Add(_) => true,
+        Proposal::Update(_) => sender_leaf(tree, item.sender).is_some(),
+        Proposal::Remove(_) => true,
+        Proposal::ContextExtensions(_) => true,
+        Proposal::PreSharedKey(_) => true,
+        Proposal::ReInit(_) => true,
+        Proposal::ExternalInit(_) => true,
+    }
+}
+
 /// Whether the leaf of each Update and of each Remove is set in a tree.
 fn are_set(tree: &PublicTree, items: &[ListItem<'_>]) -> bool
-    ensures { result ≡ tell_set_leaves item_target tree.now.tree items.now }
+    ensures { result ≡ concern_set_leaves tree.now.tree items.now }
 {
-    items.iter().all(|item| is_concerned_set(tree, item))
+    items.iter().all(|item| updates_set_leaf(tree, item) && is_removed_set(tree, item))
 }
 
 /// The number that the leaf which an item removes has in the window from `first` on, if it is one of its leaves.

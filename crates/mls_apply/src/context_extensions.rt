@@ -1,8 +1,7 @@
 //! GroupContextExtensions proposals in a proposal list (RFC 9420, 12.1.7).
 
 ghost use Rattle.std.specs.Prelude.{◌≡◌, IfOk, IfErr, option_map};
-ghost use Rattle.std.specs.List.{list_any};
-ghost use Rattle.mls_apply.specs.ContextExtensions.{brings_extensions, bring_once, brought, new_extensions};
+ghost use Rattle.mls_apply.specs.ContextExtensions.{bring_once, brought, new_extensions};
 
 use crate::fault::ApplyFault;
 use crate::list_item::ListItem;
@@ -10,13 +9,6 @@ use mls_msgs::Proposal;
 use mls_nodes::{Extensions, GroupContext};
 use mls_wire::{CodecFault, TryClone};
 use std::alloc::Global;
-
-/// Returns whether some item is a GroupContextExtensions proposal (RFC 9420, 12.1.7).
-pub(crate) fn has_extensions(items: &[ListItem<'_>]) -> bool
-    ensures { result ≡ list_any brings_extensions items.now }
-{
-    items.iter().any(|item| item.brings_extensions())
-}
 
 /// Returns whether at most one item is a GroupContextExtensions proposal (RFC 9420, 12.2).
 pub(crate) fn bring_once(items: &[ListItem<'_>]) -> bool

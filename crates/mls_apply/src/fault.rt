@@ -14,7 +14,7 @@ pub enum ApplyFault {
     #[error("an added key package is not valid")]
     AddInvalid,
     /// Refusal 10: the source of an Update's leaf node is not update, it has the encryption key of the sender's current
-    /// leaf, or its signature is not good (RFC 9420, 7.3 and 12.1.2).
+    /// leaf, or its signature is not good; or the sender is no member (RFC 9420, 7.3 and 12.1.2).
     #[error("an updated leaf is not valid")]
     UpdateInvalid,
     /// Refusal 11: the leaf of a Remove is blank (RFC 9420, 12.1.3).
@@ -32,8 +32,8 @@ pub enum ApplyFault {
     /// Refusal 16: two Updates or Removes of the proposal list apply to one leaf (RFC 9420, 12.2).
     #[error("two proposals concern one leaf")]
     SameLeafTwice,
-    /// Refusal 17: a commit has no path, and its list is empty or has an Update, a Remove or a GroupContextExtensions
-    /// (RFC 9420, 12.4).
+    /// Refusal 17: a commit has no path, and its list is empty or has an Update, a Remove, a GroupContextExtensions or an
+    /// ExternalInit (RFC 9420, 12.4 and 17.4).
     #[error("a path is missing")]
     PathMissing,
     /// Refusal 18: after the proposal list the group would have more than 1,048,576 members, or an unmerged list more
@@ -63,7 +63,24 @@ pub enum ApplyFault {
     /// 12.1.7).
     #[error("the extensions brought to the context can't be read")]
     ContextExtensionsInvalid,
-    /// A leaf is blank: that of a proposal's sender, of a committer, or one that is to be replaced or removed.
+    /// Refusal 31: the nonce of a PreSharedKey proposal has not the length of the suite's hash; or its usage is reinit or
+    /// branch, and the epoch is not 0 or the sender no member (RFC 9420, 12.1.4).
+    #[error("an injected key is not valid")]
+    PskInvalid,
+    /// Refusal 32: the version of a ReInit is less than the group's (RFC 9420, 12.1.5).
+    #[error("a reinitialization is to an earlier version")]
+    ReInitInvalid,
+    /// Refusal 33: an ExternalInit is outside an external commit (RFC 9420, 12.1.6).
+    #[error("an external init is outside an external commit")]
+    ExternalInitMisplaced,
+    /// Refusal 34: two PreSharedKey proposals of the list have equal PreSharedKeyIDs, nonce and all (RFC 9420, 12.2).
+    #[error("one key is injected twice")]
+    PskTwice,
+    /// Refusal 35: the list has a ReInit and another proposal (RFC 9420, 12.2).
+    #[error("a reinitialization is not alone")]
+    ReInitNotAlone,
+    /// A leaf is blank: that of a member that sends a proposal or a commit, or one that is to be replaced or removed. Or an
+    /// Update is from no member.
     #[error("a leaf is not set")]
     NoSuchLeaf,
     /// An allocation failed.

@@ -77,13 +77,13 @@ pub fn apply_list_in_place(
 }
 
 /// Returns the tree after a proposal list (RFC 9420, 12.3): its Updates, then its Removes, then its Adds, each kind in
-/// the order of the list. GroupContextExtensions proposals change no tree. The tree that is passed is unchanged.
+/// the order of the list. Other proposals change no tree. The tree that is passed is unchanged.
 ///
 /// # Errors
 ///
-/// `NoSuchLeaf` if the leaf of an Update or a Remove is blank when it is applied, else `TooManyLeaves` if there would
-/// be more than 1,048,576 members, or too many entries in an unmerged list; or `OutOfMemory`. Whether there would be
-/// too many members is checked before anything is allocated.
+/// `NoSuchLeaf` if the leaf of an Update or a Remove is blank when it is applied, or an Update is from no member. Else
+/// `TooManyLeaves` if there would be more than 1,048,576 members, or too many entries in an unmerged list; or
+/// `OutOfMemory`. Whether there would be too many members is checked before anything is allocated.
 pub fn apply_list(
     alloc: Global,
     tree: &PublicTree,

@@ -5,7 +5,7 @@ ghost use Rattle.mls_apply.specs.ResolvedList.{entry_item, resolved};
 
 use crate::fault::ApplyFault;
 use crate::pending_proposals::PendingProposals;
-use mls_msgs::{Commit, Proposal, ProposalOrRef};
+use mls_msgs::{Commit, Proposal, ProposalOrRef, Sender};
 use mls_tree::HashValue;
 use std::alloc::Global;
 use std::marker::Model;
@@ -15,8 +15,8 @@ use std::marker::Model;
 /// Contracts see the sender and the proposal itself.
 #[derive(Debug, Drop)]
 pub struct ListItem<'a> {
-    /// The leaf of the member that proposes it.
-    pub sender: u32,
+    /// The sender (RFC 9420, 6): of a proposal by value that of the commit.
+    pub sender: Sender,
     /// The proposal.
     pub proposal: &'a Proposal,
 }
@@ -48,13 +48,13 @@ impl<'a> ListItem<'a> {
     }
 }
 
-/// A pending proposal: one that a member sent in the current epoch.
+/// A pending proposal: one that was received in the current epoch.
 #[derive(Debug, Drop)]
 pub struct KnownProposal {
     /// The reference by which commits name it (RFC 9420, 5.2).
     pub reference: HashValue,
-    /// The leaf of the member that sent it.
-    pub sender: u32,
+    /// The sender (RFC 9420, 6).
+    pub sender: Sender,
     /// The proposal.
     pub proposal: Proposal,
 }
@@ -62,7 +62,7 @@ pub struct KnownProposal {
 /// Returns the item of an entry of a proposal list, if its reference, if it is one, is that of a
 /// pending proposal.
 fn entry_item<'a>(
-    committer: u32,
+    committer: Sender,
     known: &'a PendingProposals,
     entry: &'a ProposalOrRef,
 ) -> Option<ListItem<'a>>
@@ -83,8 +83,9 @@ fn entry_item<'a>(
     }
 }
 
-/// Returns the list of proposals that a commit applies, in the order of its entries (RFC 9420, 12.4). A proposal in the
-/// commit itself is the committer's own. A reference names the first pending proposal that has it.
+/// Returns the list of proposals that a commit applies, in the order of its entries (RFC 9420, 12.4). The sender of a
+/// proposal in the commit itself is the committer. A reference stands for the first pending proposal that has it, with
+/// that proposal's sender.
 ///
 /// No proposal is copied: each item borrows its own.
 ///
@@ -95,7 +96,7 @@ fn entry_item<'a>(
 pub fn resolve_list<'a>(
     alloc: Global,
     commit: &'a Commit,
-    committer: u32,
+    committer: Sender,
     known: &'a PendingProposals,
 ) -> Result<Vec<ListItem<'a>>, ApplyFault>
     ensures items { IfOk result (λ v.

@@ -1,15 +1,17 @@
-//! The rules for a single proposal (RFC 9420, 12.1.1 to 12.1.3 and 12.1.7).
+//! The rules for a single proposal (RFC 9420, 12.1).
 
-ghost use Rattle.std.specs.Prelude.{◌≡◌, ◌≢◌, ◌↔◌, Some, None, Ok, Err, IfOk, IfErr, IsSome, OnOk, false};
+ghost use Rattle.std.specs.Prelude.{◌≡◌, ◌≢◌, ◌↔◌, Some, None, Ok, Err, IfOk, IfErr, IsTrue, OnOk, false};
 ghost use Rattle.mls_check.specs.Signatures.{is_signed_text};
-ghost use Rattle.mls_tree.specs.Tree.{leaf_at};
 ghost use Rattle.mls_apply.specs.ProposalRules.{is_from_key_package, is_from_update, is_package_signed};
 ghost use Rattle.mls_apply.specs.ProposalRules.{fits_group, fits_leaf, fits_if_add, fits_if_update};
-ghost use Rattle.mls_apply.specs.ProposalRules.{is_valid_add, is_valid_update, are_valid_extensions, checked_refusal};
+ghost use Rattle.mls_apply.specs.ProposalRules.{is_valid_add, is_valid_update, is_valid_update_by, are_valid_extensions, is_valid_reinit, checked_refusal};
+ghost use Rattle.mls_apply.specs.Senders.{is_present, sender_leaf};
 
 use crate::fault::ApplyFault;
+use crate::psk_list::is_valid_psk;
+use crate::senders::is_present;
 use mls_check::{OutOfMemory, SignatureCheck, is_leaf_signed, signed};
-use mls_msgs::{KEY_PACKAGE_LABEL, KeyPackage, Proposal, package_tbs};
+use mls_msgs::{KEY_PACKAGE_LABEL, KeyPackage, Proposal, ReInit, Sender, package_tbs};
 use mls_nodes::{Extensions, GroupContext, LeafNode, LeafSource, requirements_of};
 use mls_tree::PublicTree;
 use mls_wire::CodecFault;
@@ -24,29 +26,33 @@ pub struct EpochState<'a> {
     pub tree: &'a PublicTree,
 }
 
-/// Checks a proposal of a member by itself, in an epoch of its group (RFC 9420, 12.1.1 to 12.1.3 and 12.1.7). A
-/// content that is too long to sign counts as not signed.
+/// Checks a proposal of any sender by itself, in an epoch of its group (RFC 9420, 12.1). A content that is too long to
+/// sign counts as not signed.
 ///
 /// # Errors
 ///
 /// The first of these rules that fails, or `OutOfMemory`. Only signatures, which are checked last, and required
 /// capabilities need allocations.
 ///
-/// 1. `NoSuchLeaf`: the sender's leaf is non-blank.
+/// 1. `NoSuchLeaf`: the leaf of a sender that is a member is non-blank.
 /// 2. `AddInvalid`: a KeyPackage is of the group's version and cipher suite, the source of its leaf node is
 ///    key_package, its init key is not the leaf's encryption key, and the signatures of the leaf node and of the
 ///    KeyPackage are good under the leaf's signature key.
-/// 3. `UpdateInvalid`: the source of the new leaf node is update, its encryption key is not that of the sender's
-///    current leaf, and its signature, over the group id and the sender's index too, is good under its own signature
-///    key.
+/// 3. `UpdateInvalid`: the sender of an Update is a member, the source of the new leaf node is update, its encryption key
+///    is not that of the sender's current leaf, and its signature, over the group id and the sender's index too, is good
+///    under its own signature key.
 /// 4. `RemoveInvalid`: the leaf of a Remove is non-blank.
 /// 5. `ContextExtensionsInvalid`: the required capabilities of a GroupContextExtensions can be read. Whether members
 ///    have them is checked in the commit.
+/// 6. `PskInvalid`: the nonce of a PreSharedKey has the length of the suite's hash. Its usage is neither reinit nor branch,
+///    or the epoch is 0 and the sender a member.
+/// 7. `ReInitInvalid`: the version of a ReInit is no less than the group's.
+/// 8. `ExternalInitMisplaced`: the proposal is no ExternalInit.
 #[tactic(auto, unfolding(crate::specs::ProposalRules::checked_refusal, crate::specs::ProposalRules::is_valid_remove))]
 pub fn check_proposal<C: SignatureCheck>(
     alloc: Global,
     epoch: &EpochState<'_>,
-    sender: u32,
+    sender: Sender,
     proposal: &Proposal,
     checker: &C,
 ) -> Result<(), ApplyFault>
@@ -59,35 +65,41 @@ pub fn check_proposal<C: SignatureCheck>(
     ensures no_such_leaf { (result ≡ Err ApplyFault.NoSuchLeaf)
         ↔ (checked_refusal (C.meaning checker.now) epoch.now.context.now epoch.now.tree.now.tree sender
         proposal.now ≡ Some ApplyFault.NoSuchLeaf) }
-    ensures unfit_add { IsSome (leaf_at 0 epoch.now.tree.now.tree sender)
+    ensures unfit_add { IsTrue (is_present epoch.now.tree.now.tree sender)
         → fits_if_add epoch.now.context.now proposal.now ≡ false
         → result ≡ Err ApplyFault.AddInvalid }
-    ensures unfit_update { IsSome (leaf_at 0 epoch.now.tree.now.tree sender)
+    ensures unfit_update { IsTrue (is_present epoch.now.tree.now.tree sender)
         → fits_if_update epoch.now.tree.now.tree sender proposal.now ≡ false
         → result ≡ Err ApplyFault.UpdateInvalid }
     ensures remove_invalid { (result ≡ Err ApplyFault.RemoveInvalid)
         ↔ (checked_refusal (C.meaning checker.now) epoch.now.context.now epoch.now.tree.now.tree sender
         proposal.now ≡ Some ApplyFault.RemoveInvalid) }
+    ensures psk_invalid { (result ≡ Err ApplyFault.PskInvalid)
+        ↔ (checked_refusal (C.meaning checker.now) epoch.now.context.now epoch.now.tree.now.tree sender
+        proposal.now ≡ Some ApplyFault.PskInvalid) }
+    ensures reinit_invalid { (result ≡ Err ApplyFault.ReInitInvalid)
+        ↔ (checked_refusal (C.meaning checker.now) epoch.now.context.now epoch.now.tree.now.tree sender
+        proposal.now ≡ Some ApplyFault.ReInitInvalid) }
+    ensures external_init_misplaced { (result ≡ Err ApplyFault.ExternalInitMisplaced)
+        ↔ (checked_refusal (C.meaning checker.now) epoch.now.context.now epoch.now.tree.now.tree sender
+        proposal.now ≡ Some ApplyFault.ExternalInitMisplaced) }
 {
-    let tree = epoch.tree;
-    let context = epoch.context;
-    let Some(present) = tree.leaf(sender) else {
+    if !is_present(epoch.tree, sender) {
         return Err(ApplyFault::NoSuchLeaf);
-    };
+    }
     match proposal {
         Proposal::Add(key_package) => {
-            if !is_valid_add(alloc, context, key_package, checker)? {
+            if !is_valid_add(alloc, epoch.context, key_package, checker)? {
                 return Err(ApplyFault::AddInvalid);
             }
         }
         Proposal::Update(leaf) => {
-            let replaced = Replaced { sender, present };
-            if !is_valid_update(alloc, context, &replaced, leaf, checker)? {
+            if !is_valid_update_by(alloc, epoch, sender, leaf, checker)? {
                 return Err(ApplyFault::UpdateInvalid);
             }
         }
         Proposal::Remove(index) => {
-            if tree.leaf(*index).is_none() {
+            if epoch.tree.leaf(*index).is_none() {
                 return Err(ApplyFault::RemoveInvalid);
             }
         }
@@ -96,11 +108,27 @@ pub fn check_proposal<C: SignatureCheck>(
                 return Err(ApplyFault::ContextExtensionsInvalid);
             }
         }
-        Proposal::PreSharedKey(_) => {}
-        Proposal::ReInit(_) => {}
-        Proposal::ExternalInit(_) => {}
+        Proposal::PreSharedKey(id) => {
+            if !is_valid_psk(epoch.context, sender, id) {
+                return Err(ApplyFault::PskInvalid);
+            }
+        }
+        Proposal::ReInit(reinit) => {
+            if !is_valid_reinit(epoch.context, reinit) {
+                return Err(ApplyFault::ReInitInvalid);
+            }
+        }
+        Proposal::ExternalInit(_) => return Err(ApplyFault::ExternalInitMisplaced),
     }
     Ok(())
+}
+
+/// Returns whether the version of a ReInit is no less than the group's.
+#[tactic(auto, unfolding(crate::specs::ProposalRules::is_valid_reinit))]
+fn is_valid_reinit(context: &GroupContext, reinit: &ReInit) -> bool
+    ensures { result ≡ is_valid_reinit context.now reinit.now }
+{
+    context.version <= reinit.version
 }
 
 /// Returns whether the required capabilities in extensions can be read.
@@ -233,4 +261,28 @@ fn is_valid_update<C: SignatureCheck>(
         leaf,
         checker,
     )
+}
+
+/// Returns whether the leaf node of an Update of this sender is valid. Only a member can send an Update. The signature is
+/// checked last.
+fn is_valid_update_by<C: SignatureCheck>(
+    alloc: Global,
+    epoch: &EpochState<'_>,
+    sender: Sender,
+    leaf: &LeafNode,
+    checker: &C,
+) -> Result<bool, OutOfMemory>
+    requires { IsTrue (is_present epoch.now.tree.now.tree sender) }
+    ensures valid { IfOk result (λ valid. valid ≡ is_valid_update_by (C.meaning checker.now)
+        epoch.now.context.now epoch.now.tree.now.tree sender leaf.now) }
+    ensures unfit { fits_leaf (sender_leaf epoch.now.tree.now.tree sender) leaf.now ≡ false → result ≡ Ok false }
+{
+    let Sender::Member(sender) = sender else {
+        return Ok(false);
+    };
+    let Some(present) = epoch.tree.leaf(sender) else {
+        return Ok(false);
+    };
+    let replaced = Replaced { sender, present };
+    is_valid_update(alloc, epoch.context, &replaced, leaf, checker)
 }

@@ -7,11 +7,13 @@ ghost use Rattle.mls_apply.specs.AppliedList.{after_update, after_updates};
 use crate::fault::ApplyFault;
 use crate::leaf_changes::put_copy;
 use crate::list_item::ListItem;
+use crate::senders::member_index;
 use mls_msgs::Proposal;
 use mls_tree::{Journal, PublicTree};
 use std::alloc::Global;
 
-/// Applies an item if it is an Update: its sender's leaf is replaced, and the parents above it become blank.
+/// Applies an item if it is an Update: its sender's leaf is replaced, and the parents above it become blank. `NoSuchLeaf`
+/// if the sender is no member, or its leaf is blank.
 #[tactic(auto, using(crate::proofs::Leaves::leaf_inside))]
 fn apply_update(
     alloc: Global,
@@ -30,11 +32,14 @@ fn apply_update(
     let Proposal::Update(leaf) = item.proposal else {
         return Ok(());
     };
-    if tree.leaf(item.sender).is_none() {
+    let Some(sender) = member_index(item.sender) else {
+        return Err(ApplyFault::NoSuchLeaf);
+    };
+    if tree.leaf(sender).is_none() {
         return Err(ApplyFault::NoSuchLeaf);
     }
-    put_copy(alloc, tree, journal, item.sender, leaf)?;
-    journal.blank_path(alloc, tree, item.sender)?;
+    put_copy(alloc, tree, journal, sender, leaf)?;
+    journal.blank_path(alloc, tree, sender)?;
     Ok(())
 }
 

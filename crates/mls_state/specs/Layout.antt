@@ -7,29 +7,26 @@ use Rattle.mls_nodes.specs.Layout.{group_context}
 use Rattle.mls_msgs.specs.Layout.{proposal, sender}
 use Rattle.mls_state.specs.declared.known_entry.KnownEntry.{KnownEntry}
 use Rattle.mls_state.specs.declared.state.FollowerState.{FollowerState}
-use Rattle.mls_state.specs.declared.state.GroupPhase.{GroupPhase}
-use Rattle.mls_state.specs.declared.state.GroupPhase.TheVariants.{Open}
-use Rattle.mls_state.specs.declared.state.StateProfile.{StateProfile}
-use Rattle.mls_state.specs.declared.state.StateProfile.TheVariants.{Members}
+use Rattle.mls_state.specs.declared.state.GroupMode.{GroupMode}
+use Rattle.mls_state.specs.declared.state.GroupMode.TheVariants.{Members, Full, Ended}
 use Rattle.mls_state.specs.declared.file.StateFile.{StateFile}
 
 -- `known_entry k` is the encoding of a proposal received in the current epoch: its reference, its sender and the proposal
 unfoldable pub known_entry : KnownEntry → Option (List ℕ)
 known_entry k = vector k.reference ⊕ sender k.sender ⊕ proposal k.proposal
 
--- `state_profile p` is the encoding of a profile: 1 for the members' one
-unfoldable pub state_profile : StateProfile → Option (List ℕ)
-state_profile Members = number w8 1
+-- `group_mode m` is the encoding of the profile, and of whether the group is over: 1 for the members' profile, 2 for the full
+-- one; then 0 for a group that goes on, 1 for one that is over (11.2). In the members' profile no group is over
+unfoldable pub group_mode : GroupMode → Option (List ℕ)
+group_mode Members = number w8 1 ⊕ number w8 0
+group_mode Full = number w8 2 ⊕ number w8 0
+group_mode Ended = number w8 2 ⊕ number w8 1
 
--- `group_phase p` is the encoding of whether the group is over: 0 for a group that goes on
-unfoldable pub group_phase : GroupPhase → Option (List ℕ)
-group_phase Open = number w8 0
-
--- `follower_state s` is the encoding of a state: the profile, whether the group is over, the context (8.1), the interim
+-- `follower_state s` is the encoding of a state: the profile with whether the group is over, the context (8.1), the interim
 -- transcript hash (8.2), the ratchet tree (12.4.3.3) and the proposals received in the current epoch (12.4)
 unfoldable pub follower_state : FollowerState → Option (List ℕ)
 follower_state s =
-    state_profile s.profile ⊕ group_phase s.phase ⊕ group_context s.context ⊕ vector s.interim ⊕ vector s.tree
+    group_mode s.mode ⊕ group_context s.context ⊕ vector s.interim ⊕ vector s.tree
     ⊕ list known_entry s.known
 
 -- `state_file f` is the encoding of a file: version 1, the checksum and the state

@@ -8,10 +8,8 @@ use Rattle.mls_msgs.specs.Parsing.{proposal_at}
 use Rattle.mls_msgs.specs.Parsing.{sender_at}
 use Rattle.mls_state.specs.declared.known_entry.KnownEntry.{KnownEntry}
 use Rattle.mls_state.specs.declared.state.FollowerState.{FollowerState}
-use Rattle.mls_state.specs.declared.state.GroupPhase.{GroupPhase}
-use Rattle.mls_state.specs.declared.state.GroupPhase.TheVariants.{Open}
-use Rattle.mls_state.specs.declared.state.StateProfile.{StateProfile}
-use Rattle.mls_state.specs.declared.state.StateProfile.TheVariants.{Members}
+use Rattle.mls_state.specs.declared.state.GroupMode.{GroupMode}
+use Rattle.mls_state.specs.declared.state.GroupMode.TheVariants.{Members, Full, Ended}
 use Rattle.mls_state.specs.declared.file.StateFile.{StateFile}
 
 -- a proposal received in the current epoch
@@ -22,31 +20,35 @@ known_entry_at i = do
   body ← proposal_at from.1
   Some (record { reference = reference.0; sender = from.0; proposal = body.0 }, body.1)
 
--- a profile
-unfoldable pub state_profile_at : Input → Option (StateProfile × Input)
-state_profile_at i = do
+-- what follows the members' profile: the group goes on
+unfoldable pub members_phase_at : Input → Option (GroupMode × Input)
+members_phase_at i = do
   tag ← number_at w8 i
-  if nat_eq tag.0 1 then Some (Members, tag.1) else None
+  if nat_eq tag.0 0 then Some (Members, tag.1) else None
 
--- whether the group is over
-unfoldable pub group_phase_at : Input → Option (GroupPhase × Input)
-group_phase_at i = do
+-- what follows the full profile: whether the group is over
+unfoldable pub full_phase_at : Input → Option (GroupMode × Input)
+full_phase_at i = do
   tag ← number_at w8 i
-  if nat_eq tag.0 0 then Some (Open, tag.1) else None
+  if nat_eq tag.0 0 then Some (Full, tag.1) else (if nat_eq tag.0 1 then Some (Ended, tag.1) else None)
+
+-- a profile, and whether the group is over
+unfoldable pub group_mode_at : Input → Option (GroupMode × Input)
+group_mode_at i = do
+  tag ← number_at w8 i
+  if nat_eq tag.0 1 then members_phase_at tag.1 else (if nat_eq tag.0 2 then full_phase_at tag.1 else None)
 
 -- a state
 unfoldable pub follower_state_at : Input → Option (FollowerState × Input)
 follower_state_at i = do
-  profile ← state_profile_at i
-  phase ← group_phase_at profile.1
-  context ← group_context_at phase.1
+  mode ← group_mode_at i
+  context ← group_context_at mode.1
   interim ← vector_at context.1
   tree ← vector_at interim.1
   known ← list_at known_entry_at tree.1
   Some (
     record {
-      profile = profile.0;
-      phase = phase.0;
+      mode = mode.0;
       context = context.0;
       interim = interim.0;
       tree = tree.0;

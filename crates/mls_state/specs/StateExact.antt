@@ -1,10 +1,12 @@
 -- What is read of a state file is encoded so, and what is encoded so is read. Internal: no public contract uses this, but
 -- that of `Decode`.
-use Rattle.std.proofs.Common.{◌≡◌, ◌≢◌, ℕ, List, [], Option, Some, refl, sym}
+use Rattle.std.proofs.Common.{◌≡◌, ◌≢◌, ℕ, List, [], Option, Some, cond, eqb, refl, sym, subst, arith}
+use Rattle.std.proofs.lemmas.Bool.{eqb-true, eqb-false}
 use Rattle.std.specs.Int.{w8, w16}
+use Rattle.mls_wire.specs.Input.{Input}
 use Rattle.mls_wire.specs.Encoding.{◌⊕◌, number, vector, list}
 use Rattle.mls_wire.specs.Parsing.{number_at, vector_at, list_at}
-use Rattle.mls_wire.specs.ExactParsers.{IsExact, IsLong, Any, field_then, made_of, tag_is, known, never, spelled_as}
+use Rattle.mls_wire.specs.ExactParsers.{Exact, IsExact, IsLong, Any, field_then, made_of, chosen, tag_is, known, never, spelled_as}
 use Rattle.mls_wire.specs.IntegersExact.{wide8, wide16, number_exact, number_long}
 use Rattle.mls_wire.specs.VectorsExact.{vector_exact, vector_long}
 use Rattle.mls_wire.specs.ListsExact.{list_exact}
@@ -17,12 +19,10 @@ use Rattle.mls_msgs.specs.Parsing.{proposal_at}
 use Rattle.mls_msgs.specs.Parsing.{sender_at}
 use Rattle.mls_msgs.specs.ProposalExact.{proposal_exact}
 use Rattle.mls_msgs.specs.FrameExact.{sender_exact}
-use Rattle.mls_state.specs.Layout.{known_entry, state_profile, group_phase, follower_state, state_file}
-use Rattle.mls_state.specs.Parsing.{known_entry_at, state_profile_at, group_phase_at, follower_state_at, state_file_at}
-use Rattle.mls_state.specs.declared.state.GroupPhase.{GroupPhase}
-use Rattle.mls_state.specs.declared.state.GroupPhase.TheVariants.{Open}
-use Rattle.mls_state.specs.declared.state.StateProfile.{StateProfile}
-use Rattle.mls_state.specs.declared.state.StateProfile.TheVariants.{Members}
+use Rattle.mls_state.specs.Layout.{known_entry, group_mode, follower_state, state_file}
+use Rattle.mls_state.specs.Parsing.{known_entry_at, members_phase_at, full_phase_at, group_mode_at, follower_state_at, state_file_at}
+use Rattle.mls_state.specs.declared.state.GroupMode.{GroupMode}
+use Rattle.mls_state.specs.declared.state.GroupMode.TheVariants.{Members, Full, Ended}
 use Rattle.mls_state.specs.declared.file.StateFile.{StateFile}
 
 -- ---- proposals received in the current epoch
@@ -39,80 +39,121 @@ pub known_entry_long : IsLong known_entry
 unfolding known_entry
 known_entry_long k front h = long_left (vector k.reference) _ front (vector_long k.reference) h
 
--- ---- profiles
+-- ---- the profile, and whether the group is over
 
--- the tag of a profile
-abbrev profile_tag : StateProfile → ℕ
+-- the tag of the profile
+abbrev profile_tag : GroupMode → ℕ
 profile_tag Members = 1
+profile_tag Full = 2
+profile_tag Ended = 2
 
--- what follows a tag
+-- the tag of whether the group is over
+abbrev phase_tag : GroupMode → ℕ
+phase_tag Members = 0
+phase_tag Full = 0
+phase_tag Ended = 1
+
+-- what follows both
 abbrev no_body : {A : Type 0} → A → Option (List ℕ)
 no_body x = Some []
 
-profile_parts : (p : StateProfile) → number w8 (profile_tag p) ⊕ no_body p ≡ state_profile p
-unfolding state_profile number ◌⊕◌
-profile_parts Members = refl
+-- what follows the tag of the profile
+abbrev phase_body : GroupMode → Option (List ℕ)
+phase_body m = number w8 (phase_tag m) ⊕ no_body m
 
-is_members : (p : StateProfile) → Unit {0} × (profile_tag p ≡ 1) → Members ≡ p
+mode_parts : (m : GroupMode) → number w8 (profile_tag m) ⊕ phase_body m ≡ group_mode m
+unfolding group_mode number ◌⊕◌
+mode_parts Members = refl
+mode_parts Full = refl
+mode_parts Ended = refl
+
+-- a mode of the profile with this tag
+abbrev HasProfile : ℕ → GroupMode → Type 0
+HasProfile n m = Unit {0} × (profile_tag m ≡ n)
+
+is_members : (m : GroupMode) → HasProfile 1 m × (phase_tag m ≡ 0) → Members ≡ m
 is_members Members h = refl
+is_members Full h = absurd (omega (arith, h.0.1))
+is_members Ended h = absurd (omega (arith, h.0.1))
 
-no_profile : (n : ℕ) → n ≢ 1 → (p : StateProfile) → Unit {0} × (profile_tag p ≡ n) → ⊥
-no_profile n x Members h = x (sym h.1)
+is_full : (m : GroupMode) → HasProfile 2 m × (phase_tag m ≡ 0) → Full ≡ m
+is_full Members h = absurd (omega (arith, h.0.1))
+is_full Full h = refl
+is_full Ended h = absurd (omega (arith, h.1))
 
-pub state_profile_exact : IsExact state_profile state_profile_at
-unfolding state_profile_at
-state_profile_exact = spelled_as Any state_profile _ state_profile_at profile_parts
-    (field_then Any profile_tag (number w8) no_body (number_at w8) _ (number_exact w8 wide8)
-    (λ n. tag_is profile_tag _ _ _ n 1 (known _ _ Members (tt, refl) refl is_members) (λ x. never _ _ (no_profile n x))))
+is_ended : (m : GroupMode) → HasProfile 2 m × (phase_tag m ≡ 1) → Ended ≡ m
+is_ended Members h = absurd (omega (arith, h.0.1))
+is_ended Full h = absurd (omega (arith, h.1))
+is_ended Ended h = refl
 
-pub state_profile_long : IsLong state_profile
-unfolding state_profile
-state_profile_long Members front h = number_long w8 wide8 1 front h
+no_mode : (n : ℕ) → n ≢ 1 → n ≢ 2 → (m : GroupMode) → HasProfile n m → ⊥
+no_mode n x y Members h = x (sym h.1)
+no_mode n x y Full h = y (sym h.1)
+no_mode n x y Ended h = y (sym h.1)
 
--- ---- whether the group is over
+no_members_phase : (n : ℕ) → n ≢ 0 → (m : GroupMode) → HasProfile 1 m × (phase_tag m ≡ n) → ⊥
+no_members_phase n x Members h = x (sym h.1)
+no_members_phase n x Full h = absurd (omega (arith, h.0.1))
+no_members_phase n x Ended h = absurd (omega (arith, h.0.1))
 
--- the tag of a phase
-abbrev phase_tag : GroupPhase → ℕ
-phase_tag Open = 0
+no_full_phase : (n : ℕ) → n ≢ 0 → n ≢ 1 → (m : GroupMode) → HasProfile 2 m × (phase_tag m ≡ n) → ⊥
+no_full_phase n x y Members h = absurd (omega (arith, h.0.1))
+no_full_phase n x y Full h = x (sym h.1)
+no_full_phase n x y Ended h = y (sym h.1)
 
-phase_parts : (p : GroupPhase) → number w8 (phase_tag p) ⊕ no_body p ≡ group_phase p
-unfolding group_phase number ◌⊕◌
-phase_parts Open = refl
+module _ (P : GroupMode → Type 0) (t : GroupMode → Option (List ℕ)) (f g : Input → Option (GroupMode × Input)) where
+  -- the modes with one tag of whether the group is over, and those with others, among those that satisfy P
+  phase_is : (n k : ℕ) → Exact (λ m. P m × (phase_tag m ≡ k)) t f → ((n ≢ k) → Exact (λ m. P m × (phase_tag m ≡ n)) t g)
+      → Exact (λ m. P m × (phase_tag m ≡ n)) t (λ i. cond (eqb n k) (f i) (g i))
+  phase_is n k here others =
+      chosen (λ m. P m × (phase_tag m ≡ n)) t f g (eqb n k)
+      (λ e. subst (λ (j : ℕ). Exact (λ m. P m × (phase_tag m ≡ j)) t f) (sym (eqb-true n k e)) here)
+      (λ e. others (λ d. eqb-false n k e d))
 
-is_open : (p : GroupPhase) → Unit {0} × (phase_tag p ≡ 0) → Open ≡ p
-is_open Open h = refl
+members_phase_exact : Exact (HasProfile 1) phase_body members_phase_at
+unfolding members_phase_at
+members_phase_exact =
+    field_then _ phase_tag (number w8) no_body (number_at w8) _ (number_exact w8 wide8)
+    (λ n. phase_is _ _ _ _ n 0 (known _ _ Members ((tt, refl), refl) refl is_members) (λ x. never _ _ (no_members_phase n x)))
 
-no_phase : (n : ℕ) → n ≢ 0 → (p : GroupPhase) → Unit {0} × (phase_tag p ≡ n) → ⊥
-no_phase n x Open h = x (sym h.1)
+full_phase_exact : Exact (HasProfile 2) phase_body full_phase_at
+unfolding full_phase_at
+full_phase_exact =
+    field_then _ phase_tag (number w8) no_body (number_at w8) _ (number_exact w8 wide8)
+    (λ n. phase_is _ _ _ _ n 0 (known _ _ Full ((tt, refl), refl) refl is_full)
+    (λ x. phase_is _ _ _ _ n 1 (known _ _ Ended ((tt, refl), refl) refl is_ended)
+    (λ y. never _ _ (no_full_phase n x y))))
 
-pub group_phase_exact : IsExact group_phase group_phase_at
-unfolding group_phase_at
-group_phase_exact = spelled_as Any group_phase _ group_phase_at phase_parts
-    (field_then Any phase_tag (number w8) no_body (number_at w8) _ (number_exact w8 wide8)
-    (λ n. tag_is phase_tag _ _ _ n 0 (known _ _ Open (tt, refl) refl is_open) (λ x. never _ _ (no_phase n x))))
+pub group_mode_exact : IsExact group_mode group_mode_at
+unfolding group_mode_at
+group_mode_exact = spelled_as Any group_mode _ group_mode_at mode_parts
+    (field_then Any profile_tag (number w8) phase_body (number_at w8) _ (number_exact w8 wide8)
+    (λ n. tag_is profile_tag _ _ _ n 1 members_phase_exact
+    (λ x. tag_is profile_tag _ _ _ n 2 full_phase_exact (λ y. never _ _ (no_mode n x y)))))
 
-pub group_phase_long : IsLong group_phase
-unfolding group_phase
-group_phase_long Open front h = number_long w8 wide8 0 front h
+pub group_mode_long : IsLong group_mode
+unfolding group_mode
+group_mode_long Members front h = long_left (number w8 1) _ front (number_long w8 wide8 1) h
+group_mode_long Full front h = long_left (number w8 2) _ front (number_long w8 wide8 2) h
+group_mode_long Ended front h = long_left (number w8 2) _ front (number_long w8 wide8 2) h
 
 -- ---- states
 
 pub follower_state_exact : IsExact follower_state follower_state_at
 unfolding follower_state follower_state_at
 follower_state_exact =
-    field_then Any (λ s. s.profile) state_profile _ state_profile_at _ state_profile_exact
-    (λ a. field_then _ (λ s. s.phase) group_phase _ group_phase_at _ group_phase_exact
+    field_then Any (λ s. s.mode) group_mode _ group_mode_at _ group_mode_exact
     (λ b. field_then _ (λ s. s.context) group_context _ group_context_at _ group_context_exact
     (λ c. field_then _ (λ s. s.interim) vector _ vector_at _ vector_exact
     (λ d. field_then _ (λ s. s.tree) vector _ vector_at _ vector_exact
-    (λ e. made_of _ (λ x. record { profile = a; phase = b; context = c; interim = d; tree = e; known = x }) (list known_entry) _
+    (λ e. made_of _ (λ x. record { mode = b; context = c; interim = d; tree = e; known = x }) (list known_entry) _
     (list_at known_entry_at) (list_exact known_entry known_entry_at known_entry_exact known_entry_long)
-    (λ x. (((((tt, refl), refl), refl), refl), refl)) (λ x. refl)
-    (λ s p. (s.known, rw (← p.0.0.0.0.1, ← p.0.0.0.1, ← p.0.0.1, ← p.0.1, ← p.1) refl)))))))
+    (λ x. ((((tt, refl), refl), refl), refl)) (λ x. refl)
+    (λ s p. (s.known, rw (← p.0.0.0.1, ← p.0.0.1, ← p.0.1, ← p.1) refl))))))
 
 pub follower_state_long : IsLong follower_state
 unfolding follower_state
-follower_state_long s front h = long_left (state_profile s.profile) _ front (state_profile_long s.profile) h
+follower_state_long s front h = long_left (group_mode s.mode) _ front (group_mode_long s.mode) h
 
 -- ---- files
 

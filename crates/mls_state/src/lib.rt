@@ -15,4 +15,4 @@ mod state;
 pub use fault::StateFileFault;
 pub use file::{StateFile, decode_state_file, encode_state_file};
 pub use known_entry::KnownEntry;
-pub use state::{FollowerState, GroupPhase, StateProfile};
+pub use state::{FollowerState, GroupMode};

@@ -1,5 +1,8 @@
 //! The state of a follower, as a state file has it.
 
+ghost use Rattle.mls_wire.specs.Parsing.{GivesOrFull};
+ghost use Rattle.mls_state.specs.Parsing.{members_phase_at, full_phase_at};
+
 use crate::known_entry::KnownEntry;
 use mls_nodes::GroupContext;
 use mls_wire::{
@@ -8,27 +11,22 @@ use mls_wire::{
 };
 use std::alloc::Global;
 
-/// The profile in which the group is followed. Only the members' profile can be stored.
+/// The profile in which the group is followed, and whether the group is over. In the members' profile no group is over.
 #[derive(Clone, Copy, Debug, PartialEq, Eq)]
-pub enum StateProfile {
-    /// The members' profile, encoded as 1.
+pub enum GroupMode {
+    /// The members' profile, encoded as 1, then 0.
     Members,
-}
-
-/// Whether the group goes on. Only a group that goes on can be stored.
-#[derive(Clone, Copy, Debug, PartialEq, Eq)]
-pub enum GroupPhase {
-    /// The group goes on, encoded as 0.
-    Open,
+    /// The full profile, of a group that goes on, encoded as 2, then 0.
+    Full,
+    /// The full profile, of a group that is over (RFC 9420, 11.2), encoded as 2, then 1.
+    Ended,
 }
 
 /// The state of a follower.
 #[derive(Debug, Drop)]
 pub struct FollowerState {
-    /// The profile in which the group is followed.
-    pub profile: StateProfile,
-    /// Whether the group goes on.
-    pub phase: GroupPhase,
+    /// The profile in which the group is followed, and whether the group is over.
+    pub mode: GroupMode,
     /// The group's context (RFC 9420, 8.1).
     pub context: GroupContext,
     /// The interim transcript hash (RFC 9420, 8.2).
@@ -47,84 +45,84 @@ fn bad_tag(tag: u8, at: usize) -> CodecFault {
     })
 }
 
-impl Decode for StateProfile {
-    ghost use Rattle.mls_state.specs.Layout.{state_profile};
-    ghost use Rattle.mls_state.specs.Parsing.{state_profile_at};
-    ghost use Rattle.mls_state.specs.StateExact.{state_profile_exact, state_profile_long};
+/// Reads what follows the members' profile: that the group goes on.
+#[tactic(auto, unfolding(crate::specs::Parsing::members_phase_at))]
+fn read_members_phase(alloc: Global, reader: &mut Reader<'_>) -> Result<GroupMode, CodecFault>
+    ensures { GivesOrFull members_phase_at reader.old reader.new result }
+{
+    let mut ahead = reader.fork();
+    let mode = match u8::read(alloc, &mut ahead)? {
+        0 => GroupMode::Members,
+        tag => return Err(bad_tag(tag, reader.place())),
+    };
+    *reader = ahead;
+    Ok(mode)
+}
 
-    ghost spelling = { state_profile };
+/// Reads what follows the full profile: whether the group is over.
+#[tactic(auto, unfolding(crate::specs::Parsing::full_phase_at))]
+fn read_full_phase(alloc: Global, reader: &mut Reader<'_>) -> Result<GroupMode, CodecFault>
+    ensures { GivesOrFull full_phase_at reader.old reader.new result }
+{
+    let mut ahead = reader.fork();
+    let mode = match u8::read(alloc, &mut ahead)? {
+        0 => GroupMode::Full,
+        1 => GroupMode::Ended,
+        tag => return Err(bad_tag(tag, reader.place())),
+    };
+    *reader = ahead;
+    Ok(mode)
+}
 
-    ghost reading = { state_profile_at };
+impl Decode for GroupMode {
+    ghost use Rattle.mls_state.specs.Layout.{group_mode};
+    ghost use Rattle.mls_state.specs.Parsing.{group_mode_at};
+    ghost use Rattle.mls_state.specs.StateExact.{group_mode_exact, group_mode_long};
 
-    #[tactic(auto, unfolding(crate::specs::Parsing::state_profile_at))]
-    fn read(alloc: Global, reader: &mut Reader<'_>) -> Result<StateProfile, CodecFault> {
+    ghost spelling = { group_mode };
+
+    ghost reading = { group_mode_at };
+
+    #[tactic(auto, unfolding(crate::specs::Parsing::group_mode_at))]
+    fn read(alloc: Global, reader: &mut Reader<'_>) -> Result<GroupMode, CodecFault> {
         let mut ahead = reader.fork();
-        let profile = match u8::read(alloc, &mut ahead)? {
-            1 => StateProfile::Members,
+        let mode = match u8::read(alloc, &mut ahead)? {
+            1 => read_members_phase(alloc, &mut ahead)?,
+            2 => read_full_phase(alloc, &mut ahead)?,
             tag => return Err(bad_tag(tag, reader.place())),
         };
         *reader = ahead;
-        Ok(profile)
+        Ok(mode)
     }
 
-    ghost exact = { state_profile_exact };
+    ghost exact = { group_mode_exact };
 
-    ghost long = { state_profile_long };
+    ghost long = { group_mode_long };
 }
 
-impl Encode for StateProfile {
-    #[tactic(auto, using(mls_nodes::specs::TagSizes::sizes), unfolding(crate::specs::Layout::state_profile))]
+impl Encode for GroupMode {
+    #[tactic(auto, using(mls_nodes::specs::TagSizes::sizes), unfolding(crate::specs::Layout::group_mode))]
     fn size(&self) -> Option<usize> {
         match self {
-            StateProfile::Members => Some(1),
+            GroupMode::Members | GroupMode::Full | GroupMode::Ended => add_sizes(Some(1), Some(1)),
         }
     }
 
-    #[tactic(auto, using(mls_wire::specs::WriteSequences::written), unfolding(crate::specs::Layout::state_profile))]
+    #[tactic(auto, using(mls_wire::specs::WriteSequences::written), unfolding(crate::specs::Layout::group_mode))]
     fn put(&self, _alloc: Global, draft: &mut Draft) -> Result<(), CodecFault> {
         match self {
-            StateProfile::Members => draft.put_u8(1),
-        }
-    }
-}
-
-impl Decode for GroupPhase {
-    ghost use Rattle.mls_state.specs.Layout.{group_phase};
-    ghost use Rattle.mls_state.specs.Parsing.{group_phase_at};
-    ghost use Rattle.mls_state.specs.StateExact.{group_phase_exact, group_phase_long};
-
-    ghost spelling = { group_phase };
-
-    ghost reading = { group_phase_at };
-
-    #[tactic(auto, unfolding(crate::specs::Parsing::group_phase_at))]
-    fn read(alloc: Global, reader: &mut Reader<'_>) -> Result<GroupPhase, CodecFault> {
-        let mut ahead = reader.fork();
-        let phase = match u8::read(alloc, &mut ahead)? {
-            0 => GroupPhase::Open,
-            tag => return Err(bad_tag(tag, reader.place())),
-        };
-        *reader = ahead;
-        Ok(phase)
-    }
-
-    ghost exact = { group_phase_exact };
-
-    ghost long = { group_phase_long };
-}
-
-impl Encode for GroupPhase {
-    #[tactic(auto, using(mls_nodes::specs::TagSizes::sizes), unfolding(crate::specs::Layout::group_phase))]
-    fn size(&self) -> Option<usize> {
-        match self {
-            GroupPhase::Open => Some(1),
-        }
-    }
-
-    #[tactic(auto, using(mls_wire::specs::WriteSequences::written), unfolding(crate::specs::Layout::group_phase))]
-    fn put(&self, _alloc: Global, draft: &mut Draft) -> Result<(), CodecFault> {
-        match self {
-            GroupPhase::Open => draft.put_u8(0),
+            GroupMode::Members => {
+                draft.put_u8(1)?;
+                draft.put_u8(0)
+            }
+            GroupMode::Full => {
+                draft.put_u8(2)?;
+                draft.put_u8(0)
+            }
+            GroupMode::Ended => {
+                draft.put_u8(2)?;
+                draft.put_u8(1)
+            }
         }
     }
 }
@@ -141,16 +139,14 @@ impl Decode for FollowerState {
     #[tactic(auto, unfolding(crate::specs::Parsing::follower_state_at))]
     fn read(alloc: Global, reader: &mut Reader<'_>) -> Result<FollowerState, CodecFault> {
         let mut ahead = reader.fork();
-        let profile = StateProfile::read(alloc, &mut ahead)?;
-        let phase = GroupPhase::read(alloc, &mut ahead)?;
+        let mode = GroupMode::read(alloc, &mut ahead)?;
         let context = GroupContext::read(alloc, &mut ahead)?;
         let interim = Opaque::read(alloc, &mut ahead)?;
         let tree = Opaque::read(alloc, &mut ahead)?;
         let known = Sequence::read(alloc, &mut ahead)?;
         *reader = ahead;
         Ok(FollowerState {
-            profile,
-            phase,
+            mode,
             context,
             interim,
             tree,
@@ -167,15 +163,12 @@ impl Encode for FollowerState {
     #[tactic(auto, using(mls_nodes::specs::TagSizes::sizes), unfolding(crate::specs::Layout::follower_state))]
     fn size(&self) -> Option<usize> {
         add_sizes(
-            self.profile.size(),
+            self.mode.size(),
             add_sizes(
-                self.phase.size(),
+                self.context.size(),
                 add_sizes(
-                    self.context.size(),
-                    add_sizes(
-                        self.interim.size(),
-                        add_sizes(self.tree.size(), self.known.size()),
-                    ),
+                    self.interim.size(),
+                    add_sizes(self.tree.size(), self.known.size()),
                 ),
             ),
         )
@@ -183,8 +176,7 @@ impl Encode for FollowerState {
 
     #[tactic(auto, using(mls_wire::specs::WriteSequences::written), unfolding(crate::specs::Layout::follower_state))]
     fn put(&self, alloc: Global, draft: &mut Draft) -> Result<(), CodecFault> {
-        self.profile.put(alloc, draft)?;
-        self.phase.put(alloc, draft)?;
+        self.mode.put(alloc, draft)?;
         self.context.put(alloc, draft)?;
         self.interim.put(alloc, draft)?;
         self.tree.put(alloc, draft)?;

@@ -1,3 +1,4 @@
+pub mod SigningKeys
 pub mod SignaturesToVerify
 pub mod Agreement
 pub mod DistinctStarts

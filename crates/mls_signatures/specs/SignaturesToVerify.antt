@@ -1,5 +1,5 @@
 -- Which signatures have to be verified: those of a start (RFC 9420, 12.4.3.1), those of a resumption from a stored state (own
--- rule), and those of a message of a group (5.1.2, 6.1, 7.2, 10.1). No checker is an argument, so they depend on no
+-- rule), and those of a message of a group (5.1.2, 6.1, 7.2, 10.1, 12.1.8). No checker is an argument, so they depend on no
 -- verification. Some may be listed that no rule checks, as if another rule refuses the message before.
 -- Used by contracts. `suite` and `group_id`: those of the group's context.
 use Rattle.std.specs.Prelude.{ℕ, ◌+◌, ◌==◌, ◌&&◌, not, nat_le, if◌then◌else◌, Bool, List, [], ◌∷◌, ◌++◌, filter, Option, Some, None, codes}
@@ -23,6 +23,8 @@ use Rattle.mls_msgs.specs.declared.message.Message.{Message}
 use Rattle.mls_msgs.specs.declared.message.Message.TheVariants as messages
 use Rattle.mls_msgs.specs.declared.proposal.Proposal.{Proposal}
 use Rattle.mls_msgs.specs.declared.proposal.Proposal.TheVariants as proposals
+use Rattle.mls_msgs.specs.declared.profile.Profile.{Profile}
+use Rattle.mls_msgs.specs.declared.profile.Profile.TheVariants.{Members, Full}
 use Rattle.mls_msgs.specs.declared.proposal.ProposalOrRef.{ProposalOrRef}
 use Rattle.mls_msgs.specs.declared.proposal.ProposalOrRef.TheVariants as entries
 use Rattle.mls_apply.specs.declared.list_item.KnownProposal.{KnownProposal}
@@ -30,6 +32,8 @@ use Rattle.mls_apply.specs.declared.list_item.ListItem.{ListItem}
 use Rattle.mls_apply.specs.ResolvedList.{resolved}
 use Rattle.mls_apply.specs.ListRules.{replaced_leaf}
 use Rattle.mls_apply.specs.AppliedList.{Grown, outcome}
+use Rattle.mls_apply.specs.Senders.{member_index}
+use Rattle.mls_signatures.specs.SigningKeys.{signed_context, outside_key, may_propose}
 use Rattle.mls_signatures.specs.declared.signature_to_verify.SignatureToVerify.{SignatureToVerify}
 
 -- ---- the signature of one thing that is signed, if it has one
@@ -57,11 +61,11 @@ abbrev pub package_signatures : ℕ → KeyPackage → List SignatureToVerify
 package_signatures suite k =
     labeled_signatures suite k.leaf_node.signature_key package_label (package_tbs k) k.signature
 
--- the signature of an AuthenticatedContent, under the key of the sender's leaf and over the group's context (6.1)
-abbrev pub framed_content_signatures : GroupContext → LeafNode → AuthenticatedParts → List SignatureToVerify
-framed_content_signatures context x a =
-    labeled_signatures context.cipher_suite x.signature_key content_label
-    (content_tbs a (Some context)) a.signature
+-- the signature of an AuthenticatedContent under this key. The group's context is signed too, as the sender demands (6.1)
+abbrev pub framed_content_signatures : GroupContext → List ℕ → AuthenticatedParts → List SignatureToVerify
+framed_content_signatures context key a =
+    labeled_signatures context.cipher_suite key content_label
+    (content_tbs a (signed_context context a.content.sender)) a.signature
 
 -- the signature of a GroupInfo, under the key of its signer's leaf (12.4.3); none if that leaf is blank
 abbrev pub info_signatures : GroupInfo → Option LeafNode → List SignatureToVerify
@@ -132,23 +136,27 @@ start_signatures info t = deduplicated (all_start_signatures info t)
 
 -- ---- those of proposals (12.1)
 
--- of an Add of member i the leaf's, then the KeyPackage's; of an Update the leaf's; of other proposals none
-abbrev pub proposal_signatures : GroupContext → ℕ → Proposal → List SignatureToVerify
-proposal_signatures context i (proposals.Add k) =
+-- of an Update the new leaf's, at the index of the member that sends it; none if no member sends it
+abbrev pub update_signatures : GroupContext → Option ℕ → LeafNode → List SignatureToVerify
+update_signatures context None x = []
+update_signatures context (Some i) x = leaf_signatures context.cipher_suite context.group_id i x
+
+-- of an Add of this sender the leaf's, then the KeyPackage's; of an Update the leaf's; of other proposals none
+abbrev pub proposal_signatures : GroupContext → Sender → Proposal → List SignatureToVerify
+proposal_signatures context sender (proposals.Add k) =
     leaf_signatures context.cipher_suite context.group_id 0 k.leaf_node ++
     package_signatures context.cipher_suite k
-proposal_signatures context i (proposals.Update x) =
-    leaf_signatures context.cipher_suite context.group_id i x
-proposal_signatures context i (proposals.Remove _) = []
-proposal_signatures context i (proposals.ContextExtensions _) = []
-proposal_signatures context i (proposals.PreSharedKey _) = []
-proposal_signatures context i (proposals.ReInit _) = []
-proposal_signatures context i (proposals.ExternalInit _) = []
+proposal_signatures context sender (proposals.Update x) = update_signatures context (member_index sender) x
+proposal_signatures context sender (proposals.Remove _) = []
+proposal_signatures context sender (proposals.ContextExtensions _) = []
+proposal_signatures context sender (proposals.PreSharedKey _) = []
+proposal_signatures context sender (proposals.ReInit _) = []
+proposal_signatures context sender (proposals.ExternalInit _) = []
 
 -- of an entry of a proposal list: those of a proposal by value; of a reference none
-abbrev pub entry_signatures : GroupContext → ℕ → ProposalOrRef → List SignatureToVerify
-entry_signatures context i (entries.Proposal p) = proposal_signatures context i p
-entry_signatures context i (entries.Reference _) = []
+abbrev pub entry_signatures : GroupContext → Sender → ProposalOrRef → List SignatureToVerify
+entry_signatures context committer (entries.Proposal p) = proposal_signatures context committer p
+entry_signatures context committer (entries.Reference _) = []
 
 -- of pending proposals, in their order
 abbrev pub pending_signatures : GroupContext → List KnownProposal → List SignatureToVerify
@@ -157,9 +165,10 @@ pending_signatures context (k ∷ ks) =
     proposal_signatures context k.sender k.proposal ++ pending_signatures context ks
 
 -- of the entries of a proposal list, in their order
-abbrev pub entries_signatures : GroupContext → ℕ → List ProposalOrRef → List SignatureToVerify
-entries_signatures context i [] = []
-entries_signatures context i (e ∷ es) = entry_signatures context i e ++ entries_signatures context i es
+abbrev pub entries_signatures : GroupContext → Sender → List ProposalOrRef → List SignatureToVerify
+entries_signatures context committer [] = []
+entries_signatures context committer (e ∷ es) =
+    entry_signatures context committer e ++ entries_signatures context committer es
 
 -- ---- those of resuming in a state with this context, this tree and these pending proposals (own rule)
 
@@ -215,7 +224,7 @@ abbrev pub commit_signatures : GroupContext → Tree → ℕ → Commit → Opti
     → List SignatureToVerify
 commit_signatures context t i c None = []
 commit_signatures context t i c (Some items) =
-    entries_signatures context i c.proposals ++
+    entries_signatures context (senders.Member i) c.proposals ++
     applied_list_signatures context i c.path items (outcome items t)
 
 -- of what member i, whose leaf is x, has sent: the message's own, then those of the proposal or the commit; of application
@@ -224,10 +233,10 @@ abbrev pub content_signatures : GroupContext → List KnownProposal → Tree →
     → Content → List SignatureToVerify
 content_signatures context known t a i x (contents.Application _) = []
 content_signatures context known t a i x (contents.Proposal p) =
-    framed_content_signatures context x a ++ proposal_signatures context i p
+    framed_content_signatures context x.signature_key a ++ proposal_signatures context (senders.Member i) p
 content_signatures context known t a i x (contents.Commit c) =
-    framed_content_signatures context x a
-    ++ commit_signatures context t i c (resolved i known c.proposals)
+    framed_content_signatures context x.signature_key a
+    ++ commit_signatures context t i c (resolved (senders.Member i) known c.proposals)
 
 -- of what member i has sent; none if its leaf is blank
 abbrev pub member_signatures : GroupContext → List KnownProposal → Tree → AuthenticatedParts → ℕ
@@ -235,29 +244,63 @@ abbrev pub member_signatures : GroupContext → List KnownProposal → Tree → 
 member_signatures context known t a i None = []
 member_signatures context known t a i (Some x) = content_signatures context known t a i x a.content.content
 
--- of what a sender has sent; none if it is no member
-abbrev pub sender_signatures : GroupContext → List KnownProposal → Tree → AuthenticatedParts → Sender
+-- of a proposal that a sender outside the group has sent under this key: the message's own, then those of the proposal; none
+-- if the sender may not send it
+abbrev pub outside_proposal_signatures : GroupContext → AuthenticatedParts → Sender → List ℕ → Proposal
     → List SignatureToVerify
-sender_signatures context known t a (senders.Member i) = member_signatures context known t a i (leaf_at 0 t i)
-sender_signatures context known t a (senders.External _) = []
-sender_signatures context known t a senders.NewMemberProposal = []
-sender_signatures context known t a senders.NewMemberCommit = []
+outside_proposal_signatures context a sender key p =
+    if may_propose sender p
+    then framed_content_signatures context key a ++ proposal_signatures context sender p
+    else []
+
+-- of what such a sender has sent; none if it is no proposal
+abbrev pub outside_content_signatures : GroupContext → AuthenticatedParts → Sender → List ℕ → Content
+    → List SignatureToVerify
+outside_content_signatures context a sender key (contents.Application _) = []
+outside_content_signatures context a sender key (contents.Proposal p) =
+    outside_proposal_signatures context a sender key p
+outside_content_signatures context a sender key (contents.Commit _) = []
+
+-- of what a sender outside the group has sent, if it has a key
+abbrev pub outside_signatures : GroupContext → AuthenticatedParts → Sender → Option (List ℕ) → List SignatureToVerify
+outside_signatures context a sender None = []
+outside_signatures context a sender (Some key) = outside_content_signatures context a sender key a.content.content
+
+-- these in the full profile; none in the members' profile
+abbrev pub in_full : Profile → List SignatureToVerify → List SignatureToVerify
+in_full Members qs = []
+in_full Full qs = qs
+
+-- of what a sender has sent; none of a client that joins with a commit
+abbrev pub sender_signatures : Profile → GroupContext → List KnownProposal → Tree → AuthenticatedParts → Sender
+    → List SignatureToVerify
+sender_signatures profile context known t a (senders.Member i) = member_signatures context known t a i (leaf_at 0 t i)
+sender_signatures profile context known t a (senders.External k) =
+    in_full profile (outside_signatures context a (senders.External k)
+    (outside_key context (senders.External k) a.content.content))
+sender_signatures profile context known t a senders.NewMemberProposal =
+    in_full profile (outside_signatures context a senders.NewMemberProposal
+    (outside_key context senders.NewMemberProposal a.content.content))
+sender_signatures profile context known t a senders.NewMemberCommit = []
 
 -- of an AuthenticatedContent; none if it is of another group or epoch (6.1)
-abbrev pub authenticated_signatures : GroupContext → List KnownProposal → Tree → AuthenticatedParts
+abbrev pub authenticated_signatures : Profile → GroupContext → List KnownProposal → Tree → AuthenticatedParts
     → List SignatureToVerify
-authenticated_signatures context known t a =
+authenticated_signatures profile context known t a =
     if bytes_eq a.content.group_id context.group_id && a.content.epoch == context.epoch
-    then sender_signatures context known t a a.content.sender
+    then sender_signatures profile context known t a a.content.sender
     else []
 
 -- of a message; none if it is no PublicMessage
-abbrev pub all_message_signatures : GroupContext → List KnownProposal → Tree → Message → List SignatureToVerify
-all_message_signatures context known t (messages.Public m) = authenticated_signatures context known t m.auth
-all_message_signatures context known t (messages.Unread _ _) = []
-all_message_signatures context known t (messages.GroupInfo _) = []
-all_message_signatures context known t (messages.KeyPackage _) = []
+abbrev pub all_message_signatures : Profile → GroupContext → List KnownProposal → Tree → Message
+    → List SignatureToVerify
+all_message_signatures profile context known t (messages.Public m) =
+    authenticated_signatures profile context known t m.auth
+all_message_signatures profile context known t (messages.Unread _ _) = []
+all_message_signatures profile context known t (messages.GroupInfo _) = []
+all_message_signatures profile context known t (messages.KeyPackage _) = []
 
 -- the signatures of a message, without duplicates
-abbrev pub message_signatures : GroupContext → List KnownProposal → Tree → Message → List SignatureToVerify
-message_signatures context known t m = deduplicated (all_message_signatures context known t m)
+abbrev pub message_signatures : Profile → GroupContext → List KnownProposal → Tree → Message
+    → List SignatureToVerify
+message_signatures profile context known t m = deduplicated (all_message_signatures profile context known t m)

@@ -1,10 +1,12 @@
 //! The signatures of a member's commit after the message's own (RFC 9420, 12.4), appended to a list.
 
 ghost use Rattle.std.specs.Prelude.{◌≡◌, ◌++◌, ◌∷◌, [], Some, IfOk, OnOk, option_map};
+ghost use Rattle.mls_msgs.specs.declared.framed_content.Sender.TheVariants.{Member};
+ghost use Rattle.mls_apply.specs.Senders.{member_index};
 ghost use Rattle.mls_apply.specs.ResolvedList.{resolved};
 ghost use Rattle.mls_apply.specs.AppliedList.{grown, outcome};
 ghost use Rattle.mls_apply.specs.Staged.{IsSettled};
-ghost use Rattle.mls_signatures.specs.SignaturesToVerify.{signatures_at, entry_signatures, entries_signatures, replaced_leaves, path_signatures, applied_list_signatures, commit_signatures};
+ghost use Rattle.mls_signatures.specs.SignaturesToVerify.{signatures_at, entry_signatures, entries_signatures, index_before, replaced_leaves, path_signatures, applied_list_signatures, commit_signatures};
 
 use crate::signature_list::{
     push_leaf_signature, push_non_blank_leaf_signature, push_proposal_signatures,
@@ -12,7 +14,7 @@ use crate::signature_list::{
 use crate::signature_to_verify::SignatureToVerify;
 use mls_apply::{ApplyFault, Leaves, ListItem, PendingProposals, StagedTree, resolve_list};
 use mls_check::OutOfMemory;
-use mls_msgs::{Commit, Proposal, ProposalOrRef, UpdatePath};
+use mls_msgs::{Commit, Proposal, ProposalOrRef, Sender, UpdatePath};
 use mls_nodes::GroupContext;
 use mls_tree::PublicTree;
 use std::alloc::Global;
@@ -29,7 +31,7 @@ pub(crate) struct MemberCommit<'a> {
 fn push_entry_signatures(
     alloc: Global,
     context: &GroupContext,
-    committer: u32,
+    committer: Sender,
     entry: &ProposalOrRef,
     list: &mut Vec<SignatureToVerify>,
 ) -> Result<(), OutOfMemory>
@@ -48,7 +50,7 @@ fn push_entry_signatures(
 fn push_entries_signatures(
     alloc: Global,
     context: &GroupContext,
-    committer: u32,
+    committer: Sender,
     entries: &[ProposalOrRef],
     list: &mut Vec<SignatureToVerify>,
 ) -> Result<(), OutOfMemory>
@@ -61,15 +63,27 @@ fn push_entries_signatures(
     Ok(())
 }
 
-/// Appends the leaf that an item replaces, if the item is an Update.
+/// Appends the leaf index of a sender, if the sender is a member.
+fn push_member_index(sender: Sender, leaves: &mut Vec<u32>) -> Result<(), OutOfMemory>
+    ensures { OnOk result (leaves.new.items ≡ leaves.old.items ++ index_before (member_index sender) []) }
+{
+    match sender {
+        Sender::Member(index) => {
+            leaves.push(index)?;
+            Ok(())
+        }
+        Sender::External(_) => Ok(()),
+        Sender::NewMemberProposal => Ok(()),
+        Sender::NewMemberCommit => Ok(()),
+    }
+}
+
+/// Appends the leaf that an item replaces, if the item is an Update of a member.
 fn push_replaced_leaf(item: &ListItem, leaves: &mut Vec<u32>) -> Result<(), OutOfMemory>
     ensures { OnOk result (leaves.new.items ≡ leaves.old.items ++ replaced_leaves (item.now ∷ [])) }
 {
     match item.proposal {
-        Proposal::Update(_) => {
-            leaves.push(item.sender)?;
-            Ok(())
-        }
+        Proposal::Update(_) => push_member_index(item.sender, leaves),
         Proposal::Add(_) => Ok(()),
         Proposal::Remove(_) => Ok(()),
         Proposal::ContextExtensions(_) => Ok(()),
@@ -224,7 +238,8 @@ fn push_list_signatures(
     ensures settled { IsSettled tree.new }
 {
     let entries = commit.commit.proposals.as_slice();
-    push_entries_signatures(alloc, commit.context, commit.committer, entries, list)?;
+    let committer = Sender::Member(commit.committer);
+    push_entries_signatures(alloc, commit.context, committer, entries, list)?;
     push_applied_list_signatures(alloc, commit, items, tree, list)
 }
 
@@ -235,9 +250,10 @@ fn resolved_items<'a>(
     known: &'a PendingProposals,
 ) -> Result<Option<Vec<ListItem<'a>>>, OutOfMemory>
     ensures { IfOk result (λ o. option_map (λ v. v.items) o
-        ≡ resolved commit.now.committer known.now commit.now.commit.now.proposals) }
+        ≡ resolved (Member commit.now.committer) known.now commit.now.commit.now.proposals) }
 {
-    match resolve_list(alloc, commit.commit, commit.committer, known) {
+    let committer = Sender::Member(commit.committer);
+    match resolve_list(alloc, commit.commit, committer, known) {
         Ok(items) => Ok(Some(items)),
         Err(ApplyFault::UnknownReference) => Ok(None),
         Err(ApplyFault::OutOfMemory) => Err(OutOfMemory),
@@ -257,7 +273,7 @@ pub(crate) fn push_commit_signatures(
     ensures signatures { OnOk result (list.new.items ≡ list.old.items
         ++ commit_signatures commit.now.context.now tree.old.tree commit.now.committer
         commit.now.commit.now
-        (resolved commit.now.committer known.now commit.now.commit.now.proposals)) }
+        (resolved (Member commit.now.committer) known.now commit.now.commit.now.proposals)) }
     ensures base { tree.new.base ≡ tree.old.base }
     ensures tree { tree.new.tree ≡ tree.old.tree }
     ensures settled { IsSettled tree.new }

@@ -13,7 +13,11 @@ mod resumption;
 mod signature_list;
 mod signature_to_verify;
 mod signatures;
+mod signing_keys;
 
 pub use resumption::resumption_signatures;
 pub use signature_to_verify::SignatureToVerify;
-pub use signatures::{info_signatures, leaf_signatures, message_signatures, start_signatures};
+pub use signatures::{
+    GroupEpoch, info_signatures, leaf_signatures, message_signatures, start_signatures,
+};
+pub use signing_keys::{external_key, may_propose, outside_key, signed_context};

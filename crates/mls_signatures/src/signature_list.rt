@@ -2,14 +2,16 @@
 
 ghost use Rattle.std.specs.Prelude.{◌≡◌, ◌++◌, Some, OnOk};
 ghost use Rattle.mls_tree.specs.Tree.{leaf_at};
-ghost use Rattle.mls_signatures.specs.SignaturesToVerify.{labeled_signatures, leaf_signatures, package_signatures, framed_content_signatures, info_signatures, non_blank_leaf_signatures, tree_signatures, is_supported_context, all_start_signatures, proposal_signatures};
+ghost use Rattle.mls_signatures.specs.SignaturesToVerify.{labeled_signatures, leaf_signatures, package_signatures, framed_content_signatures, info_signatures, non_blank_leaf_signatures, tree_signatures, is_supported_context, all_start_signatures, proposal_signatures, update_signatures};
+ghost use Rattle.mls_apply.specs.Senders.{member_index};
 
 use crate::signature_to_verify::SignatureToVerify;
+use crate::signing_keys::signed_context;
 use mls_check::{LEAF_NODE_TBS, OutOfMemory, sign_content};
 use mls_hash::Suite;
 use mls_msgs::{
     Authenticated, CONTENT_LABEL, GROUP_INFO_LABEL, GroupInfo, KEY_PACKAGE_LABEL, KeyPackage,
-    Proposal, content_tbs, info_tbs, package_tbs,
+    Proposal, Sender, content_tbs, info_tbs, package_tbs,
 };
 use mls_nodes::{GroupContext, LeafNode, leaf_tbs};
 use mls_tree::PublicTree;
@@ -187,37 +189,57 @@ fn push_package_signature(
     push_signature(alloc, &signed, tbs.as_slice(), list)
 }
 
-/// Appends the signature of an AuthenticatedContent, under the key of the sender's leaf and over the group's context (RFC
-/// 9420, 6.1).
+/// Appends the signature of an AuthenticatedContent, under this key, and over the group's context if the sender signs it
+/// (RFC 9420, 6.1).
 pub(crate) fn push_framed_content_signature(
     alloc: Global,
     context: &GroupContext,
-    leaf: &LeafNode,
+    key: &Opaque,
     auth: &Authenticated,
     list: &mut Vec<SignatureToVerify>,
 ) -> Result<(), OutOfMemory>
     ensures { OnOk result (list.new.items ≡ list.old.items
-        ++ framed_content_signatures context.now leaf.now auth.now) }
+        ++ framed_content_signatures context.now key.now auth.now) }
 {
-    let tbs = match content_tbs(alloc, auth, Some(context)) {
+    let over = signed_context(context, auth.content().sender);
+    let tbs = match content_tbs(alloc, auth, over) {
         Ok(tbs) => tbs,
         Err(CodecFault::Wire(_)) => return Ok(()),
         Err(CodecFault::OutOfMemory) => return Err(OutOfMemory),
     };
     let signed = Labeled {
         suite: context.cipher_suite,
-        key: &leaf.signature_key,
+        key,
         label: CONTENT_LABEL,
         signature: auth.signature(),
     };
     push_signature(alloc, &signed, tbs.as_slice(), list)
 }
 
-/// Appends the signatures of a proposal of a member (RFC 9420, 12.1).
+/// Appends the signature of the leaf node of an Update, if its sender is a member.
+fn push_update_signature(
+    alloc: Global,
+    context: &GroupContext,
+    sender: Sender,
+    leaf: &LeafNode,
+    list: &mut Vec<SignatureToVerify>,
+) -> Result<(), OutOfMemory>
+    ensures { OnOk result (list.new.items ≡ list.old.items
+        ++ update_signatures context.now (member_index sender) leaf.now) }
+{
+    match sender {
+        Sender::Member(index) => push_leaf_signature(alloc, context, index, leaf, list),
+        Sender::External(_) => Ok(()),
+        Sender::NewMemberProposal => Ok(()),
+        Sender::NewMemberCommit => Ok(()),
+    }
+}
+
+/// Appends the signatures of a proposal of any sender (RFC 9420, 12.1).
 pub(crate) fn push_proposal_signatures(
     alloc: Global,
     context: &GroupContext,
-    sender: u32,
+    sender: Sender,
     proposal: &Proposal,
     list: &mut Vec<SignatureToVerify>,
 ) -> Result<(), OutOfMemory>
@@ -229,7 +251,7 @@ pub(crate) fn push_proposal_signatures(
             push_leaf_signature(alloc, context, 0, &key_package.leaf_node, list)?;
             push_package_signature(alloc, context.cipher_suite, key_package, list)
         }
-        Proposal::Update(leaf) => push_leaf_signature(alloc, context, sender, leaf, list),
+        Proposal::Update(leaf) => push_update_signature(alloc, context, sender, leaf, list),
         Proposal::Remove(_) => Ok(()),
         Proposal::ContextExtensions(_) => Ok(()),
         Proposal::PreSharedKey(_) => Ok(()),

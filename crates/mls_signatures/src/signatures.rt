@@ -3,7 +3,8 @@
 ghost use Rattle.std.specs.Prelude.{◌≡◌, ◌++◌, IfOk, OnOk};
 ghost use Rattle.mls_tree.specs.Tree.{leaf_at};
 ghost use Rattle.mls_apply.specs.Staged.{IsSettled};
-ghost use Rattle.mls_signatures.specs.SignaturesToVerify.{all_message_signatures, authenticated_signatures, info_signatures, member_signatures, message_signatures, non_blank_leaf_signatures, start_signatures};
+ghost use Rattle.mls_signatures.specs.SignaturesToVerify.{all_message_signatures, authenticated_signatures, info_signatures, member_signatures, message_signatures, non_blank_leaf_signatures, outside_content_signatures, outside_proposal_signatures, outside_signatures, sender_signatures, start_signatures};
+ghost use Rattle.mls_signatures.specs.SigningKeys.{outside_key};
 
 use crate::commit_signatures::{MemberCommit, push_commit_signatures};
 use crate::duplicates::deduplicated;
@@ -12,11 +13,13 @@ use crate::signature_list::{
     push_proposal_signatures, push_start_signatures,
 };
 use crate::signature_to_verify::SignatureToVerify;
+use crate::signing_keys::{may_propose, outside_key};
 use mls_apply::{PendingProposals, StagedTree};
 use mls_check::OutOfMemory;
-use mls_msgs::{Authenticated, Content, GroupInfo, Message, Sender};
+use mls_msgs::{Authenticated, Content, GroupInfo, Message, Profile, Proposal, Sender};
 use mls_nodes::GroupContext;
 use mls_tree::PublicTree;
+use mls_wire::Opaque;
 use std::alloc::Global;
 
 /// Returns the signatures of a start from a GroupInfo and a tree (RFC 9420, 12.4.3.1), without duplicates: the GroupInfo's,
@@ -94,11 +97,15 @@ pub fn leaf_signatures(
     }
 }
 
-/// What the signatures of a message depend on besides the tree: the context of the group, and its pending proposals.
+/// What the signatures of a message depend on besides the tree.
 #[derive(Clone, Copy)]
-struct Epoch<'a> {
-    context: &'a GroupContext,
-    known: &'a PendingProposals,
+pub struct GroupEpoch<'a> {
+    /// The profile in which the group is followed.
+    pub profile: Profile,
+    /// The group's context.
+    pub context: &'a GroupContext,
+    /// The pending proposals.
+    pub known: &'a PendingProposals,
 }
 
 /// What a member has sent.
@@ -111,7 +118,7 @@ struct Sent<'a> {
 /// Appends the signatures of what a member has sent, if its leaf is non-blank.
 fn push_member_signatures(
     alloc: Global,
-    epoch: &Epoch<'_>,
+    epoch: &GroupEpoch<'_>,
     tree: &mut StagedTree,
     sent: &Sent<'_>,
     list: &mut Vec<SignatureToVerify>,
@@ -130,14 +137,15 @@ fn push_member_signatures(
     let Some(leaf) = tree.tree().leaf(sender) else {
         return Ok(());
     };
+    let key = &leaf.signature_key;
     match &auth.content().content {
         Content::Application(_) => Ok(()),
         Content::Proposal(proposal) => {
-            push_framed_content_signature(alloc, context, leaf, auth, list)?;
-            push_proposal_signatures(alloc, context, sender, proposal, list)
+            push_framed_content_signature(alloc, context, key, auth, list)?;
+            push_proposal_signatures(alloc, context, Sender::Member(sender), proposal, list)
         }
         Content::Commit(commit) => {
-            push_framed_content_signature(alloc, context, leaf, auth, list)?;
+            push_framed_content_signature(alloc, context, key, auth, list)?;
             let commit = MemberCommit {
                 context,
                 committer: sender,
@@ -148,17 +156,117 @@ fn push_member_signatures(
     }
 }
 
-/// Appends the signatures of an AuthenticatedContent, if it is of the group and its epoch, and from a member.
-fn push_authenticated_signatures(
+/// An AuthenticatedContent of a sender outside the group, with the key of the sender.
+#[derive(Clone, Copy)]
+struct OutsideFrame<'a> {
+    key: &'a Opaque,
+    auth: &'a Authenticated,
+}
+
+/// Appends the signatures of a proposal that a sender outside the group has sent, if the sender may send it.
+fn push_outside_proposal_signatures(
     alloc: Global,
-    epoch: &Epoch<'_>,
+    context: &GroupContext,
+    frame: &OutsideFrame<'_>,
+    proposal: &Proposal,
+    list: &mut Vec<SignatureToVerify>,
+) -> Result<(), OutOfMemory>
+    ensures { let auth = frame.now.auth.now in
+        OnOk result (list.new.items ≡ list.old.items ++ outside_proposal_signatures context.now auth
+        auth.content.sender frame.now.key.now proposal.now) }
+{
+    let sender = frame.auth.content().sender;
+    if !may_propose(sender, proposal) {
+        return Ok(());
+    }
+    push_framed_content_signature(alloc, context, frame.key, frame.auth, list)?;
+    push_proposal_signatures(alloc, context, sender, proposal, list)
+}
+
+/// Appends the signatures of what a sender outside the group has sent, if it is a proposal that the sender may send.
+fn push_outside_content_signatures(
+    alloc: Global,
+    context: &GroupContext,
+    frame: &OutsideFrame<'_>,
+    list: &mut Vec<SignatureToVerify>,
+) -> Result<(), OutOfMemory>
+    ensures { let auth = frame.now.auth.now in
+        OnOk result (list.new.items ≡ list.old.items ++ outside_content_signatures context.now auth
+        auth.content.sender frame.now.key.now auth.content.content) }
+{
+    match &frame.auth.content().content {
+        Content::Application(_) => Ok(()),
+        Content::Proposal(proposal) => {
+            push_outside_proposal_signatures(alloc, context, frame, proposal, list)
+        }
+        Content::Commit(_) => Ok(()),
+    }
+}
+
+/// Appends the signatures of what a sender outside the group has sent, if the sender has a key.
+fn push_outside_signatures(
+    alloc: Global,
+    context: &GroupContext,
+    auth: &Authenticated,
+    list: &mut Vec<SignatureToVerify>,
+) -> Result<(), OutOfMemory>
+    ensures { let content = auth.now.content in
+        OnOk result (list.new.items ≡ list.old.items ++ outside_signatures context.now auth.now content.sender
+        (outside_key context.now content.sender content.content)) }
+{
+    let content = auth.content();
+    let Some(key) = outside_key(alloc, context, content.sender, &content.content)? else {
+        return Ok(());
+    };
+    let frame = OutsideFrame { key: &key, auth };
+    let answer = push_outside_content_signatures(alloc, context, &frame, list);
+    drop(key);
+    answer
+}
+
+/// Appends the signatures of what a sender has sent. In the members' profile there are none of a sender outside the group.
+fn push_sender_signatures(
+    alloc: Global,
+    epoch: &GroupEpoch<'_>,
     tree: &mut StagedTree,
     auth: &Authenticated,
     list: &mut Vec<SignatureToVerify>,
 ) -> Result<(), OutOfMemory>
     requires { IsSettled tree.old }
     ensures signatures { OnOk result (list.new.items ≡ list.old.items
-        ++ authenticated_signatures epoch.now.context.now epoch.now.known.now tree.old.tree auth.now) }
+        ++ sender_signatures epoch.now.profile epoch.now.context.now epoch.now.known.now tree.old.tree auth.now
+        auth.now.content.sender) }
+    ensures base { tree.new.base ≡ tree.old.base }
+    ensures tree { tree.new.tree ≡ tree.old.tree }
+    ensures settled { IsSettled tree.new }
+{
+    match (auth.content().sender, epoch.profile) {
+        (Sender::Member(sender), _) => {
+            let sent = Sent { sender, auth };
+            push_member_signatures(alloc, epoch, tree, &sent, list)
+        }
+        (Sender::External(_), Profile::Full) => {
+            push_outside_signatures(alloc, epoch.context, auth, list)
+        }
+        (Sender::NewMemberProposal, Profile::Full) => {
+            push_outside_signatures(alloc, epoch.context, auth, list)
+        }
+        _ => Ok(()),
+    }
+}
+
+/// Appends the signatures of an AuthenticatedContent, if it is of the group and its epoch.
+fn push_authenticated_signatures(
+    alloc: Global,
+    epoch: &GroupEpoch<'_>,
+    tree: &mut StagedTree,
+    auth: &Authenticated,
+    list: &mut Vec<SignatureToVerify>,
+) -> Result<(), OutOfMemory>
+    requires { IsSettled tree.old }
+    ensures signatures { OnOk result (list.new.items ≡ list.old.items
+        ++ authenticated_signatures epoch.now.profile epoch.now.context.now epoch.now.known.now tree.old.tree
+        auth.now) }
     ensures base { tree.new.base ≡ tree.old.base }
     ensures tree { tree.new.tree ≡ tree.old.tree }
     ensures settled { IsSettled tree.new }
@@ -170,24 +278,21 @@ fn push_authenticated_signatures(
     if content.epoch != epoch.context.epoch {
         return Ok(());
     }
-    let Sender::Member(sender) = content.sender else {
-        return Ok(());
-    };
-    let sent = Sent { sender, auth };
-    push_member_signatures(alloc, epoch, tree, &sent, list)
+    push_sender_signatures(alloc, epoch, tree, auth, list)
 }
 
 /// Appends the signatures of a message, if it is a PublicMessage.
 fn push_message_signatures(
     alloc: Global,
-    epoch: &Epoch<'_>,
+    epoch: &GroupEpoch<'_>,
     tree: &mut StagedTree,
     message: &Message,
     list: &mut Vec<SignatureToVerify>,
 ) -> Result<(), OutOfMemory>
     requires { IsSettled tree.old }
     ensures signatures { OnOk result (list.new.items ≡ list.old.items
-        ++ all_message_signatures epoch.now.context.now epoch.now.known.now tree.old.tree message.now) }
+        ++ all_message_signatures epoch.now.profile epoch.now.context.now epoch.now.known.now tree.old.tree
+        message.now) }
     ensures base { tree.new.base ≡ tree.old.base }
     ensures tree { tree.new.tree ≡ tree.old.tree }
     ensures settled { IsSettled tree.new }
@@ -200,11 +305,13 @@ fn push_message_signatures(
     }
 }
 
-/// Returns the signatures of a message of a group with this context, these pending proposals and this tree, without
-/// duplicates (RFC 9420, 6): the message's own, if it is a PublicMessage of the group and its epoch and from a member; then
-/// of an Add the leaf's and the KeyPackage's, and of an Update the leaf's; of a commit those of its proposals by value, and
-/// of the leaves that it adds or replaces. Some may be returned that no rule checks, as if another rule refuses the message
-/// before.
+/// Returns the signatures of a message of a group in this epoch, with this tree, without duplicates (RFC 9420, 6): the
+/// message's own, if it is a PublicMessage of the group and its epoch; then of an Add the leaf's and the KeyPackage's, and of
+/// an Update the leaf's; of a commit those of its proposals by value, and of the leaves that it adds or replaces.
+///
+/// In the members' profile only messages of members have signatures. In the full profile also the proposals that external
+/// senders and new members may send do, if the sender has a key (12.1.8). Some signatures may be returned that no rule
+/// checks, as if another rule refuses the message before.
 ///
 /// The list of a commit is applied to the tree and taken back, so the tree must be settled. Its changes are taken back
 /// whatever is returned.
@@ -214,21 +321,19 @@ fn push_message_signatures(
 /// [`OutOfMemory`].
 pub fn message_signatures(
     alloc: Global,
-    context: &GroupContext,
-    known: &PendingProposals,
+    epoch: &GroupEpoch<'_>,
     tree: &mut StagedTree,
     message: &Message,
 ) -> Result<Vec<SignatureToVerify>, OutOfMemory>
     requires settled { IsSettled tree.old }
-    ensures signatures { IfOk result (λ v.
-        v.items ≡ message_signatures context.now known.now tree.old.tree message.now) }
+    ensures signatures { IfOk result (λ v. v.items
+        ≡ message_signatures epoch.now.profile epoch.now.context.now epoch.now.known.now tree.old.tree message.now) }
     ensures base { tree.new.base ≡ tree.old.base }
     ensures tree { tree.new.tree ≡ tree.old.tree }
     ensures settled { IsSettled tree.new }
 {
-    let epoch = Epoch { context, known };
     let mut list = Vec::new(alloc);
-    match push_message_signatures(alloc, &epoch, tree, message, &mut list) {
+    match push_message_signatures(alloc, epoch, tree, message, &mut list) {
         Ok(()) => deduplicated(alloc, list),
         Err(memory) => {
             drop(list);

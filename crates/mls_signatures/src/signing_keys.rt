@@ -1,0 +1,162 @@
+//! Under which key the signature of a FramedContent is verified, and which proposals a sender may send (RFC 9420, 6.1 and
+//! 12.1.8).
+
+ghost use Rattle.std.specs.Prelude.{◌≡◌, IfOk, IfSome, None, OnErr, option_map};
+ghost use Rattle.mls_nodes.specs.ExternalSenders.{senders_by};
+ghost use Rattle.mls_signatures.specs.SigningKeys.{added_key, external_key, is_external_proposal, joiner_key, key_at, may_propose, outside_key, signed_context};
+
+use mls_check::OutOfMemory;
+use mls_msgs::{Content, Proposal, Sender};
+use mls_nodes::{Extensions, ExternalSender, ExternalSenders, GroupContext, external_senders};
+use mls_wire::{CodecFault, Opaque, copy_of};
+use std::alloc::Global;
+
+/// Returns the context that is signed with the content of this sender: that of the group if the sender is a member or joins
+/// with a commit (RFC 9420, 6.1: FramedContentTBS).
+pub fn signed_context(context: &GroupContext, sender: Sender) -> Option<&GroupContext>
+    ensures { option_map (λ c. c.now) result ≡ signed_context context.now sender }
+{
+    match sender {
+        Sender::Member(_) => Some(context),
+        Sender::External(_) => None,
+        Sender::NewMemberProposal => None,
+        Sender::NewMemberCommit => Some(context),
+    }
+}
+
+/// Returns the external senders of a group with these extensions, if they can be read.
+#[tactic(auto, using(crate::proofs::ExternalKeys::senders_read, crate::proofs::ExternalKeys::senders_unread))]
+fn senders_of(
+    alloc: Global,
+    extensions: &Extensions,
+) -> Result<Option<ExternalSenders>, OutOfMemory>
+    ensures { IfOk result (λ senders. senders ≡ senders_by extensions.now) }
+{
+    match external_senders(alloc, extensions) {
+        Ok(senders) => Ok(Some(senders)),
+        Err(CodecFault::Wire(_)) => Ok(None),
+        Err(CodecFault::OutOfMemory) => Err(OutOfMemory),
+    }
+}
+
+/// The signature key of the external sender with this index.
+#[tactic(auto, using(crate::proofs::ExternalKeys::key_there, crate::proofs::ExternalKeys::key_past))]
+fn key_at(senders: &[ExternalSender], index: u32) -> Option<&Opaque>
+    ensures { option_map (λ key. key.now) result ≡ key_at senders.now index }
+{
+    match senders.get(index as usize) {
+        Some(sender) => Some(&sender.signature_key),
+        None => None,
+    }
+}
+
+/// Returns the signature key of the external sender with this index (RFC 9420, 12.1.8), if there is one. There is none if
+/// the extension external_senders cannot be read. The first sender has the index 0.
+///
+/// # Errors
+///
+/// [`OutOfMemory`].
+pub fn external_key(
+    alloc: Global,
+    extensions: &Extensions,
+    index: u32,
+) -> Result<Option<Opaque>, OutOfMemory>
+    ensures { IfOk result (λ key. key ≡ external_key extensions.now index) }
+{
+    let Some(senders) = senders_of(alloc, extensions)? else {
+        return Ok(None);
+    };
+    let key = match key_at(senders.as_slice(), index) {
+        Some(key) => copy_of(alloc, key),
+        None => return Ok(None),
+    };
+    drop(senders);
+    Ok(Some(key?))
+}
+
+/// The signature key of the client that an Add adds.
+fn added_key(proposal: &Proposal) -> Option<&Opaque>
+    ensures { option_map (λ key. key.now) result ≡ added_key proposal.now }
+{
+    match proposal {
+        Proposal::Add(key_package) => Some(&key_package.leaf_node.signature_key),
+        Proposal::Update(_) => None,
+        Proposal::Remove(_) => None,
+        Proposal::ContextExtensions(_) => None,
+        Proposal::PreSharedKey(_) => None,
+        Proposal::ReInit(_) => None,
+        Proposal::ExternalInit(_) => None,
+    }
+}
+
+/// The signature key of a client that proposes its own Add.
+fn joiner_key(content: &Content) -> Option<&Opaque>
+    ensures { option_map (λ key. key.now) result ≡ joiner_key content.now }
+{
+    match content {
+        Content::Application(_) => None,
+        Content::Proposal(proposal) => added_key(proposal),
+        Content::Commit(_) => None,
+    }
+}
+
+/// Returns a copy of the signature key of a client that proposes its own Add (RFC 9420, 12.1.8), if the content is one.
+fn joiner_key_copy(alloc: Global, content: &Content) -> Result<Option<Opaque>, OutOfMemory>
+    ensures { IfOk result (λ key. key ≡ joiner_key content.now) }
+{
+    match joiner_key(content) {
+        Some(key) => Ok(Some(copy_of(alloc, key)?)),
+        None => Ok(None),
+    }
+}
+
+/// Returns the key under which the signature of a content of a sender outside the group is verified (RFC 9420, 6.1 and
+/// 12.1.8), if there is one: that of the external sender in the group's context, or that of the client that proposes its
+/// own Add. There is none for a client that joins with a commit.
+///
+/// # Errors
+///
+/// [`OutOfMemory`].
+pub fn outside_key(
+    alloc: Global,
+    context: &GroupContext,
+    sender: Sender,
+    content: &Content,
+) -> Result<Option<Opaque>, OutOfMemory>
+    ensures { IfOk result (λ key. key ≡ outside_key context.now sender content.now) }
+{
+    match sender {
+        Sender::Member(_) => Ok(None),
+        Sender::External(index) => external_key(alloc, &context.extensions, index),
+        Sender::NewMemberProposal => joiner_key_copy(alloc, content),
+        Sender::NewMemberCommit => Ok(None),
+    }
+}
+
+/// Whether an external sender may send a proposal.
+fn is_external_proposal(proposal: &Proposal) -> bool
+    ensures { result ≡ is_external_proposal proposal.now }
+{
+    match proposal {
+        Proposal::Add(_) => true,
+        Proposal::Update(_) => false,
+        Proposal::Remove(_) => true,
+        Proposal::ContextExtensions(_) => true,
+        Proposal::PreSharedKey(_) => true,
+        Proposal::ReInit(_) => true,
+        Proposal::ExternalInit(_) => false,
+    }
+}
+
+/// Returns whether a sender may send a proposal (RFC 9420, 6.1 and 12.1.8). A member may send any; an external sender no
+/// Update and no ExternalInit; a client that proposes to join only an Add; a client that joins with a commit none.
+pub fn may_propose(sender: Sender, proposal: &Proposal) -> bool
+    ensures { result ≡ may_propose sender proposal.now }
+{
+    match sender {
+        Sender::Member(_) => true,
+        Sender::External(_) => is_external_proposal(proposal),
+        Sender::NewMemberProposal => added_key(proposal).is_some(),
+        Sender::NewMemberCommit => false,
+    }
+}

@@ -24,7 +24,10 @@ use Rattle.mls_msgs.specs.declared.group_info.GroupInfo.{GroupInfo}
 use Rattle.mls_msgs.specs.declared.key_package.KeyPackage.{KeyPackage}
 use Rattle.mls_msgs.specs.declared.message.Message.{Message}
 use Rattle.mls_msgs.specs.declared.message.Message.TheVariants as messages
+use Rattle.mls_msgs.specs.declared.profile.Profile.{Profile}
+use Rattle.mls_msgs.specs.declared.profile.Profile.TheVariants.{Members, Full}
 use Rattle.mls_msgs.specs.declared.proposal.Proposal.{Proposal}
+use Rattle.mls_signatures.specs.SigningKeys.{signed_context, outside_key}
 use Rattle.mls_msgs.specs.declared.proposal.Proposal.TheVariants as proposals
 use Rattle.mls_msgs.specs.declared.proposal.ProposalOrRef.{ProposalOrRef}
 use Rattle.mls_msgs.specs.declared.proposal.ProposalOrRef.TheVariants as entries
@@ -33,11 +36,11 @@ use Rattle.mls_apply.specs.ResolvedList.{resolved}
 use Rattle.mls_apply.specs.ListRules.{list_rules}
 use Rattle.mls_apply.specs.AppliedList.{Grown, outcome}
 use Rattle.mls_apply.specs.ContextExtensions as extensions
-use Rattle.mls_apply.specs.ProposalRules.{fits_group, is_package_signed, is_valid_add, fits_leaf, is_valid_update, valid_if_add, valid_if_update, holds_if_by_value, all_inline}
+use Rattle.mls_apply.specs.ProposalRules.{fits_group, is_package_signed, is_valid_add, fits_leaf, is_valid_update, is_valid_update_by, valid_if_add, valid_if_update, holds_if_by_value, all_inline}
 use Rattle.mls_apply.specs.RuleLists.{Rule, rule, first_failing, renamed}
 use Rattle.mls_apply.proofs.RuleLists.{AreKept, first_failing-right, passed, passed_both, refused}
 use Rattle.mls_follow.specs.State.{State}
-use Rattle.mls_follow.specs.MessageRules.{refusal_of, is_frame_signed, proposal_message_rules, member_rules, tree_rules, resulting, path_rules_of, outcome_rules, required_after, rules_under, inline_rules, items_rules, commit_rules, content_rules, leaf_rules, sender_rules, frame_rules, message_rules}
+use Rattle.mls_follow.specs.MessageRules.{refusal_of, is_frame_signed, proposal_message_rules, member_rules, tree_rules, resulting, path_rules_of, outcome_rules, required_after, rules_under, inline_rules, items_rules, commit_rules, content_rules, leaf_rules, signed_proposal_rules, outside_content_rules, outside_rules, if_full, sender_rules, frame_rules, message_rules}
 use Rattle.mls_follow.specs.Start.{is_info_signed}
 use Rattle.mls_follow.specs.RisingRuns.{AcceptancesStay, StartsStay}
 use Rattle.mls_follow.proofs.SignatureAgreement.{text_stays, leaf_stays, members_stay}
@@ -77,9 +80,10 @@ module _ (G K : VerifyFn) (more : Extends G K) where
   unfolding is_package_signed
   package_stays suite k e = text_stays G K more suite k.leaf_node.signature_key package_label (package_tbs k) k.signature e
 
-  frame_stays : (context : GroupContext) (x : LeafNode) (a : AuthenticatedParts) → is_frame_signed G context x a ≡ true → is_frame_signed K context x a ≡ true
+  frame_stays : (context : GroupContext) (key : List ℕ) (a : AuthenticatedParts) → is_frame_signed G context key a ≡ true → is_frame_signed K context key a ≡ true
   unfolding is_frame_signed
-  frame_stays context x a e = text_stays G K more context.cipher_suite x.signature_key content_label (content_tbs a (Some context)) a.signature e
+  frame_stays context key a e =
+      text_stays G K more context.cipher_suite key content_label (content_tbs a (signed_context context a.content.sender)) a.signature e
 
   info_stays : (info : GroupInfo) (x : LeafNode) → is_info_signed G info x ≡ true → is_info_signed K info x ≡ true
   unfolding is_info_signed
@@ -115,14 +119,22 @@ module _ (G K : VerifyFn) (more : Extends G K) where
   adds_stay context (proposals.ReInit r) e = e
   adds_stay context (proposals.ExternalInit o) e = e
 
-  pub updates_stay : (context : GroupContext) (t : Tree) (i : ℕ) (p : Proposal) → valid_if_update G context t i p ≡ true → valid_if_update K context t i p ≡ true
-  updates_stay context t i (proposals.Add k) e = e
-  updates_stay context t i (proposals.Update x) e = update_stays context i (leaf_at 0 t i) x e
-  updates_stay context t i (proposals.Remove j) e = e
-  updates_stay context t i (proposals.ContextExtensions es) e = e
-  updates_stay context t i (proposals.PreSharedKey k) e = e
-  updates_stay context t i (proposals.ReInit r) e = e
-  updates_stay context t i (proposals.ExternalInit o) e = e
+  update_by_stays : (context : GroupContext) (t : Tree) (sender : Sender) (x : LeafNode)
+      → is_valid_update_by G context t sender x ≡ true → is_valid_update_by K context t sender x ≡ true
+  update_by_stays context t (senders.Member i) x e = update_stays context i (leaf_at 0 t i) x e
+  update_by_stays context t (senders.External k) x e = e
+  update_by_stays context t senders.NewMemberProposal x e = e
+  update_by_stays context t senders.NewMemberCommit x e = e
+
+  pub updates_stay : (context : GroupContext) (t : Tree) (sender : Sender) (p : Proposal) → valid_if_update G context t sender p ≡ true
+      → valid_if_update K context t sender p ≡ true
+  updates_stay context t sender (proposals.Add k) e = e
+  updates_stay context t sender (proposals.Update x) e = update_by_stays context t sender x e
+  updates_stay context t sender (proposals.Remove j) e = e
+  updates_stay context t sender (proposals.ContextExtensions es) e = e
+  updates_stay context t sender (proposals.PreSharedKey k) e = e
+  updates_stay context t sender (proposals.ReInit r) e = e
+  updates_stay context t sender (proposals.ExternalInit o) e = e
 
 inline_stays : (f g : Proposal → Bool) → ((p : Proposal) → f p ≡ true → g p ≡ true) → (es : List ProposalOrRef)
     → list_all (holds_if_by_value f) es ≡ true → list_all (holds_if_by_value g) es ≡ true
@@ -139,10 +151,10 @@ all_inline_stays f g each es e = inline_stays f g each es e
 -- ---- messages in a state
 
 module _ (G K : VerifyFn) (more : Extends G K) (s : State) where
-  offers_stay : (a : AuthenticatedParts) (i : ℕ) (p : Proposal) → AreKept (proposal_message_rules G s a i p) → AreKept (proposal_message_rules K s a i p)
-  offers_stay a i p =
-      first_stays (λ e. e) (first_stays (adds_stay G K more s.context p) (first_stays (updates_stay G K more s.context s.tree i p)
-      (first_stays (λ e. e) (first_stays (λ e. e) (λ h. h)))))
+  offers_stay : (a : AuthenticatedParts) (sender : Sender) (p : Proposal) → AreKept (proposal_message_rules G s a sender p)
+      → AreKept (proposal_message_rules K s a sender p)
+  offers_stay a sender p =
+      first_stays (λ e. e) (first_stays (adds_stay G K more s.context p) (first_stays (updates_stay G K more s.context s.tree sender p) (λ h. h)))
 
   trees_stay : (required : RequiredCapabilities) (o : Option Tree) → AreKept (tree_rules G s required o) → AreKept (tree_rules K s required o)
   trees_stay required None h = h
@@ -171,14 +183,15 @@ module _ (G K : VerifyFn) (more : Extends G K) (s : State) where
   inlines_stay : (i : ℕ) (c : Commit) → AreKept (inline_rules G s i c) → AreKept (inline_rules K s i c)
   inlines_stay i c =
       first_stays (all_inline_stays (valid_if_add G s.context) (valid_if_add K s.context) (adds_stay G K more s.context) c.proposals)
-      (first_stays (all_inline_stays (valid_if_update G s.context s.tree i) (valid_if_update K s.context s.tree i) (updates_stay G K more s.context s.tree i) c.proposals)
-      (first_stays (λ e. e) (first_stays (λ e. e) (λ h. h))))
+      (first_stays
+      (all_inline_stays (valid_if_update G s.context s.tree (senders.Member i)) (valid_if_update K s.context s.tree (senders.Member i))
+      (updates_stay G K more s.context s.tree (senders.Member i)) c.proposals) (λ h. h))
 
   module _ (required : RequiredCapabilities) where
     items_stay : (i : ℕ) (c : Commit) (o : Option (List ListItem)) → AreKept (items_rules G s required i c o) → AreKept (items_rules K s required i c o)
     items_stay i c None h = h
     items_stay i c (Some items) h =
-        let of_list = renamed refusal_of (list_rules i items (is_some c.path)) in
+        let of_list = renamed refusal_of (list_rules (senders.Member i) items (is_some c.path)) in
         let after = required_after required (extensions.brought items) in
         let under_G = rules_under G s i c.path (outcome items s.tree) after in
         let under_K = rules_under K s i c.path (outcome items s.tree) after in
@@ -186,26 +199,43 @@ module _ (G K : VerifyFn) (more : Extends G K) (s : State) where
         (lists_stay of_list under_G of_list under_K (λ e. e) (unders_stay i c.path (outcome items s.tree) after)) h
 
     commits_stay : (i : ℕ) (c : Commit) → AreKept (commit_rules G s required i c) → AreKept (commit_rules K s required i c)
-    commits_stay i c = first_stays (λ e. e) (items_stay i c (resolved i s.known c.proposals))
+    commits_stay i c = first_stays (λ e. e) (items_stay i c (resolved (senders.Member i) s.known c.proposals))
 
     module _ (a : AuthenticatedParts) where
       contents_stay : (i : ℕ) (x : LeafNode) (content : Content) → AreKept (content_rules G s required a i x content) → AreKept (content_rules K s required a i x content)
       contents_stay i x (contents.Application sent) h = h
-      contents_stay i x (contents.Proposal p) h = first_stays (frame_stays G K more s.context x a) (offers_stay a i p) h
-      contents_stay i x (contents.Commit c) h = first_stays (frame_stays G K more s.context x a) (commits_stay i c) h
+      contents_stay i x (contents.Proposal p) h = first_stays (frame_stays G K more s.context x.signature_key a) (offers_stay a (senders.Member i) p) h
+      contents_stay i x (contents.Commit c) h = first_stays (frame_stays G K more s.context x.signature_key a) (commits_stay i c) h
 
       leaves_stay : (i : ℕ) (o : Option LeafNode) → AreKept (leaf_rules G s required a i o) → AreKept (leaf_rules K s required a i o)
       leaves_stay i None h = h
       leaves_stay i (Some x) h = contents_stay i x a.content.content h
 
+      signeds_stay : (sender : Sender) (p : Proposal) (o : Option (List ℕ)) → AreKept (signed_proposal_rules G s a sender p o)
+          → AreKept (signed_proposal_rules K s a sender p o)
+      signeds_stay sender p None h = h
+      signeds_stay sender p (Some key) h = first_stays (frame_stays G K more s.context key a) (offers_stay a sender p) h
+
+      outside_contents_stay : (sender : Sender) (o : Option (List ℕ)) (content : Content) → AreKept (outside_content_rules G s a sender o content)
+          → AreKept (outside_content_rules K s a sender o content)
+      outside_contents_stay sender o (contents.Application sent) h = h
+      outside_contents_stay sender o (contents.Proposal p) h = first_stays (λ e. e) (signeds_stay sender p o) h
+      outside_contents_stay sender o (contents.Commit c) h = h
+
+      outsides_stay : (profile : Profile) (sender : Sender) → AreKept (if_full profile (outside_rules G s a sender))
+          → AreKept (if_full profile (outside_rules K s a sender))
+      outsides_stay Members sender h = h
+      outsides_stay Full sender h =
+          first_stays (λ e. e) (outside_contents_stay sender (outside_key s.context sender a.content.content) a.content.content) h
+
       senders_stay : (sender : Sender) → AreKept (sender_rules G s required a sender) → AreKept (sender_rules K s required a sender)
       senders_stay (senders.Member i) h = leaves_stay i (leaf_at 0 s.tree i) h
-      senders_stay (senders.External j) h = h
-      senders_stay senders.NewMemberProposal h = h
+      senders_stay (senders.External j) h = outsides_stay s.profile (senders.External j) h
+      senders_stay senders.NewMemberProposal h = outsides_stay s.profile senders.NewMemberProposal h
       senders_stay senders.NewMemberCommit h = h
 
       frames_stay : AreKept (frame_rules G s required a) → AreKept (frame_rules K s required a)
-      frames_stay = first_stays (λ e. e) (first_stays (λ e. e) (senders_stay a.content.sender))
+      frames_stay = first_stays (λ e. e) (first_stays (λ e. e) (first_stays (λ e. e) (senders_stay a.content.sender)))
 
     -- a message that keeps every rule
     messages_stay : (m : Message) → AreKept (message_rules G s required m) → AreKept (message_rules K s required m)
@@ -228,7 +258,7 @@ acceptance_stays G K s bytes more h = record {
 }
 
 pub start_stays : StartsStay
-start_stays G K info handed s more h =
+start_stays profile G K info handed s more h =
     let member = h.has_signer.has_members in
     record {
       tree = h.tree;

@@ -4,6 +4,7 @@ use Rattle.std.proofs.lemmas.Option.{none-some, same_Some}
 use Rattle.mls_nodes.proofs.RequiredOnce.{Requires-one}
 use Rattle.mls_msgs.specs.MessageExact.{message_again}
 use Rattle.mls_msgs.specs.declared.message.Message.{Message}
+use Rattle.mls_msgs.specs.declared.profile.Profile.{Profile}
 use Rattle.mls_check.specs.Signatures.{VerifyFn}
 use Rattle.mls_apply.specs.RuleLists.{first_failing}
 use Rattle.mls_follow.specs.State.{State, EncodesMessage}
@@ -16,7 +17,7 @@ use Rattle.mls_follow.specs.declared.refusal.Refusal.TheVariants.{OutOfMemory}
 use Rattle.mls_follow.specs.declared.taken.Taken.{Taken}
 
 -- bytes spell one message
-pub one_message : (m n : Message) (bytes : List ℕ) → EncodesMessage m bytes → EncodesMessage n bytes → m ≡ n
+pub one_message : {profile : Profile} (m n : Message) (bytes : List ℕ) → EncodesMessage profile m bytes → EncodesMessage profile n bytes → m ≡ n
 one_message m n bytes a b = same_Some m n (sym (message_again m bytes a.spelled) ∙ message_again n bytes b.spelled)
 
 module _ (G : VerifyFn) (s : State) (bytes : List ℕ) where

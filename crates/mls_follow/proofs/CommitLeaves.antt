@@ -9,7 +9,9 @@ use Rattle.mls_nodes.specs.declared.leaf.LeafNode.{LeafNode}
 use Rattle.mls_nodes.specs.declared.parent.ParentNode.{ParentNode}
 use Rattle.mls_nodes.specs.Limits.{leaf_limit}
 use Rattle.mls_msgs.specs.declared.commit.UpdatePath.{UpdatePath}
+use Rattle.mls_msgs.specs.declared.framed_content.Sender.{Sender}
 use Rattle.mls_msgs.specs.declared.proposal.Proposal.{Proposal}
+use Rattle.mls_apply.specs.Senders.{member_index}
 use Rattle.mls_msgs.specs.declared.proposal.Proposal.TheVariants.{Add, Update, Remove, ContextExtensions, PreSharedKey, ReInit, ExternalInit}
 use Rattle.mls_tree.specs.Tree.{Tree, leaf, branch, height, leaf_count, leaf_at, member_count}
 use Rattle.mls_tree.specs.BlankLeaves.{first_blank_leaf, IsFirstBlank, AllLeavesSet}
@@ -24,7 +26,7 @@ use Rattle.mls_check.proofs.Leaves.{leaf_at-leaf, leaf_at-left, leaf_at-right}
 use Rattle.mls_apply.specs.declared.list_item.ListItem.{ListItem}
 use Rattle.mls_apply.specs.ListRules.{replaced_leaf}
 use Rattle.mls_apply.specs.MergePath.{Handed, handed, merged_from}
-use Rattle.mls_apply.specs.AppliedList.{Grown, grown, outcome, with_members, new_members, without_adds, after_leaf, after_adds, after_update, after_updates, after_remove, after_removes}
+use Rattle.mls_apply.specs.AppliedList.{Grown, grown, outcome, with_members, new_members, without_adds, after_leaf, after_adds, updated_at, after_update, after_updates, after_remove, after_removes}
 use Rattle.mls_apply.specs.PathRules.{node_keys}
 use Rattle.mls_apply.proofs.Leaves.{leaf_inside, kept_beside, put_there}
 use Rattle.mls_apply.proofs.Merging.{came_from}
@@ -54,19 +56,23 @@ module _ (j : ℕ) where
 
     -- ---- Updates
 
-    updated : (sender : ℕ) (p : Proposal) (t u : Tree) → after_update sender p t ≡ Some u → Stood u → (replaced_leaf sender p ≡ Some j) ⊎ Stood t
+    of_member : (o : Option ℕ) (y : LeafNode) (t u : Tree) → updated_at o y t ≡ Some u → Stood u → (o ≡ Some j) ⊎ Stood t
+    of_member None y t u e set = absurd (none-some u e)
+    of_member (Some i) y t u e set =
+        let parts = cond_some (is_some (leaf_at 0 t i)) (update t i y) u e in
+        elim (cases_eq j i) [
+          | inl same ↦ inl (ap (λ k. Some k) (sym same))
+          | inr away ↦ inr (sym (kept_beside t i j (Some y) parts.0 away) ∙ same_tree (update t i y) u parts.1 set)
+        ]
+
+    updated : (sender : Sender) (p : Proposal) (t u : Tree) → after_update sender p t ≡ Some u → Stood u → (replaced_leaf sender p ≡ Some j) ⊎ Stood t
     updated sender (Add k) t u e set = inr (same_tree t u (same_Some t u e) set)
     updated sender (Remove k) t u e set = inr (same_tree t u (same_Some t u e) set)
     updated sender (ContextExtensions es) t u e set = inr (same_tree t u (same_Some t u e) set)
     updated sender (PreSharedKey es) t u e set = inr (same_tree t u (same_Some t u e) set)
     updated sender (ReInit es) t u e set = inr (same_tree t u (same_Some t u e) set)
     updated sender (ExternalInit es) t u e set = inr (same_tree t u (same_Some t u e) set)
-    updated sender (Update y) t u e set =
-        let parts = cond_some (is_some (leaf_at 0 t sender)) (update t sender y) u e in
-        elim (cases_eq j sender) [
-          | inl same ↦ inl (ap (λ k. Some k) (sym same))
-          | inr away ↦ inr (sym (kept_beside t sender j (Some y) parts.0 away) ∙ same_tree (update t sender y) u parts.1 set)
-        ]
+    updated sender (Update y) t u e set = of_member (member_index sender) y t u e set
 
     updates : (items : List ListItem) (t u : Tree) → after_updates items t ≡ Some u → Stood u → Contains (replaced_leaves items) j ⊎ Stood t
     unfolding after_updates

@@ -15,7 +15,10 @@ use Rattle.mls_msgs.specs.declared.authenticated.AuthenticatedParts.{Authenticat
 use Rattle.mls_msgs.specs.declared.commit.Commit.{Commit}
 use Rattle.mls_msgs.specs.declared.commit.UpdatePath.{UpdatePath}
 use Rattle.mls_msgs.specs.declared.framed_content.Content.TheVariants as contents
+use Rattle.mls_msgs.specs.declared.framed_content.Sender.{Sender}
+use Rattle.mls_msgs.specs.declared.framed_content.Sender.TheVariants.{Member}
 use Rattle.mls_msgs.specs.declared.proposal.Proposal.{Proposal}
+use Rattle.mls_apply.specs.Senders.{is_present}
 use Rattle.mls_apply.specs.declared.fault.ApplyFault.{ApplyFault}
 use Rattle.mls_apply.specs.declared.list_item.ListItem.{ListItem}
 use Rattle.mls_apply.specs.ContextExtensions.{brought}
@@ -31,7 +34,7 @@ use Rattle.mls_follow.specs.MessageRules.{refusal_of, is_new_proposal, proposal_
 use Rattle.mls_follow.specs.CommitTree.{change_rules, changed_tree}
 use Rattle.mls_follow.specs.Acceptance.{Refuses}
 use Rattle.mls_follow.specs.declared.refusal.Refusal.{Refusal}
-use Rattle.mls_follow.specs.declared.refusal.Refusal.TheVariants.{Member}
+use Rattle.mls_follow.specs.declared.refusal.Refusal.TheVariants as refusals
 
 -- a list has no outcome where an Update or a Remove meets a leaf that isn't set
 pub no_outcome : (items : List ListItem) (t : Tree) → without_adds items t ≡ None → outcome items t ≡ None
@@ -40,10 +43,10 @@ no_outcome items t e = ap (option_and_then (with_members (new_members items))) e
 
 -- a commit in an epoch that has a next one, whose list is resolved
 module _ (G : VerifyFn) (s : State) (required : RequiredCapabilities) (i : ℕ) (c : Commit) (later : nat_lt s.context.epoch last_epoch ≡ true)
-    (items : List ListItem) (r : resolved i s.known c.proposals ≡ Some items) where
+    (items : List ListItem) (r : resolved (Member i) s.known c.proposals ≡ Some items) where
   -- the rules for the list, and for what follows it
   of_list : List (Rule Refusal)
-  of_list = renamed refusal_of (list_rules i items (is_some c.path))
+  of_list = renamed refusal_of (list_rules (Member i) items (is_some c.path))
 
   of_outcome : List (Rule Refusal)
   of_outcome = rules_under G s i c.path (outcome items s.tree) (required_after required (brought items))
@@ -53,25 +56,30 @@ module _ (G : VerifyFn) (s : State) (required : RequiredCapabilities) (i : ℕ) 
   unfolding commit_refusal
   whole = rw (later, r) refl
 
+  -- a proposal by value fails a rule
+  pub inline_failed : (e : Refusal) → first_failing (inline_rules G s i c) ≡ Some e → commit_refusal G s required i c ≡ Some e
+  unfolding of_list of_outcome
+  inline_failed e f = whole ∙ first_failing-left (inline_rules G s i c) (of_list ++ of_outcome) e f
+
   module _ (inline : first_failing (inline_rules G s i c) ≡ None) where
     past_inline : commit_refusal G s required i c ≡ first_failing (of_list ++ of_outcome)
     unfolding of_list of_outcome
     past_inline = whole ∙ first_failing-right (inline_rules G s i c) (of_list ++ of_outcome) inline
 
     -- its list fails a rule
-    pub list_failed : (e : ApplyFault) → list_refusal i items (is_some c.path) ≡ Some e → commit_refusal G s required i c ≡ Some (refusal_of e)
+    pub list_failed : (e : ApplyFault) → list_refusal (Member i) items (is_some c.path) ≡ Some e → commit_refusal G s required i c ≡ Some (refusal_of e)
     unfolding of_list list_refusal
     list_failed e f =
         past_inline
-        ∙ first_failing-left of_list of_outcome (refusal_of e) (first_failing-renamed refusal_of (list_rules i items (is_some c.path)) ∙ ap (option_map refusal_of) f)
+        ∙ first_failing-left of_list of_outcome (refusal_of e) (first_failing-renamed refusal_of (list_rules (Member i) items (is_some c.path)) ∙ ap (option_map refusal_of) f)
 
-    module _ (kept : list_refusal i items (is_some c.path) ≡ None) where
+    module _ (kept : list_refusal (Member i) items (is_some c.path) ≡ None) where
       -- what is left is what follows the list
       pub past_list : commit_refusal G s required i c ≡ first_failing (rules_under G s i c.path (outcome items s.tree) (required_after required (brought items)))
       unfolding of_list of_outcome list_refusal
       past_list =
           past_inline
-          ∙ first_failing-right of_list of_outcome (first_failing-renamed refusal_of (list_rules i items (is_some c.path)) ∙ ap (option_map refusal_of) kept)
+          ∙ first_failing-right of_list of_outcome (first_failing-renamed refusal_of (list_rules (Member i) items (is_some c.path)) ∙ ap (option_map refusal_of) kept)
 
 -- what follows the list of a commit
 module _ (G : VerifyFn) (s : State) (required : RequiredCapabilities) (i : ℕ) (path : Option UpdatePath) where
@@ -96,11 +104,11 @@ pub of_commit : (G : VerifyFn) (s : State) (required : RequiredCapabilities) (a 
 unfolding handshake_refusal commit_refusal
 of_commit G s required a i c = refl
 
--- a new proposal of a member is judged by the rules for it alone
-pub offer_word : (G : VerifyFn) (s : State) (a : AuthenticatedParts) (i : ℕ) (p : Proposal) → is_new_proposal s a ≡ true → IsSome (leaf_at 0 s.tree i)
-    → first_failing (proposal_message_rules G s a i p) ≡ option_map refusal_of (checked_refusal G s.context s.tree i p)
+-- a new proposal of a sender whose leaf is set, if it is a member, is judged by the rules for it alone
+pub offer_word : (G : VerifyFn) (s : State) (a : AuthenticatedParts) (sender : Sender) (p : Proposal) → is_new_proposal s a ≡ true → is_present s.tree sender ≡ true
+    → first_failing (proposal_message_rules G s a sender p) ≡ option_map refusal_of (checked_refusal G s.context s.tree sender p)
 unfolding checked_refusal
-offer_word G s a i p new set = rw new (first_failing-renamed refusal_of (proposal_rules G s.context s.tree i p) ∙ rw set refl)
+offer_word G s a sender p new set = rw new (first_failing-renamed refusal_of (proposal_rules G s.context s.tree sender p) ∙ rw set refl)
 
 -- a path of a member is judged by its rules alone
 pub path_word : (H : List ℕ → List ℕ) (g : Grown) (i : ℕ) (path : UpdatePath) → IsSome (leaf_at 0 g.tree i)
@@ -119,7 +127,7 @@ module _ (G : VerifyFn) (s : State) (required : RequiredCapabilities) (t : Tree)
       ∙ ap (λ (o : Option MemberFault). first_failing (member_rules o)) ((members-faultless G s.context.cipher_suite s.context.group_id required t).0 h)
 
   stranger : (f : MemberFault) → f ≢ members.OutOfMemory → IsMemberFault G s.context.cipher_suite s.context.group_id required t f
-      → first_failing (tree_rules G s required (Some t)) ≡ Some (Member f)
+      → first_failing (tree_rules G s required (Some t)) ≡ Some (refusals.Member f)
   stranger f own h =
       of_members
       ∙ ap (λ (o : Option MemberFault). first_failing (member_rules o)) ((fault-first G s.context.cipher_suite s.context.group_id required t f own).0 h)

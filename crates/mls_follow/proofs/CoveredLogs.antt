@@ -90,7 +90,7 @@ state_covered R s v = good_tree R s.context.cipher_suite s.context.group_id v.re
 -- ---- messages
 
 module _ (G K : VerifyFn) (s : State) (bytes : List ℕ)
-    (same : (required : RequiredCapabilities) (m : Message) → EncodesMessage m bytes → first_failing (message_rules G s required m) ≡ first_failing (message_rules K s required m)) where
+    (same : (required : RequiredCapabilities) (m : Message) → EncodesMessage s.profile m bytes → first_failing (message_rules G s required m) ≡ first_failing (message_rules K s required m)) where
   refused_alike : (e : Refusal) → IsFirstRefusal G s bytes e → IsFirstRefusal K s bytes e
   refused_alike e (inl none) = inl none
   refused_alike e (inr f) =
@@ -119,7 +119,7 @@ module _ (G K : VerifyFn) (s : State) (bytes : List ℕ)
   answers_alike answer new h = record { takes = takes_alike answer new h.takes; memory = h.memory }
 
 module _ (R : VerifyFn) (s : State) (bytes : List ℕ) (v : IsValidState R s) (covers : CoversMessage R s bytes) where
-  refusals_alike : (required : RequiredCapabilities) (m : Message) → EncodesMessage m bytes
+  refusals_alike : (required : RequiredCapabilities) (m : Message) → EncodesMessage s.profile m bytes
       → first_failing (message_rules R s required m) ≡ first_failing (message_rules all_good s required m)
   refusals_alike required m spelled =
       decide_refusals R all_good s required m
@@ -165,9 +165,9 @@ start_flipped : (R : VerifyFn) (info : GroupInfo) (handed : Option RatchetTree) 
 start_flipped R info handed covers t uses = flipped R all_good (start_signatures info t.tree) (covered R (start_signatures info t.tree) (covers t uses))
 
 pub covered_starts : CoveredStartsAreTrusted
-covered_starts R info handed s covers = (
-  decide_starts R all_good info handed s (start_covered R info handed covers),
-  decide_starts all_good R info handed s (start_flipped R info handed covers),
+covered_starts profile R info handed s covers = (
+  decide_starts profile R all_good info handed s (start_covered R info handed covers),
+  decide_starts profile all_good R info handed s (start_flipped R info handed covers),
 )
 
 pub covered_faults : CoveredFaultsAreTrusted
@@ -179,9 +179,9 @@ covered_faults R info handed fault covers = (
 -- ---- both
 
 pub recipe_right : RecipeIsRight
-recipe_right R info handed first last calls start log =
-    let starts = covered_starts R info handed first start in
-    let valid : IsStart R info handed first → IsValidState R first = start_valid R info handed first in (
+recipe_right profile R info handed first last calls start log =
+    let starts = covered_starts profile R info handed first start in
+    let valid : IsStart profile R info handed first → IsValidState R first = start_valid profile R info handed first in (
       λ h. (starts.0 h.0, run_to_trusted R first calls last (valid h.0) log h.1),
       λ h. (let s = starts.1 h.0 in (s, run_from_trusted R first calls last (valid s) log h.1)),
     )

@@ -8,7 +8,7 @@ use Rattle.mls_nodes.specs.declared.required_capabilities.RequiredCapabilities.{
 use Rattle.mls_check.specs.Signatures.{VerifyFn}
 use Rattle.mls_msgs.specs.MessageExact.{message_takes, message_again}
 use Rattle.mls_msgs.specs.MessageParsing.{message_at}
-use Rattle.mls_msgs.specs.Profile.{is_members_message}
+use Rattle.mls_msgs.specs.Profile.{is_members_message, is_in}
 use Rattle.mls_msgs.specs.declared.message.Message.{Message}
 use Rattle.mls_apply.specs.RuleLists.{first_failing}
 use Rattle.mls_wire.specs.Limits.{input_limit}
@@ -31,7 +31,7 @@ module _ (G : VerifyFn) (s : State) (required : RequiredCapabilities) (bytes : L
   same_error e f h = cc
 
   -- the bytes spell no message
-  malformed : EncodesNoMessage bytes → Answered
+  malformed : EncodesNoMessage s.profile bytes → Answered
   malformed none = (
     Err Malformed,
     s,
@@ -42,7 +42,7 @@ module _ (G : VerifyFn) (s : State) (required : RequiredCapabilities) (bytes : L
   )
 
   -- they spell this one
-  judged : (m : Message) → EncodesMessage m bytes → (o : Option Refusal) → first_failing (message_rules G s required m) ≡ o → Answered
+  judged : (m : Message) → EncodesMessage s.profile m bytes → (o : Option Refusal) → first_failing (message_rules G s required m) ≡ o → Answered
   judged m spelled None kept =
       let step = next_there s held G required requires m (bytes, spelled) kept in (
         Ok step.step.taken,
@@ -61,17 +61,17 @@ module _ (G : VerifyFn) (s : State) (required : RequiredCapabilities) (bytes : L
     },
   )
 
-  of_profile : (m : Message) → message_at bytes ≡ Some m → nat_le (length bytes) input_limit ≡ true → (b : Bool) → is_members_message m ≡ b → Answered
+  of_profile : (m : Message) → message_at bytes ≡ Some m → nat_le (length bytes) input_limit ≡ true → (b : Bool) → is_in s.profile (is_members_message m) ≡ b → Answered
   of_profile m e f true members =
-      judged m (record { spelled = message_takes bytes m e; members = members; bounded = grind (arith, nat_tests) }) (first_failing (message_rules G s required m)) refl
+      judged m (record { spelled = message_takes bytes m e; allowed = members; bounded = grind (arith, nat_tests) }) (first_failing (message_rules G s required m)) refl
   of_profile m e f false foreign =
-      malformed (λ n h. false≢true (sym foreign ∙ ap is_members_message (same_Some m n (sym e ∙ message_again n bytes h.spelled)) ∙ h.members))
+      malformed (λ n h. false≢true (sym foreign ∙ ap (λ (k : Message). is_in s.profile (is_members_message k)) (same_Some m n (sym e ∙ message_again n bytes h.spelled)) ∙ h.allowed))
 
   read : (o : Option Message) → message_at bytes ≡ o → (b : Bool) → nat_le (length bytes) input_limit ≡ b → Answered
   read None e b f = malformed (λ m h. none-some m (sym e ∙ message_again m bytes h.spelled))
   read (Some m) e false f =
       malformed (λ n h. let le = h.bounded in let t : nat_le (length bytes) input_limit ≡ true = grind (arith, nat_tests) in false≢true (sym f ∙ t))
-  read (Some m) e true f = of_profile m e f (is_members_message m) refl
+  read (Some m) e true f = of_profile m e f (is_in s.profile (is_members_message m)) refl
 
 pub an_answer : AnswerExists
 an_answer G s required bytes held requires = read G s required bytes held requires (message_at bytes) refl (nat_le (length bytes) input_limit) refl

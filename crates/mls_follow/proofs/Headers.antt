@@ -16,8 +16,11 @@ use Rattle.mls_msgs.specs.Layout.{key_package, group_info}
 use Rattle.mls_msgs.specs.Message.{header, is_unread, message}
 use Rattle.mls_msgs.specs.MessageExact.{header_exact}
 use Rattle.mls_msgs.specs.MessageParsing.{header_at}
+use Rattle.mls_msgs.specs.Profile.{is_in}
 use Rattle.mls_msgs.specs.PublicMessage.{public_message}
 use Rattle.mls_msgs.specs.declared.message.Message.{Message}
+use Rattle.mls_msgs.specs.declared.profile.Profile.{Profile}
+use Rattle.mls_msgs.specs.declared.profile.Profile.TheVariants.{Members, Full}
 use Rattle.mls_msgs.specs.declared.message.Message.TheVariants as messages
 use Rattle.mls_nodes.specs.Requirements.{Requires}
 use Rattle.mls_nodes.specs.declared.required_capabilities.RequiredCapabilities.{RequiredCapabilities}
@@ -113,28 +116,37 @@ no_message_of bytes none (messages.Unread n body) e =
 no_message_of bytes none (messages.GroupInfo g) e = none 4 (omega arith, omega arith) (has_header 4 (group_info g) bytes e)
 no_message_of bytes none (messages.KeyPackage k) e = none 5 (omega arith, omega arith) (has_header 5 (key_package k) bytes e)
 
-pub no_message : (bytes : List ℕ) → HasNoHeader bytes → EncodesNoMessage bytes
-no_message bytes none m is = no_message_of bytes none m is.spelled
+pub no_message : (profile : Profile) (bytes : List ℕ) → HasNoHeader bytes → EncodesNoMessage profile bytes
+no_message profile bytes none m is = no_message_of bytes none m is.spelled
 
 -- nor do more bytes than an input has encode a message
-pub over_limit : (bytes : List ℕ) → input_limit < length bytes → EncodesNoMessage bytes
-over_limit bytes over m is = omega (arith, over, is.bounded)
+pub over_limit : (profile : Profile) (bytes : List ℕ) → input_limit < length bytes → EncodesNoMessage profile bytes
+over_limit profile bytes over m is = omega (arith, over, is.bounded)
+
+-- each profile has what holds of the members'
+always_in : (profile : Profile) → is_in profile true ≡ true
+always_in Members = refl
+always_in Full = refl
 
 -- an unread message is the encoding of its body
-pub encodes_unread : (bytes : List ℕ) (u : IsUnreadMessage bytes) → EncodesMessage (messages.Unread u.wire_format u.header.0) bytes
+pub encodes_unread : (profile : Profile) (bytes : List ℕ) (u : IsUnreadMessage bytes) → EncodesMessage profile (messages.Unread u.wire_format u.header.0) bytes
 unfolding message
-encodes_unread bytes u = record {
+encodes_unread profile bytes u = record {
   spelled = ap (λ (b : Bool). if b then header u.wire_format ⊕ Some u.header.0 else None) u.unread ∙ u.header.1;
-  members = refl;
+  allowed = always_in profile;
   bounded = u.bounded;
 }
 
+no_signatures : {X : Type 0} {list : List X} (b : Bool) → list ≡ [] → list ≡ (if b then [] else [])
+no_signatures true e = e
+no_signatures false e = e
+
 -- and has no signatures
 has_no_signatures : (s : State) (bytes : List ℕ) (list : List SignatureToVerify) → list ≡ [] → IsUnreadMessage bytes → AreSignaturesOf s bytes list
-has_no_signatures s bytes list empty u = record { message = messages.Unread u.wire_format u.header.0; spelled = encodes_unread bytes u; same = empty }
+has_no_signatures s bytes list empty u = record { message = messages.Unread u.wire_format u.header.0; spelled = encodes_unread s.profile bytes u; same = no_signatures s.ended empty }
 
 pub none_listed : (s : State) (bytes : List ℕ) (list : List SignatureToVerify) → list ≡ []
-    → (NotPublic ≢ OutOfMemory → ((NotPublic ≡ Malformed) × EncodesNoMessage bytes) ⊎ ((NotPublic ≡ NotPublic) × IsUnreadMessage bytes))
+    → (NotPublic ≢ OutOfMemory → ((NotPublic ≡ Malformed) × EncodesNoMessage s.profile bytes) ⊎ ((NotPublic ≡ NotPublic) × IsUnreadMessage bytes))
     → AreSignaturesOf s bytes list
 none_listed s bytes list empty h = elim (h (λ e. absurd cc)) [
   | inl a ↦ let bad = a.0 in absurd cc
@@ -144,10 +156,10 @@ none_listed s bytes list empty h = elim (h (λ e. absurd cc)) [
 -- it is the first rule that a PrivateMessage and a Welcome fail
 module _ (G : VerifyFn) (s : State) (required : RequiredCapabilities) (requires : Requires s.context required) (bytes : List ℕ) where
   not_public : IsUnreadMessage bytes → FailsRule G s bytes NotPublic
-  not_public u = record { message = messages.Unread u.wire_format u.header.0; spelled = encodes_unread bytes u; required = required; requires = requires; fails = refl }
+  not_public u = record { message = messages.Unread u.wire_format u.header.0; spelled = encodes_unread s.profile bytes u; required = required; requires = requires; fails = refl }
 
   pub header_refused : (e : Refusal)
-      → (e ≢ OutOfMemory → ((e ≡ Malformed) × EncodesNoMessage bytes) ⊎ ((e ≡ NotPublic) × IsUnreadMessage bytes))
+      → (e ≢ OutOfMemory → ((e ≡ Malformed) × EncodesNoMessage s.profile bytes) ⊎ ((e ≡ NotPublic) × IsUnreadMessage bytes))
       → e ≢ OutOfMemory → IsFirstRefusal G s bytes e
   header_refused e h own = elim (h own) [
     | inl malformed ↦ inl malformed

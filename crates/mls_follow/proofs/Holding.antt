@@ -10,6 +10,7 @@ use Rattle.mls_hash.specs.SuiteHash.{hash_of}
 use Rattle.mls_check.specs.Signatures.{VerifyFn}
 use Rattle.mls_msgs.specs.Layout.{proposal}
 use Rattle.mls_msgs.specs.declared.group_info.GroupInfo.{GroupInfo}
+use Rattle.mls_msgs.specs.declared.profile.Profile.{Profile}
 use Rattle.mls_follow.specs.State.{State}
 use Rattle.mls_follow.specs.NextState.{Step, next}
 use Rattle.mls_follow.specs.Acceptance.{IsAcceptable, IsNext}
@@ -29,8 +30,8 @@ pub record IsSteady (s : State) : Type 0 where
   pub requires : Requires s.context required
 
 -- it starts in one
-pub start_steady : (G : VerifyFn) (info : GroupInfo) (handed : Option RatchetTree) (s : State) → IsStart G info handed s → IsSteady s
-start_steady G info handed s h =
+pub start_steady : (profile : Profile) (G : VerifyFn) (info : GroupInfo) (handed : Option RatchetTree) (s : State) → IsStart profile G info handed s → IsSteady s
+start_steady profile G info handed s h =
     let valid = h.has_signer.has_members.valid_tree in
     subst IsSteady (sym h.state) (record {
       held = record {
@@ -60,6 +61,6 @@ run_steady G s (call ∷ calls) new steady h =
     run_steady G h.0 calls new (taken_steady G s steady call.bytes call.answer h.0 h.1) h.2
 
 pub run_answered : RunsAreAnswered
-run_answered G info handed first last calls bytes start run =
-    let steady = run_steady G first calls last (start_steady G info handed first start) run in
+run_answered profile G info handed first last calls bytes start run =
+    let steady = run_steady G first calls last (start_steady profile G info handed first start) run in
     an_answer G last steady.required bytes steady.held steady.requires

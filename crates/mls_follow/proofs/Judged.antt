@@ -10,6 +10,7 @@ use Rattle.mls_check.specs.LeafValidation.{LeavesAreValid}
 use Rattle.mls_check.specs.Signatures.{VerifyFn}
 use Rattle.mls_check.proofs.Distinctness.{distinct-by_keys}
 use Rattle.mls_msgs.specs.declared.group_info.GroupInfo.{GroupInfo}
+use Rattle.mls_msgs.specs.declared.profile.Profile.{Profile}
 use Rattle.mls_follow.specs.State.{State}
 use Rattle.mls_follow.specs.FollowerInvariant.{IsJudged}
 use Rattle.mls_follow.specs.Runs.{Takes}
@@ -57,5 +58,5 @@ valid_judged G s v = record {
   members = of_one G s v.required v.requires v.members;
 }
 
-pub start_judged : (G : VerifyFn) (info : GroupInfo) (handed : Option RatchetTree) (s : State) → IsStart G info handed s → IsJudged G s
-start_judged G info handed s h = valid_judged G s (start_valid G info handed s h)
+pub start_judged : (profile : Profile) (G : VerifyFn) (info : GroupInfo) (handed : Option RatchetTree) (s : State) → IsStart profile G info handed s → IsJudged G s
+start_judged profile G info handed s h = valid_judged G s (start_valid profile G info handed s h)

@@ -17,7 +17,10 @@ use Rattle.mls_msgs.specs.declared.framed_content.Sender.{Sender}
 use Rattle.mls_msgs.specs.declared.framed_content.Sender.TheVariants as senders
 use Rattle.mls_msgs.specs.declared.message.Message.{Message}
 use Rattle.mls_msgs.specs.declared.message.Message.TheVariants as messages
+use Rattle.mls_msgs.specs.declared.profile.Profile.{Profile}
+use Rattle.mls_msgs.specs.declared.profile.Profile.TheVariants.{Members, Full}
 use Rattle.mls_msgs.specs.declared.proposal.Proposal.{Proposal}
+use Rattle.mls_signatures.specs.SigningKeys.{outside_key}
 use Rattle.mls_msgs.specs.declared.proposal.Proposal.TheVariants.{Add, Update, Remove, ContextExtensions, PreSharedKey, ReInit, ExternalInit}
 use Rattle.mls_msgs.specs.declared.proposal.ProposalOrRef.{ProposalOrRef}
 use Rattle.mls_msgs.specs.declared.proposal.ProposalOrRef.TheVariants as entries
@@ -31,8 +34,8 @@ use Rattle.mls_apply.proofs.Merging.{came_from}
 use Rattle.mls_apply.proofs.RuleLists.{AreKept, passed, refused}
 use Rattle.mls_follow.specs.State.{State}
 use Rattle.mls_follow.specs.ReadableExtensions.{AreReadable, FollowersKnowReadable, CommitsAreReadable}
-use Rattle.mls_follow.specs.MessageRules.{required_after, proposal_message_rules, content_rules, leaf_rules, sender_rules, frame_rules, message_rules, reference_of}
-use Rattle.mls_follow.specs.NextState.{Step, after_proposal, committed, after_tree, commit_tree, extensions_after, with_extensions, after_commit, after_content, after_sender, next}
+use Rattle.mls_follow.specs.MessageRules.{required_after, proposal_message_rules, content_rules, leaf_rules, signed_proposal_rules, outside_content_rules, outside_rules, if_full, sender_rules, frame_rules, message_rules, reference_of}
+use Rattle.mls_follow.specs.NextState.{Step, after_proposal, committed, after_tree, commit_tree, with_list, after_commit, after_content, after_outside, after_sender, next}
 use Rattle.mls_follow.specs.Transcript.{confirmed_hash, interim_hash}
 use Rattle.mls_tree.specs.TreeHash.{tree_hash}
 use Rattle.mls_hash.specs.SuiteHash.{hash_of}
@@ -61,10 +64,10 @@ both_true : (a b : Bool) → (a && b) ≡ true → (a ≡ true) × (b ≡ true)
 both_true true b e = (refl, e)
 both_true false b e = absurd (false≢true e)
 
-item_readable : (i : ℕ) (known : List KnownProposal) (entry : ProposalOrRef) (x : ListItem) → AreReadable known → holds_if_by_value valid_if_extensions entry ≡ true
-    → entry_item i known entry ≡ Some x → IsReadable x
-item_readable i known (entries.Proposal p) x all h e = subst IsReadable (same_Some (record { sender = i; proposal = p }) x e) h
-item_readable i known (entries.Reference reference) x all h e = found_readable known reference x all e
+item_readable : (committer : Sender) (known : List KnownProposal) (entry : ProposalOrRef) (x : ListItem) → AreReadable known → holds_if_by_value valid_if_extensions entry ≡ true
+    → entry_item committer known entry ≡ Some x → IsReadable x
+item_readable committer known (entries.Proposal p) x all h e = subst IsReadable (same_Some (record { sender = committer; proposal = p }) x e) h
+item_readable committer known (entries.Reference reference) x all h e = found_readable known reference x all e
 
 -- what an item brings, and the rest
 brought_readable : (required : RequiredCapabilities) (x : ListItem) (rest : Option (List Rattle.mls_nodes.specs.declared.extension.Extension.Extension)) → IsReadable x
@@ -117,50 +120,67 @@ tree-forgets u a t step e =
 
 pub commit-forgets : (s : State) (a : AuthenticatedParts) (i : ℕ) (c : Commit) (step : Step) → after_commit s a i c ≡ Some step → step.state.known ≡ []
 commit-forgets s a i c step e =
-    option_and_then_some (after_tree (with_extensions s (extensions_after s.context.extensions (resolved i s.known c.proposals))) a) (commit_tree s i c) step e
-    (λ t f g. tree-forgets (with_extensions s (extensions_after s.context.extensions (resolved i s.known c.proposals))) a t step g)
+    option_and_then_some (after_tree (with_list s (resolved (senders.Member i) s.known c.proposals)) a) (commit_tree s i c) step e
+    (λ t f g. tree-forgets (with_list s (resolved (senders.Member i) s.known c.proposals)) a t step g)
 
 knows_none : (known : List KnownProposal) → known ≡ [] → AreReadable known
 knows_none known none = subst AreReadable (sym none) (All-nil (λ k. valid_if_extensions k.proposal ≡ true))
 
 module _ (G : VerifyFn) (s : State) (all : AreReadable s.known) (required : RequiredCapabilities) where
   -- a proposal that is known now was judged
-  offer-readable : (a : AuthenticatedParts) (i : ℕ) (p : Proposal) → AreKept (proposal_message_rules G s a i p) → valid_if_extensions p ≡ true
-  offer-readable a i p kept =
+  offer-readable : (a : AuthenticatedParts) (sender : Sender) (p : Proposal) → AreKept (proposal_message_rules G s a sender p) → valid_if_extensions p ≡ true
+  offer-readable a sender p kept =
       let b = passed kept in
       let c = passed b.1 in
       let d = passed c.1 in
       let e = passed d.1 in
       (passed e.1).0
 
-  proposal-readable : (i : ℕ) (p : Proposal) (o : Option (List ℕ)) (step : Step) → valid_if_extensions p ≡ true → option_map (after_proposal s i p) o ≡ Some step
+  proposal-readable : (sender : Sender) (p : Proposal) (o : Option (List ℕ)) (step : Step) → valid_if_extensions p ≡ true → option_map (after_proposal s sender p) o ≡ Some step
       → AreReadable step.state.known
-  proposal-readable i p o step h e =
-      let w = came_from (after_proposal s i p) o step e in
+  proposal-readable sender p o step h e =
+      let w = came_from (after_proposal s sender p) o step e in
       subst (λ (u : Step). AreReadable u.state.known) w.2
-      (All-push (λ k. valid_if_extensions k.proposal ≡ true) s.known (record { reference = w.0; sender = i; proposal = p }) all h)
+      (All-push (λ k. valid_if_extensions k.proposal ≡ true) s.known (record { reference = w.0; sender = sender; proposal = p }) all h)
 
   module _ (a : AuthenticatedParts) (step : Step) where
     content-readable : (i : ℕ) (x : LeafNode) (content : Content) → AreKept (content_rules G s required a i x content) → after_content s a i content ≡ Some step
         → AreReadable step.state.known
     content-readable i x (contents.Application sent) kept e = absurd (refused kept)
-    content-readable i x (contents.Proposal p) kept e = proposal-readable i p (reference_of s.context a) step (offer-readable a i p (passed kept).1) e
+    content-readable i x (contents.Proposal p) kept e = proposal-readable (senders.Member i) p (reference_of s.context a) step (offer-readable a (senders.Member i) p (passed kept).1) e
     content-readable i x (contents.Commit c) kept e = knows_none step.state.known (commit-forgets s a i c step e)
 
     leaf-readable : (i : ℕ) (o : Option LeafNode) → AreKept (leaf_rules G s required a i o) → after_content s a i a.content.content ≡ Some step → AreReadable step.state.known
     leaf-readable i None kept e = absurd (refused kept)
     leaf-readable i (Some x) kept e = content-readable i x a.content.content kept e
 
+    signed-readable : (sender : Sender) (p : Proposal) (o : Option (List ℕ)) → AreKept (signed_proposal_rules G s a sender p o)
+        → option_map (after_proposal s sender p) (reference_of s.context a) ≡ Some step → AreReadable step.state.known
+    signed-readable sender p None kept e = absurd (refused kept)
+    signed-readable sender p (Some key) kept e = proposal-readable sender p (reference_of s.context a) step (offer-readable a sender p (passed kept).1) e
+
+    outside-content-readable : (sender : Sender) (o : Option (List ℕ)) (content : Content) → AreKept (outside_content_rules G s a sender o content)
+        → after_outside s a sender content ≡ Some step → AreReadable step.state.known
+    outside-content-readable sender o (contents.Application sent) kept e = absurd (refused kept)
+    outside-content-readable sender o (contents.Proposal p) kept e = signed-readable sender p o (passed kept).1 e
+    outside-content-readable sender o (contents.Commit c) kept e = absurd (refused kept)
+
+    outside-readable : (profile : Profile) (sender : Sender) → AreKept (if_full profile (outside_rules G s a sender))
+        → after_outside s a sender a.content.content ≡ Some step → AreReadable step.state.known
+    outside-readable Members sender kept e = absurd (refused kept)
+    outside-readable Full sender kept e =
+        outside-content-readable sender (outside_key s.context sender a.content.content) a.content.content (passed kept).1 e
+
     sender-readable : (sender : Sender) → AreKept (sender_rules G s required a sender) → after_sender s a sender ≡ Some step → AreReadable step.state.known
     sender-readable (senders.Member i) kept e = leaf-readable i (leaf_at 0 s.tree i) kept e
-    sender-readable (senders.External j) kept e = absurd (none-some step e)
-    sender-readable senders.NewMemberProposal kept e = absurd (none-some step e)
+    sender-readable (senders.External j) kept e = outside-readable s.profile (senders.External j) kept e
+    sender-readable senders.NewMemberProposal kept e = outside-readable s.profile senders.NewMemberProposal kept e
     sender-readable senders.NewMemberCommit kept e = absurd (none-some step e)
 
   step-readable : (m : Message) (step : Step) → first_failing (message_rules G s required m) ≡ None → next s m ≡ Some step → AreReadable step.state.known
   step-readable (messages.Public p) step kept e =
       let frame : AreKept (frame_rules G s required p.auth) = record { none = kept } in
-      sender-readable p.auth step p.auth.content.sender (passed (passed frame).1).1 e
+      sender-readable p.auth step p.auth.content.sender (passed (passed (passed frame).1).1).1 e
   step-readable (messages.Unread w b) step kept e = absurd (none-some step e)
   step-readable (messages.GroupInfo g) step kept e = absurd (none-some step e)
   step-readable (messages.KeyPackage k) step kept e = absurd (none-some step e)
@@ -179,5 +199,5 @@ run-readable G s [] new all h = subst (λ (u : State). AreReadable u.known) (sym
 run-readable G s (call ∷ calls) new all h = run-readable G h.0 calls new (taken-readable G s all call.bytes call.answer h.0 h.1) h.2
 
 pub followers_readable : FollowersKnowReadable
-followers_readable G info handed first last calls start run =
+followers_readable profile G info handed first last calls start run =
     run-readable G first calls last (knows_none first.known (ap (λ (s : State). s.known) start.state)) run

@@ -1,5 +1,5 @@
--- Each proposal that a follower knows is one that a member of its tree has signed over its context.
-use Rattle.std.proofs.Common.{◌≡◌, ◌∙◌, ℕ, List, [], ◌∷◌, Option, Some, None, Result, Ok, Err, refl, sym, ap, subst}
+-- Each proposal that a follower knows is one that its sender has signed, and may send.
+use Rattle.std.proofs.Common.{◌≡◌, ◌∙◌, ℕ, List, [], ◌∷◌, true, Option, Some, None, Result, Ok, Err, refl, sym, ap, subst}
 use Rattle.std.specs.Prelude.{All, option_map}
 use Rattle.std.proofs.lemmas.List.Elements.{All-nil, All-push}
 use Rattle.std.proofs.lemmas.Option.{none-some}
@@ -14,15 +14,18 @@ use Rattle.mls_msgs.specs.declared.framed_content.Sender.{Sender}
 use Rattle.mls_msgs.specs.declared.framed_content.Sender.TheVariants as senders
 use Rattle.mls_msgs.specs.declared.message.Message.{Message}
 use Rattle.mls_msgs.specs.declared.message.Message.TheVariants as messages
+use Rattle.mls_msgs.specs.declared.profile.Profile.{Profile}
+use Rattle.mls_msgs.specs.declared.profile.Profile.TheVariants.{Members, Full}
 use Rattle.mls_msgs.specs.declared.proposal.Proposal.{Proposal}
+use Rattle.mls_signatures.specs.SigningKeys.{leaf_key, signing_key, outside_key, may_propose}
 use Rattle.mls_apply.specs.declared.list_item.KnownProposal.{KnownProposal}
 use Rattle.mls_apply.specs.RuleLists.{first_failing}
 use Rattle.mls_apply.proofs.Merging.{came_from}
 use Rattle.mls_apply.proofs.RuleLists.{AreKept, passed, refused}
 use Rattle.mls_follow.specs.State.{State}
 use Rattle.mls_follow.specs.ProposalSignatures.{IsKnownSigned, AreKnownSigned, FollowersKnowSigned}
-use Rattle.mls_follow.specs.MessageRules.{content_rules, leaf_rules, sender_rules, frame_rules, message_rules, reference_of}
-use Rattle.mls_follow.specs.NextState.{Step, after_proposal, after_content, after_sender, next}
+use Rattle.mls_follow.specs.MessageRules.{content_rules, leaf_rules, signed_proposal_rules, outside_content_rules, outside_rules, if_full, sender_rules, frame_rules, message_rules, reference_of}
+use Rattle.mls_follow.specs.NextState.{Step, after_proposal, after_content, after_outside, after_sender, next}
 use Rattle.mls_follow.specs.Acceptance.{IsAcceptable, IsNext}
 use Rattle.mls_follow.specs.Runs.{Takes, Call, IsRun}
 use Rattle.mls_follow.specs.declared.refusal.Refusal.{Refusal}
@@ -37,14 +40,14 @@ knows_none G s none =
     (All-nil (IsKnownSigned G s.context s.tree))
 
 module _ (G : VerifyFn) (s : State) (all : AreKnownSigned G s) (required : RequiredCapabilities) where
-  proposal-signed : (i : ℕ) (p : Proposal) (o : Option (List ℕ)) (step : Step)
+  proposal-signed : (sender : Sender) (p : Proposal) (o : Option (List ℕ)) (step : Step)
       → ((reference : List ℕ) → o ≡ Some reference
-      → IsKnownSigned G s.context s.tree (record { reference = reference; sender = i; proposal = p }))
-      → option_map (after_proposal s i p) o ≡ Some step → AreKnownSigned G step.state
-  proposal-signed i p o step one e =
-      let w = came_from (after_proposal s i p) o step e in
+      → IsKnownSigned G s.context s.tree (record { reference = reference; sender = sender; proposal = p }))
+      → option_map (after_proposal s sender p) o ≡ Some step → AreKnownSigned G step.state
+  proposal-signed sender p o step one e =
+      let w = came_from (after_proposal s sender p) o step e in
       subst (λ (u : Step). AreKnownSigned G u.state) w.2
-      (All-push (IsKnownSigned G s.context s.tree) s.known (record { reference = w.0; sender = i; proposal = p }) all (one w.0 w.1))
+      (All-push (IsKnownSigned G s.context s.tree) s.known (record { reference = w.0; sender = sender; proposal = p }) all (one w.0 w.1))
 
   module _ (a : AuthenticatedParts) (step : Step) where
     content-signed : (i : ℕ) (x : LeafNode) (content : Content)
@@ -52,11 +55,12 @@ module _ (G : VerifyFn) (s : State) (all : AreKnownSigned G s) (required : Requi
         → AreKept (content_rules G s required a i x content) → after_content s a i content ≡ Some step → AreKnownSigned G step.state
     content-signed i x (contents.Application sent) sender set is kept e = absurd (refused kept)
     content-signed i x (contents.Proposal p) sender set is kept e =
-        proposal-signed i p (reference_of s.context a) step
+        proposal-signed (senders.Member i) p (reference_of s.context a) step
         (λ reference told. record {
           frame = a;
-          signer = x;
-          leaf = set;
+          key = x.signature_key;
+          signer = ap leaf_key set;
+          allowed = refl;
           sender = sender;
           content = is;
           reference = told;
@@ -69,18 +73,51 @@ module _ (G : VerifyFn) (s : State) (all : AreKnownSigned G s) (required : Requi
     leaf-signed i None sender set kept e = absurd (refused kept)
     leaf-signed i (Some x) sender set kept e = content-signed i x a.content.content sender set refl kept e
 
+    -- a proposal of a sender outside the group, under its key
+    signed-signed : (sender : Sender) (p : Proposal) (o : Option (List ℕ)) → a.content.sender ≡ sender → a.content.content ≡ contents.Proposal p
+        → may_propose sender p ≡ true → signing_key s.context s.tree sender (contents.Proposal p) ≡ o → AreKept (signed_proposal_rules G s a sender p o)
+        → option_map (after_proposal s sender p) (reference_of s.context a) ≡ Some step → AreKnownSigned G step.state
+    signed-signed sender p None is content allowed has kept e = absurd (refused kept)
+    signed-signed sender p (Some key) is content allowed has kept e =
+        proposal-signed sender p (reference_of s.context a) step
+        (λ reference told. record {
+          frame = a;
+          key = key;
+          signer = has;
+          allowed = allowed;
+          sender = is;
+          content = content;
+          reference = told;
+          signed = (passed kept).0;
+        }) e
+
+    outside-content-signed : (sender : Sender) (o : Option (List ℕ)) (content : Content) → a.content.sender ≡ sender → a.content.content ≡ content
+        → signing_key s.context s.tree sender content ≡ o → AreKept (outside_content_rules G s a sender o content)
+        → after_outside s a sender content ≡ Some step → AreKnownSigned G step.state
+    outside-content-signed sender o (contents.Application sent) is content has kept e = absurd (refused kept)
+    outside-content-signed sender o (contents.Proposal p) is content has kept e =
+        let k = passed kept in signed-signed sender p o is content k.0 has k.1 e
+    outside-content-signed sender o (contents.Commit c) is content has kept e = absurd (refused kept)
+
+    outside-signed : (profile : Profile) (sender : Sender) → a.content.sender ≡ sender
+        → signing_key s.context s.tree sender a.content.content ≡ outside_key s.context sender a.content.content
+        → AreKept (if_full profile (outside_rules G s a sender)) → after_outside s a sender a.content.content ≡ Some step → AreKnownSigned G step.state
+    outside-signed Members sender is has kept e = absurd (refused kept)
+    outside-signed Full sender is has kept e =
+        outside-content-signed sender (outside_key s.context sender a.content.content) a.content.content is refl has (passed kept).1 e
+
     sender-signed : (sender : Sender) → a.content.sender ≡ sender → AreKept (sender_rules G s required a sender)
         → after_sender s a sender ≡ Some step → AreKnownSigned G step.state
     sender-signed (senders.Member i) is kept e = leaf-signed i (leaf_at 0 s.tree i) is refl kept e
-    sender-signed (senders.External j) is kept e = absurd (none-some step e)
-    sender-signed senders.NewMemberProposal is kept e = absurd (none-some step e)
+    sender-signed (senders.External j) is kept e = outside-signed s.profile (senders.External j) is refl kept e
+    sender-signed senders.NewMemberProposal is kept e = outside-signed s.profile senders.NewMemberProposal is refl kept e
     sender-signed senders.NewMemberCommit is kept e = absurd (none-some step e)
 
   step-signed : (m : Message) (step : Step) → first_failing (message_rules G s required m) ≡ None → next s m ≡ Some step
       → AreKnownSigned G step.state
   step-signed (messages.Public p) step kept e =
       let frame : AreKept (frame_rules G s required p.auth) = record { none = kept } in
-      sender-signed p.auth step p.auth.content.sender refl (passed (passed frame).1).1 e
+      sender-signed p.auth step p.auth.content.sender refl (passed (passed (passed frame).1).1).1 e
   step-signed (messages.Unread w b) step kept e = absurd (none-some step e)
   step-signed (messages.GroupInfo g) step kept e = absurd (none-some step e)
   step-signed (messages.KeyPackage k) step kept e = absurd (none-some step e)
@@ -100,5 +137,5 @@ run-signed G s [] new all h = subst (AreKnownSigned G) (sym h) all
 run-signed G s (call ∷ calls) new all h = run-signed G h.0 calls new (taken-signed G s all call.bytes call.answer h.0 h.1) h.2
 
 pub followers_signed : FollowersKnowSigned
-followers_signed G info handed first last calls start run =
+followers_signed profile G info handed first last calls start run =
     run-signed G first calls last (knows_none G first (ap (λ (s : State). s.known) start.state)) run

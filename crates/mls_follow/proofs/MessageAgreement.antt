@@ -1,6 +1,6 @@
 -- Two meanings that answer the wanted signatures of a message alike, and those of the state's tree, refuse it alike.
 use Rattle.std.proofs.Common.{◌≡◌, ◌∙◌, ℕ, List, [], ◌∷◌, ◌++◌, Bool, true, false, Option, Some, None, IsSome, refl, sym, ap, subst, inl, inr}
-use Rattle.std.specs.Prelude.{◌==◌, ◌&&◌, is_some, nat_lt, if◌then◌else◌, option_map}
+use Rattle.std.specs.Prelude.{◌==◌, ◌&&◌, not, is_some, nat_lt, if◌then◌else◌, option_map}
 use Rattle.std.specs.List.{list_all}
 use Rattle.std.specs.Str.{bytes_eq}
 use Rattle.std.proofs.lemmas.Option.{none-some}
@@ -23,7 +23,11 @@ use Rattle.mls_msgs.specs.declared.framed_content.Sender.TheVariants as senders
 use Rattle.mls_msgs.specs.declared.key_package.KeyPackage.{KeyPackage}
 use Rattle.mls_msgs.specs.declared.message.Message.{Message}
 use Rattle.mls_msgs.specs.declared.message.Message.TheVariants as messages
+use Rattle.mls_msgs.specs.declared.profile.Profile.{Profile}
+use Rattle.mls_msgs.specs.declared.profile.Profile.TheVariants.{Members, Full}
 use Rattle.mls_msgs.specs.declared.proposal.Proposal.{Proposal}
+use Rattle.mls_apply.specs.Senders.{member_index}
+use Rattle.mls_signatures.specs.SigningKeys.{outside_key, may_propose}
 use Rattle.mls_msgs.specs.declared.proposal.Proposal.TheVariants as proposals
 use Rattle.mls_msgs.specs.declared.proposal.ProposalOrRef.{ProposalOrRef}
 use Rattle.mls_msgs.specs.declared.proposal.ProposalOrRef.TheVariants as entries
@@ -33,16 +37,16 @@ use Rattle.mls_apply.specs.ResolvedList.{resolved}
 use Rattle.mls_apply.specs.ListRules.{list_rules, list_refusal}
 use Rattle.mls_apply.specs.AppliedList.{Grown, outcome}
 use Rattle.mls_apply.specs.ContextExtensions as extensions
-use Rattle.mls_apply.specs.ProposalRules.{fits_group, is_valid_add, fits_leaf, is_valid_update, valid_if_add, valid_if_update, valid_if_remove, valid_if_extensions, holds_if_by_value, all_inline}
+use Rattle.mls_apply.specs.ProposalRules.{fits_group, is_valid_add, fits_leaf, is_valid_update, is_valid_update_by, valid_if_add, valid_if_update, valid_if_remove, valid_if_extensions, valid_if_psk, valid_if_reinit, is_no_external_init, holds_if_by_value, all_inline}
 use Rattle.mls_apply.specs.RuleLists.{Rule, rule, first_failing, renamed}
 use Rattle.mls_apply.proofs.RuleLists.{first_failing-renamed}
 use Rattle.mls_follow.specs.State.{State, last_epoch}
-use Rattle.mls_follow.specs.MessageRules.{refusal_of, is_new_proposal, is_frame_signed, proposal_message_rules, member_rules, tree_rules, resulting, path_rules_of, outcome_rules, required_after, rules_under, inline_rules, items_rules, commit_rules, content_rules, leaf_rules, sender_rules, frame_rules, message_rules}
+use Rattle.mls_follow.specs.MessageRules.{refusal_of, is_new_proposal, is_frame_signed, proposal_message_rules, member_rules, tree_rules, resulting, path_rules_of, outcome_rules, required_after, rules_under, inline_rules, items_rules, commit_rules, content_rules, leaf_rules, is_known_external, signed_proposal_rules, outside_content_rules, outside_rules, if_full, sender_rules, frame_rules, message_rules}
 use Rattle.mls_signatures.specs.Agreement.{AgreeOn}
-use Rattle.mls_signatures.specs.SignaturesToVerify.{leaf_signatures, package_signatures, framed_content_signatures, tree_signatures, signatures_at, proposal_signatures, entries_signatures, new_leaves, path_signatures, applied_list_signatures, commit_signatures, content_signatures, member_signatures, sender_signatures, all_message_signatures}
+use Rattle.mls_signatures.specs.SignaturesToVerify.{leaf_signatures, package_signatures, framed_content_signatures, tree_signatures, signatures_at, proposal_signatures, entries_signatures, new_leaves, path_signatures, applied_list_signatures, commit_signatures, update_signatures, content_signatures, member_signatures, outside_content_signatures, outside_signatures, in_full, sender_signatures, all_message_signatures, message_signatures}
 use Rattle.mls_follow.specs.MessageSignatures.{SignaturesDetermineRefusal}
 use Rattle.mls_follow.specs.declared.refusal.Refusal.{Refusal}
-use Rattle.mls_follow.specs.declared.refusal.Refusal.TheVariants.{WrongGroup, WrongEpoch, BadSignature, KnownProposal, AddInvalid, UpdateInvalid, RemoveInvalid, ContextExtensionsInvalid, LastEpoch, KeyRepeated}
+use Rattle.mls_follow.specs.declared.refusal.Refusal.TheVariants.{WrongGroup, WrongEpoch, BadSignature, KnownProposal, AddInvalid, UpdateInvalid, RemoveInvalid, ContextExtensionsInvalid, PskInvalid, ReInitInvalid, ExternalInitMisplaced, GroupOver, UnknownExternal, SenderContent, LastEpoch, KeyRepeated}
 use Rattle.mls_signatures.specs.declared.signature_to_verify.SignatureToVerify.{SignatureToVerify}
 use Rattle.mls_follow.proofs.Staying.{committer_stays}
 use Rattle.mls_signatures.proofs.Agreement.{front, back, from_deduplicated}
@@ -68,20 +72,30 @@ no_image f None e = refl
 no_image f (Some x) e = absurd (none-some (f x) (sym e))
 
 -- the rules for a list hold under other names
-list_kept : (i : ℕ) (items : List ListItem) (has_path : Bool) → first_failing (renamed refusal_of (list_rules i items has_path)) ≡ None
-    → list_refusal i items has_path ≡ None
+list_kept : (committer : Sender) (items : List ListItem) (has_path : Bool) → first_failing (renamed refusal_of (list_rules committer items has_path)) ≡ None
+    → list_refusal committer items has_path ≡ None
 unfolding list_refusal
-list_kept i items has_path e =
-    no_image refusal_of (first_failing (list_rules i items has_path)) (sym (first_failing-renamed refusal_of (list_rules i items has_path)) ∙ e)
+list_kept committer items has_path e =
+    no_image refusal_of (first_failing (list_rules committer items has_path)) (sym (first_failing-renamed refusal_of (list_rules committer items has_path)) ∙ e)
 
--- the rules for the group and the epoch of a frame
-gated : (b c : Bool) (o p : Option Refusal) → ((b && c) ≡ true → o ≡ p)
-    → (if b then (if c then o else Some WrongEpoch) else Some WrongGroup) ≡ (if b then (if c then p else Some WrongEpoch) else Some WrongGroup)
-gated true true o p h = h refl
-gated true false o p h = refl
-gated false c o p h = refl
+-- a rule that holds, before others
+passing : (e : Refusal) (b : Bool) (o p : Option Refusal) → (b ≡ true → o ≡ p) → (if b then o else Some e) ≡ (if b then p else Some e)
+passing e true o p h = h refl
+passing e false o p h = refl
+
+-- the rules for the group and the epoch of a frame, and for a group that is over
+gated : (b c d : Bool) (o p : Option Refusal) → ((b && c) ≡ true → d ≡ true → o ≡ p)
+    → (if b then (if c then (if d then o else Some GroupOver) else Some WrongEpoch) else Some WrongGroup)
+    ≡ (if b then (if c then (if d then p else Some GroupOver) else Some WrongEpoch) else Some WrongGroup)
+gated true true d o p h = passing GroupOver d o p (h refl)
+gated true false d o p h = refl
+gated false c d o p h = refl
 
 module _ (G K : VerifyFn) where
+  while_open : (b : Bool) (qs : List SignatureToVerify) → not b ≡ true → AgreeOn G K (if b then [] else qs) → AgreeOn G K qs
+  while_open true qs e h = absurd (cc)
+  while_open false qs e h = h
+
   all_asked : (b : Bool) (qs : List SignatureToVerify) → b ≡ true → AgreeOn G K (if b then qs else []) → AgreeOn G K qs
   all_asked true qs e h = h
   all_asked false qs e h = absurd (cc)
@@ -106,27 +120,34 @@ module _ (G K : VerifyFn) where
     update_alike i present x h =
         ap (λ (b : Bool). fits_leaf present x && b) (leaf_alike G K context.cipher_suite context.group_id i x h)
 
-    pub adds_alike : (i : ℕ) (p : Proposal) → AgreeOn G K (proposal_signatures context i p) → valid_if_add G context p ≡ valid_if_add K context p
-    adds_alike i (proposals.Add k) h = add_alike k h
-    adds_alike i (proposals.Update x) h = refl
-    adds_alike i (proposals.Remove j) h = refl
-    adds_alike i (proposals.ContextExtensions es) h = refl
-    adds_alike i (proposals.PreSharedKey es) h = refl
-    adds_alike i (proposals.ReInit es) h = refl
-    adds_alike i (proposals.ExternalInit es) h = refl
+    pub adds_alike : (sender : Sender) (p : Proposal) → AgreeOn G K (proposal_signatures context sender p) → valid_if_add G context p ≡ valid_if_add K context p
+    adds_alike sender (proposals.Add k) h = add_alike k h
+    adds_alike sender (proposals.Update x) h = refl
+    adds_alike sender (proposals.Remove j) h = refl
+    adds_alike sender (proposals.ContextExtensions es) h = refl
+    adds_alike sender (proposals.PreSharedKey id) h = refl
+    adds_alike sender (proposals.ReInit r) h = refl
+    adds_alike sender (proposals.ExternalInit output) h = refl
 
-    pub updates_alike : (t : Tree) (i : ℕ) (p : Proposal) → AgreeOn G K (proposal_signatures context i p)
-        → valid_if_update G context t i p ≡ valid_if_update K context t i p
-    updates_alike t i (proposals.Add k) h = refl
-    updates_alike t i (proposals.Update x) h = update_alike i (leaf_at 0 t i) x h
-    updates_alike t i (proposals.Remove j) h = refl
-    updates_alike t i (proposals.ContextExtensions es) h = refl
-    updates_alike t i (proposals.PreSharedKey es) h = refl
-    updates_alike t i (proposals.ReInit es) h = refl
-    updates_alike t i (proposals.ExternalInit es) h = refl
+    update_by_alike : (t : Tree) (sender : Sender) (x : LeafNode) → AgreeOn G K (update_signatures context (member_index sender) x)
+        → is_valid_update_by G context t sender x ≡ is_valid_update_by K context t sender x
+    update_by_alike t (senders.Member i) x h = update_alike i (leaf_at 0 t i) x h
+    update_by_alike t (senders.External k) x h = refl
+    update_by_alike t senders.NewMemberProposal x h = refl
+    update_by_alike t senders.NewMemberCommit x h = refl
+
+    pub updates_alike : (t : Tree) (sender : Sender) (p : Proposal) → AgreeOn G K (proposal_signatures context sender p)
+        → valid_if_update G context t sender p ≡ valid_if_update K context t sender p
+    updates_alike t sender (proposals.Add k) h = refl
+    updates_alike t sender (proposals.Update x) h = update_by_alike t sender x h
+    updates_alike t sender (proposals.Remove j) h = refl
+    updates_alike t sender (proposals.ContextExtensions es) h = refl
+    updates_alike t sender (proposals.PreSharedKey id) h = refl
+    updates_alike t sender (proposals.ReInit r) h = refl
+    updates_alike t sender (proposals.ExternalInit output) h = refl
 
     -- a test of the proposals in a commit itself
-    inline_alike : (i : ℕ) (f g : Proposal → Bool) → ((p : Proposal) → AgreeOn G K (proposal_signatures context i p) → f p ≡ g p)
+    inline_alike : (i : Sender) (f g : Proposal → Bool) → ((p : Proposal) → AgreeOn G K (proposal_signatures context i p) → f p ≡ g p)
         → (es : List ProposalOrRef) → AgreeOn G K (entries_signatures context i es) → list_all (holds_if_by_value f) es ≡ list_all (holds_if_by_value g) es
     inline_alike i f g each [] h = refl
     inline_alike i f g each (entries.Proposal p ∷ es) h =
@@ -135,7 +156,7 @@ module _ (G K : VerifyFn) where
         λ k. here k && rest k
     inline_alike i f g each (entries.Reference r ∷ es) h = inline_alike i f g each es h
 
-    all_inline_alike : (i : ℕ) (f g : Proposal → Bool) → ((p : Proposal) → AgreeOn G K (proposal_signatures context i p) → f p ≡ g p)
+    all_inline_alike : (i : Sender) (f g : Proposal → Bool) → ((p : Proposal) → AgreeOn G K (proposal_signatures context i p) → f p ≡ g p)
         → (es : List ProposalOrRef) → AgreeOn G K (entries_signatures context i es) → all_inline f es ≡ all_inline g es
     unfolding all_inline
     all_inline_alike i f g each es h = inline_alike i f g each es h
@@ -143,14 +164,15 @@ module _ (G K : VerifyFn) where
   -- ---- messages in a state
 
   module _ (s : State) (required : RequiredCapabilities) (old : AgreeOn G K (tree_signatures s.context.cipher_suite s.context.group_id 0 s.tree)) where
-    offers_alike : (a : AuthenticatedParts) (i : ℕ) (p : Proposal) → AgreeOn G K (proposal_signatures s.context i p)
-        → first_failing (proposal_message_rules G s a i p) ≡ first_failing (proposal_message_rules K s a i p)
-    offers_alike a i p h =
-        let adds = adds_alike s.context i p h in
-        let updates = updates_alike s.context s.tree i p h in
+    offers_alike : (a : AuthenticatedParts) (sender : Sender) (p : Proposal) → AgreeOn G K (proposal_signatures s.context sender p)
+        → first_failing (proposal_message_rules G s a sender p) ≡ first_failing (proposal_message_rules K s a sender p)
+    offers_alike a sender p h =
+        let adds = adds_alike s.context sender p h in
+        let updates = updates_alike s.context s.tree sender p h in
         λ k. first_failing (rule KnownProposal (is_new_proposal s a) ∷ renamed refusal_of (
         rule faults.AddInvalid (adds k) ∷ rule faults.UpdateInvalid (updates k) ∷ rule faults.RemoveInvalid (valid_if_remove s.tree p) ∷
-        rule faults.ContextExtensionsInvalid (valid_if_extensions p) ∷ []))
+        rule faults.ContextExtensionsInvalid (valid_if_extensions p) ∷ rule faults.PskInvalid (valid_if_psk s.context sender p) ∷
+        rule faults.ReInitInvalid (valid_if_reinit s.context p) ∷ rule faults.ExternalInitMisplaced (is_no_external_init p) ∷ []))
 
     -- the leaf of a path
     path_leaf : (i : ℕ) (path : Option UpdatePath) (j : ℕ) (x : LeafNode) → IsPathLeaf j x i path → AgreeOn G K (path_signatures s.context i path)
@@ -190,7 +212,7 @@ module _ (G K : VerifyFn) where
           (fault_alike G K s.context.cipher_suite s.context.group_id required t (leaves_say t e))
 
     outcomes_alike : (i : ℕ) (path : Option UpdatePath) (items : List ListItem) (o : Option Grown) → outcome items s.tree ≡ o
-        → list_refusal i items (is_some path) ≡ None → IsSome (leaf_at 0 s.tree i)
+        → list_refusal (senders.Member i) items (is_some path) ≡ None → IsSome (leaf_at 0 s.tree i)
         → AgreeOn G K (applied_list_signatures s.context i path items o)
         → first_failing (outcome_rules G s required i path o) ≡ first_failing (outcome_rules K s required i path o)
     outcomes_alike i path items None e kept set h = refl
@@ -203,7 +225,7 @@ module _ (G K : VerifyFn) where
   -- the rest of the rules, in a state with what it requires
   module _ (s : State) (required : RequiredCapabilities) (old : AgreeOn G K (tree_signatures s.context.cipher_suite s.context.group_id 0 s.tree)) where
     unders_alike : (i : ℕ) (path : Option UpdatePath) (items : List ListItem) (o : Option Grown) → outcome items s.tree ≡ o
-        → list_refusal i items (is_some path) ≡ None → IsSome (leaf_at 0 s.tree i)
+        → list_refusal (senders.Member i) items (is_some path) ≡ None → IsSome (leaf_at 0 s.tree i)
         → AgreeOn G K (applied_list_signatures s.context i path items o) → (after : Option RequiredCapabilities)
         → first_failing (rules_under G s i path o after) ≡ first_failing (rules_under K s i path o after)
     unders_alike i path items o e kept set h None = refl
@@ -213,14 +235,16 @@ module _ (G K : VerifyFn) where
         → first_failing (items_rules G s required i c o) ≡ first_failing (items_rules K s required i c o)
     lists_alike i c None set h = refl
     lists_alike i c (Some items) set h =
-        let inline = front G K (entries_signatures s.context i c.proposals) (applied_list_signatures s.context i c.path items (outcome items s.tree)) h in
-        let after = back G K (entries_signatures s.context i c.proposals) (applied_list_signatures s.context i c.path items (outcome items s.tree)) h in
-        let adds = all_inline_alike s.context i (valid_if_add G s.context) (valid_if_add K s.context) (adds_alike s.context i) c.proposals inline in
-        let updates = all_inline_alike s.context i (valid_if_update G s.context s.tree i) (valid_if_update K s.context s.tree i) (updates_alike s.context s.tree i) c.proposals inline in
+        let inline = front G K (entries_signatures s.context (senders.Member i) c.proposals) (applied_list_signatures s.context i c.path items (outcome items s.tree)) h in
+        let after = back G K (entries_signatures s.context (senders.Member i) c.proposals) (applied_list_signatures s.context i c.path items (outcome items s.tree)) h in
+        let adds = all_inline_alike s.context (senders.Member i) (valid_if_add G s.context) (valid_if_add K s.context) (adds_alike s.context (senders.Member i)) c.proposals inline in
+        let updates = all_inline_alike s.context (senders.Member i) (valid_if_update G s.context s.tree (senders.Member i)) (valid_if_update K s.context s.tree (senders.Member i))
+        (updates_alike s.context s.tree (senders.Member i)) c.proposals inline in
         let own : inline_rules G s i c ≡ inline_rules K s i c = λ k.
         rule AddInvalid (adds k) ∷ rule UpdateInvalid (updates k) ∷ rule RemoveInvalid (all_inline (valid_if_remove s.tree) c.proposals) ∷
-        rule ContextExtensionsInvalid (all_inline valid_if_extensions c.proposals) ∷ [] in
-        let of_list = renamed refusal_of (list_rules i items (is_some c.path)) in
+        rule ContextExtensionsInvalid (all_inline valid_if_extensions c.proposals) ∷ rule PskInvalid (all_inline (valid_if_psk s.context (senders.Member i)) c.proposals) ∷
+        rule ReInitInvalid (all_inline (valid_if_reinit s.context) c.proposals) ∷ rule ExternalInitMisplaced (all_inline is_no_external_init c.proposals) ∷ [] in
+        let of_list = renamed refusal_of (list_rules (senders.Member i) items (is_some c.path)) in
         let under_G = rules_under G s i c.path (outcome items s.tree) (required_after required (extensions.brought items)) in
         let under_K = rules_under K s i c.path (outcome items s.tree) (required_after required (extensions.brought items)) in
         let rest_G = of_list ++ under_G in
@@ -228,57 +252,101 @@ module _ (G K : VerifyFn) where
         ap (λ (rs : List (Rule Refusal)). first_failing (rs ++ rest_G)) own
         ∙ behind_alike (inline_rules K s i c) rest_G rest_K
         (λ _. behind_alike of_list under_G under_K
-        (λ e. unders_alike i c.path items (outcome items s.tree) refl (list_kept i items (is_some c.path) e) set after (required_after required (extensions.brought items))))
+        (λ e. unders_alike i c.path items (outcome items s.tree) refl (list_kept (senders.Member i) items (is_some c.path) e) set after (required_after required (extensions.brought items))))
 
-    commits_alike : (i : ℕ) (c : Commit) → IsSome (leaf_at 0 s.tree i) → AgreeOn G K (commit_signatures s.context s.tree i c (resolved i s.known c.proposals))
+    commits_alike : (i : ℕ) (c : Commit) → IsSome (leaf_at 0 s.tree i) → AgreeOn G K (commit_signatures s.context s.tree i c (resolved (senders.Member i) s.known c.proposals))
         → first_failing (commit_rules G s required i c) ≡ first_failing (commit_rules K s required i c)
     commits_alike i c set h =
         ap (λ (o : Option Refusal). if nat_lt s.context.epoch last_epoch then o else Some LastEpoch)
-        (lists_alike i c (resolved i s.known c.proposals) set h)
+        (lists_alike i c (resolved (senders.Member i) s.known c.proposals) set h)
 
     module _ (a : AuthenticatedParts) where
-      signed_alike : (x : LeafNode) (o p : Option Refusal) → AgreeOn G K (framed_content_signatures s.context x a) → o ≡ p
-          → (if is_frame_signed G s.context x a then o else Some BadSignature) ≡ (if is_frame_signed K s.context x a then p else Some BadSignature)
-      signed_alike x o p h e = let frame = frame_alike G K s.context x a h in λ k. if frame k then e k else Some BadSignature
+      signed_alike : (key : List ℕ) (o p : Option Refusal) → AgreeOn G K (framed_content_signatures s.context key a) → o ≡ p
+          → (if is_frame_signed G s.context key a then o else Some BadSignature) ≡ (if is_frame_signed K s.context key a then p else Some BadSignature)
+      signed_alike key o p h e = let frame = frame_alike G K s.context key a h in λ k. if frame k then e k else Some BadSignature
+
+      proposals_alike : (sender : Sender) (p : Proposal) (key : List ℕ) → AgreeOn G K (framed_content_signatures s.context key a ++ proposal_signatures s.context sender p)
+          → (if is_frame_signed G s.context key a then first_failing (proposal_message_rules G s a sender p) else Some BadSignature)
+          ≡ (if is_frame_signed K s.context key a then first_failing (proposal_message_rules K s a sender p) else Some BadSignature)
+      proposals_alike sender p key h =
+          signed_alike key (first_failing (proposal_message_rules G s a sender p)) (first_failing (proposal_message_rules K s a sender p))
+          (front G K (framed_content_signatures s.context key a) (proposal_signatures s.context sender p) h)
+          (offers_alike s required old a sender p (back G K (framed_content_signatures s.context key a) (proposal_signatures s.context sender p) h))
 
       contents_alike : (i : ℕ) (x : LeafNode) (content : Content) → IsSome (leaf_at 0 s.tree i) → AgreeOn G K (content_signatures s.context s.known s.tree a i x content)
           → first_failing (content_rules G s required a i x content) ≡ first_failing (content_rules K s required a i x content)
       contents_alike i x (contents.Application sent) set h = refl
       contents_alike i x (contents.Proposal p) set h =
-          signed_alike x (first_failing (proposal_message_rules G s a i p)) (first_failing (proposal_message_rules K s a i p))
-          (front G K (framed_content_signatures s.context x a) (proposal_signatures s.context i p) h)
-          (offers_alike s required old a i p (back G K (framed_content_signatures s.context x a) (proposal_signatures s.context i p) h))
+          proposals_alike (senders.Member i) p x.signature_key h
       contents_alike i x (contents.Commit c) set h =
-          let items = commit_signatures s.context s.tree i c (resolved i s.known c.proposals) in
-          signed_alike x (first_failing (commit_rules G s required i c)) (first_failing (commit_rules K s required i c))
-          (front G K (framed_content_signatures s.context x a) items h)
-          (commits_alike i c set (back G K (framed_content_signatures s.context x a) items h))
+          let items = commit_signatures s.context s.tree i c (resolved (senders.Member i) s.known c.proposals) in
+          signed_alike x.signature_key (first_failing (commit_rules G s required i c)) (first_failing (commit_rules K s required i c))
+          (front G K (framed_content_signatures s.context x.signature_key a) items h)
+          (commits_alike i c set (back G K (framed_content_signatures s.context x.signature_key a) items h))
 
       leaves_alike : (i : ℕ) (o : Option LeafNode) → leaf_at 0 s.tree i ≡ o → AgreeOn G K (member_signatures s.context s.known s.tree a i o)
           → first_failing (leaf_rules G s required a i o) ≡ first_failing (leaf_rules K s required a i o)
       leaves_alike i None e h = refl
       leaves_alike i (Some x) e h = contents_alike i x a.content.content (ap is_some e) h
 
-      senders_alike : (sender : Sender) → AgreeOn G K (sender_signatures s.context s.known s.tree a sender)
+      -- a proposal of a sender outside the group, who may send it or not
+      allowed_alike : (sender : Sender) (p : Proposal) (key : List ℕ) (b : Bool)
+          → AgreeOn G K (if b then framed_content_signatures s.context key a ++ proposal_signatures s.context sender p else [])
+          → first_failing (rule SenderContent b ∷ signed_proposal_rules G s a sender p (Some key))
+          ≡ first_failing (rule SenderContent b ∷ signed_proposal_rules K s a sender p (Some key))
+      allowed_alike sender p key true h = proposals_alike sender p key h
+      allowed_alike sender p key false h = refl
+
+      -- the signatures of its content, under a key if there is one
+      abbrev keyed_signatures : Sender → Option (List ℕ) → Content → List SignatureToVerify
+      keyed_signatures sender None content = []
+      keyed_signatures sender (Some key) content = outside_content_signatures s.context a sender key content
+
+      outside_contents_alike : (sender : Sender) (o : Option (List ℕ)) (content : Content) → AgreeOn G K (keyed_signatures sender o content)
+          → first_failing (outside_content_rules G s a sender o content) ≡ first_failing (outside_content_rules K s a sender o content)
+      outside_contents_alike sender o (contents.Application sent) h = refl
+      outside_contents_alike sender None (contents.Proposal p) h = refl
+      outside_contents_alike sender (Some key) (contents.Proposal p) h = allowed_alike sender p key (may_propose sender p) h
+      outside_contents_alike sender o (contents.Commit c) h = refl
+
+      under_key : (sender : Sender) (o : Option (List ℕ)) → AgreeOn G K (outside_signatures s.context a sender o) → AgreeOn G K (keyed_signatures sender o a.content.content)
+      under_key sender None h = h
+      under_key sender (Some key) h = h
+
+      outsides_alike : (profile : Profile) (sender : Sender) → AgreeOn G K (in_full profile (outside_signatures s.context a sender (outside_key s.context sender a.content.content)))
+          → first_failing (if_full profile (outside_rules G s a sender)) ≡ first_failing (if_full profile (outside_rules K s a sender))
+      outsides_alike Members sender h = refl
+      outsides_alike Full sender h =
+          passing UnknownExternal (is_known_external s.context.extensions sender)
+          (first_failing (outside_content_rules G s a sender (outside_key s.context sender a.content.content) a.content.content))
+          (first_failing (outside_content_rules K s a sender (outside_key s.context sender a.content.content) a.content.content))
+          (λ _. outside_contents_alike sender (outside_key s.context sender a.content.content) a.content.content (under_key sender (outside_key s.context sender a.content.content) h))
+
+      senders_alike : (sender : Sender) → AgreeOn G K (sender_signatures s.profile s.context s.known s.tree a sender)
           → first_failing (sender_rules G s required a sender) ≡ first_failing (sender_rules K s required a sender)
       senders_alike (senders.Member i) h = leaves_alike i (leaf_at 0 s.tree i) refl h
-      senders_alike (senders.External j) h = refl
-      senders_alike senders.NewMemberProposal h = refl
+      senders_alike (senders.External j) h = outsides_alike s.profile (senders.External j) h
+      senders_alike senders.NewMemberProposal h = outsides_alike s.profile senders.NewMemberProposal h
       senders_alike senders.NewMemberCommit h = refl
 
-      frames_alike : AgreeOn G K (if bytes_eq a.content.group_id s.context.group_id && a.content.epoch == s.context.epoch then sender_signatures s.context s.known s.tree a a.content.sender else [])
+      frames_alike : (not s.ended ≡ true → AgreeOn G K (if bytes_eq a.content.group_id s.context.group_id && a.content.epoch == s.context.epoch
+          then sender_signatures s.profile s.context s.known s.tree a a.content.sender else []))
           → first_failing (frame_rules G s required a) ≡ first_failing (frame_rules K s required a)
       frames_alike h =
-          gated (bytes_eq a.content.group_id s.context.group_id) (a.content.epoch == s.context.epoch)
+          gated (bytes_eq a.content.group_id s.context.group_id) (a.content.epoch == s.context.epoch) (not s.ended)
           (first_failing (sender_rules G s required a a.content.sender)) (first_failing (sender_rules K s required a a.content.sender))
-          (λ e. senders_alike a.content.sender
-          (all_asked (bytes_eq a.content.group_id s.context.group_id && a.content.epoch == s.context.epoch) (sender_signatures s.context s.known s.tree a a.content.sender) e h))
+          (λ e going. senders_alike a.content.sender
+          (all_asked (bytes_eq a.content.group_id s.context.group_id && a.content.epoch == s.context.epoch)
+          (sender_signatures s.profile s.context s.known s.tree a a.content.sender) e (h going)))
 
-    messages_alike : (m : Message) → AgreeOn G K (all_message_signatures s.context s.known s.tree m) → first_failing (message_rules G s required m) ≡ first_failing (message_rules K s required m)
+    messages_alike : (m : Message) → (not s.ended ≡ true → AgreeOn G K (all_message_signatures s.profile s.context s.known s.tree m)) → first_failing (message_rules G s required m) ≡ first_failing (message_rules K s required m)
     messages_alike (messages.Public m) h = frames_alike m.auth h
     messages_alike (messages.Unread w b) h = refl
     messages_alike (messages.GroupInfo g) h = refl
     messages_alike (messages.KeyPackage k) h = refl
 
 pub decide_refusals : SignaturesDetermineRefusal
-decide_refusals G K s required m wanted old = messages_alike G K s required old m (from_deduplicated G K (all_message_signatures s.context s.known s.tree m) wanted)
+decide_refusals G K s required m wanted old =
+    messages_alike G K s required old m
+    (λ going. from_deduplicated G K (all_message_signatures s.profile s.context s.known s.tree m)
+    (while_open G K s.ended (message_signatures s.profile s.context s.known s.tree m) going wanted))

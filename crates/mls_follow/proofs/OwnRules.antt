@@ -15,7 +15,10 @@ use Rattle.mls_msgs.specs.declared.framed_content.Sender.{Sender}
 use Rattle.mls_msgs.specs.declared.framed_content.Sender.TheVariants as senders
 use Rattle.mls_msgs.specs.declared.message.Message.{Message}
 use Rattle.mls_msgs.specs.declared.message.Message.TheVariants as messages
+use Rattle.mls_msgs.specs.declared.profile.Profile.{Profile}
+use Rattle.mls_msgs.specs.declared.profile.Profile.TheVariants.{Members, Full}
 use Rattle.mls_msgs.specs.declared.proposal.Proposal.{Proposal}
+use Rattle.mls_signatures.specs.SigningKeys.{outside_key}
 use Rattle.mls_apply.specs.declared.list_item.ListItem.{ListItem}
 use Rattle.mls_apply.specs.ContextExtensions.{brought}
 use Rattle.mls_apply.specs.ResolvedList.{resolved}
@@ -23,7 +26,7 @@ use Rattle.mls_apply.specs.AppliedList.{Grown, outcome}
 use Rattle.mls_apply.specs.RuleLists.{Rule}
 use Rattle.mls_apply.proofs.RuleLists.{AreOthers, no_rules, one_more, others_both}
 use Rattle.mls_follow.specs.State.{State}
-use Rattle.mls_follow.specs.MessageRules.{proposal_message_rules, member_rules, tree_rules, resulting, path_rules_of, outcome_rules, required_after, rules_under, items_rules, commit_rules, content_rules, leaf_rules, sender_rules, frame_rules, message_rules}
+use Rattle.mls_follow.specs.MessageRules.{proposal_message_rules, member_rules, tree_rules, resulting, path_rules_of, outcome_rules, required_after, rules_under, items_rules, commit_rules, content_rules, leaf_rules, signed_proposal_rules, outside_content_rules, outside_rules, if_full, sender_rules, frame_rules, message_rules}
 use Rattle.mls_follow.specs.declared.refusal.Refusal.{Refusal}
 use Rattle.mls_follow.specs.declared.refusal.Refusal.TheVariants.{OutOfMemory}
 
@@ -59,34 +62,52 @@ module _ (G : VerifyFn) (s : State) (required : RequiredCapabilities) where
   of_items : (i : ℕ) (c : Commit) (o : Option (List ListItem)) → AreOwn (items_rules G s required i c o)
   of_items i c None = one_more (λ e. cc) no_rules
   of_items i c (Some items) =
-      one_more (λ e. cc) (one_more (λ e. cc) (one_more (λ e. cc) (one_more (λ e. cc)
-      (one_more (λ e. cc) (one_more (λ e. cc) (one_more (λ e. cc) (one_more (λ e. cc) (one_more (λ e. cc)
-      (of_under G s i c.path (outcome items s.tree) (required_after required (brought items)))))))))))
+      one_more (λ e. cc) (one_more (λ e. cc) (one_more (λ e. cc) (one_more (λ e. cc) (one_more (λ e. cc) (one_more (λ e. cc) (one_more (λ e. cc)
+      (one_more (λ e. cc) (one_more (λ e. cc) (one_more (λ e. cc) (one_more (λ e. cc) (one_more (λ e. cc) (one_more (λ e. cc) (one_more (λ e. cc)
+      (of_under G s i c.path (outcome items s.tree) (required_after required (brought items))))))))))))))))
 
-  of_offer : (a : AuthenticatedParts) (i : ℕ) (p : Proposal) → AreOwn (proposal_message_rules G s a i p)
-  of_offer a i p = one_more (λ e. cc) (one_more (λ e. cc) (one_more (λ e. cc) (one_more (λ e. cc) (one_more (λ e. cc) no_rules))))
+  of_offer : (a : AuthenticatedParts) (sender : Sender) (p : Proposal) → AreOwn (proposal_message_rules G s a sender p)
+  of_offer a sender p =
+      one_more (λ e. cc) (one_more (λ e. cc) (one_more (λ e. cc) (one_more (λ e. cc) (one_more (λ e. cc) (one_more (λ e. cc) (one_more (λ e. cc)
+      (one_more (λ e. cc) no_rules)))))))
 
   of_commit : (i : ℕ) (c : Commit) → AreOwn (commit_rules G s required i c)
-  of_commit i c = one_more (λ e. cc) (of_items i c (resolved i s.known c.proposals))
+  of_commit i c = one_more (λ e. cc) (of_items i c (resolved (senders.Member i) s.known c.proposals))
 
   module _ (a : AuthenticatedParts) where
     of_content : (i : ℕ) (x : LeafNode) (c : Content) → AreOwn (content_rules G s required a i x c)
     of_content i x (contents.Application _) = one_more (λ e. cc) no_rules
-    of_content i x (contents.Proposal p) = one_more (λ e. cc) (of_offer a i p)
+    of_content i x (contents.Proposal p) = one_more (λ e. cc) (of_offer a (senders.Member i) p)
     of_content i x (contents.Commit c) = one_more (λ e. cc) (of_commit i c)
 
     of_leaf : (i : ℕ) (o : Option LeafNode) → AreOwn (leaf_rules G s required a i o)
     of_leaf i None = one_more (λ e. cc) no_rules
     of_leaf i (Some x) = of_content i x a.content.content
 
+    of_signed : (sender : Sender) (p : Proposal) (o : Option (List ℕ)) → AreOwn (signed_proposal_rules G s a sender p o)
+    of_signed sender p None = one_more (λ e. cc) no_rules
+    of_signed sender p (Some key) = one_more (λ e. cc) (of_offer a sender p)
+
+    of_outside_content : (sender : Sender) (o : Option (List ℕ)) (c : Content) → AreOwn (outside_content_rules G s a sender o c)
+    of_outside_content sender o (contents.Application _) = one_more (λ e. cc) no_rules
+    of_outside_content sender o (contents.Proposal p) = one_more (λ e. cc) (of_signed sender p o)
+    of_outside_content sender o (contents.Commit c) = one_more (λ e. cc) no_rules
+
+    of_outside : (sender : Sender) → AreOwn (outside_rules G s a sender)
+    of_outside sender = one_more (λ e. cc) (of_outside_content sender (outside_key s.context sender a.content.content) a.content.content)
+
+    of_full : (profile : Profile) (rs : List (Rule Refusal)) → AreOwn rs → AreOwn (if_full profile rs)
+    of_full Members rs h = one_more (λ e. cc) no_rules
+    of_full Full rs h = h
+
     of_sender : (sender : Sender) → AreOwn (sender_rules G s required a sender)
     of_sender (senders.Member i) = of_leaf i (leaf_at 0 s.tree i)
-    of_sender (senders.External _) = one_more (λ e. cc) no_rules
-    of_sender senders.NewMemberProposal = one_more (λ e. cc) no_rules
+    of_sender (senders.External k) = of_full s.profile (outside_rules G s a (senders.External k)) (of_outside (senders.External k))
+    of_sender senders.NewMemberProposal = of_full s.profile (outside_rules G s a senders.NewMemberProposal) (of_outside senders.NewMemberProposal)
     of_sender senders.NewMemberCommit = one_more (λ e. cc) no_rules
 
     of_frame : AreOwn (frame_rules G s required a)
-    of_frame = one_more (λ e. cc) (one_more (λ e. cc) (of_sender a.content.sender))
+    of_frame = one_more (λ e. cc) (one_more (λ e. cc) (one_more (λ e. cc) (of_sender a.content.sender)))
 
   pub of_message : (m : Message) → AreOwn (message_rules G s required m)
   of_message (messages.Public p) = of_frame p.auth

@@ -4,8 +4,6 @@ use Rattle.std.specs.Prelude.{◌⊎◌}
 use Rattle.std.proofs.lemmas.Bool.{false≢true}
 use Rattle.std.proofs.lemmas.List.{append-nil}
 use Rattle.mls_check.specs.Signatures.{VerifyFn}
-use Rattle.mls_msgs.specs.declared.framed_content.Sender.{Sender}
-use Rattle.mls_msgs.specs.declared.framed_content.Sender.TheVariants.{Member, External, NewMemberProposal, NewMemberCommit}
 use Rattle.mls_state.specs.declared.known_entry.KnownEntry.{KnownEntry}
 use Rattle.mls_apply.specs.declared.list_item.KnownProposal.{KnownProposal}
 use Rattle.mls_follow.specs.State.{State}
@@ -45,14 +43,6 @@ module _ (G : VerifyFn) where
   abbrev Judged : State → List KnownEntry → Type 0
   Judged s es = ((new : State) × Holds G s es new) ⊎ ((n : ℕ) × FailsEntry G s es n)
 
-  -- no member sent it
-  no_member : (e : KnownEntry) (sender : Sender) → e.sender ≡ sender → ((i : ℕ) → ◌≡◌ {A = Sender} sender (Member i) → ⊥) → (k : KnownProposal) → e ≡ stored_entry k → ⊥
-  no_member e sender is other k same = other k.sender (sym is ∙ ap (λ (x : KnownEntry). x.sender) same)
-
-  entry_of : (e : KnownEntry) (i : ℕ) → e.sender ≡ Member i
-      → e ≡ stored_entry (record { reference = e.reference; sender = i; proposal = e.proposal })
-  entry_of e i is = λ j. record { reference = e.reference; sender = is j; proposal = e.proposal }
-
   by_rest : (s : State) (e : KnownEntry) (es : List KnownEntry) (k : KnownProposal) → e ≡ stored_entry k → can_hold G s k ≡ true
       → Judged (with_pending s k) es → Judged s (e ∷ es)
   by_rest s e es k is can (inl h) = inl (h.0, (k, is, can, h.1))
@@ -64,18 +54,13 @@ module _ (G : VerifyFn) where
   by_test s e es k is rest false not =
       inr (zero, λ l same can. false≢true (sym not ∙ ap (can_hold G s) (one_held s e k l is same) ∙ can))
 
-  by_sender : (s : State) (e : KnownEntry) (es : List KnownEntry) → ((k : KnownProposal) → Judged (with_pending s k) es)
-      → (sender : Sender) → e.sender ≡ sender → Judged s (e ∷ es)
-  by_sender s e es rest (Member i) is =
-      let k : KnownProposal = record { reference = e.reference; sender = i; proposal = e.proposal } in
-      by_test s e es k (entry_of e i is) (rest k) (can_hold G s k) refl
-  by_sender s e es rest (External i) is = inr (zero, λ k same can. no_member e (External i) is (λ j f. cc) k same)
-  by_sender s e es rest NewMemberProposal is = inr (zero, λ k same can. no_member e NewMemberProposal is (λ j f. cc) k same)
-  by_sender s e es rest NewMemberCommit is = inr (zero, λ k same can. no_member e NewMemberCommit is (λ j f. cc) k same)
+  -- the proposal that an entry is of
+  abbrev of_entry : KnownEntry → KnownProposal
+  of_entry e = record { reference = e.reference; sender = e.sender; proposal = e.proposal }
 
   pub held_or_not : (s : State) (es : List KnownEntry) → Judged s es
   held_or_not s [] = inl (s, refl)
-  held_or_not s (e ∷ es) = by_sender s e es (λ k. held_or_not (with_pending s k) es) e.sender refl
+  held_or_not s (e ∷ es) = by_test s e es (of_entry e) refl (held_or_not (with_pending s (of_entry e)) es) (can_hold G s (of_entry e)) refl
 
   -- ---- what holds of all entries
 

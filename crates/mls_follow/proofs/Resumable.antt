@@ -1,5 +1,5 @@
 -- After any run the state satisfies the conditions of a resumption.
-use Rattle.std.proofs.Common.{◌≡◌, ◌∙◌, ℕ, List, [], ◌∷◌, ◌++◌, length, map, Bool, true, Option, Some, None, is_some, Result, Ok, Err, refl, sym, ap, subst, inl, inr}
+use Rattle.std.proofs.Common.{◌≡◌, ◌∙◌, ℕ, List, [], ◌∷◌, ◌++◌, length, map, Bool, true, false, Option, Some, None, is_some, Result, Ok, Err, refl, sym, ap, subst, inl, inr}
 use Rattle.std.specs.Prelude.{◌==◌, ◌&&◌, not, option_map, option_and_then}
 use Rattle.std.proofs.lemmas.Bool.Decides.{Decides-eqb}
 use Rattle.std.proofs.lemmas.List.{map_push}
@@ -16,7 +16,7 @@ use Rattle.mls_check.specs.GroupTree.{IsSupportedContext}
 use Rattle.mls_check.specs.Signatures.{VerifyFn}
 use Rattle.mls_msgs.specs.Authenticated.{authenticated_content}
 use Rattle.mls_msgs.specs.Tbs.{reference_label}
-use Rattle.mls_msgs.specs.Profile.{is_members_proposal, is_members_content, is_members_message}
+use Rattle.mls_msgs.specs.Profile.{is_in, is_members_proposal, is_members_content, is_members_message}
 use Rattle.mls_msgs.specs.declared.authenticated.AuthenticatedParts.{AuthenticatedParts}
 use Rattle.mls_msgs.specs.declared.commit.Commit.{Commit}
 use Rattle.mls_msgs.specs.declared.framed_content.Content.{Content}
@@ -24,6 +24,8 @@ use Rattle.mls_msgs.specs.declared.framed_content.Content.TheVariants as content
 use Rattle.mls_msgs.specs.declared.framed_content.Sender.{Sender}
 use Rattle.mls_msgs.specs.declared.framed_content.Sender.TheVariants as senders
 use Rattle.mls_msgs.specs.declared.group_info.GroupInfo.{GroupInfo}
+use Rattle.mls_msgs.specs.declared.profile.Profile.{Profile}
+use Rattle.mls_msgs.specs.declared.profile.Profile.TheVariants.{Members, Full}
 use Rattle.mls_msgs.specs.declared.message.Message.{Message}
 use Rattle.mls_msgs.specs.declared.message.Message.TheVariants as messages
 use Rattle.mls_msgs.specs.declared.proposal.Proposal.{Proposal}
@@ -31,21 +33,24 @@ use Rattle.mls_state.specs.declared.known_entry.KnownEntry.{KnownEntry}
 use Rattle.mls_state.specs.declared.state.FollowerState.{FollowerState}
 use Rattle.mls_apply.specs.ProposalRules.{checked_refusal, proposal_rules}
 use Rattle.mls_apply.specs.ResolvedList.{find_known, resolved}
-use Rattle.mls_apply.specs.RuleLists.{first_failing, renamed}
+use Rattle.mls_apply.specs.Senders.{is_present}
+use Rattle.mls_apply.specs.declared.list_item.ListItem.{ListItem}
+use Rattle.mls_signatures.specs.SigningKeys.{outside_key, may_propose}
+use Rattle.mls_apply.specs.RuleLists.{Rule, first_failing, renamed}
 use Rattle.mls_apply.specs.declared.fault.ApplyFault.{ApplyFault}
 use Rattle.mls_apply.specs.declared.list_item.KnownProposal.{KnownProposal}
 use Rattle.mls_apply.proofs.Merging.{came_from}
 use Rattle.mls_apply.proofs.RuleLists.{AreKept, passed, refused, first_failing-renamed}
 use Rattle.mls_follow.specs.State.{State}
-use Rattle.mls_follow.specs.MessageRules.{refusal_of, reference_of, is_known_reference, is_new_proposal, proposal_message_rules, content_rules, leaf_rules, sender_rules, frame_rules, message_rules}
-use Rattle.mls_follow.specs.NextState.{Step, after_proposal, committed, after_tree, commit_tree, extensions_after, with_extensions, after_commit, after_content, after_sender, next}
+use Rattle.mls_follow.specs.MessageRules.{refusal_of, reference_of, is_known_reference, is_new_proposal, proposal_message_rules, content_rules, leaf_rules, is_followed, is_known_external, signed_proposal_rules, outside_content_rules, outside_rules, if_full, sender_rules, frame_rules, message_rules}
+use Rattle.mls_follow.specs.NextState.{Step, after_proposal, committed, after_tree, commit_tree, with_list, after_commit, after_content, after_outside, after_sender, next}
 use Rattle.mls_follow.specs.Transcript.{confirmed_hash, interim_hash}
 use Rattle.mls_follow.specs.Acceptance.{IsAcceptable, IsNext}
 use Rattle.mls_follow.specs.Runs.{Takes, Call, IsRun}
 use Rattle.mls_follow.specs.Start.{IsStart}
 use Rattle.mls_follow.specs.Validity.{IsValidState}
 use Rattle.mls_follow.specs.StoredState.{stored_entry}
-use Rattle.mls_follow.specs.Resumption.{can_hold, with_pending, Holds, IsStateOf, IsResumed, base_state}
+use Rattle.mls_follow.specs.Resumption.{can_hold, is_receivable, with_pending, Holds, IsStateOf, IsResumed, base_state}
 use Rattle.mls_follow.specs.StoredRuns.{IsResumable, IsFirst, FollowersAreResumable}
 use Rattle.mls_follow.specs.declared.refusal.Refusal.{Refusal}
 use Rattle.mls_follow.specs.declared.taken.Taken.{Taken}
@@ -83,7 +88,14 @@ length-reference s a reference e =
     option_and_then_some (λ value. option_map (hash_of s.context.cipher_suite) (ref_hash_input reference_label value)) (authenticated_content a) reference e
     (λ value f g. length-hashed s.context.cipher_suite (ref_hash_input reference_label value) reference g)
 
-module _ (G : VerifyFn) (s : State) (a : AuthenticatedParts) (i : ℕ) (p : Proposal) where
+-- a proposal that is processed
+received : (s : State) (sender : Sender) (p : Proposal) (reference : List ℕ) → not s.ended ≡ true → is_in s.profile (is_members_proposal p) ≡ true
+    → is_followed s.profile sender ≡ true → is_known_external s.context.extensions sender ≡ true → may_propose sender p ≡ true
+    → is_receivable s (record { reference = reference; sender = sender; proposal = p }) ≡ true
+unfolding is_receivable
+received s sender p reference going allowed followed known may = rw (going, allowed, followed, known, may) refl
+
+module _ (G : VerifyFn) (s : State) (a : AuthenticatedParts) (sender : Sender) (p : Proposal) where
   -- no proposal has its reference
   is_new : (reference : List ℕ) → reference_of s.context a ≡ Some reference → is_new_proposal s a ≡ true → not (is_some (find_known s.known reference)) ≡ true
   unfolding is_new_proposal
@@ -94,21 +106,23 @@ module _ (G : VerifyFn) (s : State) (a : AuthenticatedParts) (i : ℕ) (p : Prop
   no_refusal (Some f) e = absurd (none-some (refusal_of f) (sym e))
 
   -- it satisfies its rules
-  is_valid : (x : LeafNode) → leaf_at 0 s.tree i ≡ Some x → AreKept (renamed refusal_of (proposal_rules G s.context s.tree i p)) → not (is_some (checked_refusal G s.context s.tree i p)) ≡ true
+  is_valid : is_present s.tree sender ≡ true → AreKept (renamed refusal_of (proposal_rules G s.context s.tree sender p))
+      → not (is_some (checked_refusal G s.context s.tree sender p)) ≡ true
   unfolding checked_refusal
-  is_valid x set kept =
-      let none : first_failing (proposal_rules G s.context s.tree i p) ≡ None =
-      no_refusal (first_failing (proposal_rules G s.context s.tree i p)) (sym (first_failing-renamed refusal_of (proposal_rules G s.context s.tree i p)) ∙ kept.none) in
+  is_valid set kept =
+      let none : first_failing (proposal_rules G s.context s.tree sender p) ≡ None =
+      no_refusal (first_failing (proposal_rules G s.context s.tree sender p)) (sym (first_failing-renamed refusal_of (proposal_rules G s.context s.tree sender p)) ∙ kept.none) in
       rw (set, none) refl
 
-  pub holds_offer : (x : LeafNode) (reference : List ℕ) → is_members_proposal p ≡ true → leaf_at 0 s.tree i ≡ Some x → AreKept (proposal_message_rules G s a i p)
-      → reference_of s.context a ≡ Some reference → can_hold G s (record { reference = reference; sender = i; proposal = p }) ≡ true
+  pub holds_offer : (reference : List ℕ) → is_receivable s (record { reference = reference; sender = sender; proposal = p }) ≡ true
+      → is_present s.tree sender ≡ true → AreKept (proposal_message_rules G s a sender p)
+      → reference_of s.context a ≡ Some reference → can_hold G s (record { reference = reference; sender = sender; proposal = p }) ≡ true
   unfolding can_hold
-  holds_offer x reference members set kept e =
+  holds_offer reference receives set kept e =
       let rest = passed kept in
-      all_four (is_members_proposal p) (length reference == hash_length s.context.cipher_suite) (not (is_some (find_known s.known reference)))
-      (not (is_some (checked_refusal G s.context s.tree i p))) members
-      ((Decides-eqb (length reference) (hash_length s.context.cipher_suite)).1 (length-reference s a reference e)) (is_new reference e rest.0) (is_valid x set rest.1)
+      all_four (is_receivable s (record { reference = reference; sender = sender; proposal = p })) (length reference == hash_length s.context.cipher_suite)
+      (not (is_some (find_known s.known reference))) (not (is_some (checked_refusal G s.context s.tree sender p))) receives
+      ((Decides-eqb (length reference) (hash_length s.context.cipher_suite)).1 (length-reference s a reference e)) (is_new reference e rest.0) (is_valid set rest.1)
 
 -- ---- a commit
 
@@ -119,9 +133,9 @@ record Renews (s t : State) : Type 0 where
   hashed : length t.interim ≡ hash_length s.context.cipher_suite
   known : t.known ≡ []
 
-tree-renews : (s : State) (es : _) (a : AuthenticatedParts) (t : Tree) (step : Step) → after_tree (with_extensions s es) a t ≡ Some step → Renews s step.state
-tree-renews s es a t step e =
-    let u = with_extensions s es in
+tree-renews : (s : State) (items : Option (List ListItem)) (a : AuthenticatedParts) (t : Tree) (step : Step) → after_tree (with_list s items) a t ≡ Some step → Renews s step.state
+tree-renews s items a t step e =
+    let u = with_list s items in
     option_and_then_some (λ hash.
     option_and_then (λ confirmed. option_map (committed u t hash confirmed) (interim_hash (hash_of u.context.cipher_suite) confirmed a.confirmation_tag))
     (confirmed_hash (hash_of u.context.cipher_suite) u.interim a))
@@ -141,8 +155,8 @@ tree-renews s es a t step e =
 
 commit-renews : (s : State) (a : AuthenticatedParts) (i : ℕ) (c : Commit) (step : Step) → after_commit s a i c ≡ Some step → Renews s step.state
 commit-renews s a i c step e =
-    let es = extensions_after s.context.extensions (resolved i s.known c.proposals) in
-    option_and_then_some (after_tree (with_extensions s es) a) (commit_tree s i c) step e (λ t f g. tree-renews s es a t step g)
+    let items = resolved (senders.Member i) s.known c.proposals in
+    option_and_then_some (after_tree (with_list s items) a) (commit_tree s i c) step e (λ t f g. tree-renews s items a t step g)
 
 renewed_rests : (G : VerifyFn) (s t : State) → Rests G s → Renews s t → Rests G t
 renewed_rests G s t r h = record {
@@ -168,43 +182,74 @@ module _ (G : VerifyFn) (s : State) (rests : Rests G s) (required : RequiredCapa
         (held_more G (record s { known = [] }) (map stored_entry s.known) s k rests.held can);
   }
 
-  proposal-rests : (i : ℕ) (p : Proposal) (o : Option (List ℕ)) (step : Step)
-      → ((reference : List ℕ) → o ≡ Some reference → can_hold G s (record { reference = reference; sender = i; proposal = p }) ≡ true)
-      → option_map (after_proposal s i p) o ≡ Some step → Rests G step.state
-  proposal-rests i p o step can e =
-      let w = came_from (after_proposal s i p) o step e in
-      subst (λ (u : Step). Rests G u.state) w.2 (pending_rests (record { reference = w.0; sender = i; proposal = p }) (can w.0 w.1))
+  proposal-rests : (sender : Sender) (p : Proposal) (o : Option (List ℕ)) (step : Step)
+      → ((reference : List ℕ) → o ≡ Some reference → can_hold G s (record { reference = reference; sender = sender; proposal = p }) ≡ true)
+      → option_map (after_proposal s sender p) o ≡ Some step → Rests G step.state
+  proposal-rests sender p o step can e =
+      let w = came_from (after_proposal s sender p) o step e in
+      subst (λ (u : Step). Rests G u.state) w.2 (pending_rests (record { reference = w.0; sender = sender; proposal = p }) (can w.0 w.1))
 
-  module _ (a : AuthenticatedParts) (step : Step) where
-    content-rests : (i : ℕ) (x : LeafNode) (content : Content) → leaf_at 0 s.tree i ≡ Some x → is_members_content content ≡ true
+  module _ (a : AuthenticatedParts) (step : Step) (going : not s.ended ≡ true) where
+    content-rests : (i : ℕ) (x : LeafNode) (content : Content) → leaf_at 0 s.tree i ≡ Some x → is_in s.profile (is_members_content content) ≡ true
         → AreKept (content_rules G s required a i x content) → after_content s a i content ≡ Some step → Rests G step.state
-    content-rests i x (contents.Application sent) set members kept e = absurd (refused kept)
-    content-rests i x (contents.Proposal p) set members kept e =
-        proposal-rests i p (reference_of s.context a) step
-        (λ reference is. holds_offer G s a i p x reference members set (passed kept).1 is) e
-    content-rests i x (contents.Commit c) set members kept e =
+    content-rests i x (contents.Application sent) set allowed kept e = absurd (refused kept)
+    content-rests i x (contents.Proposal p) set allowed kept e =
+        proposal-rests (senders.Member i) p (reference_of s.context a) step
+        (λ reference is. holds_offer G s a (senders.Member i) p reference (received s (senders.Member i) p reference going allowed refl refl refl) (ap is_some set) (passed kept).1 is) e
+    content-rests i x (contents.Commit c) set allowed kept e =
         renewed_rests G s step.state rests (commit-renews s a i c step e)
 
-    leaf-rests : (i : ℕ) (o : Option LeafNode) → leaf_at 0 s.tree i ≡ o → is_members_content a.content.content ≡ true
+    leaf-rests : (i : ℕ) (o : Option LeafNode) → leaf_at 0 s.tree i ≡ o → is_in s.profile (is_members_content a.content.content) ≡ true
         → AreKept (leaf_rules G s required a i o) → after_content s a i a.content.content ≡ Some step → Rests G step.state
-    leaf-rests i None set members kept e = absurd (refused kept)
-    leaf-rests i (Some x) set members kept e = content-rests i x a.content.content set members kept e
+    leaf-rests i None set allowed kept e = absurd (refused kept)
+    leaf-rests i (Some x) set allowed kept e = content-rests i x a.content.content set allowed kept e
 
-    sender-rests : (sender : Sender) → is_members_content a.content.content ≡ true → AreKept (sender_rules G s required a sender)
+    -- a sender outside the group, in the full profile
+    full_followed : (profile : Profile) (rs : List (Rule Refusal)) → AreKept (if_full profile rs) → (is_in profile false ≡ true) × AreKept rs
+    full_followed Members rs kept = absurd (refused kept)
+    full_followed Full rs kept = (refl, kept)
+
+    module _ (sender : Sender) (followed : is_followed s.profile sender ≡ true) (set : is_present s.tree sender ≡ true)
+        (known : is_known_external s.context.extensions sender ≡ true) where
+      signed-rests : (p : Proposal) (o : Option (List ℕ)) → is_in s.profile (is_members_proposal p) ≡ true → may_propose sender p ≡ true
+          → AreKept (signed_proposal_rules G s a sender p o) → option_map (after_proposal s sender p) (reference_of s.context a) ≡ Some step → Rests G step.state
+      signed-rests p None allowed may kept e = absurd (refused kept)
+      signed-rests p (Some key) allowed may kept e =
+          proposal-rests sender p (reference_of s.context a) step
+          (λ reference is. holds_offer G s a sender p reference (received s sender p reference going allowed followed known may) set (passed kept).1 is) e
+
+      outside-content-rests : (o : Option (List ℕ)) (content : Content) → is_in s.profile (is_members_content content) ≡ true
+          → AreKept (outside_content_rules G s a sender o content) → after_outside s a sender content ≡ Some step → Rests G step.state
+      outside-content-rests o (contents.Application sent) allowed kept e = absurd (refused kept)
+      outside-content-rests o (contents.Proposal p) allowed kept e = let k = passed kept in signed-rests p o allowed k.0 k.1 e
+      outside-content-rests o (contents.Commit c) allowed kept e = absurd (refused kept)
+
+    outside-rests : (sender : Sender) → is_followed s.profile sender ≡ true → is_present s.tree sender ≡ true → is_in s.profile (is_members_content a.content.content) ≡ true
+        → AreKept (outside_rules G s a sender) → after_outside s a sender a.content.content ≡ Some step → Rests G step.state
+    outside-rests sender followed set allowed kept e =
+        let k = passed kept in
+        outside-content-rests sender followed set k.0 (outside_key s.context sender a.content.content) a.content.content allowed k.1 e
+
+    sender-rests : (sender : Sender) → is_in s.profile (is_members_content a.content.content) ≡ true → AreKept (sender_rules G s required a sender)
         → after_sender s a sender ≡ Some step → Rests G step.state
-    sender-rests (senders.Member i) members kept e = leaf-rests i (leaf_at 0 s.tree i) refl members kept e
-    sender-rests (senders.External j) members kept e = absurd (none-some step e)
-    sender-rests senders.NewMemberProposal members kept e = absurd (none-some step e)
-    sender-rests senders.NewMemberCommit members kept e = absurd (none-some step e)
+    sender-rests (senders.Member i) allowed kept e = leaf-rests i (leaf_at 0 s.tree i) refl allowed kept e
+    sender-rests (senders.External j) allowed kept e =
+        let k = full_followed s.profile (outside_rules G s a (senders.External j)) kept in
+        outside-rests (senders.External j) k.0 refl allowed k.1 e
+    sender-rests senders.NewMemberProposal allowed kept e =
+        let k = full_followed s.profile (outside_rules G s a senders.NewMemberProposal) kept in
+        outside-rests senders.NewMemberProposal k.0 refl allowed k.1 e
+    sender-rests senders.NewMemberCommit allowed kept e = absurd (none-some step e)
 
-  step-rests : (m : Message) (step : Step) → is_members_message m ≡ true → first_failing (message_rules G s required m) ≡ None → next s m ≡ Some step
+  step-rests : (m : Message) (step : Step) → is_in s.profile (is_members_message m) ≡ true → first_failing (message_rules G s required m) ≡ None → next s m ≡ Some step
       → Rests G step.state
-  step-rests (messages.Public p) step members kept e =
+  step-rests (messages.Public p) step allowed kept e =
       let frame : AreKept (frame_rules G s required p.auth) = record { none = kept } in
-      sender-rests p.auth step p.auth.content.sender members (passed (passed frame).1).1 e
-  step-rests (messages.Unread w b) step members kept e = absurd (none-some step e)
-  step-rests (messages.GroupInfo g) step members kept e = absurd (none-some step e)
-  step-rests (messages.KeyPackage k) step members kept e = absurd (none-some step e)
+      let going = passed (passed (passed frame).1).1 in
+      sender-rests p.auth step going.0 p.auth.content.sender allowed going.1 e
+  step-rests (messages.Unread w b) step allowed kept e = absurd (none-some step e)
+  step-rests (messages.GroupInfo g) step allowed kept e = absurd (none-some step e)
+  step-rests (messages.KeyPackage k) step allowed kept e = absurd (none-some step e)
 
 -- ---- runs
 
@@ -219,7 +264,7 @@ module _ (G : VerifyFn) (s : State) (h : IsResumable G s) (bytes : List ℕ) whe
   accepted_resumable step a n =
       let after : next s a.message ≡ Some step = ap (next s) (one_message a.message n.message bytes a.spelled n.spelled) ∙ n.after in
       resumable G step.state (step_valid G s a.required a.message step h.valid a.requires a.kept after)
-      (step-rests G s rests a.required a.message step a.spelled.members a.kept after)
+      (step-rests G s rests a.required a.message step a.spelled.allowed a.kept after)
 
   taken_resumable : (answer : Result Taken Refusal) (new : State) → Takes G s bytes answer new → IsResumable G new
   taken_resumable (Ok taken) new t = accepted_resumable (record { taken = taken; state = new }) t.0 t.1
@@ -232,9 +277,9 @@ run_resumable G s (call ∷ calls) new h run =
 
 -- ---- first states
 
-pub start_resumable : (G : VerifyFn) (info : GroupInfo) (handed : Option RatchetTree) (s : State) → IsStart G info handed s → IsResumable G s
-start_resumable G info handed s h =
-    resumable G s (start_valid G info handed s h)
+pub start_resumable : (profile : Profile) (G : VerifyFn) (info : GroupInfo) (handed : Option RatchetTree) (s : State) → IsStart profile G info handed s → IsResumable G s
+start_resumable profile G info handed s h =
+    resumable G s (start_valid profile G info handed s h)
     (subst (Rests G) (sym h.state) (record {
       followed = h.has_signer.has_members.valid_tree.readable.has_tree.followed;
       hashed = length-interim info.context.cipher_suite info.context.confirmed (Some info.confirmation_tag) h.interim h.hashed;
@@ -264,7 +309,7 @@ pub resumed_resumable : (G : VerifyFn) (bytes : List ℕ) (s : State) → IsResu
 resumed_resumable G bytes s h = content_resumable G h.content h.tree s h.state
 
 first_resumable : (G : VerifyFn) (s : State) → IsFirst G s → IsResumable G s
-first_resumable G s (inl h) = start_resumable G h.0 h.1 s h.2
+first_resumable G s (inl h) = start_resumable h.0 G h.1 h.2 s h.3
 first_resumable G s (inr h) = resumed_resumable G h.0 s h.1
 
 pub followers_resumable : FollowersAreResumable

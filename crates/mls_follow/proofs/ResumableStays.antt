@@ -1,10 +1,10 @@
 -- A state that satisfies the conditions of a resumption satisfies them where the checker accepts more signatures.
-use Rattle.std.proofs.Common.{◌≡◌, ℕ, List, [], ◌∷◌, length, true, Option, Some, None, is_some, refl}
+use Rattle.std.proofs.Common.{◌≡◌, List, [], ◌∷◌, length, true, Option, Some, None, is_some, refl}
 use Rattle.std.specs.Prelude.{◌==◌, ◌&&◌, not, map}
 use Rattle.std.proofs.lemmas.Bool.{false≢true}
 use Rattle.mls_hash.specs.SuiteHash.{hash_length}
 use Rattle.mls_check.specs.Signatures.{VerifyFn, Extends}
-use Rattle.mls_msgs.specs.Profile.{is_members_proposal}
+use Rattle.mls_msgs.specs.declared.framed_content.Sender.{Sender}
 use Rattle.mls_msgs.specs.declared.proposal.Proposal.{Proposal}
 use Rattle.mls_state.specs.declared.known_entry.KnownEntry.{KnownEntry}
 use Rattle.mls_apply.specs.ProposalRules.{checked_refusal, checked_rules}
@@ -13,18 +13,17 @@ use Rattle.mls_apply.specs.declared.list_item.KnownProposal.{KnownProposal}
 use Rattle.mls_apply.proofs.RuleLists.{AreKept}
 use Rattle.mls_follow.specs.State.{State}
 use Rattle.mls_follow.specs.StoredState.{stored_entry}
-use Rattle.mls_follow.specs.Resumption.{can_hold, with_pending, Holds}
+use Rattle.mls_follow.specs.Resumption.{can_hold, is_receivable, with_pending, Holds}
 use Rattle.mls_follow.specs.StoredRuns.{ResumableStays}
 use Rattle.mls_follow.proofs.AcceptancesStay.{first_stays, both_stay, adds_stay, updates_stay}
 use Rattle.mls_follow.proofs.RisingRuns.{valid_stays}
 
 module _ (G K : VerifyFn) (more : Extends G K) where
-  rules_stay : (s : State) (i : ℕ) (p : Proposal) → AreKept (checked_rules G s.context s.tree i p) → AreKept (checked_rules K s.context s.tree i p)
+  rules_stay : (s : State) (i : Sender) (p : Proposal) → AreKept (checked_rules G s.context s.tree i p) → AreKept (checked_rules K s.context s.tree i p)
   rules_stay s i p =
-      first_stays (λ e. e) (first_stays (adds_stay G K more s.context p) (first_stays (updates_stay G K more s.context s.tree i p)
-      (first_stays (λ e. e) (first_stays (λ e. e) (λ h. h)))))
+      first_stays (λ e. e) (first_stays (adds_stay G K more s.context p) (first_stays (updates_stay G K more s.context s.tree i p) (λ h. h)))
 
-  checked_stays : (s : State) (i : ℕ) (p : Proposal) → not (is_some (checked_refusal G s.context s.tree i p)) ≡ true
+  checked_stays : (s : State) (i : Sender) (p : Proposal) → not (is_some (checked_refusal G s.context s.tree i p)) ≡ true
       → not (is_some (checked_refusal K s.context s.tree i p)) ≡ true
   unfolding checked_refusal
   checked_stays s i p e =
@@ -38,7 +37,7 @@ module _ (G K : VerifyFn) (more : Extends G K) where
   can_stay : (s : State) (k : KnownProposal) → can_hold G s k ≡ true → can_hold K s k ≡ true
   unfolding can_hold
   can_stay s k =
-      let a = is_members_proposal k.proposal in
+      let a = is_receivable s k in
       let b = length k.reference == hash_length s.context.cipher_suite in
       let c = not (is_some (find_known s.known k.reference)) in
       let d = not (is_some (checked_refusal G s.context s.tree k.sender k.proposal)) in

@@ -17,7 +17,6 @@ use Rattle.mls_check.specs.GroupTree.{HasMembers, IsGroupTreeFault}
 use Rattle.mls_check.specs.Signatures.{VerifyFn}
 use Rattle.mls_check.specs.declared.group_tree.GroupTreeFault.{GroupTreeFault}
 use Rattle.mls_check.specs.declared.group_tree.GroupTreeFault.TheVariants as groups
-use Rattle.mls_msgs.specs.Profile.{is_members_proposal}
 use Rattle.mls_state.specs.Layout.{state_file}
 use Rattle.mls_state.specs.Parsing.{state_file_at}
 use Rattle.mls_state.specs.StateExact.{state_file_exact}
@@ -31,7 +30,7 @@ use Rattle.mls_apply.specs.declared.list_item.KnownProposal.{KnownProposal}
 use Rattle.mls_follow.specs.GroupModel.{group_state}
 use Rattle.mls_follow.specs.State.{State}
 use Rattle.mls_follow.specs.StoredState.{IsTreeBody, IsIntact, stored_entry}
-use Rattle.mls_follow.specs.Resumption.{can_hold, with_pending, Holds, FailsEntry, HasInterim, IsStateOf, IsContentFault, IsUnreadable, HasOtherChecksum, IsResumed, IsResumeFault, base_state}
+use Rattle.mls_follow.specs.Resumption.{can_hold, is_receivable, is_over, profile_of, with_pending, Holds, FailsEntry, HasInterim, IsStateOf, IsContentFault, IsUnreadable, HasOtherChecksum, IsResumed, IsResumeFault, base_state}
 use Rattle.mls_follow.specs.ResumptionParts.{HasNoTree, ReadsTreeBody, resume_fault_of, unreadable, IsKnownFault, state_without_pending}
 use Rattle.mls_follow.specs.declared.group.Group.{Group}
 use Rattle.mls_follow.specs.declared.resume_fault.ResumeFault.{ResumeFault}
@@ -43,7 +42,7 @@ use Rattle.mls_follow.specs.declared.resume_fault.ResumeFault.TheVariants.{Unrea
 pub too_long_held : (G : VerifyFn) (s : State) (e : KnownEntry) → 64 < length e.reference → (k : KnownProposal) → e ≡ stored_entry k → can_hold G s k ≡ true → ⊥
 unfolding can_hold
 too_long_held G s e long k is can =
-    let a = is_members_proposal k.proposal in
+    let a = is_receivable s k in
     let b = length k.reference == hash_length s.context.cipher_suite in
     let c = not (is_some (find_known s.known k.reference)) in
     let d = not (is_some (checked_refusal G s.context s.tree k.sender k.proposal)) in
@@ -192,15 +191,15 @@ pub treeless_content : (bytes : List ℕ) (c : FollowerState) → IsFileOf bytes
 treeless_content bytes c h none = treeless bytes h.file h.encoded (λ t body. none t (subst (λ (d : FollowerState). IsTreeBody d.tree t) h.state body))
 
 module _ (G : VerifyFn) (c : FollowerState) (t : RatchetTree) (u : trees.Tree) (interim : List ℕ) (same : u ≡ t.tree) (equal : interim ≡ c.interim) (based : HasInterim G c t) where
-  same_base : state_without_pending c.context u interim ≡ base_state c t
-  same_base = λ i. record { context = c.context; tree = same i; interim = equal i; known = [] }
+  same_base : state_without_pending c.mode c.context u interim ≡ base_state c t
+  same_base = λ i. record { profile = profile_of c.mode; context = c.context; tree = same i; interim = equal i; known = []; ended = is_over c.mode }
 
-  pub state_of_content : (r : Result Group ResumeFault) → IfOk r (λ g. Holds G (state_without_pending c.context u interim) c.known (group_state g))
+  pub state_of_content : (r : Result Group ResumeFault) → IfOk r (λ g. Holds G (state_without_pending c.mode c.context u interim) c.known (group_state g))
       → IfOk r (λ g. IsStateOf G c t (group_state g))
   state_of_content (Ok g) h = record { has_interim = based; held = subst (λ (s : State). Holds G s c.known (group_state g)) same_base h }
   state_of_content (Err f) h = h
 
-  pub fault_of_content : (r : Result Group ResumeFault) → IfErr r (IsKnownFault G (state_without_pending c.context u interim) c.known)
+  pub fault_of_content : (r : Result Group ResumeFault) → IfErr r (IsKnownFault G (state_without_pending c.mode c.context u interim) c.known)
       → IfErr r (IsContentFault G c t)
   fault_of_content (Ok g) h = h
   fault_of_content (Err f) h = known_content G c t f based (subst (λ (s : State). IsKnownFault G s c.known f) same_base h)

@@ -1,5 +1,5 @@
 -- Two verification functions that agree on the signatures of a state agree on whether a follower resumes in it.
-use Rattle.std.proofs.Common.{◌≡◌, ℕ, ◌++◌, List, [], ◌∷◌, Bool, true, Option, Some, is_some, sym, ◌∙◌, subst}
+use Rattle.std.proofs.Common.{◌≡◌, ℕ, ◌++◌, List, [], ◌∷◌, true, Some, is_some, sym, ◌∙◌, subst}
 use Rattle.std.specs.Prelude.{◌==◌, ◌&&◌, not, length}
 use Rattle.mls_nodes.specs.declared.context.GroupContext.{GroupContext}
 use Rattle.mls_nodes.specs.declared.leaf.LeafNode.{LeafNode}
@@ -10,19 +10,20 @@ use Rattle.mls_hash.specs.SuiteHash.{hash_length}
 use Rattle.mls_check.specs.GroupTree.{IsSupportedContext, HasMembers}
 use Rattle.mls_check.specs.LeafValidation.{is_leaf_signed}
 use Rattle.mls_check.specs.Signatures.{VerifyFn}
-use Rattle.mls_msgs.specs.Profile.{is_members_proposal}
+use Rattle.mls_msgs.specs.declared.framed_content.Sender.{Sender}
 use Rattle.mls_msgs.specs.declared.proposal.Proposal.{Proposal}
 use Rattle.mls_state.specs.declared.known_entry.KnownEntry.{KnownEntry}
-use Rattle.mls_apply.specs.ProposalRules.{valid_if_remove, valid_if_extensions, checked_refusal}
+use Rattle.mls_apply.specs.ProposalRules.{valid_if_remove, valid_if_extensions, valid_if_psk, valid_if_reinit, is_no_external_init, checked_refusal}
 use Rattle.mls_apply.specs.ResolvedList.{find_known}
 use Rattle.mls_apply.specs.RuleLists.{rule, first_failing}
+use Rattle.mls_apply.specs.Senders.{is_present}
 use Rattle.mls_apply.specs.declared.fault.ApplyFault.TheVariants as faults
 use Rattle.mls_apply.specs.declared.list_item.KnownProposal.{KnownProposal}
 use Rattle.mls_signatures.specs.Agreement.{AgreeOn}
 use Rattle.mls_signatures.specs.SignaturesToVerify.{tree_signatures, proposal_signatures, pending_signatures, is_supported_context, all_resumption_signatures, resumption_signatures}
 use Rattle.mls_signatures.proofs.Agreement.{front, back, from_deduplicated}
 use Rattle.mls_follow.specs.State.{State}
-use Rattle.mls_follow.specs.Resumption.{can_hold, with_pending, Holds, IsResumed, base_state}
+use Rattle.mls_follow.specs.Resumption.{can_hold, is_receivable, with_pending, Holds, base_state}
 use Rattle.mls_follow.specs.StoredRuns.{SignaturesDetermineResumption}
 use Rattle.mls_follow.proofs.MessageAgreement.{adds_alike, updates_alike}
 use Rattle.mls_follow.proofs.Pending.{held_entries}
@@ -32,21 +33,23 @@ use Rattle.mls_follow.proofs.StartAgreement.{numbers_followed, all_asked}
 module _ (G K : VerifyFn) where
   -- ---- pending proposals
 
-  refusal_alike : (context : GroupContext) (t : Tree) (i : ℕ) (p : Proposal) → AgreeOn G K (proposal_signatures context i p)
-      → checked_refusal G context t i p ≡ checked_refusal K context t i p
+  refusal_alike : (context : GroupContext) (t : Tree) (sender : Sender) (p : Proposal) → AgreeOn G K (proposal_signatures context sender p)
+      → checked_refusal G context t sender p ≡ checked_refusal K context t sender p
   unfolding checked_refusal
-  refusal_alike context t i p h =
-      let adds = adds_alike G K context i p h in
-      let updates = updates_alike G K context t i p h in
+  refusal_alike context t sender p h =
+      let adds = adds_alike G K context sender p h in
+      let updates = updates_alike G K context t sender p h in
       λ k. first_failing (
-      rule faults.NoSuchLeaf (is_some (leaf_at 0 t i)) ∷ rule faults.AddInvalid (adds k) ∷ rule faults.UpdateInvalid (updates k) ∷
-      rule faults.RemoveInvalid (valid_if_remove t p) ∷ rule faults.ContextExtensionsInvalid (valid_if_extensions p) ∷ [])
+      rule faults.NoSuchLeaf (is_present t sender) ∷ rule faults.AddInvalid (adds k) ∷ rule faults.UpdateInvalid (updates k) ∷
+      rule faults.RemoveInvalid (valid_if_remove t p) ∷ rule faults.ContextExtensionsInvalid (valid_if_extensions p) ∷
+      rule faults.PskInvalid (valid_if_psk context sender p) ∷ rule faults.ReInitInvalid (valid_if_reinit context p) ∷
+      rule faults.ExternalInitMisplaced (is_no_external_init p) ∷ [])
 
   held_alike : (s : State) (k : KnownProposal) → AgreeOn G K (proposal_signatures s.context k.sender k.proposal) → can_hold G s k ≡ can_hold K s k
   unfolding can_hold
   held_alike s k h =
       let refusal = refusal_alike s.context s.tree k.sender k.proposal h in
-      λ i. is_members_proposal k.proposal && length k.reference == hash_length s.context.cipher_suite && not (is_some (find_known s.known k.reference))
+      λ i. is_receivable s k && length k.reference == hash_length s.context.cipher_suite && not (is_some (find_known s.known k.reference))
       && not (is_some (refusal i))
 
   holds_moves : (s : State) (es : List KnownEntry) (new : State) (h : Holds G s es new)

@@ -26,6 +26,7 @@ use Rattle.mls_apply.specs.ProposalRules.{is_package_signed}
 use Rattle.mls_follow.specs.MessageRules.{is_frame_signed}
 use Rattle.mls_follow.specs.Start.{is_info_signed}
 use Rattle.mls_signatures.specs.Agreement.{Agrees, AgreeOn}
+use Rattle.mls_signatures.specs.SigningKeys.{signed_context}
 use Rattle.mls_signatures.specs.SignaturesToVerify.{sign_content_signatures, labeled_signatures, leaf_signatures, package_signatures, framed_content_signatures, info_signatures, non_blank_leaf_signatures, tree_signatures, signatures_at}
 use Rattle.mls_signatures.proofs.Agreement.{front, back}
 
@@ -50,10 +51,11 @@ module _ (G K : VerifyFn) where
   unfolding is_package_signed
   package_alike suite k h = text_alike suite k.leaf_node.signature_key package_label (package_tbs k) k.signature h
 
-  pub frame_alike : (context : GroupContext) (x : LeafNode) (a : AuthenticatedParts) → AgreeOn G K (framed_content_signatures context x a)
-      → is_frame_signed G context x a ≡ is_frame_signed K context x a
+  pub frame_alike : (context : GroupContext) (key : List ℕ) (a : AuthenticatedParts) → AgreeOn G K (framed_content_signatures context key a)
+      → is_frame_signed G context key a ≡ is_frame_signed K context key a
   unfolding is_frame_signed
-  frame_alike context x a h = text_alike context.cipher_suite x.signature_key content_label (content_tbs a (Some context)) a.signature h
+  frame_alike context key a h =
+      text_alike context.cipher_suite key content_label (content_tbs a (signed_context context a.content.sender)) a.signature h
 
   pub info_alike : (info : GroupInfo) (x : LeafNode) → AgreeOn G K (info_signatures info (Some x)) → is_info_signed G info x ≡ is_info_signed K info x
   unfolding is_info_signed

@@ -84,7 +84,7 @@ authenticated p bytes e =
     )
 
 pub reference_exists : ReferencesExist
-reference_exists context p input =
+reference_exists profile context p input =
     let a = authenticated p input.0 input.1.spelled in
     let bounded = input.1.bounded in
     let text = both_spelled (vector reference_label) (vector a.0) (vector_some reference_label (omega arith)) (vector_some a.0 (omega (arith, a.2))) in

@@ -16,6 +16,7 @@ use Rattle.mls_msgs.specs.declared.commit.Commit.{Commit}
 use Rattle.mls_msgs.specs.declared.commit.PathNode.{PathNode}
 use Rattle.mls_msgs.specs.declared.commit.UpdatePath.{UpdatePath}
 use Rattle.mls_msgs.specs.declared.key_package.KeyPackage.{KeyPackage}
+use Rattle.mls_msgs.specs.declared.framed_content.Sender.{Sender}
 use Rattle.mls_msgs.specs.declared.proposal.Proposal.{Proposal}
 use Rattle.mls_msgs.specs.declared.proposal.Proposal.TheVariants.{Add, Update, Remove, ContextExtensions, PreSharedKey, ReInit, ExternalInit}
 use Rattle.mls_msgs.specs.declared.proposal.ProposalOrRef.{ProposalOrRef}
@@ -31,7 +32,8 @@ use Rattle.mls_apply.specs.declared.list_item.ListItem.{ListItem}
 use Rattle.mls_apply.specs.declared.list_item.KnownProposal.{KnownProposal}
 use Rattle.mls_apply.specs.ResolvedList.{find_known, item_of, entry_item, with_first, resolved}
 use Rattle.mls_nodes.specs.Limits.{leaf_limit}
-use Rattle.mls_apply.specs.AppliedList.{Grown, after_update, after_updates, after_remove, after_removes, added_to, new_members, after_leaf, after_adds, with_members, outcome}
+use Rattle.mls_apply.specs.Senders.{member_index}
+use Rattle.mls_apply.specs.AppliedList.{Grown, updated_at, after_update, after_updates, after_remove, after_removes, added_to, new_members, after_leaf, after_adds, with_members, outcome}
 use Rattle.mls_apply.specs.PathRules.{node_keys}
 use Rattle.mls_apply.proofs.Adding.{blank_inside, member_count-add}
 use Rattle.mls_apply.proofs.LeavesAreValid.{member_count-full}
@@ -90,19 +92,19 @@ found_known (k ∷ ks) reference x all e =
     go true later e = subst (λ (y : ListItem). IsSome (proposal y.proposal)) (same_Some (item_of k) x e) (All-head (λ k. IsSome (proposal k.proposal)) k ks all)
     go false later e = later e
 
-item_spelled : (i : ℕ) (known : List KnownProposal) (entry : ProposalOrRef) (x : ListItem) → All (λ k. IsSome (proposal k.proposal)) known
-    → IsSome (proposal_or_ref entry) → entry_item i known entry ≡ Some x → IsSome (proposal x.proposal)
-item_spelled i known (entries.Proposal p) x all h e =
-    subst (λ (y : ListItem). IsSome (proposal y.proposal)) (same_Some (record { sender = i; proposal = p }) x e) (entry_proposal p h)
-item_spelled i known (entries.Reference reference) x all h e = found_known known reference x all e
+item_spelled : (committer : Sender) (known : List KnownProposal) (entry : ProposalOrRef) (x : ListItem) → All (λ k. IsSome (proposal k.proposal)) known
+    → IsSome (proposal_or_ref entry) → entry_item committer known entry ≡ Some x → IsSome (proposal x.proposal)
+item_spelled committer known (entries.Proposal p) x all h e =
+    subst (λ (y : ListItem). IsSome (proposal y.proposal)) (same_Some (record { sender = committer; proposal = p }) x e) (entry_proposal p h)
+item_spelled committer known (entries.Reference reference) x all h e = found_known known reference x all e
 
-pub resolved_spelled : (i : ℕ) (known : List KnownProposal) (es : List ProposalOrRef) (items : List ListItem) → All (λ k. IsSome (proposal k.proposal)) known
-    → All (λ e. IsSome (proposal_or_ref e)) es → resolved i known es ≡ Some items → AreSpelled items
-resolved_spelled i known [] items all each e = subst AreSpelled (same_Some [] items e) (All-nil (λ x. IsSome (proposal x.proposal)))
-resolved_spelled i known (entry ∷ es) items all each e =
-    go (entry_item i known entry) (resolved i known es)
-    (λ x f. item_spelled i known entry x all (All-head (λ e. IsSome (proposal_or_ref e)) entry es each) f)
-    (λ xs f. resolved_spelled i known es xs all (All-tail (λ e. IsSome (proposal_or_ref e)) entry es each) f) e
+pub resolved_spelled : (committer : Sender) (known : List KnownProposal) (es : List ProposalOrRef) (items : List ListItem) → All (λ k. IsSome (proposal k.proposal)) known
+    → All (λ e. IsSome (proposal_or_ref e)) es → resolved committer known es ≡ Some items → AreSpelled items
+resolved_spelled committer known [] items all each e = subst AreSpelled (same_Some [] items e) (All-nil (λ x. IsSome (proposal x.proposal)))
+resolved_spelled committer known (entry ∷ es) items all each e =
+    go (entry_item committer known entry) (resolved committer known es)
+    (λ x f. item_spelled committer known entry x all (All-head (λ e. IsSome (proposal_or_ref e)) entry es each) f)
+    (λ xs f. resolved_spelled committer known es xs all (All-tail (λ e. IsSome (proposal_or_ref e)) entry es each) f) e
   where
     go : (o : Option ListItem) (p : Option (List ListItem)) → ((x : ListItem) → o ≡ Some x → IsSome (proposal x.proposal)) → ((xs : List ListItem) → p ≡ Some xs → AreSpelled xs)
         → with_first o p ≡ Some items → AreSpelled items
@@ -124,18 +126,22 @@ HasShape-replaced f t i x s = record {
   low = let a = height-change_above (λ _. None) 0 (put_leaf 0 t i x) i in let b = height-put_leaf 0 t i x in omega (arith, s.low);
 }
 
-update_fit : (sender : ℕ) (p : Proposal) (t u : Tree) → IsLeafSpelled p → IsFit t → after_update sender p t ≡ Some u → IsFit u
+member_fit : (o : Option ℕ) (x : LeafNode) (t u : Tree) → IsSome (layout.leaf x) → IsFit t → updated_at o x t ≡ Some u → IsFit u
+member_fit None x t u s h e = absurd (none-some u e)
+member_fit (Some i) x t u s h e =
+    subst IsFit (cond_some (is_some (leaf_at 0 t i)) (update t i x) u e).1 (record {
+      shape = HasShape-replaced 0 t i (Some x) h.shape;
+      spelled = IsSpelled-update t i x s h.spelled;
+    })
+
+update_fit : (sender : Sender) (p : Proposal) (t u : Tree) → IsLeafSpelled p → IsFit t → after_update sender p t ≡ Some u → IsFit u
 update_fit sender (Add k) t u s h e = subst IsFit (same_Some t u e) h
 update_fit sender (Remove i) t u s h e = subst IsFit (same_Some t u e) h
 update_fit sender (ContextExtensions es) t u s h e = subst IsFit (same_Some t u e) h
 update_fit sender (PreSharedKey es) t u s h e = subst IsFit (same_Some t u e) h
 update_fit sender (ReInit es) t u s h e = subst IsFit (same_Some t u e) h
 update_fit sender (ExternalInit es) t u s h e = subst IsFit (same_Some t u e) h
-update_fit sender (Update x) t u s h e =
-    subst IsFit (cond_some (is_some (leaf_at 0 t sender)) (update t sender x) u e).1 (record {
-      shape = HasShape-replaced 0 t sender (Some x) h.shape;
-      spelled = IsSpelled-update t sender x s h.spelled;
-    })
+update_fit sender (Update x) t u s h e = member_fit (member_index sender) x t u s h e
 
 remove_fit : (p : Proposal) (t u : Tree) → IsFit t → after_remove p t ≡ Some u → IsFit u
 remove_fit (Add k) t u h e = subst IsFit (same_Some t u e) h

@@ -10,6 +10,7 @@ use Rattle.mls_check.specs.GroupTree.{IsSupportedContext, HasMembers, HasValidTr
 use Rattle.mls_check.specs.LeafValidation.{is_leaf_signed}
 use Rattle.mls_check.specs.Signatures.{VerifyFn}
 use Rattle.mls_msgs.specs.declared.group_info.GroupInfo.{GroupInfo}
+use Rattle.mls_msgs.specs.declared.profile.Profile.{Profile}
 use Rattle.mls_follow.specs.State.{State}
 use Rattle.mls_follow.specs.Start.{UsesTree, HasSigner, is_info_signed, IsStart, IsStartFault}
 use Rattle.mls_signatures.specs.Agreement.{AgreeOn}
@@ -64,8 +65,8 @@ module _ (G K : VerifyFn) (info : GroupInfo) (handed : Option RatchetTree) (agre
       (front G K (info_signatures info (leaf_at 0 t.tree info.signer)) (tree_signatures info.context.cipher_suite info.context.group_id 0 t.tree)
       (asked t h.required h.has_members.valid_tree)))
 
-  start_moves : (s : State) → IsStart G info handed s → IsStart K info handed s
-  start_moves s h = record {
+  start_moves : (profile : Profile) (s : State) → IsStart profile G info handed s → IsStart profile K info handed s
+  start_moves profile s h = record {
     tree = h.tree;
     signer = h.signer;
     has_signer = signer_moves h.tree h.signer h.has_signer;
@@ -105,7 +106,7 @@ module _ (G K : VerifyFn) (info : GroupInfo) (handed : Option RatchetTree) (agre
   fault_moves starts.OutOfMemory h = h
 
 pub decide_starts : SignaturesDetermineStart
-decide_starts G K info handed s agree h = start_moves G K info handed agree s h
+decide_starts profile G K info handed s agree h = start_moves G K info handed agree profile s h
 
 pub decide_faults : SignaturesDetermineStartFault
 decide_faults G K info handed fault agree h = fault_moves G K info handed agree fault h

@@ -10,6 +10,7 @@ use Rattle.mls_check.specs.Signatures.{VerifyFn}
 use Rattle.mls_check.specs.declared.group_tree.GroupTreeFault.{GroupTreeFault}
 use Rattle.mls_check.specs.declared.group_tree.GroupTreeFault.TheVariants as groups
 use Rattle.mls_msgs.specs.declared.group_info.GroupInfo.{GroupInfo}
+use Rattle.mls_msgs.specs.declared.profile.Profile.{Profile}
 use Rattle.mls_follow.specs.Start.{UsesTree, IsSignedIn, StartsWith, FailsWith, FailsSigned, IsStart, initial_state, IsStartFault, is_info_signed, info_interim, start_fault_of}
 use Rattle.mls_follow.specs.declared.start_fault.StartFault.{StartFault}
 use Rattle.mls_follow.specs.declared.start_fault.StartFault.TheVariants.{UnsupportedVersion, UnsupportedSuite, SignerNotMember, InfoSignature}
@@ -60,7 +61,7 @@ module _ (G : VerifyFn) (info : GroupInfo) (t : RatchetTree) where
 
     -- all is in order
     pub starts : (interim : List ℕ) → IsSignedIn G info t → info_interim info ≡ Some interim → StartsWith G info t interim
-    starts interim signed hashed handed uses = record {
+    starts interim signed hashed profile handed uses = record {
       tree = t;
       signer = signed.signer;
       has_signer = record { required = required; has_members = have_members handed uses; set = signed.set };
@@ -78,6 +79,6 @@ pub fails_again : (G : VerifyFn) (info : GroupInfo) (t u : RatchetTree) (fault :
 fails_again G info t u fault e h = subst (λ (v : RatchetTree). FailsWith G info v fault) e h
 
 -- a start in a tree is one in any that is equal to it
-pub start_again : (G : VerifyFn) (info : GroupInfo) (handed : Option RatchetTree) (t u : RatchetTree) (interim : List ℕ) → u ≡ t
-    → IsStart G info handed (initial_state info t interim) → IsStart G info handed (initial_state info u interim)
-start_again G info handed t u interim e h = subst (λ v. IsStart G info handed (initial_state info v interim)) (sym e) h
+pub start_again : (profile : Profile) (G : VerifyFn) (info : GroupInfo) (handed : Option RatchetTree) (t u : RatchetTree) (interim : List ℕ) → u ≡ t
+    → IsStart profile G info handed (initial_state profile info t interim) → IsStart profile G info handed (initial_state profile info u interim)
+start_again profile G info handed t u interim e h = subst (λ v. IsStart profile G info handed (initial_state profile info v interim)) (sym e) h

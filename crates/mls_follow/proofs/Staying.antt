@@ -6,11 +6,13 @@ use Rattle.std.proofs.lemmas.Bool.{false≢true}
 use Rattle.std.proofs.lemmas.Bool.Decides.{nat_tests}
 use Rattle.std.proofs.lemmas.Option.{none-some, same_Some, option_and_then_some, cond_some}
 use Rattle.mls_nodes.specs.declared.leaf.LeafNode.{LeafNode}
+use Rattle.mls_msgs.specs.declared.framed_content.Sender.{Sender}
+use Rattle.mls_msgs.specs.declared.framed_content.Sender.TheVariants.{Member}
 use Rattle.mls_msgs.specs.declared.proposal.Proposal.{Proposal}
 use Rattle.mls_msgs.specs.declared.proposal.Proposal.TheVariants.{Add, Update, Remove, ContextExtensions, PreSharedKey, ReInit, ExternalInit}
 use Rattle.mls_tree.specs.Tree.{Tree, height, leaf_at, leaf_count, member_count}
 use Rattle.mls_tree.specs.BlankLeaves.{first_blank_leaf, IsFirstBlank, AllLeavesSet}
-use Rattle.mls_tree.specs.TreeOperations.{put_leaf, clear_path, update, remove, grow, add, add_at, added_leaf, grown_for, number_or, blank_tree, is_overfilled_above}
+use Rattle.mls_tree.specs.TreeOperations.{put_leaf, clear_path, remove, grow, add, add_at, added_leaf, grown_for, number_or, blank_tree, is_overfilled_above}
 use Rattle.mls_tree.proofs.Added.{leaf_at-add_at_other}
 use Rattle.mls_tree.proofs.FirstBlanks.{first_blank_leaf-leftmost}
 use Rattle.mls_tree.proofs.Trees.{leaf_count-positive}
@@ -19,12 +21,14 @@ use Rattle.mls_apply.proofs.Leaves.{leaf_inside, kept_beside}
 use Rattle.mls_apply.proofs.SoundOutcomes.{unless, where_so, mapped}
 use Rattle.mls_apply.specs.declared.list_item.ListItem.{ListItem}
 use Rattle.mls_apply.specs.ContextExtensions.{bring_once}
-use Rattle.mls_apply.specs.ListRules.{list_refusal, is_leaf_number, replaced_leaf, removed_leaf, has_no_update_by, has_no_remove_of, have_distinct_targets, needs_path}
+use Rattle.mls_apply.specs.ListRules.{list_refusal, is_leaf_number, removed_leaf, has_no_update_by, has_no_remove_of, have_distinct_targets, is_reinit_alone, needs_path}
+use Rattle.mls_apply.specs.PskProposals.{have_distinct_psks}
+use Rattle.mls_apply.proofs.LackingRoom.{updates_keep}
 use Rattle.mls_nodes.specs.Limits.{leaf_limit}
-use Rattle.mls_apply.specs.AppliedList.{Grown, outcome, with_members, new_members, after_leaf, after_adds, after_update, after_updates, after_remove, after_removes}
+use Rattle.mls_apply.specs.AppliedList.{Grown, outcome, with_members, new_members, after_leaf, after_adds, after_updates, after_remove, after_removes}
 use Rattle.mls_apply.specs.RuleLists.{Rule, rule, first_failing}
 use Rattle.mls_apply.specs.declared.fault.ApplyFault.{ApplyFault}
-use Rattle.mls_apply.specs.declared.fault.ApplyFault.TheVariants.{UpdateByCommitter, RemovesCommitter, SameLeafTwice, TwoContextExtensions, PathMissing}
+use Rattle.mls_apply.specs.declared.fault.ApplyFault.TheVariants.{UpdateByCommitter, RemovesCommitter, SameLeafTwice, TwoContextExtensions, PskTwice, ReInitNotAlone, PathMissing}
 
 other : (j i : ℕ) → (j == i) ≡ false → i ≢ j
 other j i f e = grind (arith, nat_tests)
@@ -37,17 +41,6 @@ either_false : (a b : Bool) → not (a || b) ≡ true → (a ≡ false) × (not 
 either_false true b e = absurd (false≢true e)
 either_false false b e = (refl, e)
 
-after_update-stays : (i sender : ℕ) (p : Proposal) (t u : Tree) → is_leaf_number (replaced_leaf sender p) i ≡ false → after_update sender p t ≡ Some u → IsSome (leaf_at 0 t i) → IsSome (leaf_at 0 u i)
-after_update-stays i sender (Add k) t u away e set = subst (λ (v : Tree). IsSome (leaf_at 0 v i)) (same_Some t u e) set
-after_update-stays i sender (Remove k) t u away e set = subst (λ (v : Tree). IsSome (leaf_at 0 v i)) (same_Some t u e) set
-after_update-stays i sender (ContextExtensions es) t u away e set = subst (λ (v : Tree). IsSome (leaf_at 0 v i)) (same_Some t u e) set
-after_update-stays i sender (PreSharedKey es) t u away e set = subst (λ (v : Tree). IsSome (leaf_at 0 v i)) (same_Some t u e) set
-after_update-stays i sender (ReInit es) t u away e set = subst (λ (v : Tree). IsSome (leaf_at 0 v i)) (same_Some t u e) set
-after_update-stays i sender (ExternalInit es) t u away e set = subst (λ (v : Tree). IsSome (leaf_at 0 v i)) (same_Some t u e) set
-after_update-stays i sender (Update x) t u away e set =
-    let parts = cond_some (is_some (leaf_at 0 t sender)) (update t sender x) u e in
-    subst (λ (v : Tree). IsSome (leaf_at 0 v i)) parts.1 (ap is_some (changed_other t i sender (Some x) parts.0 away) ∙ set)
-
 after_remove-stays : (i : ℕ) (p : Proposal) (t u : Tree) → is_leaf_number (removed_leaf p) i ≡ false → after_remove p t ≡ Some u → IsSome (leaf_at 0 t i) → IsSome (leaf_at 0 u i)
 after_remove-stays i (Add k) t u away e set = subst (λ (v : Tree). IsSome (leaf_at 0 v i)) (same_Some t u e) set
 after_remove-stays i (Update x) t u away e set = subst (λ (v : Tree). IsSome (leaf_at 0 v i)) (same_Some t u e) set
@@ -59,15 +52,6 @@ after_remove-stays i (Remove j) t u away e set =
     let parts = cond_some (is_some (leaf_at 0 t j)) (remove t j) u e in
     subst (λ (v : Tree). IsSome (leaf_at 0 v i)) parts.1
     (ap is_some (leaf_at-shrink 0 (clear_path (put_leaf 0 t j None) j) i ∙ changed_other t i j None parts.0 away) ∙ set)
-
-pub updates_stay : (i : ℕ) (items : List ListItem) (t u : Tree) → not (list_any (λ x. is_leaf_number (replaced_leaf x.sender x.proposal) i) items) ≡ true → after_updates items t ≡ Some u
-    → IsSome (leaf_at 0 t i) → IsSome (leaf_at 0 u i)
-unfolding after_updates
-updates_stay i [] t u none e set = subst (λ (v : Tree). IsSome (leaf_at 0 v i)) (same_Some t u e) set
-updates_stay i (x ∷ xs) t u none e set =
-    let n = either_false (is_leaf_number (replaced_leaf x.sender x.proposal) i) (list_any (λ x. is_leaf_number (replaced_leaf x.sender x.proposal) i) xs) none in
-    option_and_then_some (after_updates xs) (after_update x.sender x.proposal t) u e
-    (λ v a b. updates_stay i xs v u n.1 b (after_update-stays i x.sender x.proposal t v n.0 a set))
 
 pub removes_stay : (i : ℕ) (items : List ListItem) (t u : Tree) → not (list_any (λ x. is_leaf_number (removed_leaf x.proposal) i) items) ≡ true → after_removes items t ≡ Some u
     → IsSome (leaf_at 0 t i) → IsSome (leaf_at 0 u i)
@@ -107,27 +91,25 @@ holds false o x e = absurd (none-some x (sym e))
 
 abbrev past_removes : List ListItem → Bool → List (Rule ApplyFault)
 past_removes items has_path =
-    rule SameLeafTwice (have_distinct_targets items) ∷ rule TwoContextExtensions (bring_once items) ∷ rule PathMissing (has_path || not (needs_path items)) ∷ []
+    rule SameLeafTwice (have_distinct_targets items) ∷ rule TwoContextExtensions (bring_once items) ∷ rule PskTwice (have_distinct_psks items) ∷
+    rule ReInitNotAlone (is_reinit_alone items) ∷ rule PathMissing (has_path || not (needs_path items)) ∷ []
 
-abbrev list_rest : ℕ → List ListItem → Bool → List (Rule ApplyFault)
-list_rest i items has_path = rule RemovesCommitter (has_no_remove_of i items) ∷ past_removes items has_path
+abbrev list_rest : Sender → List ListItem → Bool → List (Rule ApplyFault)
+list_rest committer items has_path = rule RemovesCommitter (has_no_remove_of committer items) ∷ past_removes items has_path
 
-kept_parts : (i : ℕ) (items : List ListItem) (has_path : Bool) → list_refusal i items has_path ≡ None
-    → (has_no_update_by i items ≡ true) × (has_no_remove_of i items ≡ true)
+kept_parts : (committer : Sender) (items : List ListItem) (has_path : Bool) → list_refusal committer items has_path ≡ None → has_no_remove_of committer items ≡ true
 unfolding list_refusal
-kept_parts i items has_path kept =
-    let first = holds (has_no_update_by i items) (first_failing (list_rest i items has_path)) UpdateByCommitter kept in
-    let second = holds (has_no_remove_of i items) (first_failing (past_removes items has_path)) RemovesCommitter first.1 in
-    (first.0, second.0)
+kept_parts committer items has_path kept =
+    let first = holds (has_no_update_by committer items) (first_failing (list_rest committer items has_path)) UpdateByCommitter kept in
+    (holds (has_no_remove_of committer items) (first_failing (past_removes items has_path)) RemovesCommitter first.1).0
 
--- the committer's leaf stays set
+-- the committer's leaf stays set: an Update leaves the same leaves set, and no Remove is of it
 pub committer_stays : (i : ℕ) (items : List ListItem) (has_path : Bool) (t : Tree) (g : Grown)
-    → list_refusal i items has_path ≡ None → outcome items t ≡ Some g → IsSome (leaf_at 0 t i) → IsSome (leaf_at 0 g.tree i)
-unfolding outcome with_members has_no_update_by has_no_remove_of
+    → list_refusal (Member i) items has_path ≡ None → outcome items t ≡ Some g → IsSome (leaf_at 0 t i) → IsSome (leaf_at 0 g.tree i)
+unfolding outcome with_members has_no_remove_of
 committer_stays i items has_path t g kept made set =
-    let parts = kept_parts i items has_path kept in
     option_and_then_some (with_members (new_members items)) (option_and_then (after_removes items) (after_updates items t)) g made
     (λ w a b. option_and_then_some (after_removes items) (after_updates items t) w a
     (λ v c d. adds_stay i (new_members items) w g
     (where_so (nat_le (member_count w + length (new_members items)) leaf_limit) (after_adds (new_members items) w) g b)
-    (removes_stay i items v w parts.1 d (updates_stay i items t v parts.0 c set))))
+    (removes_stay i items v w (kept_parts (Member i) items has_path kept) d ((updates_keep items t v c).alike i ∙ set))))

@@ -1,5 +1,5 @@
 -- How an accepted message leads from a state to the next: it is known and changes nothing else, or a commit moves the tree.
-use Rattle.std.proofs.Common.{◌≡◌, ◌∙◌, ◌++◌, ℕ, List, true, Option, Some, None, Result, Ok, Err, is_some, refl, ap, subst, inl, inr}
+use Rattle.std.proofs.Common.{◌≡◌, ◌∙◌, ◌++◌, ℕ, List, Bool, true, Option, Some, None, Result, Ok, Err, is_some, refl, ap, subst, inl, inr}
 use Rattle.std.specs.Prelude.{◌⊎◌, option_map, option_and_then}
 use Rattle.std.proofs.lemmas.Option.{none-some, option_and_then_some}
 use Rattle.mls_nodes.specs.Requirements.{Requires, RequiresBy}
@@ -27,7 +27,7 @@ use Rattle.mls_msgs.specs.declared.proposal.Proposal.{Proposal}
 use Rattle.mls_apply.specs.declared.list_item.ListItem.{ListItem}
 use Rattle.mls_apply.specs.ContextExtensions.{brought, new_extensions}
 use Rattle.mls_apply.specs.ResolvedList.{resolved}
-use Rattle.mls_apply.specs.ListRules.{list_rules}
+use Rattle.mls_apply.specs.ListRules.{list_rules, has_reinit}
 use Rattle.mls_apply.specs.AppliedList.{Grown, outcome}
 use Rattle.mls_apply.specs.RuleLists.{first_failing, renamed}
 use Rattle.mls_apply.proofs.Merging.{came_from}
@@ -35,7 +35,7 @@ use Rattle.mls_apply.proofs.RuleLists.{AreKept, passed, passed_both, refused}
 use Rattle.mls_follow.specs.State.{State}
 use Rattle.mls_follow.specs.Transcript.{confirmed_hash, interim_hash}
 use Rattle.mls_follow.specs.MessageRules.{refusal_of, reference_of, inline_rules, member_rules, tree_rules, resulting, path_rules_of, outcome_rules, required_after, rules_under, items_rules, commit_rules, content_rules, leaf_rules, sender_rules, frame_rules, message_rules}
-use Rattle.mls_follow.specs.NextState.{Step, after_proposal, committed, after_tree, commit_tree, extensions_after, with_extensions, after_commit, after_content, after_sender, next}
+use Rattle.mls_follow.specs.NextState.{Step, after_proposal, committed, after_tree, commit_tree, with_extensions, with_list, after_commit, after_content, after_outside, after_sender, next}
 use Rattle.mls_follow.specs.Acceptance.{IsAcceptable, IsNext}
 use Rattle.mls_follow.specs.Runs.{Takes}
 use Rattle.mls_follow.specs.declared.refusal.Refusal.{Refusal}
@@ -71,11 +71,11 @@ module _ (G : VerifyFn) (s : State) (required : RequiredCapabilities) (requires 
 
   module _ (a : AuthenticatedParts) (i : ℕ) (c : Commit) (step : Step) where
     -- after a commit with a list that has an outcome, under what the next context requires
-    module _ (es : List Extension) (new : RequiredCapabilities) (by : RequiresBy es new) (items : List ListItem)
+    module _ (es : List Extension) (ended : Bool) (new : RequiredCapabilities) (by : RequiresBy es new) (items : List ListItem)
         (g : Grown) (made : outcome items s.tree ≡ Some g) (kept : AreKept (outcome_rules G s new i c.path (Some g)))
         (t : Tree) (merged : resulting (hash_of s.context.cipher_suite) g i c.path ≡ Some t) where
       moved : (hash confirmed interim : List ℕ) → tree_hash (hash_of s.context.cipher_suite) 0 t ≡ Some hash
-          → Moves G s (committed (with_extensions s es) t hash confirmed interim).state
+          → Moves G s (committed (with_extensions s es ended) t hash confirmed interim).state
       moved hash confirmed interim hashed =
           let k = passed_both (path_rules_of (hash_of s.context.cipher_suite) g i c.path) (tree_rules G s new (resulting (hash_of s.context.cipher_suite) g i c.path)) kept in
           record {
@@ -94,72 +94,78 @@ module _ (G : VerifyFn) (s : State) (required : RequiredCapabilities) (requires 
             merged = merged;
           }
 
-      by_tree : after_tree (with_extensions s es) a t ≡ Some step → Leads step.state
+      by_tree : after_tree (with_extensions s es ended) a t ≡ Some step → Leads step.state
       by_tree e =
           option_and_then_some (λ hash.
-          option_and_then (λ confirmed. option_map (committed (with_extensions s es) t hash confirmed) (interim_hash (hash_of s.context.cipher_suite) confirmed a.confirmation_tag))
+          option_and_then (λ confirmed. option_map (committed (with_extensions s es ended) t hash confirmed) (interim_hash (hash_of s.context.cipher_suite) confirmed a.confirmation_tag))
           (confirmed_hash (hash_of s.context.cipher_suite) s.interim a))
           (tree_hash (hash_of s.context.cipher_suite) 0 t) step e
           (λ hash f g.
-          option_and_then_some (λ confirmed. option_map (committed (with_extensions s es) t hash confirmed) (interim_hash (hash_of s.context.cipher_suite) confirmed a.confirmation_tag))
+          option_and_then_some (λ confirmed. option_map (committed (with_extensions s es ended) t hash confirmed) (interim_hash (hash_of s.context.cipher_suite) confirmed a.confirmation_tag))
           (confirmed_hash (hash_of s.context.cipher_suite) s.interim a) step g
           (λ confirmed k l.
-          (let w = came_from (committed (with_extensions s es) t hash confirmed) (interim_hash (hash_of s.context.cipher_suite) confirmed a.confirmation_tag) step l in
+          (let w = came_from (committed (with_extensions s es ended) t hash confirmed) (interim_hash (hash_of s.context.cipher_suite) confirmed a.confirmation_tag) step l in
           subst (λ (u : Step). Leads u.state) w.2 (inr (moved hash confirmed w.0 f)))))
 
-    by_outcome : (es : List Extension) (new : RequiredCapabilities) → RequiresBy es new → (items : List ListItem)
+    by_outcome : (es : List Extension) (ended : Bool) (new : RequiredCapabilities) → RequiresBy es new → (items : List ListItem)
         → (o : Option Grown) → outcome items s.tree ≡ o → AreKept (outcome_rules G s new i c.path o) → (t : Tree)
         → option_and_then (λ g. resulting (hash_of s.context.cipher_suite) g i c.path) o ≡ Some t
-        → after_tree (with_extensions s es) a t ≡ Some step → Leads step.state
-    by_outcome es new by items None is kept t e f = absurd (refused kept)
-    by_outcome es new by items (Some g) is kept t e f = by_tree es new by items g is kept t e f
+        → after_tree (with_extensions s es ended) a t ≡ Some step → Leads step.state
+    by_outcome es ended new by items None is kept t e f = absurd (refused kept)
+    by_outcome es ended new by items (Some g) is kept t e f = by_tree es ended new by items g is kept t e f
 
     by_terms : (items : List ListItem) (o : Option RequiredCapabilities) → required_after required (brought items) ≡ o
         → AreKept (rules_under G s i c.path (outcome items s.tree) o) → (t : Tree)
         → option_and_then (λ g. resulting (hash_of s.context.cipher_suite) g i c.path) (outcome items s.tree) ≡ Some t
-        → after_tree (with_extensions s (new_extensions s.context.extensions items)) a t ≡ Some step → Leads step.state
+        → after_tree (with_list s (Some items)) a t ≡ Some step → Leads step.state
     by_terms items None is kept t e f = absurd (refused kept)
     by_terms items (Some new) is kept t e f =
-        by_outcome (new_extensions s.context.extensions items) new (required_after-requires s.context required items requires new is) items (outcome items s.tree) refl kept t e f
+        by_outcome (new_extensions s.context.extensions items) (has_reinit items) new (required_after-requires s.context required items requires new is) items (outcome items s.tree) refl kept t e f
 
     by_items : (o : Option (List ListItem)) → AreKept (items_rules G s required i c o) → (t : Tree)
         → option_and_then (λ items. option_and_then (λ g. resulting (hash_of s.context.cipher_suite) g i c.path) (outcome items s.tree)) o ≡ Some t
-        → after_tree (with_extensions s (extensions_after s.context.extensions o)) a t ≡ Some step → Leads step.state
+        → after_tree (with_list s o) a t ≡ Some step → Leads step.state
     by_items None kept t e f = absurd (refused kept)
     by_items (Some items) kept t e f =
-        let of_list = renamed refusal_of (list_rules i items (is_some c.path)) in
+        let of_list = renamed refusal_of (list_rules (senders.Member i) items (is_some c.path)) in
         let under = rules_under G s i c.path (outcome items s.tree) (required_after required (brought items)) in
         by_terms items (required_after required (brought items)) refl (passed_both of_list under (passed_both (inline_rules G s i c) (of_list ++ under) kept).1).1 t e f
 
     by_commit : AreKept (commit_rules G s required i c) → after_commit s a i c ≡ Some step → Leads step.state
     by_commit kept e =
-        option_and_then_some (after_tree (with_extensions s (extensions_after s.context.extensions (resolved i s.known c.proposals))) a) (commit_tree s i c) step e
-        (λ t f g. by_items (resolved i s.known c.proposals) (passed kept).1 t f g)
+        option_and_then_some (after_tree (with_list s (resolved (senders.Member i) s.known c.proposals)) a) (commit_tree s i c) step e
+        (λ t f g. by_items (resolved (senders.Member i) s.known c.proposals) (passed kept).1 t f g)
 
-  by_proposal : (i : ℕ) (p : Proposal) (o : Option (List ℕ)) (step : Step) → option_map (after_proposal s i p) o ≡ Some step → Leads step.state
-  by_proposal i p o step e =
-      let w = came_from (after_proposal s i p) o step e in
-      let still : Stays s (after_proposal s i p w.0).state = record { context = refl; tree = refl } in
+  by_proposal : (sender : Sender) (p : Proposal) (o : Option (List ℕ)) (step : Step) → option_map (after_proposal s sender p) o ≡ Some step → Leads step.state
+  by_proposal sender p o step e =
+      let w = came_from (after_proposal s sender p) o step e in
+      let still : Stays s (after_proposal s sender p w.0).state = record { context = refl; tree = refl } in
       subst (λ (u : Step). Leads u.state) w.2 (inl still)
 
   module _ (a : AuthenticatedParts) (step : Step) where
     by_content : (i : ℕ) (x : LeafNode) (content : Content) → AreKept (content_rules G s required a i x content) → after_content s a i content ≡ Some step → Leads step.state
     by_content i x (contents.Application sent) kept e = absurd (refused kept)
-    by_content i x (contents.Proposal p) kept e = by_proposal i p (reference_of s.context a) step e
+    by_content i x (contents.Proposal p) kept e = by_proposal (senders.Member i) p (reference_of s.context a) step e
     by_content i x (contents.Commit c) kept e = by_commit a i c step (passed kept).1 e
 
     by_leaf : (i : ℕ) (o : Option LeafNode) → AreKept (leaf_rules G s required a i o) → after_content s a i a.content.content ≡ Some step → Leads step.state
     by_leaf i None kept e = absurd (refused kept)
     by_leaf i (Some x) kept e = by_content i x a.content.content kept e
 
+    -- a sender outside the group proposes only
+    by_outside : (sender : Sender) (content : Content) → after_outside s a sender content ≡ Some step → Leads step.state
+    by_outside sender (contents.Application sent) e = absurd (none-some step e)
+    by_outside sender (contents.Proposal p) e = by_proposal sender p (reference_of s.context a) step e
+    by_outside sender (contents.Commit c) e = absurd (none-some step e)
+
     by_sender : (sender : Sender) → AreKept (sender_rules G s required a sender) → after_sender s a sender ≡ Some step → Leads step.state
     by_sender (senders.Member i) kept e = by_leaf i (leaf_at 0 s.tree i) kept e
-    by_sender (senders.External j) kept e = absurd (none-some step e)
-    by_sender senders.NewMemberProposal kept e = absurd (none-some step e)
+    by_sender (senders.External j) kept e = by_outside (senders.External j) a.content.content e
+    by_sender senders.NewMemberProposal kept e = by_outside senders.NewMemberProposal a.content.content e
     by_sender senders.NewMemberCommit kept e = absurd (none-some step e)
 
     by_frame : AreKept (frame_rules G s required a) → after_sender s a a.content.sender ≡ Some step → Leads step.state
-    by_frame kept e = by_sender a.content.sender (passed (passed kept).1).1 e
+    by_frame kept e = by_sender a.content.sender (passed (passed (passed kept).1).1).1 e
 
   pub stays_or_moves : (m : Message) (step : Step) → first_failing (message_rules G s required m) ≡ None → next s m ≡ Some step
       → Stays s step.state ⊎ Moves G s step.state

@@ -1,10 +1,9 @@
 -- A state has a file, or no bytes are its file.
-use Rattle.std.proofs.Common.{◌≡◌, ◌∙◌, ℕ, ◌≤◌, List, length, map, Option, Some, None, refl, sym, ap, subst, inl, inr}
+use Rattle.std.proofs.Common.{◌≡◌, ◌∙◌, ℕ, List, map, Option, Some, None, refl, sym, ap, subst, inl, inr}
 use Rattle.std.specs.Prelude.{◌⊎◌}
 use Rattle.std.proofs.lemmas.Option.{none-some, same_Some}
 use Rattle.sha2.specs.Sha256.{sha256}
 use Rattle.mls_wire.specs.Encoding.{vector}
-use Rattle.mls_wire.specs.Limits.{input_limit}
 use Rattle.mls_wire.specs.Parsing.{vector_at}
 use Rattle.mls_wire.specs.VectorsExact.{vector_exact}
 use Rattle.mls_nodes.specs.RatchetTreeEncoding.{ratchet_tree, trimmed}
@@ -13,15 +12,13 @@ use Rattle.mls_tree.specs.Tree.{Tree, leaf, branch, height, IsPerfect, leaf_coun
 use Rattle.mls_tree.specs.TreeDecoding.{IsTreeOf}
 use Rattle.mls_state.specs.Layout.{follower_state, state_file}
 use Rattle.mls_state.specs.StateFile.{IsFileOf}
-use Rattle.mls_state.specs.declared.file.StateFile.{StateFile}
 use Rattle.mls_state.specs.declared.state.FollowerState.{FollowerState}
-use Rattle.mls_state.specs.declared.state.GroupPhase.TheVariants.{Open}
-use Rattle.mls_state.specs.declared.state.StateProfile.TheVariants.{Members}
+use Rattle.mls_state.specs.declared.state.GroupMode.{GroupMode}
 use Rattle.mls_follow.specs.State.{State}
-use Rattle.mls_follow.specs.StoredState.{IsTreeBody, Stores, EncodesState, HasNoFile, stored_entry}
+use Rattle.mls_follow.specs.StoredState.{IsTreeBody, Stores, EncodesState, HasNoFile, stored_entry, stored_mode}
 use Rattle.mls_follow.specs.StoredRuns.{StoredFileOrNone}
 use Rattle.mls_follow.proofs.Readings.{read_or_not, fits_or_not, tree_or_not, same_or_not, le_or_not}
-use Rattle.mls_follow.proofs.StoredStates.{made_file, no_file, long_file, no_tree_no_file}
+use Rattle.mls_follow.proofs.StoredStates.{made_file, no_file, long_file, no_tree_no_file, no_mode_no_file}
 use Rattle.mls_follow.proofs.StoredTrees.{one_tree_of, encoded_tree, decoded_same}
 use Rattle.mls_follow.proofs.Storing.{own_bytes, no_body}
 
@@ -124,26 +121,29 @@ module _ (s : State) where
     by_content : FileOrNone
     by_content = by_state (follower_state c) refl
 
-  by_shape : HasShape s.tree → FileOrNone
-  by_shape shape =
+  by_mode : (mode : GroupMode) → stored_mode s.profile s.ended ≡ Some mode → HasShape s.tree → FileOrNone
+  by_mode mode e shape =
       let t : RatchetTree = record { tree = s.tree; shape = shape } in
       elim (body_or_none t) [
         | inr none ↦ inr (no_tree_no_file s t refl none)
         | inl body ↦
             (let c : FollowerState = record {
-              profile = Members;
-              phase = Open;
+              mode = mode;
               context = s.context;
               interim = s.interim;
               tree = body.0;
               known = map stored_entry s.known;
             } in
-            by_content c t body.1 (record { profile = refl; phase = refl; context = refl; tree = refl; interim = refl; known = refl }))
+            by_content c t body.1 (record { mode = e; context = refl; tree = refl; interim = refl; known = refl }))
       ]
+
+  by_shape : (o : Option GroupMode) → stored_mode s.profile s.ended ≡ o → HasShape s.tree → FileOrNone
+  by_shape None e shape = inr (no_mode_no_file s e)
+  by_shape (Some mode) e shape = by_mode mode e shape
 
 pub some_file : StoredFileOrNone
 some_file s =
     elim (shape_or_not s.tree) [
-      | inl shape ↦ by_shape s shape
+      | inl shape ↦ by_shape s (stored_mode s.profile s.ended) refl shape
       | inr none ↦ inr (λ bytes e. none (subst HasShape e.stores.tree e.tree.shape))
     ]

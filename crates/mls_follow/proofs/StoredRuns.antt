@@ -1,7 +1,8 @@
 -- Theorems on stored states and on runs from a resumption.
-use Rattle.std.proofs.Common.{◌≡◌, ℕ, List, [], ◌∷◌, Some, IsSome, refl, sym, subst}
+use Rattle.std.proofs.Common.{◌≡◌, ℕ, List, [], ◌∷◌, Bool, true, false, Some, IsSome, refl, sym, ap, subst}
 use Rattle.std.specs.Prelude.{All, map}
 use Rattle.std.proofs.lemmas.List.Elements.{All-nil, All-cons, All-head, All-tail}
+use Rattle.std.proofs.lemmas.Option.{none-some, same_Some}
 use Rattle.mls_wire.specs.Encoding.{◌⊕◌, vector, list}
 use Rattle.mls_nodes.specs.Layout.{group_context}
 use Rattle.mls_tree.specs.RatchetTree.{RatchetTree}
@@ -10,14 +11,18 @@ use Rattle.mls_hash.specs.SuiteHash.{hash_of}
 use Rattle.mls_check.specs.GroupTree.{HasMembers}
 use Rattle.mls_check.specs.Signatures.{VerifyFn}
 use Rattle.mls_msgs.specs.Layout.{proposal, sender}
-use Rattle.mls_state.specs.Layout.{known_entry, state_profile, group_phase, follower_state}
+use Rattle.mls_msgs.specs.declared.profile.Profile.{Profile}
+use Rattle.mls_msgs.specs.declared.profile.Profile.TheVariants as profiles
+use Rattle.mls_state.specs.Layout.{known_entry, group_mode, follower_state}
 use Rattle.mls_state.specs.declared.known_entry.KnownEntry.{KnownEntry}
 use Rattle.mls_state.specs.declared.state.FollowerState.{FollowerState}
+use Rattle.mls_state.specs.declared.state.GroupMode.{GroupMode}
+use Rattle.mls_state.specs.declared.state.GroupMode.TheVariants as modes
 use Rattle.mls_apply.specs.declared.list_item.KnownProposal.{KnownProposal}
 use Rattle.mls_apply.proofs.Spellings.{put_back, right_spelled}
 use Rattle.mls_follow.specs.State.{State}
-use Rattle.mls_follow.specs.StoredState.{IsIntact, Stores, stored_entry}
-use Rattle.mls_follow.specs.Resumption.{Holds, IsStateOf, IsResumed, base_state}
+use Rattle.mls_follow.specs.StoredState.{IsIntact, Stores, stored_entry, stored_mode}
+use Rattle.mls_follow.specs.Resumption.{Holds, IsStateOf, IsResumed, base_state, is_over, profile_of}
 use Rattle.mls_follow.specs.StoredRuns.{IsResumable, ResumableStatesResume, FollowersResume, ResumptionsAreValid, ResumedRunsAreValid, ResumedRunsAreAnswered}
 use Rattle.mls_follow.proofs.Deciding.{an_answer}
 use Rattle.mls_follow.proofs.Holding.{IsSteady, run_steady}
@@ -28,10 +33,26 @@ use Rattle.mls_follow.proofs.Validity.{run_valid}
 
 -- ---- a stored state is resumed
 
+-- the mode of a file is that of the profile, and of a group that is over or goes on
+mode_same : (m : GroupMode) (profile : Profile) (ended : Bool) → stored_mode profile ended ≡ Some m → (profile ≡ profile_of m) × (ended ≡ is_over m)
+mode_same m profiles.Members false h = let e = same_Some modes.Members m h in (ap profile_of e, ap is_over e)
+mode_same m profiles.Members true h = absurd (none-some m h)
+mode_same m profiles.Full false h = let e = same_Some modes.Full m h in (ap profile_of e, ap is_over e)
+mode_same m profiles.Full true h = let e = same_Some modes.Ended m h in (ap profile_of e, ap is_over e)
+
 module _ (G : VerifyFn) (s : State) (c : FollowerState) (t : RatchetTree) (h : IsResumable G s) (stores : Stores c t s) where
   -- the state without its pending proposals
   base_same : record s { known = [] } ≡ base_state c t
-  base_same = λ i. record { context = sym stores.context i; tree = sym stores.tree i; interim = sym stores.interim i; known = [] }
+  base_same =
+      let mode = mode_same c.mode s.profile s.ended stores.mode in
+      λ i. record {
+        profile = mode.0 i;
+        context = sym stores.context i;
+        tree = sym stores.tree i;
+        interim = sym stores.interim i;
+        known = [];
+        ended = mode.1 i;
+      }
 
   members : HasMembers G c.context (λ u. u ≡ t) t h.valid.required
   members =
@@ -81,8 +102,7 @@ entries_spelled : (c : FollowerState) (body : List ℕ) → follower_state c ≡
 unfolding follower_state
 entries_spelled c body e =
     let whole = put_back (follower_state c) body e in
-    let a = right_spelled (state_profile c.profile) (group_phase c.phase ⊕ group_context c.context ⊕ vector c.interim ⊕ vector c.tree ⊕ list known_entry c.known) whole in
-    let b = right_spelled (group_phase c.phase) (group_context c.context ⊕ vector c.interim ⊕ vector c.tree ⊕ list known_entry c.known) a in
+    let b = right_spelled (group_mode c.mode) (group_context c.context ⊕ vector c.interim ⊕ vector c.tree ⊕ list known_entry c.known) whole in
     let d = right_spelled (group_context c.context) (vector c.interim ⊕ vector c.tree ⊕ list known_entry c.known) b in
     let f = right_spelled (vector c.interim) (vector c.tree ⊕ list known_entry c.known) d in
     list_each known_entry c.known (right_spelled (vector c.tree) (list known_entry c.known) f)

@@ -1,28 +1,28 @@
 -- A state has one file, and bytes are the file of one state.
-use Rattle.std.proofs.Common.{◌≡◌, ◌∙◌, ℕ, ◌≤◌, List, [], ◌∷◌, length, map, refl, sym, ap, subst}
+use Rattle.std.proofs.Common.{◌≡◌, ◌∙◌, ℕ, ◌≤◌, Bool, true, false, Some, None, List, [], ◌∷◌, length, map, refl, sym, ap, subst}
 use Rattle.mls_wire.specs.Limits.{input_limit}
 use Rattle.mls_tree.specs.RatchetTree.{RatchetTree, RatchetTree-same}
-use Rattle.mls_msgs.specs.declared.framed_content.Sender.{Sender}
-use Rattle.mls_msgs.specs.declared.framed_content.Sender.TheVariants.{Member}
+use Rattle.std.proofs.lemmas.Option.{none-some, same_Some}
+use Rattle.mls_msgs.specs.declared.profile.Profile.{Profile}
+use Rattle.mls_msgs.specs.declared.profile.Profile.TheVariants as profiles
 use Rattle.mls_state.proofs.Files.{state_is_unique, file_is_unique}
 use Rattle.mls_state.specs.StateFile.{IsFileOf}
 use Rattle.mls_state.specs.declared.known_entry.KnownEntry.{KnownEntry}
 use Rattle.mls_state.specs.declared.state.FollowerState.{FollowerState}
+use Rattle.mls_state.specs.declared.state.GroupMode.{GroupMode}
+use Rattle.mls_state.specs.declared.state.GroupMode.TheVariants.{Members, Full, Ended}
 use Rattle.mls_apply.specs.declared.list_item.KnownProposal.{KnownProposal}
 use Rattle.mls_follow.specs.State.{State}
-use Rattle.mls_follow.specs.StoredState.{IsTreeBody, IsIntact, Stores, EncodesState, HasNoFile, stored_entry}
+use Rattle.mls_follow.specs.StoredState.{IsTreeBody, IsIntact, Stores, EncodesState, HasNoFile, stored_entry, stored_mode}
 use Rattle.mls_follow.specs.StoredRuns.{StoredFileIsUnique, StoredStateIsUnique}
 use Rattle.mls_follow.proofs.StoredTrees.{one_tree, one_body}
 
 -- ---- entries
 
-same_member : (i j : ℕ) → ◌≡◌ {A = Sender} (Member i) (Member j) → i ≡ j
-same_member i j e = cc
-
 pub one_entry : (k l : KnownProposal) → stored_entry k ≡ stored_entry l → k ≡ l
 one_entry k l e =
     let reference : k.reference ≡ l.reference = ap (λ (x : KnownEntry). x.reference) e in
-    let sender : k.sender ≡ l.sender = same_member k.sender l.sender (ap (λ (x : KnownEntry). x.sender) e) in
+    let sender : k.sender ≡ l.sender = ap (λ (x : KnownEntry). x.sender) e in
     let proposal : k.proposal ≡ l.proposal = ap (λ (x : KnownEntry). x.proposal) e in
     λ i. record { reference = reference i; sender = sender i; proposal = proposal i }
 
@@ -48,19 +48,33 @@ pub one_content : (c d : FollowerState) (t u : RatchetTree) (s : State) → IsTr
 one_content c d t u s a b p q =
     let trees : t ≡ u = RatchetTree-same t u (p.tree ∙ sym q.tree) in
     let body : c.tree ≡ d.tree = one_body c.tree d.tree u (subst (IsTreeBody c.tree) trees a) b in
-    let profile = p.profile ∙ sym q.profile in
-    let phase = p.phase ∙ sym q.phase in
+    let mode : c.mode ≡ d.mode = same_Some c.mode d.mode (sym p.mode ∙ q.mode) in
     let context = p.context ∙ sym q.context in
     let interim = p.interim ∙ sym q.interim in
     let known = p.known ∙ sym q.known in
     λ i. record {
-      profile = profile i;
-      phase = phase i;
+      mode = mode i;
       context = context i;
       interim = interim i;
       tree = body i;
       known = known i;
     }
+
+-- a mode is that of one profile, and of a group that is over or not
+one_mode : (a b : Profile) (x y : Bool) (m : GroupMode) → stored_mode a x ≡ Some m → stored_mode b y ≡ Some m → (a ≡ b) × (x ≡ y)
+one_mode profiles.Members profiles.Members false false m p q = (refl, refl)
+one_mode profiles.Members profiles.Members x true m p q = absurd (none-some m q)
+one_mode profiles.Members profiles.Members true y m p q = absurd (none-some m p)
+one_mode profiles.Members profiles.Full true y m p q = absurd (none-some m p)
+one_mode profiles.Members profiles.Full false false m p q = let bad : Some Members ≡ Some Full = p ∙ sym q in absurd (cc)
+one_mode profiles.Members profiles.Full false true m p q = let bad : Some Members ≡ Some Ended = p ∙ sym q in absurd (cc)
+one_mode profiles.Full profiles.Members x true m p q = absurd (none-some m q)
+one_mode profiles.Full profiles.Members false false m p q = let bad : Some Full ≡ Some Members = p ∙ sym q in absurd (cc)
+one_mode profiles.Full profiles.Members true false m p q = let bad : Some Ended ≡ Some Members = p ∙ sym q in absurd (cc)
+one_mode profiles.Full profiles.Full false false m p q = (refl, refl)
+one_mode profiles.Full profiles.Full true true m p q = (refl, refl)
+one_mode profiles.Full profiles.Full false true m p q = let bad : Some Full ≡ Some Ended = p ∙ sym q in absurd (cc)
+one_mode profiles.Full profiles.Full true false m p q = let bad : Some Ended ≡ Some Full = p ∙ sym q in absurd (cc)
 
 -- a content stores one state
 pub one_state : (c : FollowerState) (t : RatchetTree) (r s : State) → Stores c t r → Stores c t s → r ≡ s
@@ -69,7 +83,8 @@ one_state c t r s p q =
     let tree = sym p.tree ∙ q.tree in
     let interim = sym p.interim ∙ q.interim in
     let known = one_list r.known s.known (sym p.known ∙ q.known) in
-    λ i. record { context = context i; tree = tree i; interim = interim i; known = known i }
+    let mode = one_mode r.profile s.profile r.ended s.ended c.mode p.mode q.mode in
+    λ i. record { profile = mode.0 i; context = context i; tree = tree i; interim = interim i; known = known i; ended = mode.1 i }
 
 -- ---- files
 
@@ -106,7 +121,12 @@ module _ (s : State) (c : FollowerState) (t : RatchetTree) (body : IsTreeBody c.
   pub long_file : (bytes : List ℕ) → IsFileOf bytes c → (length bytes ≤ input_limit → ⊥) → HasNoFile s
   long_file bytes file long other h =
       long (subst (λ (b : List ℕ). length b ≤ input_limit) (file_is_unique other bytes c (own_file other h) file) h.intact.bounded)
-  -- without a body there is no content
+
+-- a state without a mode has no file
+pub no_mode_no_file : (s : State) → stored_mode s.profile s.ended ≡ None → HasNoFile s
+no_mode_no_file s none bytes h = none-some h.content.mode (sym none ∙ h.stores.mode)
+
+-- without a body there is no content
 
 pub no_tree_no_file : (s : State) (t : RatchetTree) → t.tree ≡ s.tree → ((body : List ℕ) → IsTreeBody body t → ⊥) → HasNoFile s
 no_tree_no_file s t e none bytes h =

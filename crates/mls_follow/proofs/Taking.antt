@@ -33,7 +33,7 @@ module _ (G : VerifyFn) (s : State) (required : RequiredCapabilities) (requires 
         → OnOk r (frame_refusal G s required a ≡ None)
         → IfOk r (λ taken. after_sender s a a.content.sender ≡ Some (record { taken = taken; state = new }))
         → IfErr r (Refuses (frame_refusal G s required a)) → OnErr r (new ≡ s)
-        → (bytes : List ℕ) → EncodesMessage (messages.Public p) bytes → Takes G s bytes r new
+        → (bytes : List ℕ) → EncodesMessage s.profile (messages.Public p) bytes → Takes G s bytes r new
     frame_taken (Ok taken) new kept next refused stays bytes spelled = (
       record { message = messages.Public p; spelled = spelled; required = required; requires = requires; kept = word ∙ kept },
       record { message = messages.Public p; spelled = spelled; after = ap (λ (x : AuthenticatedParts). after_sender s x x.content.sender) (sym same) ∙ next },
@@ -48,7 +48,7 @@ module _ (G : VerifyFn) (s : State) (required : RequiredCapabilities) (requires 
   not_public (messages.GroupInfo g) other = refl
   not_public (messages.KeyPackage k) other = refl
 
-  pub other_refused : (m : Message) → ((p : PublicParts) → m ≢ messages.Public p) → (bytes : List ℕ) → EncodesMessage m bytes → Takes G s bytes (Err NotPublic) s
+  pub other_refused : (m : Message) → ((p : PublicParts) → m ≢ messages.Public p) → (bytes : List ℕ) → EncodesMessage s.profile m bytes → Takes G s bytes (Err NotPublic) s
   other_refused m other bytes spelled =
       (refl, λ own. inr (record { message = m; spelled = spelled; required = required; requires = requires; fails = not_public m other }))
 

@@ -6,6 +6,7 @@ use Rattle.mls_nodes.specs.declared.required_capabilities.RequiredCapabilities.{
 use Rattle.mls_check.specs.Signatures.{VerifyFn}
 use Rattle.mls_msgs.specs.declared.message.Message.{Message}
 use Rattle.mls_msgs.specs.declared.message.Message.TheVariants as messages
+use Rattle.mls_msgs.specs.declared.profile.Profile.{Profile}
 use Rattle.mls_msgs.specs.declared.public_message.PublicParts.{PublicParts}
 use Rattle.mls_apply.specs.RuleLists.{first_failing}
 use Rattle.mls_nodes.specs.Requirements.{Requires}
@@ -19,7 +20,7 @@ use Rattle.mls_follow.specs.declared.refusal.Refusal.TheVariants.{Malformed, Out
 -- 12.4).
 pub record IsAcceptable (G : VerifyFn) (s : State) (bytes : List ℕ) : Type 0 where
   pub message : Message
-  pub spelled : EncodesMessage message bytes
+  pub spelled : EncodesMessage s.profile message bytes
   pub required : RequiredCapabilities
   pub requires : Requires s.context required
   pub kept : first_failing (message_rules G s required message) ≡ None
@@ -27,31 +28,31 @@ pub record IsAcceptable (G : VerifyFn) (s : State) (bytes : List ℕ) : Type 0 w
 -- `IsNext s bytes step`: the step is the one after the message of these bytes.
 pub record IsNext (s : State) (bytes : List ℕ) (step : Step) : Type 0 where
   pub message : Message
-  pub spelled : EncodesMessage message bytes
+  pub spelled : EncodesMessage s.profile message bytes
   pub after : next s message ≡ Some step
 
 -- `FailsRule G s bytes e`: the bytes are the encoding of a message, and the first rule that it fails is that of this
 -- refusal.
 pub record FailsRule (G : VerifyFn) (s : State) (bytes : List ℕ) (e : Refusal) : Type 0 where
   pub message : Message
-  pub spelled : EncodesMessage message bytes
+  pub spelled : EncodesMessage s.profile message bytes
   pub required : RequiredCapabilities
   pub requires : Requires s.context required
   pub fails : first_failing (message_rules G s required message) ≡ Some e
 
--- `EncodesNoMessage bytes`: the bytes are the encoding of no message.
-abbrev pub EncodesNoMessage : List ℕ → Type 0
-EncodesNoMessage bytes = (m : Message) → EncodesMessage m bytes → ⊥
+-- `EncodesNoMessage profile bytes`: the bytes are the encoding of no message in the profile.
+abbrev pub EncodesNoMessage : Profile → List ℕ → Type 0
+EncodesNoMessage profile bytes = (m : Message) → EncodesMessage profile m bytes → ⊥
 
 -- `IsFirstRefusal G s bytes e`: the refusal of these bytes is Malformed, as they are the encoding of no message, or
 -- that of the first rule that fails.
 abbrev pub IsFirstRefusal : VerifyFn → State → List ℕ → Refusal → Type 0
-IsFirstRefusal G s bytes e = ((e ≡ Malformed) × EncodesNoMessage bytes) ⊎ FailsRule G s bytes e
+IsFirstRefusal G s bytes e = ((e ≡ Malformed) × EncodesNoMessage s.profile bytes) ⊎ FailsRule G s bytes e
 
 -- Each PublicMessage within the limit of an input has a reference (RFC 9420, 5.2).
 abbrev pub ReferencesExist : Type 0
 ReferencesExist =
-    (context : GroupContext) (m : PublicParts) → HasEncoding (messages.Public m)
+    (profile : Profile) (context : GroupContext) (m : PublicParts) → HasEncoding profile (messages.Public m)
     → IsSome (reference_of context m.auth)
 
 -- `Refuses failing e`: a refusal other than OutOfMemory is that of the rule that fails.

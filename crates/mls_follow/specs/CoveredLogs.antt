@@ -7,6 +7,7 @@ use Rattle.mls_check.specs.Receipts.{receipt_input, listed}
 use Rattle.mls_check.specs.ReceiptSets.{has_digest}
 use Rattle.mls_check.specs.Signatures.{VerifyFn}
 use Rattle.mls_msgs.specs.declared.group_info.GroupInfo.{GroupInfo}
+use Rattle.mls_msgs.specs.declared.profile.Profile.{Profile}
 use Rattle.mls_follow.specs.State.{State}
 use Rattle.mls_follow.specs.Start.{UsesTree, IsStart, IsStartFault}
 use Rattle.mls_follow.specs.Runs.{Call, IsAnswer}
@@ -75,8 +76,8 @@ AnsweredRunsAreOne =
 -- good.
 abbrev pub CoveredStartsAreTrusted : Type 0
 CoveredStartsAreTrusted =
-    (R : VerifyFn) (info : GroupInfo) (handed : Option RatchetTree) (s : State) → CoversStart R info handed
-    → IsStart R info handed s ↔ IsStart all_good info handed s
+    (profile : Profile) (R : VerifyFn) (info : GroupInfo) (handed : Option RatchetTree) (s : State) → CoversStart R info handed
+    → IsStart profile R info handed s ↔ IsStart profile all_good info handed s
 
 -- If each signature of the start is good, a start has the same faults as if every signature were good.
 abbrev pub CoveredFaultsAreTrusted : Type 0
@@ -103,7 +104,8 @@ CoveredRunsAreTrusted =
 -- follower that accepts every signature.
 abbrev pub RecipeIsRight : Type 0
 RecipeIsRight =
-    (R : VerifyFn) (info : GroupInfo) (handed : Option RatchetTree) (first last : State) (calls : List Call)
+    (profile : Profile) (R : VerifyFn) (info : GroupInfo) (handed : Option RatchetTree) (first last : State)
+    (calls : List Call)
     → CoversStart R info handed → CoversLog R first (map (λ call. call.bytes) calls)
-    → (IsStart R info handed first × IsAnsweredRun R first calls last)
-    ↔ (IsStart all_good info handed first × IsAnsweredRun all_good first calls last)
+    → (IsStart profile R info handed first × IsAnsweredRun R first calls last)
+    ↔ (IsStart profile all_good info handed first × IsAnsweredRun all_good first calls last)

@@ -1,6 +1,7 @@
--- The rules for a message, in their order (RFC 9420, 6.1, 12.1 to 12.4). A list ends after a rule that certainly fails.
--- `s` is the state, G the verification function of the checker, H the hash function of the cipher suite, `a` the
--- AuthenticatedContent, `i` the sender, `required` what the group requires. Used by contracts.
+-- The rules for a message, in their order (RFC 9420, 6.1, 11.2, 12.1 to 12.4). A list ends after a rule that certainly
+-- fails. `s` is the state, G the verification function of the checker, H the hash function of the cipher suite, `a` the
+-- AuthenticatedContent, `i` the leaf index of a sender that is a member, `required` what the group requires. Used by
+-- contracts.
 use Rattle.std.specs.Prelude.{ℕ, ◌==◌, nat_lt, is_some, not, List, [], ◌∷◌, ◌++◌, Bool, true, false, Option, Some, None, option_map, option_and_then}
 use Rattle.std.specs.Str.{bytes_eq}
 use Rattle.mls_nodes.specs.declared.context.GroupContext.{GroupContext}
@@ -16,6 +17,7 @@ use Rattle.mls_check.specs.Signatures.{VerifyFn, is_signed_text}
 use Rattle.mls_check.specs.declared.members.MemberFault.{MemberFault}
 use Rattle.mls_check.specs.declared.members.MemberFault.TheVariants as members
 use Rattle.mls_msgs.specs.Authenticated.{authenticated_content}
+use Rattle.mls_msgs.specs.Profile.{is_in}
 use Rattle.mls_msgs.specs.Tbs.{content_label, content_tbs, reference_label}
 use Rattle.mls_msgs.specs.declared.authenticated.AuthenticatedParts.{AuthenticatedParts}
 use Rattle.mls_msgs.specs.declared.commit.Commit.{Commit}
@@ -26,6 +28,8 @@ use Rattle.mls_msgs.specs.declared.framed_content.Sender.{Sender}
 use Rattle.mls_msgs.specs.declared.framed_content.Sender.TheVariants as senders
 use Rattle.mls_msgs.specs.declared.message.Message.{Message}
 use Rattle.mls_msgs.specs.declared.message.Message.TheVariants as messages
+use Rattle.mls_msgs.specs.declared.profile.Profile.{Profile}
+use Rattle.mls_msgs.specs.declared.profile.Profile.TheVariants.{Members, Full}
 use Rattle.mls_msgs.specs.declared.proposal.Proposal.{Proposal}
 use Rattle.mls_apply.specs.declared.fault.ApplyFault.{ApplyFault}
 use Rattle.mls_apply.specs.declared.fault.ApplyFault.TheVariants as faults
@@ -34,15 +38,16 @@ use Rattle.mls_apply.specs.declared.list_item.KnownProposal.{KnownProposal}
 use Rattle.mls_apply.specs.RuleLists.{Rule, rule, first_failing, renamed}
 use Rattle.mls_apply.specs.ResolvedList.{find_known, resolved}
 use Rattle.mls_apply.specs.ContextExtensions.{brought}
-use Rattle.mls_apply.specs.ProposalRules.{proposal_rules, valid_if_add, valid_if_update, valid_if_remove, valid_if_extensions, all_inline}
+use Rattle.mls_apply.specs.ProposalRules.{proposal_rules, valid_if_add, valid_if_update, valid_if_remove, valid_if_extensions, valid_if_psk, valid_if_reinit, is_no_external_init, all_inline}
 use Rattle.mls_apply.specs.ListRules.{list_rules}
 use Rattle.mls_apply.specs.AppliedList.{Grown, outcome}
 use Rattle.mls_apply.specs.MergePath.{merged}
 use Rattle.mls_apply.specs.PathRules.{path_rules, node_keys}
+use Rattle.mls_signatures.specs.SigningKeys.{signed_context, external_key, outside_key, may_propose}
 use Rattle.mls_follow.specs.State.{State, last_epoch}
 use Rattle.mls_follow.specs.declared.refusal.Refusal.{Refusal}
 use Rattle.mls_follow.specs.declared.refusal.Refusal.TheVariants as refusals
-use Rattle.mls_follow.specs.declared.refusal.Refusal.TheVariants.{NotPublic, WrongGroup, WrongEpoch, SenderNotMember, NotHandshake, BadSignature, AddInvalid, UpdateInvalid, RemoveInvalid, LastEpoch, UnknownReference, UpdateByCommitter, RemovesCommitter, SameLeafTwice, PathMissing, TooManyLeaves, PathLength, PathSource, PathKeyUsed, CiphertextCount, PathParentHash, KeyRepeated, Member, TwoContextExtensions, ContextExtensionsInvalid, OutOfMemory}
+use Rattle.mls_follow.specs.declared.refusal.Refusal.TheVariants.{NotPublic, WrongGroup, WrongEpoch, SenderNotMember, NotHandshake, BadSignature, AddInvalid, UpdateInvalid, RemoveInvalid, LastEpoch, UnknownReference, UpdateByCommitter, RemovesCommitter, SameLeafTwice, PathMissing, TooManyLeaves, PathLength, PathSource, PathKeyUsed, CiphertextCount, PathParentHash, KeyRepeated, Member, TwoContextExtensions, ContextExtensionsInvalid, GroupOver, UnknownExternal, SenderContent, PskInvalid, ReInitInvalid, ExternalInitMisplaced, PskTwice, ReInitNotAlone, OutOfMemory}
 
 -- `refuse e` is a rule that fails.
 abbrev pub refuse : Refusal → List (Rule Refusal)
@@ -67,6 +72,11 @@ refusal_of faults.CiphertextCount = CiphertextCount
 refusal_of faults.PathParentHash = PathParentHash
 refusal_of faults.TwoContextExtensions = TwoContextExtensions
 refusal_of faults.ContextExtensionsInvalid = ContextExtensionsInvalid
+refusal_of faults.PskInvalid = PskInvalid
+refusal_of faults.ReInitInvalid = ReInitInvalid
+refusal_of faults.ExternalInitMisplaced = ExternalInitMisplaced
+refusal_of faults.PskTwice = PskTwice
+refusal_of faults.ReInitNotAlone = ReInitNotAlone
 refusal_of faults.NoSuchLeaf = TooManyLeaves
 refusal_of faults.OutOfMemory = OutOfMemory
 
@@ -86,18 +96,19 @@ is_known_reference known (Some reference) = is_some (find_known known reference)
 unfoldable pub is_new_proposal : State → AuthenticatedParts → Bool
 is_new_proposal s a = not (is_known_reference s.known (reference_of s.context a))
 
--- `is_frame_signed G context x a`: the signature of the FramedContent is good, under the key of the sender's leaf `x`
--- and over the current GroupContext (RFC 9420, 6.1).
-unfoldable pub is_frame_signed : VerifyFn → GroupContext → LeafNode → AuthenticatedParts → Bool
-is_frame_signed G context x a =
-    is_signed_text G context.cipher_suite x.signature_key content_label
-    (content_tbs a (Some context)) a.signature
+-- `is_frame_signed G context key a`: the signature of the FramedContent is good under the sender's key. The current
+-- GroupContext is signed too, if the sender is a member or joins with a commit (RFC 9420, 6.1).
+unfoldable pub is_frame_signed : VerifyFn → GroupContext → List ℕ → AuthenticatedParts → Bool
+is_frame_signed G context key a =
+    is_signed_text G context.cipher_suite key content_label
+    (content_tbs a (signed_context context a.content.sender)) a.signature
 
--- `proposal_message_rules G s a i p` is the rules for a proposal of member i (RFC 9420, 12.1).
-abbrev pub proposal_message_rules : VerifyFn → State → AuthenticatedParts → ℕ → Proposal → List (Rule Refusal)
-proposal_message_rules G s a i p =
+-- `proposal_message_rules G s a sender p` is the rules for a proposal of this sender (RFC 9420, 12.1).
+abbrev pub proposal_message_rules : VerifyFn → State → AuthenticatedParts → Sender → Proposal
+    → List (Rule Refusal)
+proposal_message_rules G s a sender p =
     rule refusals.KnownProposal (is_new_proposal s a) ∷
-    renamed refusal_of (proposal_rules G s.context s.tree i p)
+    renamed refusal_of (proposal_rules G s.context s.tree sender p)
 
 -- `member_refusal fault` is the same fault of a leaf node as a refusal.
 abbrev pub member_refusal : MemberFault → Refusal
@@ -158,9 +169,12 @@ rules_under G s i path o (Some required) = outcome_rules G s required i path o
 abbrev pub inline_rules : VerifyFn → State → ℕ → Commit → List (Rule Refusal)
 inline_rules G s i c =
     rule AddInvalid (all_inline (valid_if_add G s.context) c.proposals) ∷
-    rule UpdateInvalid (all_inline (valid_if_update G s.context s.tree i) c.proposals) ∷
+    rule UpdateInvalid (all_inline (valid_if_update G s.context s.tree (senders.Member i)) c.proposals) ∷
     rule RemoveInvalid (all_inline (valid_if_remove s.tree) c.proposals) ∷
-    rule ContextExtensionsInvalid (all_inline valid_if_extensions c.proposals) ∷ []
+    rule ContextExtensionsInvalid (all_inline valid_if_extensions c.proposals) ∷
+    rule PskInvalid (all_inline (valid_if_psk s.context (senders.Member i)) c.proposals) ∷
+    rule ReInitInvalid (all_inline (valid_if_reinit s.context) c.proposals) ∷
+    rule ExternalInitMisplaced (all_inline is_no_external_init c.proposals) ∷ []
 
 -- `items_rules G s required i c items` is the rules for the proposal list of a commit: those for each proposal by
 -- value, then those for the whole list (RFC 9420, 12.2 and 12.4).
@@ -169,14 +183,14 @@ abbrev pub items_rules : VerifyFn → State → RequiredCapabilities → ℕ →
 items_rules G s required i c None = refuse UnknownReference
 items_rules G s required i c (Some items) =
     inline_rules G s i c ++
-    (renamed refusal_of (list_rules i items (is_some c.path)) ++
+    (renamed refusal_of (list_rules (senders.Member i) items (is_some c.path)) ++
     rules_under G s i c.path (outcome items s.tree) (required_after required (brought items)))
 
 -- `commit_rules G s required i c` is the rules for a commit of member i (RFC 9420, 12.4.2).
 abbrev pub commit_rules : VerifyFn → State → RequiredCapabilities → ℕ → Commit → List (Rule Refusal)
 commit_rules G s required i c =
     rule LastEpoch (nat_lt s.context.epoch last_epoch) ∷
-    items_rules G s required i c (resolved i s.known c.proposals)
+    items_rules G s required i c (resolved (senders.Member i) s.known c.proposals)
 
 -- `is_handshake c`: the content is a proposal or a commit (RFC 9420, 6).
 abbrev pub is_handshake : Content → Bool
@@ -189,23 +203,23 @@ is_handshake (contents.Commit _) = true
 abbrev pub handshake_rules : VerifyFn → State → RequiredCapabilities → AuthenticatedParts → ℕ
     → Content → Option (List (Rule Refusal))
 handshake_rules G s required a i (contents.Application _) = None
-handshake_rules G s required a i (contents.Proposal p) = Some (proposal_message_rules G s a i p)
+handshake_rules G s required a i (contents.Proposal p) = Some (proposal_message_rules G s a (senders.Member i) p)
 handshake_rules G s required a i (contents.Commit c) = Some (commit_rules G s required i c)
 
--- `signed_rules G context x a rules` is `rules` after the rules that the content is a proposal or a commit, and that it
--- is signed under the key of the leaf `x` (RFC 9420, 6.1).
-abbrev pub signed_rules : VerifyFn → GroupContext → LeafNode → AuthenticatedParts
+-- `signed_rules G context key a rules` is `rules` after the rules that the content is a proposal or a commit, and that it
+-- is signed under this key (RFC 9420, 6.1).
+abbrev pub signed_rules : VerifyFn → GroupContext → List ℕ → AuthenticatedParts
     → Option (List (Rule Refusal)) → List (Rule Refusal)
-signed_rules G context x a None = refuse NotHandshake
-signed_rules G context x a (Some rules) =
-    rule BadSignature (is_frame_signed G context x a) ∷ rules
+signed_rules G context key a None = refuse NotHandshake
+signed_rules G context key a (Some rules) =
+    rule BadSignature (is_frame_signed G context key a) ∷ rules
 
 -- `content_rules G s required a i x c` is the rules for the content of a message of member i, whose leaf is `x`
 -- (RFC 9420, 6.1 and 6.2).
 abbrev pub content_rules : VerifyFn → State → RequiredCapabilities → AuthenticatedParts → ℕ
     → LeafNode → Content → List (Rule Refusal)
 content_rules G s required a i x content =
-    signed_rules G s.context x a (handshake_rules G s required a i content)
+    signed_rules G s.context x.signature_key a (handshake_rules G s required a i content)
 
 -- `leaf_rules G s required a i x` is the rules for a message of leaf i, which must be non-blank.
 abbrev pub leaf_rules : VerifyFn → State → RequiredCapabilities → AuthenticatedParts → ℕ
@@ -213,21 +227,76 @@ abbrev pub leaf_rules : VerifyFn → State → RequiredCapabilities → Authenti
 leaf_rules G s required a i None = refuse SenderNotMember
 leaf_rules G s required a i (Some x) = content_rules G s required a i x a.content.content
 
--- `sender_rules G s required a sender` is the rules for a message of a sender, who must be a member (RFC 9420, 6.1).
+-- `lacks_key sender key`: the sender is an external one without a key.
+abbrev pub lacks_key : Sender → Option (List ℕ) → Bool
+lacks_key (senders.Member _) key = false
+lacks_key (senders.External _) key = not (is_some key)
+lacks_key senders.NewMemberProposal key = false
+lacks_key senders.NewMemberCommit key = false
+
+-- `is_known_external extensions sender`: if the sender is an external one, the GroupContext's extensions name it (RFC 9420,
+-- 12.1.8).
+abbrev pub is_known_external : List Extension → Sender → Bool
+is_known_external extensions (senders.Member _) = true
+is_known_external extensions (senders.External k) = is_some (external_key extensions k)
+is_known_external extensions senders.NewMemberProposal = true
+is_known_external extensions senders.NewMemberCommit = true
+
+-- `signed_proposal_rules G s a sender p key` is the rules for a proposal that a sender outside the group may send, under
+-- the sender's key: that it is signed (RFC 9420, 6.1), then those for the proposal (12.1).
+abbrev pub signed_proposal_rules : VerifyFn → State → AuthenticatedParts → Sender → Proposal → Option (List ℕ)
+    → List (Rule Refusal)
+signed_proposal_rules G s a sender p None = refuse SenderContent
+signed_proposal_rules G s a sender p (Some key) =
+    rule BadSignature (is_frame_signed G s.context key a) ∷ proposal_message_rules G s a sender p
+
+-- `outside_content_rules G s a sender key c` is the rules for the content of a message of a sender outside the group, who
+-- may send some kinds of proposals (RFC 9420, 6.1, 6.2 and 12.1.8).
+abbrev pub outside_content_rules : VerifyFn → State → AuthenticatedParts → Sender → Option (List ℕ) → Content
+    → List (Rule Refusal)
+outside_content_rules G s a sender key (contents.Application _) = refuse NotHandshake
+outside_content_rules G s a sender key (contents.Proposal p) =
+    rule SenderContent (may_propose sender p) ∷ signed_proposal_rules G s a sender p key
+outside_content_rules G s a sender key (contents.Commit _) = refuse SenderContent
+
+-- `outside_rules G s a sender` is the rules for a message of a sender outside the group: an external sender is in the
+-- GroupContext of the epoch, and then those for the content (RFC 9420, 12.1.8).
+abbrev pub outside_rules : VerifyFn → State → AuthenticatedParts → Sender → List (Rule Refusal)
+outside_rules G s a sender =
+    rule UnknownExternal (is_known_external s.context.extensions sender) ∷
+    outside_content_rules G s a sender (outside_key s.context sender a.content.content) a.content.content
+
+-- `is_followed profile sender`: messages of the sender are processed. In the members' profile only those of members are
+-- (own rule). Those of a client that joins with a commit (RFC 9420, 12.4.3.2) are not processed yet.
+abbrev pub is_followed : Profile → Sender → Bool
+is_followed profile (senders.Member _) = true
+is_followed profile (senders.External _) = is_in profile false
+is_followed profile senders.NewMemberProposal = is_in profile false
+is_followed profile senders.NewMemberCommit = false
+
+-- `if_full profile rules` is the rules for senders outside the group, whom the members' profile refuses (own rule).
+abbrev pub if_full : Profile → List (Rule Refusal) → List (Rule Refusal)
+if_full Members rules = refuse SenderNotMember
+if_full Full rules = rules
+
+-- `sender_rules G s required a sender` is the rules for a message of a sender (RFC 9420, 6.1). A client that joins with a
+-- commit is refused in both profiles: external commits (12.4.3.2) are not processed yet.
 abbrev pub sender_rules : VerifyFn → State → RequiredCapabilities → AuthenticatedParts → Sender
     → List (Rule Refusal)
 sender_rules G s required a (senders.Member i) = leaf_rules G s required a i (leaf_at 0 s.tree i)
-sender_rules G s required a (senders.External _) = refuse SenderNotMember
-sender_rules G s required a senders.NewMemberProposal = refuse SenderNotMember
+sender_rules G s required a (senders.External k) = if_full s.profile (outside_rules G s a (senders.External k))
+sender_rules G s required a senders.NewMemberProposal =
+    if_full s.profile (outside_rules G s a senders.NewMemberProposal)
 sender_rules G s required a senders.NewMemberCommit = refuse SenderNotMember
 
--- `frame_rules G s required a` is the rules for an AuthenticatedContent: the group, the epoch, the sender (RFC 9420,
--- 6.1).
+-- `frame_rules G s required a` is the rules for an AuthenticatedContent: the group, the epoch (RFC 9420, 6.1), that the
+-- group is not over (11.2), the sender (6.1).
 abbrev pub frame_rules : VerifyFn → State → RequiredCapabilities → AuthenticatedParts
     → List (Rule Refusal)
 frame_rules G s required a =
     rule WrongGroup (bytes_eq a.content.group_id s.context.group_id) ∷
     rule WrongEpoch (a.content.epoch == s.context.epoch) ∷
+    rule GroupOver (not s.ended) ∷
     sender_rules G s required a a.content.sender
 
 -- `message_rules G s required m` is the rules for a message (RFC 9420, 6), which must be a PublicMessage.
@@ -237,13 +306,26 @@ message_rules G s required (messages.Unread _ _) = refuse NotPublic
 message_rules G s required (messages.GroupInfo _) = refuse NotPublic
 message_rules G s required (messages.KeyPackage _) = refuse NotPublic
 
--- The first rule that fails, for an AuthenticatedContent, for the content of a member, and for a commit. Proofs about
--- callers need not unfold these.
+-- The first rule that fails, for an AuthenticatedContent, for a sender, for the content of a member, for a proposal and for
+-- a commit. Proofs about callers need not unfold these.
 
 -- `frame_refusal G s required a` is the refusal of the first rule for an AuthenticatedContent that fails.
 unfoldable pub frame_refusal : VerifyFn → State → RequiredCapabilities → AuthenticatedParts
     → Option Refusal
 frame_refusal G s required a = first_failing (frame_rules G s required a)
+
+-- `sender_refusal G s required a sender` is the refusal of the first rule for a message of a sender that fails.
+unfoldable pub sender_refusal : VerifyFn → State → RequiredCapabilities → AuthenticatedParts → Sender
+    → Option Refusal
+sender_refusal G s required a sender = first_failing (sender_rules G s required a sender)
+
+-- `outside_refusal G s a sender` is the refusal of the first rule for a message of a sender outside the group that fails.
+unfoldable pub outside_refusal : VerifyFn → State → AuthenticatedParts → Sender → Option Refusal
+outside_refusal G s a sender = first_failing (outside_rules G s a sender)
+
+-- `proposal_refusal G s a sender p` is the refusal of the first rule for a proposal of a sender that fails.
+unfoldable pub proposal_refusal : VerifyFn → State → AuthenticatedParts → Sender → Proposal → Option Refusal
+proposal_refusal G s a sender p = first_failing (proposal_message_rules G s a sender p)
 
 -- `handshake_refusal G s required a i c` is the refusal of the first rule for the content of member i that fails.
 unfoldable pub handshake_refusal : VerifyFn → State → RequiredCapabilities → AuthenticatedParts → ℕ

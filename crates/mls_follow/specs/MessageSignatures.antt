@@ -1,13 +1,14 @@
 -- Which signatures have to be verified of a message in a state, and what the signatures of a start and of a message
 -- determine (RFC 9420, 5.1.2, 6.1, 12.4.3.1).
 -- Used by contracts. `G` and `K`: what a checker answers (`VerifyFn`).
-use Rattle.std.specs.Prelude.{◌≡◌, ℕ, List, Option}
+use Rattle.std.specs.Prelude.{◌≡◌, ℕ, if◌then◌else◌, List, [], Option}
 use Rattle.mls_nodes.specs.declared.required_capabilities.RequiredCapabilities.{RequiredCapabilities}
 use Rattle.mls_tree.specs.Tree.{Tree}
 use Rattle.mls_tree.specs.RatchetTree.{RatchetTree}
 use Rattle.mls_check.specs.LeafValidation.{LeavesAreValid}
 use Rattle.mls_check.specs.Signatures.{VerifyFn, Extends}
 use Rattle.mls_msgs.specs.declared.group_info.GroupInfo.{GroupInfo}
+use Rattle.mls_msgs.specs.declared.profile.Profile.{Profile}
 use Rattle.mls_msgs.specs.declared.message.Message.{Message}
 use Rattle.mls_apply.specs.RuleLists.{first_failing}
 use Rattle.mls_signatures.specs.Agreement.{AgreeOn}
@@ -18,9 +19,10 @@ use Rattle.mls_follow.specs.MessageRules.{message_rules}
 use Rattle.mls_follow.specs.Start.{UsesTree, IsStart, IsStartFault}
 use Rattle.mls_follow.specs.declared.start_fault.StartFault.{StartFault}
 
--- the signatures of a message in a state, without duplicates
+-- the signatures of a message in a state, without duplicates; none if the group is over
 abbrev pub message_signatures : State → Message → List SignatureToVerify
-message_signatures s m = lists.message_signatures s.context s.known s.tree m
+message_signatures s m =
+    if s.ended then [] else lists.message_signatures s.profile s.context s.known s.tree m
 
 -- the signatures of all leaves of a state's tree, from left to right
 abbrev pub state_signatures : State → List SignatureToVerify
@@ -29,7 +31,7 @@ state_signatures s = lists.tree_signatures s.context.cipher_suite s.context.grou
 -- `AreSignaturesOf s bytes wanted`: `bytes` encode a message, and `wanted` are its signatures in the state `s`
 pub record AreSignaturesOf (s : State) (bytes : List ℕ) (wanted : List SignatureToVerify) : Type 0 where
   pub message : Message
-  pub spelled : EncodesMessage message bytes
+  pub spelled : EncodesMessage s.profile message bytes
   pub same : wanted ≡ message_signatures s message
 
 -- both verify the signatures of a start with the same result, by each tree that the start may use
@@ -50,8 +52,8 @@ SignaturesDetermineRefusal =
 -- the signatures of a start determine whether a follower starts, and in which state
 abbrev pub SignaturesDetermineStart : Type 0
 SignaturesDetermineStart =
-    (G K : VerifyFn) (info : GroupInfo) (handed : Option RatchetTree) (s : State)
-    → AgreeOnStart G K info handed → IsStart G info handed s → IsStart K info handed s
+    (profile : Profile) (G K : VerifyFn) (info : GroupInfo) (handed : Option RatchetTree) (s : State)
+    → AgreeOnStart G K info handed → IsStart profile G info handed s → IsStart profile K info handed s
 
 -- the signatures of a start determine why no follower starts
 abbrev pub SignaturesDetermineStartFault : Type 0

@@ -1,6 +1,6 @@
--- What an accepted message changes (RFC 9420, 8.1, 8.2, 12.4 and 12.4.2). `s` is the state before it. Used by
+-- What an accepted message changes (RFC 9420, 8.1, 8.2, 11.2, 12.4 and 12.4.2). `s` is the state before it. Used by
 -- contracts.
-use Rattle.std.specs.Prelude.{ℕ, ◌+◌, List, [], ◌∷◌, ◌++◌, Option, Some, None, option_map, option_and_then}
+use Rattle.std.specs.Prelude.{ℕ, ◌+◌, Bool, false, List, [], ◌∷◌, ◌++◌, Option, Some, None, option_map, option_and_then}
 use Rattle.mls_nodes.specs.declared.extension.Extension.{Extension}
 use Rattle.mls_tree.specs.Tree.{Tree}
 use Rattle.mls_tree.specs.TreeHash.{tree_hash}
@@ -16,6 +16,7 @@ use Rattle.mls_msgs.specs.declared.message.Message.TheVariants as messages
 use Rattle.mls_msgs.specs.declared.proposal.Proposal.{Proposal}
 use Rattle.mls_apply.specs.declared.list_item.ListItem.{ListItem}
 use Rattle.mls_apply.specs.ContextExtensions.{new_extensions}
+use Rattle.mls_apply.specs.ListRules.{has_reinit}
 use Rattle.mls_apply.specs.ResolvedList.{resolved}
 use Rattle.mls_apply.specs.AppliedList.{outcome}
 use Rattle.mls_follow.specs.State.{State}
@@ -29,13 +30,13 @@ pub record Step : Type 0 where
   pub taken : Taken
   pub state : State
 
--- `after_proposal s i p reference` is the step after a proposal of member i: it is pending under its reference
+-- `after_proposal s sender p reference` is the step after a proposal of a sender: it is pending under its reference
 -- (RFC 9420, 12.4).
-abbrev pub after_proposal : State → ℕ → Proposal → List ℕ → Step
-after_proposal s i p reference = record {
+abbrev pub after_proposal : State → Sender → Proposal → List ℕ → Step
+after_proposal s sender p reference = record {
   taken = takens.Proposal reference;
   state = record s {
-    known = s.known ++ record { reference = reference; sender = i; proposal = p } ∷ [];
+    known = s.known ++ record { reference = reference; sender = sender; proposal = p } ∷ [];
   };
 }
 
@@ -44,7 +45,7 @@ after_proposal s i p reference = record {
 abbrev pub committed : State → Tree → List ℕ → List ℕ → List ℕ → Step
 committed s t hash confirmed interim = record {
   taken = takens.Commit (s.context.epoch + 1);
-  state = record {
+  state = record s {
     context = record s.context {
       epoch = s.context.epoch + 1;
       tree_hash = hash;
@@ -73,36 +74,54 @@ commit_tree s i c =
     option_and_then (λ items.
     option_and_then (λ g. resulting (hash_of s.context.cipher_suite) g i c.path)
     (outcome items s.tree))
-    (resolved i s.known c.proposals)
+    (resolved (senders.Member i) s.known c.proposals)
 
 -- `extensions_after present items` is the extensions of the next GroupContext, by the proposal list (RFC 9420, 12.1.7).
 abbrev pub extensions_after : List Extension → Option (List ListItem) → List Extension
 extensions_after present None = present
 extensions_after present (Some items) = new_extensions present items
 
--- `with_extensions s extensions` is the state with these extensions in its context.
-abbrev pub with_extensions : State → List Extension → State
-with_extensions s extensions = record s { context = record s.context { extensions = extensions } }
+-- `is_over_after items`: the group is over after a commit with this list, which has a ReInit (RFC 9420, 11.2).
+abbrev pub is_over_after : Option (List ListItem) → Bool
+is_over_after None = false
+is_over_after (Some items) = has_reinit items
+
+-- `with_extensions s extensions ended` is the state with these extensions in its context, and with this as whether the
+-- group is over.
+abbrev pub with_extensions : State → List Extension → Bool → State
+with_extensions s extensions ended =
+    record s { context = record s.context { extensions = extensions }; ended = ended }
+
+-- `with_list s items` is the state with what a proposal list changes besides the tree.
+abbrev pub with_list : State → Option (List ListItem) → State
+with_list s items = with_extensions s (extensions_after s.context.extensions items) (is_over_after items)
 
 -- `after_commit s a i c` is the step after a commit of member i (RFC 9420, 12.4.2).
 abbrev pub after_commit : State → AuthenticatedParts → ℕ → Commit → Option Step
 after_commit s a i c =
-    option_and_then
-    (after_tree (with_extensions s (extensions_after s.context.extensions (resolved i s.known c.proposals))) a)
+    option_and_then (after_tree (with_list s (resolved (senders.Member i) s.known c.proposals)) a)
     (commit_tree s i c)
 
 -- `after_content s a i c` is the step after the content of a message of member i.
 abbrev pub after_content : State → AuthenticatedParts → ℕ → Content → Option Step
 after_content s a i (contents.Application _) = None
 after_content s a i (contents.Proposal p) =
-    option_map (after_proposal s i p) (reference_of s.context a)
+    option_map (after_proposal s (senders.Member i) p) (reference_of s.context a)
 after_content s a i (contents.Commit c) = after_commit s a i c
 
--- `after_sender s a sender` is the step after a message of a sender, who is a member (RFC 9420, 6.1).
+-- `after_outside s a sender c` is the step after the content of a message of a sender outside the group, which is a
+-- proposal (RFC 9420, 12.1.8).
+abbrev pub after_outside : State → AuthenticatedParts → Sender → Content → Option Step
+after_outside s a sender (contents.Application _) = None
+after_outside s a sender (contents.Proposal p) =
+    option_map (after_proposal s sender p) (reference_of s.context a)
+after_outside s a sender (contents.Commit _) = None
+
+-- `after_sender s a sender` is the step after a message of a sender (RFC 9420, 6.1).
 abbrev pub after_sender : State → AuthenticatedParts → Sender → Option Step
 after_sender s a (senders.Member i) = after_content s a i a.content.content
-after_sender s a (senders.External _) = None
-after_sender s a senders.NewMemberProposal = None
+after_sender s a (senders.External k) = after_outside s a (senders.External k) a.content.content
+after_sender s a senders.NewMemberProposal = after_outside s a senders.NewMemberProposal a.content.content
 after_sender s a senders.NewMemberCommit = None
 
 -- `next s m` is the step after a message that satisfies the rules, which is a PublicMessage (RFC 9420, 6.2).

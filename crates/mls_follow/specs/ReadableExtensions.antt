@@ -1,10 +1,12 @@
 -- Required capabilities in pending proposals can be read (RFC 9420, 11.1 and 12.1.7). So if a proposal list satisfies
 -- its rules, what is required after it can be read, and no follower refuses a commit for that. Used by contracts.
-use Rattle.std.specs.Prelude.{◌≡◌, ℕ, List, All, true, Option, Some, IsSome}
+use Rattle.std.specs.Prelude.{◌≡◌, List, All, true, Option, Some, IsSome}
 use Rattle.mls_nodes.specs.declared.required_capabilities.RequiredCapabilities.{RequiredCapabilities}
 use Rattle.mls_tree.specs.RatchetTree.{RatchetTree}
 use Rattle.mls_check.specs.Signatures.{VerifyFn}
 use Rattle.mls_msgs.specs.declared.group_info.GroupInfo.{GroupInfo}
+use Rattle.mls_msgs.specs.declared.profile.Profile.{Profile}
+use Rattle.mls_msgs.specs.declared.framed_content.Sender.{Sender}
 use Rattle.mls_msgs.specs.declared.proposal.ProposalOrRef.{ProposalOrRef}
 use Rattle.mls_apply.specs.declared.list_item.ListItem.{ListItem}
 use Rattle.mls_apply.specs.declared.list_item.KnownProposal.{KnownProposal}
@@ -23,14 +25,14 @@ AreReadable known = All (λ k. valid_if_extensions k.proposal ≡ true) known
 -- After any run from a start, `AreReadable` holds of the pending proposals.
 abbrev pub FollowersKnowReadable : Type 0
 FollowersKnowReadable =
-    (G : VerifyFn) (info : GroupInfo) (handed : Option RatchetTree) (first last : State)
-    (calls : List Call) → IsStart G info handed first → IsRun G first calls last
+    (profile : Profile) (G : VerifyFn) (info : GroupInfo) (handed : Option RatchetTree) (first last : State)
+    (calls : List Call) → IsStart profile G info handed first → IsRun G first calls last
     → AreReadable last.known
 
 -- If `AreReadable` holds, what a proposal list requires can be read, if the proposals by value satisfy their rules.
 abbrev pub CommitsAreReadable : Type 0
 CommitsAreReadable =
-    (committer : ℕ) (known : List KnownProposal) (entries : List ProposalOrRef)
+    (committer : Sender) (known : List KnownProposal) (entries : List ProposalOrRef)
     (items : List ListItem) (required : RequiredCapabilities)
     → AreReadable known → all_inline valid_if_extensions entries ≡ true
     → resolved committer known entries ≡ Some items

@@ -35,6 +35,14 @@ number_of refusals.KeyRepeated = 24
 number_of (refusals.Member fault) = 25
 number_of refusals.TwoContextExtensions = 26
 number_of refusals.ContextExtensionsInvalid = 27
+number_of refusals.GroupOver = 28
+number_of refusals.UnknownExternal = 29
+number_of refusals.SenderContent = 30
+number_of refusals.PskInvalid = 31
+number_of refusals.ReInitInvalid = 32
+number_of refusals.ExternalInitMisplaced = 33
+number_of refusals.PskTwice = 34
+number_of refusals.ReInitNotAlone = 35
 
 -- `start_number_of fault` is the number of a refused start.
 abbrev pub start_number_of : StartFault → ℕ

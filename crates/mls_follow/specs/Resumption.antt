@@ -1,22 +1,28 @@
 -- How a follower resumes from a file (own rules; RFC 9420, 12.4.3.1, for the context and the tree): conditions in their
 -- order, and which of them fails first. The signer and the signature of a GroupInfo have no part in it. G is the
 -- verification function of the checker, `c` the content of the file, `t` its tree. Used by contracts.
-use Rattle.std.specs.Prelude.{◌≡◌, ◌≢◌, ◌≤◌, ℕ, zero, suc, ◌==◌, ◌&&◌, not, is_some, List, [], ◌∷◌, ◌++◌, length, Bool, true, Some}
+use Rattle.std.specs.Prelude.{◌≡◌, ◌≢◌, ◌≤◌, ℕ, zero, suc, ◌==◌, ◌&&◌, not, is_some, List, [], ◌∷◌, ◌++◌, length, Bool, true, false, Some}
 use Rattle.mls_wire.specs.Limits.{input_limit}
 use Rattle.mls_nodes.specs.declared.required_capabilities.RequiredCapabilities.{RequiredCapabilities}
 use Rattle.mls_tree.specs.RatchetTree.{RatchetTree}
 use Rattle.mls_hash.specs.SuiteHash.{hash_length}
 use Rattle.mls_check.specs.Signatures.{VerifyFn}
 use Rattle.mls_check.specs.GroupTree.{HasMembers, FailsSuite, FailsRequirements, FailsValid, FailsMembers}
-use Rattle.mls_msgs.specs.Profile.{is_members_proposal}
+use Rattle.mls_msgs.specs.Profile.{is_in, is_members_proposal}
+use Rattle.mls_msgs.specs.declared.profile.Profile.{Profile}
+use Rattle.mls_msgs.specs.declared.profile.Profile.TheVariants as profiles
 use Rattle.mls_state.specs.Layout.{state_file}
 use Rattle.mls_state.specs.StateFile.{HasChecksum}
 use Rattle.mls_state.specs.declared.file.StateFile.{StateFile}
 use Rattle.mls_state.specs.declared.known_entry.KnownEntry.{KnownEntry}
 use Rattle.mls_state.specs.declared.state.FollowerState.{FollowerState}
+use Rattle.mls_state.specs.declared.state.GroupMode.{GroupMode}
+use Rattle.mls_state.specs.declared.state.GroupMode.TheVariants.{Members, Full, Ended}
 use Rattle.mls_apply.specs.ProposalRules.{checked_refusal}
 use Rattle.mls_apply.specs.ResolvedList.{find_known}
 use Rattle.mls_apply.specs.declared.list_item.KnownProposal.{KnownProposal}
+use Rattle.mls_signatures.specs.SigningKeys.{may_propose}
+use Rattle.mls_follow.specs.MessageRules.{is_followed, is_known_external}
 use Rattle.mls_follow.specs.State.{State}
 use Rattle.mls_follow.specs.StoredState.{IsTreeBody, IsIntact, stored_entry}
 use Rattle.mls_follow.specs.declared.resume_fault.ResumeFault.{ResumeFault}
@@ -39,12 +45,23 @@ pub record HasInterim (G : VerifyFn) (c : FollowerState) (t : RatchetTree) : Typ
   pub has_members : HasMembers G c.context (λ u. u ≡ t) t required
   pub hashed : length c.interim ≡ hash_length c.context.cipher_suite
 
--- `can_hold G s k`: in the state `s`, `k` can be the next pending proposal. Its type is one of the members' profile, its
--- reference has the length of the suite's hashes (RFC 9420, 5.2) and is that of no pending proposal, its sender's leaf
--- is non-blank, and it is valid (12.1).
+-- `is_receivable s k`: a follower in the state `s` processes the proposal `k`. The group goes on, the proposal's type and its
+-- sender are of the profile, the group has the sender if that is an external one, and the sender may send it (RFC 9420,
+-- 11.2 and 12.1.8).
+unfoldable pub is_receivable : State → KnownProposal → Bool
+is_receivable s k =
+    not s.ended
+    && is_in s.profile (is_members_proposal k.proposal)
+    && is_followed s.profile k.sender
+    && is_known_external s.context.extensions k.sender
+    && may_propose k.sender k.proposal
+
+-- `can_hold G s k`: in the state `s`, `k` can be the next pending proposal. It is receivable, its reference has the length of
+-- the suite's hashes (RFC 9420, 5.2) and is that of no pending proposal, its sender's leaf is non-blank if the sender is a
+-- member, and it is valid (12.1).
 unfoldable pub can_hold : VerifyFn → State → KnownProposal → Bool
 can_hold G s k =
-    is_members_proposal k.proposal
+    is_receivable s k
     && length k.reference == hash_length s.context.cipher_suite
     && not (is_some (find_known s.known k.reference))
     && not (is_some (checked_refusal G s.context s.tree k.sender k.proposal))
@@ -67,9 +84,28 @@ FailsEntry G s (e ∷ es) zero = (k : KnownProposal) → e ≡ stored_entry k �
 FailsEntry G s (e ∷ es) (suc n) =
     (k : KnownProposal) × (e ≡ stored_entry k) × (can_hold G s k ≡ true) × FailsEntry G (with_pending s k) es n
 
+-- `profile_of mode` is the profile in which a group of a file is followed.
+abbrev pub profile_of : GroupMode → Profile
+profile_of Members = profiles.Members
+profile_of Full = profiles.Full
+profile_of Ended = profiles.Full
+
+-- `is_over mode`: the group of a file is over.
+abbrev pub is_over : GroupMode → Bool
+is_over Members = false
+is_over Full = false
+is_over Ended = true
+
 -- `base_state c t` is the state of a file without its pending proposals.
 abbrev pub base_state : FollowerState → RatchetTree → State
-base_state c t = record { context = c.context; tree = t.tree; interim = c.interim; known = [] }
+base_state c t = record {
+  profile = profile_of c.mode;
+  context = c.context;
+  tree = t.tree;
+  interim = c.interim;
+  known = [];
+  ended = is_over c.mode;
+}
 
 -- `IsStateOf G c t s`: conditions 3 to 9 hold, and `s` is the state.
 pub record IsStateOf (G : VerifyFn) (c : FollowerState) (t : RatchetTree) (s : State) : Type 0 where

@@ -10,9 +10,10 @@ use Rattle.mls_check.specs.Signatures.{VerifyFn}
 use Rattle.mls_check.specs.declared.group_tree.GroupTreeFault.{GroupTreeFault}
 use Rattle.mls_check.specs.declared.group_tree.GroupTreeFault.TheVariants as groups
 use Rattle.mls_state.specs.declared.known_entry.KnownEntry.{KnownEntry}
+use Rattle.mls_state.specs.declared.state.GroupMode.{GroupMode}
 use Rattle.mls_follow.specs.State.{State}
 use Rattle.mls_follow.specs.StoredState.{IsTreeBody}
-use Rattle.mls_follow.specs.Resumption.{FailsEntry}
+use Rattle.mls_follow.specs.Resumption.{FailsEntry, is_over, profile_of}
 use Rattle.mls_follow.specs.declared.resume_fault.ResumeFault.{ResumeFault}
 use Rattle.mls_follow.specs.declared.resume_fault.ResumeFault.TheVariants.{Unreadable, ChecksumDiffers, UnsupportedVersion, UnsupportedSuite, RequirementsUnreadable, Tree, Member, InterimLength, KnownInvalid, OutOfMemory}
 
@@ -57,6 +58,13 @@ IsKnownFault G s es InterimLength = ⊥
 IsKnownFault G s es (KnownInvalid n) = FailsEntry G s es n
 IsKnownFault G s es OutOfMemory = Unit {0}
 
--- `state_without_pending context t interim` is the state with no pending proposals.
-abbrev pub state_without_pending : GroupContext → trees.Tree → List ℕ → State
-state_without_pending context t interim = record { context = context; tree = t; interim = interim; known = [] }
+-- `state_without_pending mode context t interim` is the state with no pending proposals.
+abbrev pub state_without_pending : GroupMode → GroupContext → trees.Tree → List ℕ → State
+state_without_pending mode context t interim = record {
+  profile = profile_of mode;
+  context = context;
+  tree = t;
+  interim = interim;
+  known = [];
+  ended = is_over mode;
+}

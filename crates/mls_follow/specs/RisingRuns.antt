@@ -4,6 +4,7 @@ use Rattle.std.specs.Prelude.{◌≡◌, ℕ, List, [], ◌∷◌, map, is_ok, A
 use Rattle.mls_tree.specs.RatchetTree.{RatchetTree}
 use Rattle.mls_check.specs.Signatures.{VerifyFn, Extends}
 use Rattle.mls_msgs.specs.declared.group_info.GroupInfo.{GroupInfo}
+use Rattle.mls_msgs.specs.declared.profile.Profile.{Profile}
 use Rattle.mls_follow.specs.State.{State}
 use Rattle.mls_follow.specs.NextState.{Step}
 use Rattle.mls_follow.specs.Acceptance.{IsAcceptable, IsNext}
@@ -67,8 +68,8 @@ AcceptancesStay =
 -- A follower that starts under a checker starts in the same state under each checker that extends it.
 abbrev pub StartsStay : Type 0
 StartsStay =
-    (G K : VerifyFn) (info : GroupInfo) (handed : Option RatchetTree) (s : State) → Extends G K
-    → IsStart G info handed s → IsStart K info handed s
+    (profile : Profile) (G K : VerifyFn) (info : GroupInfo) (handed : Option RatchetTree) (s : State) → Extends G K
+    → IsStart profile G info handed s → IsStart profile K info handed s
 
 -- The last verification function of a rising run extends the first one.
 abbrev pub RisingRunsExtend : Type 0
@@ -117,20 +118,23 @@ RisingRunsKeepValidity =
 -- The state after a rising run from a start is valid under the last verification function.
 abbrev pub RisingFollowersAreValid : Type 0
 RisingFollowersAreValid =
-    (G : VerifyFn) (info : GroupInfo) (handed : Option RatchetTree) (first last : State) (events : List Event)
-    → IsStart G info handed first → IsRisingRun G first events last
+    (profile : Profile) (G : VerifyFn) (info : GroupInfo) (handed : Option RatchetTree) (first last : State)
+    (events : List Event)
+    → IsStart profile G info handed first → IsRisingRun G first events last
     → IsValidState (last_meaning G events) last
 
 -- Each pending proposal after a rising run from a start is signed, under the last verification function.
 abbrev pub RisingFollowersKnowSigned : Type 0
 RisingFollowersKnowSigned =
-    (G : VerifyFn) (info : GroupInfo) (handed : Option RatchetTree) (first last : State) (events : List Event)
-    → IsStart G info handed first → IsRisingRun G first events last
+    (profile : Profile) (G : VerifyFn) (info : GroupInfo) (handed : Option RatchetTree) (first last : State)
+    (events : List Event)
+    → IsStart profile G info handed first → IsRisingRun G first events last
     → AreKnownSigned (last_meaning G events) last
 
 -- After a rising run from a start there is an answer to any bytes, under the last verification function.
 abbrev pub RisingRunsAreAnswered : Type 0
 RisingRunsAreAnswered =
-    (G : VerifyFn) (info : GroupInfo) (handed : Option RatchetTree) (first last : State) (events : List Event)
-    (bytes : List ℕ) → IsStart G info handed first → IsRisingRun G first events last
+    (profile : Profile) (G : VerifyFn) (info : GroupInfo) (handed : Option RatchetTree) (first last : State)
+    (events : List Event)
+    (bytes : List ℕ) → IsStart profile G info handed first → IsRisingRun G first events last
     → IsAnswered (last_meaning G events) last bytes

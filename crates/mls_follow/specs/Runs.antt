@@ -6,6 +6,7 @@ use Rattle.mls_tree.specs.TreeHash.{tree_hash}
 use Rattle.mls_hash.specs.SuiteHash.{hash_of}
 use Rattle.mls_msgs.specs.Layout.{proposal}
 use Rattle.mls_msgs.specs.declared.group_info.GroupInfo.{GroupInfo}
+use Rattle.mls_msgs.specs.declared.profile.Profile.{Profile}
 use Rattle.mls_check.specs.Signatures.{VerifyFn}
 use Rattle.mls_nodes.specs.declared.required_capabilities.RequiredCapabilities.{RequiredCapabilities}
 use Rattle.mls_nodes.specs.Requirements.{Requires}
@@ -92,6 +93,6 @@ AnswerExists =
 -- After any run from a start, there is such an answer to any bytes.
 abbrev pub RunsAreAnswered : Type 0
 RunsAreAnswered =
-    (G : VerifyFn) (info : GroupInfo) (handed : Option RatchetTree) (first last : State)
-    (calls : List Call) (bytes : List ℕ) → IsStart G info handed first → IsRun G first calls last
+    (profile : Profile) (G : VerifyFn) (info : GroupInfo) (handed : Option RatchetTree) (first last : State)
+    (calls : List Call) (bytes : List ℕ) → IsStart profile G info handed first → IsRun G first calls last
     → IsAnswered G last bytes

@@ -15,6 +15,7 @@ use Rattle.mls_check.specs.declared.group_tree.GroupTreeFault.{GroupTreeFault}
 use Rattle.mls_check.specs.declared.group_tree.GroupTreeFault.TheVariants as groups
 use Rattle.mls_msgs.specs.Tbs.{info_label, info_tbs}
 use Rattle.mls_msgs.specs.declared.group_info.GroupInfo.{GroupInfo}
+use Rattle.mls_msgs.specs.declared.profile.Profile.{Profile}
 use Rattle.mls_follow.specs.State.{State}
 use Rattle.mls_tree.specs.TreeDecoding.{IsTreeOf}
 use Rattle.mls_follow.specs.Transcript.{interim_hash}
@@ -59,26 +60,29 @@ info_interim info =
     interim_hash (hash_of info.context.cipher_suite) info.context.confirmed
     (Some info.confirmation_tag)
 
--- `initial_state info t interim` is the state of a GroupInfo, a tree and an interim transcript hash, with no pending
--- proposals.
-abbrev pub initial_state : GroupInfo → RatchetTree → List ℕ → State
-initial_state info t interim = record {
+-- `initial_state profile info t interim` is the state of a GroupInfo, a tree and an interim transcript hash, with no pending
+-- proposals. Whether the group was reinitialized before, no GroupInfo says (RFC 9420, 11.2): it goes on.
+abbrev pub initial_state : Profile → GroupInfo → RatchetTree → List ℕ → State
+initial_state profile info t interim = record {
+  profile = profile;
   context = info.context;
   tree = t.tree;
   interim = interim;
   known = [];
+  ended = false;
 }
 
--- `IsStart G info handed s`: a follower starts from the GroupInfo in this state. All eight conditions hold.
+-- `IsStart profile G info handed s`: a follower with this profile starts from the GroupInfo in this state. All eight
+-- conditions hold.
 pub record IsStart
-    (G : VerifyFn) (info : GroupInfo) (handed : Option RatchetTree) (s : State) : Type 0 where
+    (profile : Profile) (G : VerifyFn) (info : GroupInfo) (handed : Option RatchetTree) (s : State) : Type 0 where
   pub tree : RatchetTree
   pub signer : LeafNode
   pub has_signer : HasSigner G info handed tree signer
   pub signed : is_info_signed G info signer ≡ true
   pub interim : List ℕ
   pub hashed : info_interim info ≡ Some interim
-  pub state : s ≡ initial_state info tree interim
+  pub state : s ≡ initial_state profile info tree interim
 
 -- ---- why no follower starts: the first condition that fails
 
@@ -122,8 +126,8 @@ IsStartFault G info handed OutOfMemory = Unit {0}
 -- `StartsWith G info t interim`: if the GroupInfo has the tree, a follower starts, with this interim transcript hash.
 abbrev pub StartsWith : VerifyFn → GroupInfo → RatchetTree → List ℕ → Type 0
 StartsWith G info t interim =
-    (handed : Option RatchetTree) → UsesTree handed info.extensions t
-    → IsStart G info handed (initial_state info t interim)
+    (profile : Profile) (handed : Option RatchetTree) → UsesTree handed info.extensions t
+    → IsStart profile G info handed (initial_state profile info t interim)
 
 -- `FailsWith G info t fault`: if the GroupInfo has the tree, no follower starts, for this fault.
 abbrev pub FailsWith : VerifyFn → GroupInfo → RatchetTree → StartFault → Type 0

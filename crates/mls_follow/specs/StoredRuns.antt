@@ -5,6 +5,7 @@ use Rattle.mls_hash.specs.SuiteHash.{hash_length}
 use Rattle.mls_check.specs.GroupTree.{IsSupportedContext}
 use Rattle.mls_check.specs.Signatures.{VerifyFn, Extends}
 use Rattle.mls_msgs.specs.declared.group_info.GroupInfo.{GroupInfo}
+use Rattle.mls_msgs.specs.declared.profile.Profile.{Profile}
 use Rattle.mls_signatures.specs.Agreement.{AgreeOn}
 use Rattle.mls_signatures.specs.SignaturesToVerify.{resumption_signatures}
 use Rattle.mls_follow.specs.State.{State}
@@ -28,7 +29,7 @@ pub record IsResumable (G : VerifyFn) (s : State) : Type 0 where
 -- `IsFirst G s`: a follower starts from a GroupInfo in the state, or resumes from a file in it.
 abbrev pub IsFirst : VerifyFn → State → Type 0
 IsFirst G s =
-    ((info : GroupInfo) × (handed : Option RatchetTree) × IsStart G info handed s)
+    ((profile : Profile) × (info : GroupInfo) × (handed : Option RatchetTree) × IsStart profile G info handed s)
     ⊎ ((bytes : List ℕ) × IsResumed G bytes s)
 
 -- ---- resumptions are determined

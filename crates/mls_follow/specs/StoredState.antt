@@ -1,15 +1,16 @@
 -- The file of a follower's state (layout of `mls_state/specs/Layout`). Used by contracts.
-use Rattle.std.specs.Prelude.{◌≡◌, ◌≤◌, ℕ, List, length, map, Some}
+use Rattle.std.specs.Prelude.{◌≡◌, ◌≤◌, ℕ, Bool, true, false, List, length, map, Option, Some, None}
 use Rattle.mls_wire.specs.Encoding.{vector}
 use Rattle.mls_wire.specs.Limits.{input_limit}
 use Rattle.mls_tree.specs.RatchetTree.{RatchetTree}
 use Rattle.mls_tree.specs.TreeDecoding.{IsTreeOf}
-use Rattle.mls_msgs.specs.declared.framed_content.Sender.TheVariants.{Member}
+use Rattle.mls_msgs.specs.declared.profile.Profile.{Profile}
+use Rattle.mls_msgs.specs.declared.profile.Profile.TheVariants as profiles
 use Rattle.mls_state.specs.StateFile.{IsFileOf}
 use Rattle.mls_state.specs.declared.known_entry.KnownEntry.{KnownEntry}
 use Rattle.mls_state.specs.declared.state.FollowerState.{FollowerState}
-use Rattle.mls_state.specs.declared.state.GroupPhase.TheVariants.{Open}
-use Rattle.mls_state.specs.declared.state.StateProfile.TheVariants.{Members}
+use Rattle.mls_state.specs.declared.state.GroupMode.{GroupMode}
+use Rattle.mls_state.specs.declared.state.GroupMode.TheVariants.{Members, Full, Ended}
 use Rattle.mls_apply.specs.declared.list_item.KnownProposal.{KnownProposal}
 use Rattle.mls_follow.specs.State.{State}
 
@@ -25,14 +26,21 @@ pub record IsIntact (bytes : List ℕ) (c : FollowerState) (t : RatchetTree) : T
   pub bounded : length bytes ≤ input_limit
   pub tree : IsTreeBody c.tree t
 
--- `stored_entry k` is the entry of the pending proposal `k` in a file: its sender is a member (RFC 9420, 6).
+-- `stored_entry k` is the entry of the pending proposal `k` in a file.
 abbrev pub stored_entry : KnownProposal → KnownEntry
-stored_entry k = record { reference = k.reference; sender = Member k.sender; proposal = k.proposal }
+stored_entry k = record { reference = k.reference; sender = k.sender; proposal = k.proposal }
 
--- `Stores c t s`: `c`, whose tree is `t`, stores the state `s`. The profile is that of members, and the group goes on.
+-- `stored_mode profile ended` is how a file has the profile, and whether the group is over. In the members' profile no
+-- group is over, so `None`.
+abbrev pub stored_mode : Profile → Bool → Option GroupMode
+stored_mode profiles.Members false = Some Members
+stored_mode profiles.Members true = None
+stored_mode profiles.Full false = Some Full
+stored_mode profiles.Full true = Some Ended
+
+-- `Stores c t s`: `c`, whose tree is `t`, stores the state `s`.
 pub record Stores (c : FollowerState) (t : RatchetTree) (s : State) : Type 0 where
-  pub profile : c.profile ≡ Members
-  pub phase : c.phase ≡ Open
+  pub mode : stored_mode s.profile s.ended ≡ Some c.mode
   pub context : c.context ≡ s.context
   pub tree : t.tree ≡ s.tree
   pub interim : c.interim ≡ s.interim

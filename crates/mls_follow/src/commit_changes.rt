@@ -4,6 +4,7 @@ ghost use Rattle.std.specs.Prelude.{◌≡◌, ◌<◌, Some, None, IsSome, IfOk
 ghost use Rattle.mls_hash.specs.SuiteHash.{hash_of};
 ghost use Rattle.mls_tree.specs.Tree.{leaf_at};
 ghost use Rattle.mls_tree.specs.TreeHash.{tree_hash};
+ghost use Rattle.mls_msgs.specs.declared.framed_content.Sender.TheVariants.{Member};
 ghost use Rattle.mls_apply.specs.ResolvedList.{resolved};
 ghost use Rattle.mls_apply.specs.ListRules.{list_refusal};
 ghost use Rattle.mls_apply.specs.RuleLists.{first_failing};
@@ -23,6 +24,7 @@ use crate::resolved::{ReceivedCommit, ResolvedCommit};
 use mls_apply::{CommitterPath, Leaves, ListItem, StagedTree, check_list, resolve_list};
 use mls_check::SignatureCheck;
 use mls_hash::Suite;
+use mls_msgs::Sender;
 use mls_wire::Opaque;
 use std::alloc::Global;
 
@@ -38,11 +40,11 @@ pub(crate) fn check_items<'a, C: SignatureCheck>(
 ) -> Result<Vec<ListItem<'a>>, Refusal>
     requires member { IsSome (leaf_at 0 group.now.tree.tree received.now.committer) }
     ensures later { OnOk result (group.now.context.epoch < last_epoch) }
-    ensures items { IfOk result (λ items. resolved received.now.committer received.now.known.now
+    ensures items { IfOk result (λ items. resolved (Member received.now.committer) received.now.known.now
         received.now.commit.now.proposals ≡ Some items.items) }
     ensures inline { OnOk result (first_failing (inline_rules (C.meaning checker.now)
         (group_state group.now) received.now.committer received.now.commit.now) ≡ None) }
-    ensures list { IfOk result (λ items. list_refusal received.now.committer items.items
+    ensures list { IfOk result (λ items. list_refusal (Member received.now.committer) items.items
         (is_some received.now.commit.now.path) ≡ None) }
     ensures refused { IfErr result (Refuses (commit_refusal (C.meaning checker.now)
         (with_known (group_state group.now) received.now.known.now)
@@ -56,9 +58,10 @@ pub(crate) fn check_items<'a, C: SignatureCheck>(
     if group.context.epoch == u64::MAX {
         return Err(Refusal::LastEpoch);
     }
-    let items = resolve_list(alloc, commit, committer, known)?;
+    let sender = Sender::Member(committer);
+    let items = resolve_list(alloc, commit, sender, known)?;
     check_inline(alloc, group, checker, committer, commit)?;
-    check_list(alloc, committer, items.as_slice(), commit.path.is_some())?;
+    check_list(alloc, sender, items.as_slice(), commit.path.is_some())?;
     Ok(items)
 }
 

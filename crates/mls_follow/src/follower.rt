@@ -4,6 +4,7 @@ ghost use Rattle.std.specs.Prelude.{◌≡◌, ◌≢◌, ◌↔◌, ℕ, ◌<�
 ghost use Rattle.mls_wire.specs.Limits.{input_limit};
 ghost use Rattle.mls_tree.specs.PublicTreeModel.{plain};
 ghost use Rattle.mls_nodes.specs.Requirements.{extension_of, Requires};
+ghost use Rattle.mls_msgs.specs.declared.profile.Profile.TheVariants.{Members};
 ghost use Rattle.mls_apply.specs.Staged.{IsSettled};
 ghost use Rattle.mls_follow.specs.CommitTree.{state_in};
 ghost use Rattle.mls_follow.specs.State.{HasEncoding, EncodesMessage};
@@ -28,7 +29,7 @@ use crate::taken::Taken;
 use mls_apply::{KnownProposal, PendingProposals, StagedTree};
 use mls_check::{LearningCheck, OutOfMemory, SignatureCheck};
 use mls_hash::Suite;
-use mls_msgs::{GroupInfo, Message};
+use mls_msgs::{GroupInfo, Message, Profile};
 use mls_nodes::GroupContext;
 use mls_tree::{HashValue, PublicTree};
 use std::alloc::Global;
@@ -46,22 +47,24 @@ pub struct Follower<C: SignatureCheck> {
 /// Returns the group of a GroupInfo with its tree, from what was found of them, with no pending proposals.
 fn initial_group(
     alloc: Global,
-    suite: Suite,
+    profile: Profile,
     info: GroupInfo,
     tree: StagedTree,
     judged: Judged,
 ) -> Group
-    requires suite_of_context { suite ≡ info.context.cipher_suite }
+    requires suite_of_context { judged.suite ≡ info.context.cipher_suite }
     requires required { Requires info.context judged.required }
     requires settled { IsSettled tree }
-    ensures { group_state result ≡ state_in info tree.tree judged.interim }
+    ensures { group_state result ≡ state_in profile info tree.tree judged.interim }
 {
     Group {
+        profile,
         context: info.context,
         tree,
         interim: judged.interim,
         known: PendingProposals::new(alloc),
-        suite,
+        ended: false,
+        suite: judged.suite,
         required: judged.required,
     }
 }
@@ -69,8 +72,40 @@ fn initial_group(
 impl<C: SignatureCheck> Follower<C> {
     ghost use Rattle.mls_follow.specs.FollowerModel.{state_of, checker_of};
 
+    /// Starts a follower in the members' profile, as [`Follower::start_in`] does.
+    ///
+    /// # Errors
+    ///
+    /// Those of [`Follower::start_in`].
+    pub fn start(
+        alloc: Global,
+        info: GroupInfo,
+        tree: Option<PublicTree>,
+        checker: C,
+    ) -> Result<Follower<C>, StartRefused<C>>
+        ensures started { IfOk result (λ f. IsStart Members (C.meaning checker) info
+            (option_map plain tree) (state_of f)) }
+        ensures checker { IfOk result (λ f. C.meaning (checker_of f) ≡ C.meaning checker) }
+        ensures refused { IfErr result (λ r. IsStartFault (C.meaning checker) info
+            (option_map plain tree) r.fault) }
+        ensures unsupported_version { IsErrAnd result
+            (λ r. r.fault ≡ StartFault.UnsupportedVersion) ↔ (info.context.version ≢ 1) }
+        ensures unsupported_suite { IsErrAnd result
+            (λ r. r.fault ≡ StartFault.UnsupportedSuite) ↔ FailsSuite info.context }
+        ensures no_tree { IsSupportedContext info.context → tree ≡ None → extension_of 2 info.extensions ≡ None
+            → IsErrAnd result (λ r. r.fault ≡ StartFault.NoTree) }
+        ensures handed_back { IfErr result (λ r. (r.info ≡ info)
+            × (option_map plain r.tree ≡ option_map plain tree) × (r.checker ≡ checker)) }
+    {
+        Follower::start_in(alloc, Profile::Members, info, tree, checker)
+    }
+
     /// Starts a follower from a GroupInfo (RFC 9420, 12.4.3), with the tree that is passed, or else with the one in the
-    /// GroupInfo.
+    /// GroupInfo. In the members' profile it processes the proposals Add, Update, Remove and GroupContextExtensions of
+    /// members. In the full profile it processes also PreSharedKey and ReInit (12.1.4, 12.1.5), and the proposals of external
+    /// senders and of clients that propose to join (12.1.8).
+    ///
+    /// Whether the group is over, no GroupInfo says: the follower takes it that it goes on (11.2).
     ///
     /// # Errors
     ///
@@ -88,13 +123,14 @@ impl<C: SignatureCheck> Follower<C> {
     /// All arguments are returned as they were, except that slots of the tree's hash cache may have been filled.
     /// Conditions 1 and 2, and that there is neither a tree nor an extension for one, are checked before anything is
     /// allocated.
-    pub fn start(
+    pub fn start_in(
         alloc: Global,
+        profile: Profile,
         info: GroupInfo,
         tree: Option<PublicTree>,
         checker: C,
     ) -> Result<Follower<C>, StartRefused<C>>
-        ensures started { IfOk result (λ f. IsStart (C.meaning checker) info
+        ensures started { IfOk result (λ f. IsStart profile (C.meaning checker) info
             (option_map plain tree) (state_of f)) }
         ensures checker { IfOk result (λ f. C.meaning (checker_of f) ≡ C.meaning checker) }
         ensures refused { IfErr result (λ r. IsStartFault (C.meaning checker) info
@@ -121,7 +157,7 @@ impl<C: SignatureCheck> Follower<C> {
         };
         match check_start(alloc, suite, &info, tree, &checker) {
             Ok((tree, judged)) => Ok(Follower {
-                group: initial_group(alloc, suite, info, tree, judged),
+                group: initial_group(alloc, profile, info, tree, judged),
                 checker,
                 alloc,
             }),
@@ -167,6 +203,21 @@ impl<C: SignatureCheck> Follower<C> {
         }
     }
 
+    /// Returns the profile in which the group is followed. It doesn't allocate.
+    pub fn profile(&self) -> Profile
+        ensures { result ≡ (state_of self.now).profile }
+    {
+        self.group.profile
+    }
+
+    /// Returns whether the group is over: a commit with a ReInit was accepted (RFC 9420, 11.2). Every later message of the
+    /// group's last epoch is then refused. It doesn't allocate.
+    pub fn ended(&self) -> bool
+        ensures { result ≡ (state_of self.now).ended }
+    {
+        self.group.ended
+    }
+
     /// Returns the GroupContext (RFC 9420, 8.1).
     pub fn context(&self) -> &GroupContext
         ensures { result.now ≡ (state_of self.now).context }
@@ -205,8 +256,8 @@ impl<C: SignatureCheck> Follower<C> {
 
     /// Processes a message that was decoded.
     fn take_message(&mut self, message: &Message) -> Result<Taken, Refusal>
-        requires { HasEncoding message.now }
-        ensures takes { (bytes : List ℕ) → EncodesMessage message.now bytes
+        requires { HasEncoding (state_of self.old).profile message.now }
+        ensures takes { (bytes : List ℕ) → EncodesMessage (state_of self.old).profile message.now bytes
             → Takes (C.meaning (checker_of self.old)) (state_of self.old) bytes result
             (state_of self.new) }
         ensures checker { C.meaning (checker_of self.new) ≡ C.meaning (checker_of self.old) }
@@ -217,7 +268,7 @@ impl<C: SignatureCheck> Follower<C> {
     /// Processes one message (RFC 9420, 6), and accepts it if it satisfies every rule.
     ///
     /// After a commit the tree is checked from its changes. All leaves are visited only if the commit changes what the
-    /// group requires.
+    /// group requires. A commit with a ReInit is applied as any other, and ends the group (RFC 9420, 11.2).
     ///
     /// # Errors
     ///
@@ -239,7 +290,7 @@ impl<C: SignatureCheck> Follower<C> {
         ensures stays { OnErr result (state_of self.new ≡ state_of self.old) }
         ensures checker { C.meaning (checker_of self.new) ≡ C.meaning (checker_of self.old) }
     {
-        let message = read_message(self.alloc, bytes)?;
+        let message = read_message(self.alloc, self.group.profile, bytes)?;
         let answer = self.take_message(&message);
         drop(message);
         answer

@@ -3,10 +3,16 @@
 ghost use Rattle.std.specs.Prelude.{◌≡◌, ◌≢◌, ◌⊎◌, ◌<◌, length, Some, None, Err, IsSome, IsTrue, IfOk, IfErr, OnOk};
 ghost use Rattle.mls_wire.specs.Limits.{input_limit};
 ghost use Rattle.mls_tree.specs.Tree.{leaf_at};
+ghost use Rattle.mls_nodes.specs.declared.required_capabilities.RequiredCapabilities.{RequiredCapabilities};
+ghost use Rattle.mls_check.specs.Signatures.{VerifyFn};
+ghost use Rattle.mls_msgs.specs.declared.framed_content.Content.TheVariants as contents;
 ghost use Rattle.mls_msgs.specs.declared.framed_content.Sender.TheVariants.{Member};
+ghost use Rattle.mls_apply.specs.RuleLists.{first_failing};
+ghost use Rattle.mls_apply.specs.Senders.{is_present};
+ghost use Rattle.mls_signatures.specs.SigningKeys.{outside_key};
 ghost use Rattle.mls_follow.specs.State.{EncodesMessage};
 ghost use Rattle.mls_follow.specs.GroupModel.{group_state};
-ghost use Rattle.mls_follow.specs.MessageRules.{frame_refusal, handshake_refusal, is_frame_signed, is_handshake};
+ghost use Rattle.mls_follow.specs.MessageRules.{frame_refusal, handshake_refusal, is_frame_signed, is_handshake, lacks_key, outside_content_rules, outside_refusal, proposal_refusal, sender_refusal};
 ghost use Rattle.mls_follow.specs.Acceptance.{Refuses, EncodesNoMessage};
 ghost use Rattle.mls_follow.specs.MessageHeader.{HasNoHeader, IsUnreadMessage};
 
@@ -15,26 +21,28 @@ use crate::message_header::{is_unread, wire_format_of};
 use crate::refusal::Refusal;
 use mls_check::{OutOfMemory, SignatureCheck, signed};
 use mls_msgs::{
-    Authenticated, CONTENT_LABEL, Content, Message, Sender, content_tbs, decode_message,
+    Authenticated, CONTENT_LABEL, Content, Message, Profile, Proposal, Sender, content_tbs,
+    decode_message_in,
 };
-use mls_nodes::{GroupContext, LeafNode};
-use mls_wire::{CodecFault, MAX_INPUT};
+use mls_nodes::GroupContext;
+use mls_signatures::{may_propose, outside_key, signed_context};
+use mls_wire::{CodecFault, MAX_INPUT, Opaque};
 use std::alloc::Global;
 
-/// Decodes the message whose encoding the bytes are. `Malformed` if there is none.
-fn decode(alloc: Global, bytes: &[u8]) -> Result<Message, Refusal>
-    ensures read { IfOk result (λ m. EncodesMessage m bytes.now) }
+/// Decodes the message of a profile whose encoding the bytes are. `Malformed` if there is none.
+fn decode(alloc: Global, profile: Profile, bytes: &[u8]) -> Result<Message, Refusal>
+    ensures read { IfOk result (λ m. EncodesMessage profile m bytes.now) }
     ensures refused { IfErr result (λ e. e ≢ Refusal.OutOfMemory → (e ≡ Refusal.Malformed)
-        × EncodesNoMessage bytes.now) }
+        × EncodesNoMessage profile bytes.now) }
 {
-    match decode_message(alloc, bytes) {
+    match decode_message_in(alloc, profile, bytes) {
         Ok(message) => Ok(message),
         Err(CodecFault::OutOfMemory) => Err(Refusal::OutOfMemory),
         Err(CodecFault::Wire(_)) => Err(Refusal::Malformed),
     }
 }
 
-/// Returns the message whose encoding the bytes are, unless its body is stored unread (RFC 9420, 6).
+/// Returns the message of a profile whose encoding the bytes are, unless its body is stored unread (RFC 9420, 6).
 ///
 /// # Errors
 ///
@@ -42,10 +50,14 @@ fn decode(alloc: Global, bytes: &[u8]) -> Result<Message, Refusal>
 ///   memory.
 /// - `NotPublic` if it is a PrivateMessage or a Welcome, without an allocation.
 /// - `OutOfMemory`.
-pub(crate) fn read_message(alloc: Global, bytes: &[u8]) -> Result<Message, Refusal>
-    ensures read { IfOk result (λ m. EncodesMessage m bytes.now) }
+pub(crate) fn read_message(
+    alloc: Global,
+    profile: Profile,
+    bytes: &[u8],
+) -> Result<Message, Refusal>
+    ensures read { IfOk result (λ m. EncodesMessage profile m bytes.now) }
     ensures refused { IfErr result (λ e. e ≢ Refusal.OutOfMemory
-        → ((e ≡ Refusal.Malformed) × EncodesNoMessage bytes.now)
+        → ((e ≡ Refusal.Malformed) × EncodesNoMessage profile bytes.now)
         ⊎ ((e ≡ Refusal.NotPublic) × IsUnreadMessage bytes.now)) }
     ensures too_long { input_limit < length bytes.now → result ≡ Err Refusal.Malformed }
     ensures no_header { HasNoHeader bytes.now → result ≡ Err Refusal.Malformed }
@@ -60,23 +72,24 @@ pub(crate) fn read_message(alloc: Global, bytes: &[u8]) -> Result<Message, Refus
     if is_unread(wire_format) {
         return Err(Refusal::NotPublic);
     }
-    decode(alloc, bytes)
+    decode(alloc, profile, bytes)
 }
 
-/// Returns whether the signature of a FramedContent is good, under the key of the sender's leaf and over the group's
-/// context.
+/// Returns whether the signature of a FramedContent is good under this key. The group's context is signed too, as the sender
+/// demands.
 #[tactic(auto, unfolding(crate::specs::MessageRules::is_frame_signed))]
 fn is_frame_signed<C: SignatureCheck>(
     alloc: Global,
     context: &GroupContext,
-    leaf: &LeafNode,
+    key: &Opaque,
     auth: &Authenticated,
     checker: &C,
 ) -> Result<bool, OutOfMemory>
     ensures { IfOk result (λ good. good ≡ is_frame_signed
-        (C.meaning checker.now) context.now leaf.now auth.now) }
+        (C.meaning checker.now) context.now key.now auth.now) }
 {
-    let tbs = match content_tbs(alloc, auth, Some(context)) {
+    let over = signed_context(context, auth.content().sender);
+    let tbs = match content_tbs(alloc, auth, over) {
         Ok(tbs) => tbs,
         Err(CodecFault::Wire(_)) => return Ok(false),
         Err(CodecFault::OutOfMemory) => return Err(OutOfMemory),
@@ -85,33 +98,22 @@ fn is_frame_signed<C: SignatureCheck>(
         alloc,
         checker,
         context.cipher_suite,
-        leaf.signature_key.as_slice(),
+        key.as_slice(),
         CONTENT_LABEL,
         tbs.as_slice(),
         auth.signature().as_slice(),
     )
 }
 
-/// Returns the leaf of the member that sent an AuthenticatedContent, if it satisfies the rules for each. It is for the
-/// group and its epoch, from a member, a proposal or a commit, and signed.
-#[tactic(auto, unfolding(crate::specs::MessageRules::frame_refusal, crate::specs::MessageRules::handshake_refusal))]
-pub(crate) fn check_frame<C: SignatureCheck>(
-    alloc: Global,
-    group: &Group,
-    checker: &C,
-    auth: &Authenticated,
-) -> Result<u32, Refusal>
-    ensures sender { IfOk result (λ i. auth.now.content.sender ≡ Member i) }
-    ensures member { IfOk result (λ i. IsSome (leaf_at 0 group.now.tree.tree i)) }
-    ensures handshake { OnOk result (IsTrue (is_handshake auth.now.content.content)) }
-    ensures kept { IfOk result (λ i.
-        frame_refusal (C.meaning checker.now) (group_state group.now) group.now.required auth.now
-        ≡ handshake_refusal (C.meaning checker.now)
-        (group_state group.now) group.now.required auth.now i
-        auth.now.content.content) }
-    ensures refused { IfErr result (Refuses (frame_refusal (C.meaning checker.now)
-        (group_state group.now)
-        group.now.required auth.now)) }
+/// Checks that an AuthenticatedContent is for the group and its epoch, and that the group goes on. What is left are the
+/// rules for its sender.
+#[tactic(auto, unfolding(crate::specs::MessageRules::frame_refusal, crate::specs::MessageRules::sender_refusal))]
+pub(crate) fn check_header(group: &Group, auth: &Authenticated) -> Result<(), Refusal>
+    ensures kept { OnOk result ((G : VerifyFn) (required : RequiredCapabilities)
+        → frame_refusal G (group_state group.now) required auth.now
+        ≡ sender_refusal G (group_state group.now) required auth.now auth.now.content.sender) }
+    ensures refused { IfErr result (λ e. (G : VerifyFn) (required : RequiredCapabilities)
+        → frame_refusal G (group_state group.now) required auth.now ≡ Some e) }
 {
     let frame = auth.content();
     if frame.group_id.as_slice() != group.context.group_id.as_slice() {
@@ -120,17 +122,114 @@ pub(crate) fn check_frame<C: SignatureCheck>(
     if frame.epoch != group.context.epoch {
         return Err(Refusal::WrongEpoch);
     }
-    let Sender::Member(sender) = frame.sender else {
-        return Err(Refusal::SenderNotMember);
-    };
+    if group.ended {
+        return Err(Refusal::GroupOver);
+    }
+    Ok(())
+}
+
+/// Checks the rules for each message of a member: its leaf is non-blank, and the message is a proposal or a commit, and
+/// signed.
+#[tactic(auto, unfolding(crate::specs::MessageRules::sender_refusal, crate::specs::MessageRules::handshake_refusal))]
+pub(crate) fn check_member_frame<C: SignatureCheck>(
+    alloc: Global,
+    group: &Group,
+    checker: &C,
+    auth: &Authenticated,
+    sender: u32,
+) -> Result<(), Refusal>
+    ensures member { OnOk result (IsSome (leaf_at 0 group.now.tree.tree sender)) }
+    ensures handshake { OnOk result (IsTrue (is_handshake auth.now.content.content)) }
+    ensures kept { OnOk result
+        (sender_refusal (C.meaning checker.now) (group_state group.now) group.now.required auth.now (Member sender)
+        ≡ handshake_refusal (C.meaning checker.now) (group_state group.now) group.now.required auth.now sender
+        auth.now.content.content) }
+    ensures refused { IfErr result (Refuses (sender_refusal (C.meaning checker.now) (group_state group.now)
+        group.now.required auth.now (Member sender))) }
+{
     let Some(leaf) = group.tree.tree().leaf(sender) else {
         return Err(Refusal::SenderNotMember);
     };
-    if let Content::Application(_) = frame.content {
+    if let Content::Application(_) = auth.content().content {
         return Err(Refusal::NotHandshake);
     }
-    if !is_frame_signed(alloc, &group.context, leaf, auth, checker)? {
+    if !is_frame_signed(alloc, &group.context, &leaf.signature_key, auth, checker)? {
         return Err(Refusal::BadSignature);
     }
-    Ok(sender)
+    Ok(())
+}
+
+/// Returns the proposal of a content of a sender outside the group, if the sender may send it and has signed it under this
+/// key.
+#[tactic(auto, unfolding(crate::specs::MessageRules::proposal_refusal))]
+fn check_outside_content<'a, C: SignatureCheck>(
+    alloc: Global,
+    group: &Group,
+    checker: &C,
+    auth: &'a Authenticated,
+    key: &Option<Opaque>,
+) -> Result<&'a Proposal, Refusal>
+    ensures proposal { IfOk result (λ p. auth.now.content.content ≡ contents.Proposal p.now) }
+    ensures kept { IfOk result (λ p. first_failing (outside_content_rules (C.meaning checker.now)
+        (group_state group.now) auth.now auth.now.content.sender key.now auth.now.content.content)
+        ≡ proposal_refusal (C.meaning checker.now) (group_state group.now) auth.now
+        auth.now.content.sender p.now) }
+    ensures refused { IfErr result (Refuses (first_failing (outside_content_rules (C.meaning checker.now)
+        (group_state group.now) auth.now auth.now.content.sender key.now auth.now.content.content))) }
+{
+    let frame = auth.content();
+    let proposal = match &frame.content {
+        Content::Application(_) => return Err(Refusal::NotHandshake),
+        Content::Proposal(proposal) => proposal,
+        Content::Commit(_) => return Err(Refusal::SenderContent),
+    };
+    if !may_propose(frame.sender, proposal) {
+        return Err(Refusal::SenderContent);
+    }
+    let Some(key) = key else {
+        return Err(Refusal::SenderContent);
+    };
+    if !is_frame_signed(alloc, &group.context, key, auth, checker)? {
+        return Err(Refusal::BadSignature);
+    }
+    Ok(proposal)
+}
+
+/// Returns whether a key is missing that an external sender must have.
+fn is_unknown_external(sender: Sender, key: &Option<Opaque>) -> bool
+    ensures { result ≡ lacks_key sender key.now }
+{
+    match sender {
+        Sender::External(_) => key.is_none(),
+        Sender::Member(_) => false,
+        Sender::NewMemberProposal => false,
+        Sender::NewMemberCommit => false,
+    }
+}
+
+/// Returns the proposal of a message of a sender outside the group, if it satisfies the rules for each such message: an
+/// external sender is in the GroupContext, the sender may send the proposal, and has signed it (RFC 9420, 12.1.8).
+#[tactic(auto, unfolding(crate::specs::MessageRules::outside_refusal))]
+pub(crate) fn check_outside_frame<'a, C: SignatureCheck>(
+    alloc: Global,
+    group: &Group,
+    checker: &C,
+    auth: &'a Authenticated,
+) -> Result<&'a Proposal, Refusal>
+    ensures proposal { IfOk result (λ p. auth.now.content.content ≡ contents.Proposal p.now) }
+    ensures kept { IfOk result (λ p. outside_refusal (C.meaning checker.now) (group_state group.now) auth.now
+        auth.now.content.sender
+        ≡ proposal_refusal (C.meaning checker.now) (group_state group.now) auth.now auth.now.content.sender p.now) }
+    ensures refused { IfErr result (Refuses (outside_refusal (C.meaning checker.now) (group_state group.now)
+        auth.now auth.now.content.sender)) }
+{
+    let frame = auth.content();
+    let key = outside_key(alloc, &group.context, frame.sender, &frame.content)?;
+    if is_unknown_external(frame.sender, &key) {
+        drop(key);
+        return Err(Refusal::UnknownExternal);
+    }
+    let answer = check_outside_content(alloc, group, checker, auth, &key);
+    drop(key);
+    answer
 }

@@ -16,20 +16,22 @@ use crate::taken::Taken;
 use crate::transcript::{confirmed_hash, interim_hash};
 use mls_apply::{KnownProposal, PendingProposals, StagedTree};
 use mls_hash::Suite;
-use mls_msgs::{Authenticated, Proposal};
+use mls_msgs::{Authenticated, Profile, Proposal, Sender};
 use mls_nodes::{GroupContext, RequiredCapabilities};
 use mls_tree::HashValue;
 use mls_wire::{Opaque, copy_of};
 use std::alloc::{AllocError, Global};
 
-/// The public state of a group: its context, its tree, the interim transcript hash and the pending proposals; and, read
-/// from these, the cipher suite and what the group requires of its members.
+/// The public state of a group: the profile, its context, its tree, the interim transcript hash, the pending proposals and
+/// whether it is over; and, read from these, the cipher suite and what the group requires of its members.
 #[derive(Drop)]
 pub(crate) struct Group {
+    pub(crate) profile: Profile,
     pub(crate) context: GroupContext,
     pub(crate) tree: StagedTree,
     pub(crate) interim: HashValue,
     pub(crate) known: PendingProposals,
+    pub(crate) ended: bool,
     pub(crate) suite: Suite,
     pub(crate) required: RequiredCapabilities,
     ghost same_suite: { suite ≡ context.cipher_suite },
@@ -53,7 +55,7 @@ impl Group {
         &mut self,
         alloc: Global,
         reference: HashValue,
-        sender: u32,
+        sender: Sender,
         proposal: &Proposal,
     ) -> Result<Taken, AllocError>
         ensures kept { IfOk result (λ taken. after_proposal
@@ -105,7 +107,7 @@ impl Group {
     ) -> Taken
         requires later { self.old.context.epoch < last_epoch }
         requires terms { RequiresBy terms.extensions terms.required }
-        ensures next { committed (with_extensions (group_state self.old) terms.extensions)
+        ensures next { committed (with_extensions (group_state self.old) terms.extensions terms.ends)
             self.old.tree.tree tree_hash transcript.confirmed transcript.interim
             ≡ record { taken = result; state = group_state self.new } }
     {
@@ -116,6 +118,7 @@ impl Group {
         self.context.confirmed = transcript.confirmed;
         self.interim = transcript.interim;
         self.known.clear();
+        self.ended = terms.ends;
         Taken::Commit(self.context.epoch)
     }
 }

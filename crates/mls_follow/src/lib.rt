@@ -2,8 +2,8 @@
 //! public state. It accepts exactly the messages that satisfy every rule. A refused message changes nothing.
 //!
 //! [`Follower::start`] checks a GroupInfo with its tree, and [`Follower::take`] processes one message after the other.
-//! Contracts model a follower as its state (`specs/State.antt`): the context, the tree, the interim transcript hash and
-//! the pending proposals.
+//! Contracts model a follower as its state (`specs/State.antt`): the profile, the context, the tree, the interim transcript
+//! hash, the pending proposals, and whether the group is over.
 //!
 //! [`Follower::wanted`] returns the signatures of a message, for a caller that verifies them elsewhere; those of a start are
 //! [`mls_signatures::start_signatures`].

@@ -8,23 +8,25 @@ ghost use Rattle.mls_apply.specs.ResolvedList.{find_known};
 ghost use Rattle.mls_apply.specs.declared.list_item.KnownProposal.{KnownProposal};
 ghost use Rattle.mls_follow.specs.GroupModel.{group_state};
 ghost use Rattle.mls_follow.specs.StoredState.{stored_entry};
-ghost use Rattle.mls_follow.specs.Resumption.{can_hold, with_pending, Holds};
+ghost use Rattle.mls_follow.specs.MessageRules.{is_followed, is_known_external};
+ghost use Rattle.mls_follow.specs.Resumption.{can_hold, is_receivable, with_pending, Holds};
 ghost use Rattle.mls_follow.specs.ResumptionParts.{IsKnownFault};
 
 use crate::group::Group;
 use crate::resume_fault::ResumeFault;
 use mls_apply::{ApplyFault, EpochState, check_proposal};
-use mls_check::SignatureCheck;
+use mls_check::{OutOfMemory, SignatureCheck};
 use mls_msgs::{Profile, Proposal, Sender};
+use mls_signatures::{external_key, may_propose};
 use mls_state::KnownEntry;
 use mls_tree::HashValue;
 use std::alloc::{AllocError, Global};
 
-/// A proposal of a member with its reference, as an entry of a file has them.
+/// A proposal with its reference and its sender, as an entry of a file has them.
 #[derive(Clone, Copy)]
-struct MemberEntry<'a> {
+struct PendingEntry<'a> {
     reference: HashValue,
-    sender: u32,
+    sender: Sender,
     proposal: &'a Proposal,
 }
 
@@ -37,13 +39,60 @@ fn is_new_reference(group: &Group, reference: &HashValue) -> bool
     bytes.len() == usize::from(group.suite.hash_length()) && group.known.find(bytes).is_none()
 }
 
-/// Returns whether a proposal of a member satisfies its rules.
+/// Returns whether the messages of a sender are processed in a profile.
+fn is_followed(profile: Profile, sender: Sender) -> bool
+    ensures { result ≡ is_followed profile sender }
+{
+    match (sender, profile) {
+        (Sender::Member(_), _) => true,
+        (Sender::External(_), Profile::Full) => true,
+        (Sender::NewMemberProposal, Profile::Full) => true,
+        _ => false,
+    }
+}
+
+/// Returns whether a group has an external sender, if the sender is one.
+fn is_known_external(alloc: Global, group: &Group, sender: Sender) -> Result<bool, OutOfMemory>
+    ensures { IfOk result (λ known. known ≡ is_known_external group.now.context.extensions sender) }
+{
+    match sender {
+        Sender::External(index) => {
+            let key = external_key(alloc, &group.context.extensions, index)?;
+            Ok(key.is_some())
+        }
+        Sender::Member(_) => Ok(true),
+        Sender::NewMemberProposal => Ok(true),
+        Sender::NewMemberCommit => Ok(true),
+    }
+}
+
+/// Returns whether a group processes the proposal of an entry.
+#[tactic(auto, unfolding(crate::specs::Resumption::is_receivable))]
+fn is_receivable(
+    alloc: Global,
+    group: &Group,
+    entry: &PendingEntry<'_>,
+) -> Result<bool, OutOfMemory>
+    ensures { IfOk result (λ received. received ≡ is_receivable (group_state group.now)
+        (record { reference = entry.now.reference; sender = entry.now.sender; proposal = entry.now.proposal.now })) }
+{
+    let sender = entry.sender;
+    if group.ended
+        || !group.profile.has_proposal(entry.proposal)
+        || !is_followed(group.profile, sender)
+    {
+        return Ok(false);
+    }
+    Ok(is_known_external(alloc, group, sender)? && may_propose(sender, entry.proposal))
+}
+
+/// Returns whether a proposal satisfies its rules.
 #[tactic(auto, unfolding(mls_apply::specs::ProposalRules::checked_refusal))]
 fn is_valid_proposal<C: SignatureCheck>(
     alloc: Global,
     group: &Group,
     checker: &C,
-    sender: u32,
+    sender: Sender,
     proposal: &Proposal,
 ) -> Result<bool, AllocError>
     ensures { IfOk result (λ valid. valid ≡ not (is_some (checked_refusal (C.meaning checker.now)
@@ -60,20 +109,21 @@ fn is_valid_proposal<C: SignatureCheck>(
     }
 }
 
-/// Returns whether a proposal of a member can be the next one that is pending.
+/// Returns whether the proposal of an entry can be the next one that is pending.
 #[tactic(auto, unfolding(crate::specs::Resumption::can_hold))]
 fn can_hold<C: SignatureCheck>(
     alloc: Global,
     group: &Group,
     checker: &C,
-    entry: &MemberEntry<'_>,
+    entry: &PendingEntry<'_>,
 ) -> Result<bool, AllocError>
     ensures { IfOk result (λ held. held ≡ can_hold (C.meaning checker.now) (group_state group.now)
         (record { reference = entry.now.reference; sender = entry.now.sender; proposal = entry.now.proposal.now })) }
 {
-    if !Profile::Members.has_proposal(entry.proposal)
-        || !is_new_reference(group, &entry.reference)
-    {
+    let Ok(is_received) = is_receivable(alloc, group, entry) else {
+        return Err(AllocError);
+    };
+    if !is_received || !is_new_reference(group, &entry.reference) {
         return Ok(false);
     }
     is_valid_proposal(alloc, group, checker, entry.sender, entry.proposal)
@@ -93,22 +143,18 @@ fn hold_entry<C: SignatureCheck>(
     ensures refused { IfOk result (λ held. OnFalse held ((k : KnownProposal) → entry.now ≡ stored_entry k
         → can_hold (C.meaning checker.now) (group_state group.old) k ≡ true → ⊥)) }
 {
-    let Sender::Member(sender) = entry.sender else {
-        return Ok(false);
-    };
     let Some(reference) = HashValue::new(entry.reference.as_slice()) else {
         return Ok(false);
     };
-    let proposal = &entry.proposal;
-    let member = MemberEntry {
+    let pending = PendingEntry {
         reference,
-        sender,
-        proposal,
+        sender: entry.sender,
+        proposal: &entry.proposal,
     };
-    if !can_hold(alloc, group, checker, &member)? {
+    if !can_hold(alloc, group, checker, &pending)? {
         return Ok(false);
     }
-    group.keep(alloc, reference, sender, proposal)?;
+    group.keep(alloc, reference, entry.sender, &entry.proposal)?;
     Ok(true)
 }
 

@@ -1,19 +1,19 @@
 //! The rules for a Proposal message (RFC 9420, 12.1 and 12.4).
 
-ghost use Rattle.std.specs.Prelude.{◌≡◌, Some, None, IsSome, IfOk, IfErr, OnOk};
-ghost use Rattle.mls_tree.specs.Tree.{leaf_at};
+ghost use Rattle.std.specs.Prelude.{◌≡◌, Some, None, IsSome, IsTrue, IfOk, IfErr, OnOk};
 ghost use Rattle.mls_apply.specs.RuleLists.{first_failing};
+ghost use Rattle.mls_apply.specs.Senders.{is_present};
 ghost use Rattle.mls_follow.specs.Acceptance.{Refuses};
 ghost use Rattle.mls_follow.specs.GroupModel.{group_state};
 ghost use Rattle.mls_follow.specs.MessageRules.{proposal_message_rules, reference_of};
 
 use crate::group::Group;
 use crate::refusal::Refusal;
-use crate::resolved::MemberMessage;
+use crate::resolved::SentProposal;
 use mls_apply::{EpochState, check_proposal};
 use mls_check::SignatureCheck;
 use mls_hash::{Suite, ref_hash};
-use mls_msgs::{Authenticated, PROPOSAL_REFERENCE_LABEL, Proposal, encode_authenticated};
+use mls_msgs::{Authenticated, PROPOSAL_REFERENCE_LABEL, encode_authenticated};
 use mls_tree::HashValue;
 use mls_wire::CodecFault;
 use std::alloc::{AllocError, Global};
@@ -35,27 +35,30 @@ fn reference_of(alloc: Global, group: &Group, auth: &Authenticated) -> Result<Ha
     Ok(reference)
 }
 
-/// Returns the reference of a member's proposal, if the proposal is not pending and satisfies its rules.
+/// Returns the reference of a proposal that was sent, if the proposal is not pending and satisfies its rules.
 #[tactic(auto, unfolding(crate::specs::MessageRules::is_new_proposal, mls_apply::specs::ProposalRules::checked_refusal))]
 pub(crate) fn check_proposal_message<C: SignatureCheck>(
     alloc: Global,
     group: &Group,
     checker: &C,
-    message: &MemberMessage<'_>,
-    proposal: &Proposal,
+    sent: &SentProposal<'_>,
 ) -> Result<HashValue, Refusal>
-    requires member { IsSome (leaf_at 0 group.now.tree.tree message.now.sender) }
-    requires referenced { IsSome (reference_of group.now.context message.now.auth.now) }
+    requires present { IsTrue (is_present group.now.tree.tree sent.now.sender) }
+    requires referenced { IsSome (reference_of group.now.context sent.now.auth.now) }
     ensures kept { OnOk result (first_failing
         (proposal_message_rules (C.meaning checker.now) (group_state group.now)
-        message.now.auth.now message.now.sender proposal.now) ≡ None) }
-    ensures reference { IfOk result (λ reference. reference_of group.now.context message.now.auth.now
+        sent.now.auth.now sent.now.sender sent.now.proposal.now) ≡ None) }
+    ensures reference { IfOk result (λ reference. reference_of group.now.context sent.now.auth.now
         ≡ Some reference) }
     ensures refused { IfErr result (Refuses (first_failing
         (proposal_message_rules (C.meaning checker.now) (group_state group.now)
-        message.now.auth.now message.now.sender proposal.now))) }
+        sent.now.auth.now sent.now.sender sent.now.proposal.now))) }
 {
-    let MemberMessage { auth, sender } = *message;
+    let SentProposal {
+        auth,
+        sender,
+        proposal,
+    } = *sent;
     let reference = reference_of(alloc, group, auth)?;
     if group.known.find(reference.as_slice()).is_some() {
         return Err(Refusal::KnownProposal);

@@ -1,58 +1,128 @@
 //! The rules for the proposals that a commit includes by value (RFC 9420, 12.1 and 12.4).
 
-ghost use Rattle.std.specs.Prelude.{◌≡◌, ◌&&◌, true, None, IsSome, IfOk, IfErr, OnOk};
+ghost use Rattle.std.specs.Prelude.{◌≡◌, None, Some, IsSome, IfOk, IfErr, OnOk};
 ghost use Rattle.mls_tree.specs.Tree.{leaf_at};
+ghost use Rattle.mls_msgs.specs.declared.framed_content.Sender.TheVariants.{Member};
 ghost use Rattle.mls_apply.specs.RuleLists.{first_failing};
-ghost use Rattle.mls_apply.specs.ProposalRules.{all_inline, holds_if_by_value, valid_if_add, valid_if_update, valid_if_remove, valid_if_extensions};
 ghost use Rattle.mls_follow.specs.Acceptance.{Refuses};
 ghost use Rattle.mls_follow.specs.GroupModel.{group_state};
+ghost use Rattle.mls_follow.specs.InlineValidity.{all_valid, both_valid, entry_validity, invalid_by, validity_rules};
 ghost use Rattle.mls_follow.specs.MessageRules.{inline_rules};
 
 use crate::group::Group;
 use crate::refusal::Refusal;
 use mls_apply::{ApplyFault, EpochState, check_proposal};
 use mls_check::SignatureCheck;
-use mls_msgs::{Commit, ProposalOrRef};
+use mls_msgs::{Commit, ProposalOrRef, Sender};
 use std::alloc::{AllocError, Global};
 
-/// Whether the Adds, the Updates, the Removes and the GroupContextExtensions among some proposals are valid.
+/// Whether the proposals of each type among some proposals are valid. No ExternalInit is.
 #[derive(Clone, Copy)]
 struct Validity {
     adds: bool,
     updates: bool,
     removes: bool,
     extensions: bool,
+    psks: bool,
+    reinits: bool,
+    external_inits: bool,
 }
 
 impl Validity {
     /// Returns that all are valid.
     fn full() -> Validity
-        ensures adds { result.adds ≡ true }
-        ensures updates { result.updates ≡ true }
-        ensures removes { result.removes ≡ true }
-        ensures extensions { result.extensions ≡ true }
+        ensures { result ≡ all_valid }
     {
         Validity {
             adds: true,
             updates: true,
             removes: true,
             extensions: true,
+            psks: true,
+            reinits: true,
+            external_inits: true,
         }
     }
 
     /// Returns which are valid here and in `other`.
     fn and(self, other: Validity) -> Validity
-        ensures adds { result.adds ≡ (self.adds && other.adds) }
-        ensures updates { result.updates ≡ (self.updates && other.updates) }
-        ensures removes { result.removes ≡ (self.removes && other.removes) }
-        ensures extensions { result.extensions ≡ (self.extensions && other.extensions) }
+        ensures { result ≡ both_valid self other }
     {
         Validity {
             adds: self.adds && other.adds,
             updates: self.updates && other.updates,
             removes: self.removes && other.removes,
             extensions: self.extensions && other.extensions,
+            psks: self.psks && other.psks,
+            reinits: self.reinits && other.reinits,
+            external_inits: self.external_inits && other.external_inits,
         }
+    }
+
+    /// Returns that all are valid but those that are refused for this fault.
+    fn without(fault: ApplyFault) -> Validity
+        ensures { result ≡ invalid_by fault }
+    {
+        let full = Validity::full();
+        match fault {
+            ApplyFault::AddInvalid => Validity {
+                adds: false,
+                ..full
+            },
+            ApplyFault::UpdateInvalid => Validity {
+                updates: false,
+                ..full
+            },
+            ApplyFault::RemoveInvalid => Validity {
+                removes: false,
+                ..full
+            },
+            ApplyFault::ContextExtensionsInvalid => Validity {
+                extensions: false,
+                ..full
+            },
+            ApplyFault::PskInvalid => Validity {
+                psks: false,
+                ..full
+            },
+            ApplyFault::ReInitInvalid => Validity {
+                reinits: false,
+                ..full
+            },
+            ApplyFault::ExternalInitMisplaced => Validity {
+                external_inits: false,
+                ..full
+            },
+            _ => full,
+        }
+    }
+
+    /// Returns the refusal of the first type of which not all are valid, in the order of their rules.
+    fn refusal(self) -> Option<Refusal>
+        ensures { result ≡ first_failing (validity_rules self) }
+    {
+        if !self.adds {
+            return Some(Refusal::AddInvalid);
+        }
+        if !self.updates {
+            return Some(Refusal::UpdateInvalid);
+        }
+        if !self.removes {
+            return Some(Refusal::RemoveInvalid);
+        }
+        if !self.extensions {
+            return Some(Refusal::ContextExtensionsInvalid);
+        }
+        if !self.psks {
+            return Some(Refusal::PskInvalid);
+        }
+        if !self.reinits {
+            return Some(Refusal::ReInitInvalid);
+        }
+        if !self.external_inits {
+            return Some(Refusal::ExternalInitMisplaced);
+        }
+        None
     }
 }
 
@@ -66,14 +136,8 @@ fn entry_validity<C: SignatureCheck>(
     entry: &ProposalOrRef,
 ) -> Result<Validity, AllocError>
     requires member { IsSome (leaf_at 0 group.now.tree.tree committer) }
-    ensures adds { IfOk result (λ v. v.adds ≡ holds_if_by_value (valid_if_add
-        (C.meaning checker.now) group.now.context) entry.now) }
-    ensures updates { IfOk result (λ v. v.updates ≡ holds_if_by_value
-        (valid_if_update
-        (C.meaning checker.now) group.now.context group.now.tree.tree committer) entry.now) }
-    ensures removes { IfOk result (λ v. v.removes ≡ holds_if_by_value
-        (valid_if_remove group.now.tree.tree) entry.now) }
-    ensures extensions { IfOk result (λ v. v.extensions ≡ holds_if_by_value valid_if_extensions entry.now) }
+    ensures { IfOk result (λ v. v ≡ entry_validity (C.meaning checker.now) group.now.context
+        group.now.tree.tree (Member committer) entry.now) }
 {
     let ProposalOrRef::Proposal(proposal) = entry else {
         return Ok(Validity::full());
@@ -82,34 +146,16 @@ fn entry_validity<C: SignatureCheck>(
         context: &group.context,
         tree: group.tree.tree(),
     };
-    let judged = check_proposal(alloc, &epoch, committer, proposal, checker);
-    let Err(fault) = judged else {
-        return Ok(Validity::full());
-    };
-    match fault {
-        ApplyFault::AddInvalid => Ok(Validity {
-            adds: false,
-            ..Validity::full()
-        }),
-        ApplyFault::UpdateInvalid => Ok(Validity {
-            updates: false,
-            ..Validity::full()
-        }),
-        ApplyFault::RemoveInvalid => Ok(Validity {
-            removes: false,
-            ..Validity::full()
-        }),
-        ApplyFault::ContextExtensionsInvalid => Ok(Validity {
-            extensions: false,
-            ..Validity::full()
-        }),
-        ApplyFault::OutOfMemory => Err(AllocError),
-        _ => unreachable!(),
+    let sender = Sender::Member(committer);
+    match check_proposal(alloc, &epoch, sender, proposal, checker) {
+        Ok(()) => Ok(Validity::full()),
+        Err(ApplyFault::OutOfMemory) => Err(AllocError),
+        Err(fault) => Ok(Validity::without(fault)),
     }
 }
 
 /// Checks the proposals that a commit includes by value: first each Add, then each Update, then each Remove, then each
-/// GroupContextExtensions.
+/// GroupContextExtensions, then each PreSharedKey, then each ReInit, then that there is no ExternalInit.
 pub(crate) fn check_inline<C: SignatureCheck>(
     alloc: Global,
     group: &Group,
@@ -130,17 +176,8 @@ pub(crate) fn check_inline<C: SignatureCheck>(
         valid = valid.and(entry_validity(alloc, group, checker, committer, entry)?);
         rest = tail;
     }
-    if !valid.adds {
-        return Err(Refusal::AddInvalid);
+    match valid.refusal() {
+        Some(refusal) => Err(refusal),
+        None => Ok(()),
     }
-    if !valid.updates {
-        return Err(Refusal::UpdateInvalid);
-    }
-    if !valid.removes {
-        return Err(Refusal::RemoveInvalid);
-    }
-    if !valid.extensions {
-        return Err(Refusal::ContextExtensionsInvalid);
-    }
-    Ok(())
 }

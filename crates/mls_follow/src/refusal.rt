@@ -21,15 +21,15 @@ pub enum Refusal {
     /// The message's epoch is not the current one (RFC 9420, 6.1).
     #[error("the message is of another epoch")]
     WrongEpoch,
-    /// The sender is not a member, or its leaf is blank (RFC 9420, 6.1). Messages of external senders and new members
-    /// are refused.
+    /// The leaf of a member that sends is blank (RFC 9420, 6.1). In the members' profile also: the sender is no member. In both
+    /// profiles: the sender joins with a commit (12.4.3.2), which is not processed yet (own rule).
     #[error("the sender is no member")]
     SenderNotMember,
     /// The content is application data, which is never sent as a PublicMessage (RFC 9420, 6.2).
     #[error("the message is no proposal and no commit")]
     NotHandshake,
-    /// The signature over the message and the current GroupContext is not good under the key of the sender's leaf
-    /// (RFC 9420, 6.1).
+    /// The signature of the message is not good under the sender's key: that of a member's leaf, of the external sender in the
+    /// GroupContext, or of the leaf node in the Add of a client that proposes to join (RFC 9420, 6.1 and 12.1.8).
     #[error("the message's signature is not good")]
     BadSignature,
     /// A proposal that is pending already, by its reference (RFC 9420, 5.2; own rule).
@@ -99,6 +99,33 @@ pub enum Refusal {
     /// The required capabilities of a GroupContextExtensions proposal cannot be read (RFC 9420, 11.1 and 12.1.7).
     #[error("the extensions brought to the context can't be read")]
     ContextExtensionsInvalid,
+    /// The group is over: a commit with a ReInit was accepted (RFC 9420, 11.2 and 12.1.5).
+    #[error("the group is over")]
+    GroupOver,
+    /// The extension external_senders of the GroupContext has no sender with this index, or cannot be read (RFC 9420,
+    /// 12.1.8).
+    #[error("the external sender is not known")]
+    UnknownExternal,
+    /// The sender may not send the content (RFC 9420, 6.1 and 12.1.8): an external sender an Update, an ExternalInit or a
+    /// commit; a client that proposes to join anything but an Add.
+    #[error("the sender may not send this")]
+    SenderContent,
+    /// The nonce of a PreSharedKey has not the length of the suite's hash; or its usage is reinit or branch, and the epoch is
+    /// not 0 or the sender no member (RFC 9420, 12.1.4).
+    #[error("an injected key is not valid")]
+    PskInvalid,
+    /// The version of a ReInit is less than the group's (RFC 9420, 12.1.5).
+    #[error("a reinitialization is to an earlier version")]
+    ReInitInvalid,
+    /// An ExternalInit is outside an external commit (RFC 9420, 12.1.6).
+    #[error("an external init is outside an external commit")]
+    ExternalInitMisplaced,
+    /// Two PreSharedKeys of a proposal list have equal PreSharedKeyIDs, nonce and all (RFC 9420, 12.2).
+    #[error("one key is injected twice")]
+    PskTwice,
+    /// A proposal list has a ReInit and another proposal (RFC 9420, 12.2).
+    #[error("a reinitialization is not alone")]
+    ReInitNotAlone,
     /// An allocation failed. It says nothing of the message.
     #[error("out of memory")]
     OutOfMemory,
@@ -142,6 +169,14 @@ impl Refusal {
             Refusal::Member(_) => 25,
             Refusal::TwoContextExtensions => 26,
             Refusal::ContextExtensionsInvalid => 27,
+            Refusal::GroupOver => 28,
+            Refusal::UnknownExternal => 29,
+            Refusal::SenderContent => 30,
+            Refusal::PskInvalid => 31,
+            Refusal::ReInitInvalid => 32,
+            Refusal::ExternalInitMisplaced => 33,
+            Refusal::PskTwice => 34,
+            Refusal::ReInitNotAlone => 35,
         }
     }
 }
@@ -217,6 +252,11 @@ impl From<ApplyFault> for Refusal {
             ApplyFault::PathParentHash => Refusal::PathParentHash,
             ApplyFault::TwoContextExtensions => Refusal::TwoContextExtensions,
             ApplyFault::ContextExtensionsInvalid => Refusal::ContextExtensionsInvalid,
+            ApplyFault::PskInvalid => Refusal::PskInvalid,
+            ApplyFault::ReInitInvalid => Refusal::ReInitInvalid,
+            ApplyFault::ExternalInitMisplaced => Refusal::ExternalInitMisplaced,
+            ApplyFault::PskTwice => Refusal::PskTwice,
+            ApplyFault::ReInitNotAlone => Refusal::ReInitNotAlone,
             ApplyFault::NoSuchLeaf => Refusal::TooManyLeaves,
             ApplyFault::OutOfMemory => Refusal::OutOfMemory,
         }

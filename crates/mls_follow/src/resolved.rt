@@ -1,4 +1,4 @@
-//! A member's message, and a commit before and after its proposal list is resolved (RFC 9420, 12.4).
+//! A proposal that was sent, and a commit before and after its proposal list is resolved (RFC 9420, 12.4).
 
 ghost use Rattle.std.specs.Prelude.{IsSome, IsTrue};
 ghost use Rattle.mls_msgs.specs.Layout.{is_commit};
@@ -6,13 +6,21 @@ ghost use Rattle.mls_msgs.specs.Tbs.{confirmed_input};
 ghost use Rattle.mls_follow.specs.CommitTree.{IsListed, IsListed-prop};
 
 use mls_apply::{ListItem, PendingProposals};
-use mls_msgs::{Authenticated, Commit, UpdatePath};
+use mls_msgs::{Authenticated, Commit, Proposal, Sender, UpdatePath};
 
 /// A message that a member has sent and signed: its AuthenticatedContent, and the member.
 #[derive(Clone, Copy)]
 pub(crate) struct MemberMessage<'a> {
     pub(crate) auth: &'a Authenticated,
     pub(crate) sender: u32,
+}
+
+/// A proposal that was sent and signed: its AuthenticatedContent, the sender, and the proposal.
+#[derive(Clone, Copy)]
+pub(crate) struct SentProposal<'a> {
+    pub(crate) auth: &'a Authenticated,
+    pub(crate) sender: Sender,
+    pub(crate) proposal: &'a Proposal,
 }
 
 /// A member's commit that was decoded: the member, the commit, and the pending proposals that its list may name.

@@ -13,7 +13,7 @@ ghost use Rattle.mls_state.specs.StateFile.{HasChecksum};
 ghost use Rattle.mls_state.specs.declared.file.StateFile.{StateFile};
 ghost use Rattle.mls_follow.specs.GroupModel.{group_state};
 ghost use Rattle.mls_follow.specs.StoredState.{IsIntact};
-ghost use Rattle.mls_follow.specs.Resumption.{HasInterim, Holds, IsStateOf, IsContentFault, IsResumed, IsResumeFault};
+ghost use Rattle.mls_follow.specs.Resumption.{HasInterim, Holds, IsStateOf, IsContentFault, IsResumed, IsResumeFault, is_over, profile_of};
 ghost use Rattle.mls_follow.specs.ResumptionParts.{ReadsTreeBody, IsKnownFault, state_without_pending};
 
 use crate::group::Group;
@@ -23,8 +23,9 @@ use crate::resume_fault::ResumeFault;
 use mls_apply::{PendingProposals, StagedTree};
 use mls_check::SignatureCheck;
 use mls_hash::Suite;
+use mls_msgs::Profile;
 use mls_nodes::{GroupContext, NodeFault, RequiredCapabilities};
-use mls_state::{FollowerState, StateFile, StateFileFault, decode_state_file};
+use mls_state::{FollowerState, GroupMode, StateFile, StateFileFault, decode_state_file};
 use mls_tree::{HashValue, PublicTree};
 use mls_wire::{CodecFault, Opaque, bytes_of, read_input};
 use std::alloc::Global;
@@ -183,6 +184,28 @@ fn check_content<C: SignatureCheck>(
     }
 }
 
+/// Returns the profile in which the group of a file is followed.
+fn profile_of(mode: GroupMode) -> Profile
+    ensures { result ≡ profile_of mode }
+{
+    match mode {
+        GroupMode::Members => Profile::Members,
+        GroupMode::Full => Profile::Full,
+        GroupMode::Ended => Profile::Full,
+    }
+}
+
+/// Returns whether the group of a file is over.
+fn is_over(mode: GroupMode) -> bool
+    ensures { result ≡ is_over mode }
+{
+    match mode {
+        GroupMode::Members => false,
+        GroupMode::Full => false,
+        GroupMode::Ended => true,
+    }
+}
+
 /// Returns the group of a file, if each of its pending proposals can be pending.
 fn group_of<C: SignatureCheck>(
     alloc: Global,
@@ -194,16 +217,23 @@ fn group_of<C: SignatureCheck>(
     requires settled { IsSettled found.tree }
     requires required { Requires content.context found.required }
     ensures held { IfOk result (λ group. Holds (C.meaning checker.now)
-        (state_without_pending content.context found.tree.tree found.interim) content.known (group_state group)) }
+        (state_without_pending content.mode content.context found.tree.tree found.interim) content.known (group_state group)) }
     ensures refused { IfErr result (IsKnownFault (C.meaning checker.now)
-        (state_without_pending content.context found.tree.tree found.interim) content.known) }
+        (state_without_pending content.mode content.context found.tree.tree found.interim) content.known) }
 {
-    let FollowerState { context, known, .. } = content;
+    let FollowerState {
+        mode,
+        context,
+        known,
+        ..
+    } = content;
     let mut group = Group {
+        profile: profile_of(mode),
         context,
         tree: found.tree,
         interim: found.interim,
         known: PendingProposals::new(alloc),
+        ended: is_over(mode),
         suite: found.suite,
         required: found.required,
     };

@@ -14,7 +14,7 @@ use crate::group::Group;
 use crate::refusal::Refusal;
 use mls_check::{OutOfMemory, SignatureCheck};
 use mls_msgs::Message;
-use mls_signatures::{SignatureToVerify, message_signatures};
+use mls_signatures::{GroupEpoch, SignatureToVerify, message_signatures};
 use std::alloc::Global;
 use thiserror::Error;
 
@@ -40,16 +40,26 @@ impl Group {
             v.items ≡ message_signatures (group_state self.old) message.now) }
         ensures state { group_state self.new ≡ group_state self.old }
     {
-        let known = &self.known;
-        message_signatures(alloc, &self.context, known, &mut self.tree, message)
+        if self.ended {
+            return Ok(Vec::new(alloc));
+        }
+        let epoch = GroupEpoch {
+            profile: self.profile,
+            context: &self.context,
+            known: &self.known,
+        };
+        message_signatures(alloc, &epoch, &mut self.tree, message)
     }
 }
 
 impl<C: SignatureCheck> Follower<C> {
     /// Returns the signatures of one message (RFC 9420, 6), without duplicates: the message's own, if it is a PublicMessage of
-    /// the group and its epoch and from a member; then of an Add the leaf's and the KeyPackage's, and of an Update the leaf's;
-    /// of a commit those of its proposals by value, and of the leaves that it adds or replaces. Some may be returned that no
-    /// rule checks, as if another rule refuses the message before.
+    /// the group and its epoch; then of an Add the leaf's and the KeyPackage's, and of an Update the leaf's; of a commit those
+    /// of its proposals by value, and of the leaves that it adds or replaces. Some may be returned that no rule checks, as if
+    /// another rule refuses the message before.
+    ///
+    /// In the members' profile only messages of members have signatures. In the full profile also the proposals that external
+    /// senders and new members may send do, if the sender has a key (12.1.8). If the group is over, there are none.
     ///
     /// The list of a commit is applied to the tree in place and taken back: the group and the checker are unchanged, whatever
     /// is returned.
@@ -63,14 +73,15 @@ impl<C: SignatureCheck> Follower<C> {
     pub fn wanted(&mut self, bytes: &[u8]) -> Result<Vec<SignatureToVerify>, SignatureListFault>
         ensures wanted { IfOk result (λ v. AreSignaturesOf (state_of self.old) bytes.now v.items) }
         ensures malformed { IfErr result (λ e. e ≢ SignatureListFault.OutOfMemory
-            → (e ≡ SignatureListFault.Malformed) × EncodesNoMessage bytes.now) }
+            → (e ≡ SignatureListFault.Malformed)
+            × EncodesNoMessage (state_of self.old).profile bytes.now) }
         ensures too_long { input_limit < length bytes.now → result ≡ Err SignatureListFault.Malformed }
         ensures no_header { HasNoHeader bytes.now → result ≡ Err SignatureListFault.Malformed }
         ensures unread { IsUnreadMessage bytes.now → IsOkAnd result (λ v. v.items ≡ []) }
         ensures state { state_of self.new ≡ state_of self.old }
         ensures checker { checker_of self.new ≡ checker_of self.old }
     {
-        let message = match read_message(self.alloc, bytes) {
+        let message = match read_message(self.alloc, self.group.profile, bytes) {
             Ok(message) => message,
             Err(Refusal::NotPublic) => return Ok(Vec::new(self.alloc)),
             Err(Refusal::OutOfMemory) => return Err(SignatureListFault::OutOfMemory),

@@ -6,6 +6,7 @@ ghost use Rattle.mls_tree.specs.PublicTreeModel.{plain};
 ghost use Rattle.mls_tree.specs.RatchetTree.{RatchetTree};
 ghost use Rattle.mls_nodes.specs.Requirements.{extension_of, Requires};
 ghost use Rattle.mls_check.specs.GroupTree.{IsSupportedContext, HasMembers, FailsSuite};
+ghost use Rattle.mls_msgs.specs.declared.profile.Profile.{Profile};
 ghost use Rattle.mls_apply.specs.Staged.{IsSettled};
 ghost use Rattle.mls_follow.specs.CommitTree.{state_in};
 ghost use Rattle.mls_follow.specs.Start.{UsesTree, UsesNoTree, IsStart, IsStartFault, StartsWith, FailsWith, IsSignedIn, FailsSigned, info_interim, is_info_signed};
@@ -41,6 +42,7 @@ pub struct StartRefused<C> {
 /// What is found of a GroupInfo and a tree from which a follower starts.
 #[derive(Drop)]
 pub(crate) struct Judged {
+    pub(crate) suite: Suite,
     pub(crate) required: RequiredCapabilities,
     pub(crate) interim: HashValue,
 }
@@ -183,6 +185,7 @@ fn judge<C: SignatureCheck>(
     requires followed { IsSupportedContext info.now.context }
     requires suite_of_context { suite ≡ info.now.context.cipher_suite }
     ensures tree { plain tree.new ≡ plain tree.old }
+    ensures suite { IfOk result (λ judged. judged.suite ≡ info.now.context.cipher_suite) }
     ensures required { IfOk result (λ judged. Requires info.now.context judged.required) }
     ensures started { IfOk result (λ judged. StartsWith
         (C.meaning checker.now) info.now (plain tree.old) judged.interim) }
@@ -190,7 +193,11 @@ fn judge<C: SignatureCheck>(
 {
     let required = validated_requirements(alloc, suite, info, tree, checker)?;
     match verified_interim_hash(alloc, suite, info, tree, checker) {
-        Ok(interim) => Ok(Judged { required, interim }),
+        Ok(interim) => Ok(Judged {
+            suite,
+            required,
+            interim,
+        }),
         Err(fault) => {
             drop(required);
             Err(fault)
@@ -210,6 +217,7 @@ fn check_tree<C: SignatureCheck>(
     requires suite_of_context { suite ≡ info.now.context.cipher_suite }
     ensures tree { IfOk result (λ found. found.0.tree ≡ tree.tree) }
     ensures settled { IfOk result (λ found. IsSettled found.0) }
+    ensures suite { IfOk result (λ found. found.1.suite ≡ info.now.context.cipher_suite) }
     ensures required { IfOk result (λ found. Requires info.now.context found.1.required) }
     ensures started { IfOk result (λ found. StartsWith
         (C.meaning checker.now) info.now (plain tree) found.1.interim) }
@@ -238,9 +246,10 @@ fn check_embedded_tree<C: SignatureCheck>(
     requires followed { IsSupportedContext info.now.context }
     requires suite_of_context { suite ≡ info.now.context.cipher_suite }
     ensures settled { IfOk result (λ found. IsSettled found.0) }
+    ensures suite { IfOk result (λ found. found.1.suite ≡ info.now.context.cipher_suite) }
     ensures required { IfOk result (λ found. Requires info.now.context found.1.required) }
-    ensures started { IfOk result (λ found. IsStart (C.meaning checker.now) info.now None
-        (state_in info.now found.0.tree found.1.interim)) }
+    ensures started { IfOk result (λ found. (profile : Profile) → IsStart profile (C.meaning checker.now)
+        info.now None (state_in profile info.now found.0.tree found.1.interim)) }
     ensures refused { IfErr result (IsStartFault (C.meaning checker.now) info.now None) }
     ensures no_extension { extension_of 2 info.now.extensions ≡ None
         → result ≡ Err StartFault.NoTree }
@@ -266,9 +275,10 @@ pub(crate) fn check_start<C: SignatureCheck>(
     requires followed { IsSupportedContext info.now.context }
     requires suite_of_context { suite ≡ info.now.context.cipher_suite }
     ensures settled { IfOk result (λ found. IsSettled found.0) }
+    ensures suite { IfOk result (λ found. found.1.suite ≡ info.now.context.cipher_suite) }
     ensures required { IfOk result (λ found. Requires info.now.context found.1.required) }
-    ensures started { IfOk result (λ found. IsStart (C.meaning checker.now) info.now
-        (option_map plain tree) (state_in info.now found.0.tree found.1.interim)) }
+    ensures started { IfOk result (λ found. (profile : Profile) → IsStart profile (C.meaning checker.now)
+        info.now (option_map plain tree) (state_in profile info.now found.0.tree found.1.interim)) }
     ensures refused { IfErr result (λ r. IsStartFault (C.meaning checker.now) info.now
         (option_map plain tree) r.0) }
     ensures handed_back { IfErr result (λ r. option_map plain r.1 ≡ option_map plain tree) }

@@ -12,15 +12,15 @@ ghost use Rattle.mls_tree.specs.TreeDecoding.{IsTreeOf};
 ghost use Rattle.mls_follow.specs.FollowerModel.{state_of};
 ghost use Rattle.mls_follow.specs.GroupModel.{group_state};
 ghost use Rattle.mls_follow.specs.StoringParts.{HasNoTreeBody, MakesShortFile, storing_fault};
-ghost use Rattle.mls_follow.specs.StoredState.{IsTreeBody, Stores, EncodesState, HasNoFile, stored_entry};
+ghost use Rattle.mls_follow.specs.StoredState.{IsTreeBody, Stores, EncodesState, HasNoFile, stored_entry, stored_mode};
 
 use crate::follower::Follower;
 use crate::group::Group;
 use mls_apply::KnownProposal;
 use mls_check::SignatureCheck;
-use mls_msgs::Sender;
+use mls_msgs::Profile;
 use mls_nodes::{NodeFault, encode_ratchet_tree};
-use mls_state::{FollowerState, GroupPhase, KnownEntry, StateProfile, encode_state_file};
+use mls_state::{FollowerState, GroupMode, KnownEntry, encode_state_file};
 use mls_tree::PublicTree;
 use mls_wire::{
     CodecFault, MAX_INPUT, Opaque, Sequence, WireFault, WireFaultKind, copy_of, read_input,
@@ -92,7 +92,7 @@ fn stored_entry(alloc: Global, known: &KnownProposal) -> Result<KnownEntry, Allo
     match copy_of(alloc, &known.proposal) {
         Ok(proposal) => Ok(KnownEntry {
             reference,
-            sender: Sender::Member(known.sender),
+            sender: known.sender,
             proposal,
         }),
         Err(AllocError) => {
@@ -113,6 +113,19 @@ fn stored_entries(alloc: Global, known: &[KnownProposal]) -> Result<Vec<KnownEnt
     Ok(entries)
 }
 
+/// Returns how a file has the profile, and whether the group is over. There is none for a group of the members' profile that
+/// is over.
+fn stored_mode(profile: Profile, ended: bool) -> Option<GroupMode>
+    ensures { result ≡ stored_mode profile ended }
+{
+    match (profile, ended) {
+        (Profile::Members, false) => Some(GroupMode::Members),
+        (Profile::Members, true) => None,
+        (Profile::Full, false) => Some(GroupMode::Full),
+        (Profile::Full, true) => Some(GroupMode::Ended),
+    }
+}
+
 impl Group {
     /// Returns the content of the file of the group's state. `TooLong` if it has none.
     fn content(&self, alloc: Global) -> Result<FollowerState, CodecFault>
@@ -120,13 +133,15 @@ impl Group {
             × Stores c t (group_state self.now)) }
         ensures none { IfErr result (λ e. e ≢ CodecFault.OutOfMemory → HasNoFile (group_state self.now)) }
     {
+        let Some(mode) = stored_mode(self.profile, self.ended) else {
+            return Err(too_long());
+        };
         let tree = tree_body(alloc, self.tree.tree())?;
         let context = copy_of(alloc, &self.context)?;
         let interim = self.interim.to_opaque(alloc)?;
         let known = stored_entries(alloc, self.known.as_slice())?;
         Ok(FollowerState {
-            profile: StateProfile::Members,
-            phase: GroupPhase::Open,
+            mode,
             context,
             interim,
             tree,
@@ -159,7 +174,8 @@ impl<C: SignatureCheck> Follower<C> {
     /// # Errors
     ///
     /// `TooLong` at 0 only if the state has no file: it would have more than 268,435,456 bytes, as many as an input may
-    /// have. Or [`CodecFault::OutOfMemory`].
+    /// have. (No file has a group of the members' profile that is over either, and no follower has such a state.) Or
+    /// [`CodecFault::OutOfMemory`].
     pub fn encode_state(&self) -> Result<Vec<u8>, CodecFault>
         ensures encoded { IfOk result (λ bytes. EncodesState (state_of self.now) bytes.items) }
         ensures too_long { IfErr result (λ e. e ≢ CodecFault.OutOfMemory

@@ -1,43 +1,69 @@
 //! How a group processes what one of its members has sent.
 
-ghost use Rattle.std.specs.Prelude.{◌≡◌, ◌<◌, ℕ, List, Some, None, IsSome, IsTrue, IfOk, IfErr, OnOk, OnErr, option_and_then};
+ghost use Rattle.std.specs.Prelude.{◌≡◌, ◌<◌, ℕ, List, Some, None, IsSome, IsTrue, IfOk, IfErr, OnOk, OnErr, option_and_then, option_map};
 ghost use Rattle.mls_nodes.specs.Requirements.{RequiresBy};
 ghost use Rattle.mls_tree.specs.Tree.{leaf_at};
 ghost use Rattle.mls_msgs.specs.Layout.{is_commit};
 ghost use Rattle.mls_msgs.specs.Tbs.{confirmed_input};
 ghost use Rattle.mls_msgs.specs.declared.framed_content.Content.TheVariants as contents;
 ghost use Rattle.mls_hash.specs.SuiteHash.{hash_of};
-ghost use Rattle.mls_apply.specs.ContextExtensions.{brought, new_extensions};
+ghost use Rattle.mls_msgs.specs.declared.framed_content.Sender.TheVariants.{Member};
+ghost use Rattle.mls_apply.specs.ContextExtensions.{brought};
+ghost use Rattle.mls_apply.specs.Senders.{is_present};
 ghost use Rattle.mls_apply.specs.AppliedList.{outcome};
 ghost use Rattle.mls_apply.specs.RuleLists.{first_failing};
 ghost use Rattle.mls_follow.specs.CommitTree.{changed_tree};
 ghost use Rattle.mls_follow.specs.GroupModel.{group_state, with_known};
 ghost use Rattle.mls_follow.specs.FollowerInvariant.{IsJudged};
-ghost use Rattle.mls_follow.specs.MessageRules.{frame_refusal, handshake_refusal, outcome_rules, required_after, rules_under, reference_of};
-ghost use Rattle.mls_follow.specs.NextState.{after_content, after_sender, after_tree, with_extensions};
+ghost use Rattle.mls_follow.specs.MessageRules.{frame_refusal, handshake_refusal, if_full, outcome_rules, outside_refusal, outside_rules, proposal_refusal, required_after, rules_under, reference_of, sender_refusal};
+ghost use Rattle.mls_follow.specs.NextState.{after_content, after_outside, after_proposal, after_sender, after_tree, with_extensions, with_list};
 ghost use Rattle.mls_follow.specs.State.{HasEncoding, EncodesMessage, last_epoch};
 ghost use Rattle.mls_follow.specs.Acceptance.{Refuses};
 ghost use Rattle.mls_follow.specs.Runs.{Takes};
 
 use crate::changed_tree_check::TreeRules;
 use crate::commit_changes::{check_items, stage_commit};
-use crate::framed_content_rules::check_frame;
+use crate::framed_content_rules::{check_header, check_member_frame, check_outside_frame};
 use crate::group::Group;
 use crate::next_extensions::{NextExtensions, next_extensions_after};
 use crate::proposal_message::check_proposal_message;
 use crate::refusal::Refusal;
-use crate::resolved::{MemberMessage, ReceivedCommit, ResolvedCommit};
+use crate::resolved::{MemberMessage, ReceivedCommit, ResolvedCommit, SentProposal};
 use crate::taken::Taken;
 use mls_apply::PendingProposals;
 use mls_check::SignatureCheck;
-use mls_msgs::{Authenticated, Commit, Content, Message, Proposal};
+use mls_msgs::{Authenticated, Commit, Content, Message, Profile, Proposal, Sender};
 use std::alloc::Global;
 use std::mem::replace;
 
 impl Group {
-    /// Processes a proposal that a member has sent and signed.
-    #[tactic(auto, unfolding(crate::specs::MessageRules::handshake_refusal))]
+    /// Processes a proposal that was sent and signed.
+    #[tactic(auto, unfolding(crate::specs::MessageRules::proposal_refusal))]
     fn take_proposal<C: SignatureCheck>(
+        &mut self,
+        alloc: Global,
+        checker: &C,
+        sent: &SentProposal<'_>,
+    ) -> Result<Taken, Refusal>
+        requires present { IsTrue (is_present self.old.tree.tree sent.now.sender) }
+        requires referenced { IsSome (reference_of self.old.context sent.now.auth.now) }
+        ensures kept { OnOk result (proposal_refusal (C.meaning checker.now) (group_state self.old)
+            sent.now.auth.now sent.now.sender sent.now.proposal.now ≡ None) }
+        ensures next { IfOk result (λ taken. option_map
+            (after_proposal (group_state self.old) sent.now.sender sent.now.proposal.now)
+            (reference_of self.old.context sent.now.auth.now)
+            ≡ Some (record { taken = taken; state = group_state self.new })) }
+        ensures refused { IfErr result (Refuses (proposal_refusal (C.meaning checker.now) (group_state self.old)
+            sent.now.auth.now sent.now.sender sent.now.proposal.now)) }
+        ensures stays { OnErr result (group_state self.new ≡ group_state self.old) }
+    {
+        let reference = check_proposal_message(alloc, self, checker, sent)?;
+        Ok(self.keep(alloc, reference, sent.sender, sent.proposal)?)
+    }
+
+    /// Processes a proposal that a member has sent and signed.
+    #[tactic(auto, unfolding(crate::specs::MessageRules::handshake_refusal, crate::specs::MessageRules::proposal_refusal))]
+    fn take_member_proposal<C: SignatureCheck>(
         &mut self,
         alloc: Global,
         checker: &C,
@@ -57,12 +83,16 @@ impl Group {
             self.old.required message.now.auth.now message.now.sender (contents.Proposal proposal.now))) }
         ensures stays { OnErr result (group_state self.new ≡ group_state self.old) }
     {
-        let reference = check_proposal_message(alloc, self, checker, message, proposal)?;
-        Ok(self.keep(alloc, reference, message.sender, proposal)?)
+        let sent = SentProposal {
+            auth: message.auth,
+            sender: Sender::Member(message.sender),
+            proposal,
+        };
+        self.take_proposal(alloc, checker, &sent)
     }
 
-    /// Changes the tree in place as a commit does, and begins the next epoch with these extensions, if the path and the
-    /// tree after both satisfy their rules. Any error undoes the changes. The last step does not allocate.
+    /// Changes the tree in place as a commit does, and begins the next epoch on these terms, if the path and the tree after
+    /// both satisfy their rules. Any error undoes the changes. The last step does not allocate.
     fn apply_commit<C: SignatureCheck>(
         &mut self,
         alloc: Global,
@@ -80,7 +110,7 @@ impl Group {
             ≡ None) }
         ensures next { let o = outcome commit.now.items.items self.old.tree.tree in
             let H = hash_of self.old.context.cipher_suite in
-            let s = with_extensions (group_state self.old) terms.extensions in
+            let s = with_extensions (group_state self.old) terms.extensions terms.ends in
             IfOk result (λ taken. option_and_then (after_tree s commit.now.auth.now)
             (changed_tree H commit.now.committer commit.now.path.now o)
             ≡ Some (record { taken = taken; state = group_state self.new })) }
@@ -130,8 +160,7 @@ impl Group {
             (group_state self.old) commit.now.committer commit.now.path.now o required) ≡ None) }
         ensures next { let o = outcome commit.now.items.items self.old.tree.tree in
             let H = hash_of self.old.context.cipher_suite in
-            let extensions = new_extensions self.old.context.extensions commit.now.items.items in
-            let s = with_extensions (group_state self.old) extensions in
+            let s = with_list (group_state self.old) (Some commit.now.items.items) in
             IfOk result (λ taken. option_and_then (after_tree s commit.now.auth.now)
             (changed_tree H commit.now.committer commit.now.path.now o)
             ≡ Some (record { taken = taken; state = group_state self.new })) }
@@ -221,6 +250,89 @@ impl Group {
         }
     }
 
+    /// Processes an AuthenticatedContent of a member, which is for the group and its epoch.
+    fn take_member_frame<C: SignatureCheck>(
+        &mut self,
+        alloc: Global,
+        checker: &C,
+        message: &MemberMessage<'_>,
+    ) -> Result<Taken, Refusal>
+        requires hashed { IsSome (confirmed_input message.now.auth.now) }
+        requires referenced { IsSome (reference_of self.old.context message.now.auth.now) }
+        requires judged { IsJudged (C.meaning checker.now) (group_state self.old) }
+        ensures kept { OnOk result (sender_refusal (C.meaning checker.now) (group_state self.old)
+            self.old.required message.now.auth.now (Member message.now.sender) ≡ None) }
+        ensures next { IfOk result (λ taken. after_sender (group_state self.old) message.now.auth.now
+            (Member message.now.sender)
+            ≡ Some (record { taken = taken; state = group_state self.new })) }
+        ensures refused { IfErr result (Refuses (sender_refusal (C.meaning checker.now) (group_state self.old)
+            self.old.required message.now.auth.now (Member message.now.sender))) }
+        ensures stays { OnErr result (group_state self.new ≡ group_state self.old) }
+    {
+        let auth = message.auth;
+        check_member_frame(alloc, self, checker, auth, message.sender)?;
+        match &auth.content().content {
+            Content::Application(_) => unreachable!(),
+            Content::Proposal(proposal) => {
+                self.take_member_proposal(alloc, checker, message, proposal)
+            }
+            Content::Commit(commit) => self.take_commit(alloc, checker, message, commit),
+        }
+    }
+
+    /// Processes an AuthenticatedContent of an external sender or of a client that proposes to join, which is for the group
+    /// and its epoch.
+    fn take_outside_frame<C: SignatureCheck>(
+        &mut self,
+        alloc: Global,
+        checker: &C,
+        auth: &Authenticated,
+    ) -> Result<Taken, Refusal>
+        requires present { IsTrue (is_present self.old.tree.tree auth.now.content.sender) }
+        requires referenced { IsSome (reference_of self.old.context auth.now) }
+        ensures kept { OnOk result (outside_refusal (C.meaning checker.now) (group_state self.old)
+            auth.now auth.now.content.sender ≡ None) }
+        ensures next { IfOk result (λ taken. after_outside (group_state self.old) auth.now auth.now.content.sender
+            auth.now.content.content
+            ≡ Some (record { taken = taken; state = group_state self.new })) }
+        ensures refused { IfErr result (Refuses (outside_refusal (C.meaning checker.now) (group_state self.old)
+            auth.now auth.now.content.sender)) }
+        ensures stays { OnErr result (group_state self.new ≡ group_state self.old) }
+    {
+        let proposal = check_outside_frame(alloc, self, checker, auth)?;
+        let sent = SentProposal {
+            auth,
+            sender: auth.content().sender,
+            proposal,
+        };
+        self.take_proposal(alloc, checker, &sent)
+    }
+
+    /// Processes an AuthenticatedContent of such a sender in the full profile. The members' profile refuses it.
+    #[tactic(auto, unfolding(crate::specs::MessageRules::outside_refusal))]
+    fn take_outside<C: SignatureCheck>(
+        &mut self,
+        alloc: Global,
+        checker: &C,
+        auth: &Authenticated,
+    ) -> Result<Taken, Refusal>
+        requires present { IsTrue (is_present self.old.tree.tree auth.now.content.sender) }
+        requires referenced { IsSome (reference_of self.old.context auth.now) }
+        ensures kept { OnOk result (first_failing (if_full self.old.profile (outside_rules
+            (C.meaning checker.now) (group_state self.old) auth.now auth.now.content.sender)) ≡ None) }
+        ensures next { IfOk result (λ taken. after_outside (group_state self.old) auth.now auth.now.content.sender
+            auth.now.content.content
+            ≡ Some (record { taken = taken; state = group_state self.new })) }
+        ensures refused { IfErr result (Refuses (first_failing (if_full self.old.profile (outside_rules
+            (C.meaning checker.now) (group_state self.old) auth.now auth.now.content.sender)))) }
+        ensures stays { OnErr result (group_state self.new ≡ group_state self.old) }
+    {
+        match self.profile {
+            Profile::Members => Err(Refusal::SenderNotMember),
+            Profile::Full => self.take_outside_frame(alloc, checker, auth),
+        }
+    }
+
     /// Processes an AuthenticatedContent: accepts it if it satisfies every rule. On error the state is unchanged: only
     /// the tree is changed in place, and this is undone.
     fn take_frame<C: SignatureCheck>(
@@ -243,12 +355,15 @@ impl Group {
             self.old.required auth.now)) }
         ensures stays { OnErr result (group_state self.new ≡ group_state self.old) }
     {
-        let sender = check_frame(alloc, self, checker, auth)?;
-        let message = MemberMessage { auth, sender };
-        match &auth.content().content {
-            Content::Application(_) => unreachable!(),
-            Content::Proposal(proposal) => self.take_proposal(alloc, checker, &message, proposal),
-            Content::Commit(commit) => self.take_commit(alloc, checker, &message, commit),
+        check_header(self, auth)?;
+        match auth.content().sender {
+            Sender::Member(sender) => {
+                let message = MemberMessage { auth, sender };
+                self.take_member_frame(alloc, checker, &message)
+            }
+            Sender::External(_) => self.take_outside(alloc, checker, auth),
+            Sender::NewMemberProposal => self.take_outside(alloc, checker, auth),
+            Sender::NewMemberCommit => Err(Refusal::SenderNotMember),
         }
     }
 
@@ -259,9 +374,9 @@ impl Group {
         checker: &C,
         message: &Message,
     ) -> Result<Taken, Refusal>
-        requires input { HasEncoding message.now }
+        requires input { HasEncoding self.old.profile message.now }
         requires judged { IsJudged (C.meaning checker.now) (group_state self.old) }
-        ensures { (bytes : List ℕ) → EncodesMessage message.now bytes
+        ensures { (bytes : List ℕ) → EncodesMessage self.old.profile message.now bytes
             → Takes (C.meaning checker.now) (group_state self.old) bytes result
             (group_state self.new) }
     {

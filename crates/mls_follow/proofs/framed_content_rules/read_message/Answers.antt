@@ -3,7 +3,7 @@ use Rattle.mls_follow.proofs.Headers.{no_message, other_is_read}
 use Rattle.mls_follow.proofs.framed_content_rules.read_message.Goals as goal
 
 pub returns-in_default-clause-refused : goal.returns-in_default-clause-refused
-returns-in_default-clause-refused c = λ own. inl (refl, no_message c.args.bytes.now c.in_default.ensures.none)
+returns-in_default-clause-refused c = λ own. inl (refl, no_message c.args.profile c.args.bytes.now c.in_default.ensures.none)
 
 -- the wire format that was read is in a header, and is not that of an unread message
 pub returns-clause-no_header : goal.returns-clause-no_header

@@ -10,8 +10,8 @@ pub returns-in_err-check_proposal-clause-refused : goal.returns-in_err-check_pro
 unfolding is_new_proposal
 returns-in_err-check_proposal-clause-refused g c =
     let p = err_from_is_err_and c.from_residual-in_err-check_proposal.result c.from_residual-in_err-check_proposal.ensures.1 in
-    let fresh : is_new_proposal (group_state c.args.group.now) c.args.message.now.auth.now ≡ true = search rules in
+    let fresh : is_new_proposal (group_state c.args.group.now) c.args.sent.now.auth.now ≡ true = search rules in
     let refused = rw c.tree.ensures at c.in_err-check_proposal.ensures.refused in
     rw (p.1, p.2) (λ own.
-    offer_word _ (group_state c.args.group.now) c.args.message.now.auth.now c.args.message.now.sender c.args.proposal.now fresh c.requires.member
+    offer_word _ (group_state c.args.group.now) c.args.sent.now.auth.now c.args.sent.now.sender c.args.sent.now.proposal.now fresh c.requires.present
     ∙ ap (option_map refusal_of) (refused (λ e. own (ap refusal_of e))))

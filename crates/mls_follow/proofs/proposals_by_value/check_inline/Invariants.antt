@@ -1,13 +1,13 @@
-use Rattle.std.proofs.Common.{length}
-use Rattle.mls_apply.specs.ProposalRules.{valid_if_add, valid_if_update, valid_if_remove, valid_if_extensions}
-use Rattle.mls_follow.proofs.InlineProposals.{JudgedSoFar}
+use Rattle.std.proofs.Common.{◌≡◌, length}
+use Rattle.mls_msgs.specs.declared.framed_content.Sender.TheVariants.{Member}
+use Rattle.mls_follow.specs.InlineValidity.{both_valid, list_validity}
 use Rattle.mls_follow.proofs.proposals_by_value.check_inline.Given as goal
 
 abbrev pub invariant-loop-entry : goal.invariant-loop-entry
 invariant-loop-entry g l =
     let G = g.C.SignatureCheck.meaning l.checker in
-    JudgedSoFar (valid_if_add G l.group.context) (valid_if_update G l.group.context l.group.tree.tree l.committer) (valid_if_remove l.group.tree.tree) valid_if_extensions
-    l.commit.proposals l.rest l.valid.adds l.valid.updates l.valid.removes l.valid.extensions
+    list_validity G l.group.context l.group.tree.tree (Member l.committer) l.commit.proposals
+    ≡ both_valid l.valid (list_validity G l.group.context l.group.tree.tree (Member l.committer) l.rest)
 
 abbrev pub decreases-loop-entry : goal.decreases-loop-entry
 decreases-loop-entry g l = length l.rest

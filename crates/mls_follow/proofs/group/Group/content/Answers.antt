@@ -1,4 +1,4 @@
-use Rattle.std.proofs.Common.{refl, rules}
+use Rattle.std.proofs.Common.{rules}
 use Rattle.std.proofs.lemmas.Result.{err_from_is_err_and}
 use Rattle.mls_tree.specs.PublicTreeModel.{plain}
 use Rattle.mls_follow.specs.GroupModel.{group_state}
@@ -15,8 +15,7 @@ returns-clause-stores c = (
   plain c.tree.result.now,
   c.in_ok-tree.ensures.body,
   record {
-    profile = refl;
-    phase = refl;
+    mode = search rules;
     context = search rules;
     tree = c.tree.ensures;
     interim = search rules;

@@ -10,10 +10,10 @@ use Rattle.mls_follow.proofs.group.Group.take.Goals as goal
 
 pub take_frame-requires : goal.take_frame-requires
 take_frame-requires g c =
-    let input = subst HasEncoding c.in-Public.is c.requires.input in
+    let input = subst (HasEncoding c.args.self.now.profile) c.in-Public.is c.requires.input in
     record {
       hashed = rw c.auth.ensures.value (confirmed_exists c.in-Public.public (put_back (message (messages.Public c.in-Public.public)) input.0 input.1.spelled));
-      referenced = rw c.auth.ensures.value (reference_exists c.args.self.now.context c.in-Public.public input);
+      referenced = rw c.auth.ensures.value (reference_exists c.args.self.now.profile c.args.self.now.context c.in-Public.public input);
       judged = c.requires.judged;
     }
 

@@ -17,7 +17,8 @@ returns-clause-kept g c =
 pub returns-clause-next : goal.returns-clause-next
 returns-clause-next g c =
     let extensions = rw c.as_slice.ensures.value at c.in_ok-terms.ensures.extensions in
-    rw (← extensions) c.apply_commit.ensures.next
+    let ends = rw c.as_slice.ensures.value at c.in_ok-terms.ensures.ends in
+    rw (← extensions, ← ends) c.apply_commit.ensures.next
 
 pub returns-clause-refused : goal.returns-clause-refused
 returns-clause-refused g c =

@@ -20,6 +20,7 @@ use Rattle.mls_report.specs.CoveredReports.{CoversWanted, CoversAsked, CoveredRe
 use Rattle.mls_report.specs.Replay.{AreProcessed}
 use Rattle.mls_report.specs.SignaturesReport.{HasSignatures, LoggedMessage, HaveSignatures, turns_of}
 use Rattle.mls_report.proofs.StartsOnce.{one_tree}
+use Rattle.mls_msgs.specs.declared.profile.Profile.{Profile}
 
 module _ (R : VerifyFn) where
   -- the signatures that a message wants are those that were named
@@ -47,19 +48,19 @@ module _ (R : VerifyFn) where
       (answer, turns_covered turn.state asked valid taken.1 wants.1 covers.1)
 
   -- the tree of a start is the one that it uses
-  start_tree : (info : GroupInfo) (handed : Option RatchetTree) (s : State) (wanted : List SignatureToVerify) → IsStart all_good info handed s → wanted ≡ start_signatures info s.tree
+  start_tree : (profile : Profile) (info : GroupInfo) (handed : Option RatchetTree) (s : State) (wanted : List SignatureToVerify) → IsStart profile all_good info handed s → wanted ≡ start_signatures info s.tree
       → Covers R wanted → CoversStart R info handed
-  start_tree info handed s wanted start named covers t uses =
+  start_tree profile info handed s wanted start named covers t uses =
       let same : start.tree ≡ t = one_tree handed info.extensions start.tree t start.has_signer.has_members.valid_tree.readable.has_tree.uses uses in
       subst (λ (u : Tree). Covers R (start_signatures info u)) (ap (λ (st : State). st.tree) start.state ∙ ap (λ (r : RatchetTree). r.tree) same)
       (subst (Covers R) named covers)
 
 pub covered_replay : CoveredReportsReplay
-covered_replay R info handed s wanted log0 log1 asked rest starts covers asks log =
-    let start : IsStart R info handed s = (covered_starts R info handed s (start_tree R info handed s wanted starts.start starts.wanted_is covers)).1 starts.start in (
+covered_replay profile R info handed s wanted log0 log1 asked rest starts covers asks log =
+    let start : IsStart profile R info handed s = (covered_starts profile R info handed s (start_tree R profile info handed s wanted starts.start starts.wanted_is covers)).1 starts.start in (
       start,
       record {
-        taken = turns_covered R s asked (start_valid R info handed s start) asks.follows.taken asks.wants log;
+        taken = turns_covered R s asked (start_valid profile R info handed s start) asks.follows.taken asks.wants log;
         bounded = asks.follows.bounded;
         records = asks.follows.records;
         are_records = asks.follows.are_records;

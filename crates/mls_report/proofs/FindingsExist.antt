@@ -16,7 +16,7 @@ use Rattle.mls_check.specs.Signatures.{VerifyFn}
 use Rattle.mls_check.specs.declared.group_tree.GroupTreeFault.{GroupTreeFault}
 use Rattle.mls_check.specs.declared.group_tree.GroupTreeFault.TheVariants as groups
 use Rattle.mls_msgs.specs.Profile.{message_in}
-use Rattle.mls_msgs.specs.declared.profile.Profile.TheVariants.{Members}
+use Rattle.mls_msgs.specs.declared.profile.Profile.{Profile}
 use Rattle.mls_msgs.proofs.Profiles.{encoded_in, message_or_none}
 use Rattle.mls_msgs.specs.declared.group_info.GroupInfo.{GroupInfo}
 use Rattle.mls_msgs.specs.declared.message.Message.{Message}
@@ -25,7 +25,7 @@ use Rattle.mls_follow.specs.State.{State}
 use Rattle.mls_follow.proofs.Readings.{some_fault, read_or_not, fits_or_not, tree_or_not, same_or_not, supported_or_not}
 use Rattle.mls_report.proofs.StartsExist.{interim_of, starts_or_not}
 use Rattle.mls_report.specs.Finding.{finding_verdict}
-use Rattle.mls_report.specs.Show.{IsMessage}
+use Rattle.mls_report.specs.Show.{IsMessageIn}
 use Rattle.mls_report.specs.ReportsExist.{TreeFindingExists, StartFindingExists}
 use Rattle.mls_report.specs.StartInputs.{IsInfo, IsNoMessage, IsHanded, IsHandedUnread, IsReadAs, IsStarted, IsStartFinding, started_of}
 use Rattle.mls_report.specs.ValidateTree.{IsContext, IsNoContext, IsTreeFinding}
@@ -96,11 +96,11 @@ some_tree_finding G context_bytes tree_bytes =
 -- ---- a group info, and a tree where one is handed in
 
 -- the bytes spell a message, or none
-message_or_not : (bytes : List ℕ) → ((m : Message) × IsMessage bytes m) ⊎ IsNoMessage bytes
-message_or_not bytes = go (message_or_none Members bytes) (fits_or_not bytes)
+message_or_not : (profile : Profile) (bytes : List ℕ) → ((m : Message) × IsMessageIn profile bytes m) ⊎ IsNoMessage profile bytes
+message_or_not profile bytes = go (message_or_none profile bytes) (fits_or_not bytes)
   where
-    go : ((m : Message) × (message_in Members m ≡ Some bytes)) ⊎ ((m : Message) → message_in Members m ≡ Some bytes → ⊥) → (length bytes ≤ input_limit) ⊎ (length bytes ≤ input_limit → ⊥)
-        → ((m : Message) × IsMessage bytes m) ⊎ IsNoMessage bytes
+    go : ((m : Message) × (message_in profile m ≡ Some bytes)) ⊎ ((m : Message) → message_in profile m ≡ Some bytes → ⊥) → (length bytes ≤ input_limit) ⊎ (length bytes ≤ input_limit → ⊥)
+        → ((m : Message) × IsMessageIn profile bytes m) ⊎ IsNoMessage profile bytes
     go (inr none) fits = inr (λ m h. none m h.spelled)
     go (inl m) (inr over) = inr (λ n h. over h.bounded)
     go (inl m) (inl le) = inl (m.0, record { spelled = m.1; bounded = le })
@@ -110,39 +110,39 @@ handed_or_not : (bytes : Option (List ℕ)) → ((t : Option RatchetTree) × IsH
 handed_or_not None = inl (None, tt)
 handed_or_not (Some bytes) = elim (tree_or_not bytes) [ inl t ↦ inl (Some t.0, t.1) | inr none ↦ inr none ]
 
-module _ (G : VerifyFn) (info_bytes : List ℕ) (tree_bytes : Option (List ℕ)) where
+module _ (profile : Profile) (G : VerifyFn) (info_bytes : List ℕ) (tree_bytes : Option (List ℕ)) where
   -- a follower starts, or something is found for which none does
   abbrev pub Begun : Type 0
-  Begun = ((s : State) × IsStarted G info_bytes tree_bytes s)
-      ⊎ ((finding : Finding) × IsStartFinding G info_bytes tree_bytes finding × (finding_verdict finding ≡ No))
+  Begun = ((s : State) × IsStarted profile G info_bytes tree_bytes s)
+      ⊎ ((finding : Finding) × IsStartFinding profile G info_bytes tree_bytes finding × (finding_verdict finding ≡ No))
 
-  by_inputs : (info : GroupInfo) (handed : Option RatchetTree) → IsReadAs info_bytes tree_bytes info handed → Begun
+  by_inputs : (info : GroupInfo) (handed : Option RatchetTree) → IsReadAs profile info_bytes tree_bytes info handed → Begun
   by_inputs info handed h =
-      let interim = interim_of info info_bytes (encoded_in Members (messages.GroupInfo info) info_bytes h.is_info.spelled).1 in
-      elim (starts_or_not G info handed interim.0 interim.1) [
+      let interim = interim_of info info_bytes (encoded_in profile (messages.GroupInfo info) info_bytes h.is_info.spelled).1 in
+      elim (starts_or_not profile G info handed interim.0 interim.1) [
         | inl s ↦ inl (s.0, record { info = info; handed = handed; is_read = h; start = s.1 })
         | inr f ↦ inr (StartRefused f.0, (info, handed, h, f.1, f.2), refl)
       ]
 
-  by_info : (info : GroupInfo) → IsInfo info_bytes info → Begun
+  by_info : (info : GroupInfo) → IsInfo profile info_bytes info → Begun
   by_info info h =
       elim (handed_or_not tree_bytes) [
         | inl t ↦ by_inputs info t.0 (record { is_info = h; is_handed = t.1 })
         | inr none ↦ inr (TreeUnreadable EmptyTree, (info, h, none, λ own. cc), refl)
       ]
 
-  by_message : (m : Message) → IsMessage info_bytes m → Begun
+  by_message : (m : Message) → IsMessageIn profile info_bytes m → Begun
   by_message (messages.GroupInfo info) h = by_info info h
   by_message (messages.Public p) h = inr (NotGroupInfo, (messages.Public p, h, λ info e. cc), refl)
   by_message (messages.Unread format body) h = inr (NotGroupInfo, (messages.Unread format body, h, λ info e. cc), refl)
   by_message (messages.KeyPackage k) h = inr (NotGroupInfo, (messages.KeyPackage k, h, λ info e. cc), refl)
 
   pub begun : Begun
-  begun = elim (message_or_not info_bytes) [ inl m ↦ by_message m.0 m.1 | inr none ↦ inr (InfoUnreadable some_fault, none, refl) ]
+  begun = elim (message_or_not profile info_bytes) [ inl m ↦ by_message m.0 m.1 | inr none ↦ inr (InfoUnreadable some_fault, none, refl) ]
 
 pub some_start_finding : StartFindingExists
-some_start_finding G info_bytes tree_bytes =
-    elim (begun G info_bytes tree_bytes) [
+some_start_finding profile G info_bytes tree_bytes =
+    elim (begun profile G info_bytes tree_bytes) [
       | inl s ↦ (Starts (started_of s.0), (s.0, s.1, refl))
       | inr f ↦ (f.0, f.1)
     ]

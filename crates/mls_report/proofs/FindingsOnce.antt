@@ -18,7 +18,7 @@ use Rattle.mls_check.specs.GroupTree.{IsSupportedContext, HasTree, IsReadable, H
 use Rattle.mls_check.specs.LeafValidation.{LeavesAreValid}
 use Rattle.mls_check.specs.Signatures.{VerifyFn}
 use Rattle.mls_check.specs.ValidTree.{Valid, IsFirstTreeFault}
-use Rattle.mls_msgs.specs.declared.profile.Profile.TheVariants.{Members}
+use Rattle.mls_msgs.specs.declared.profile.Profile.{Profile}
 use Rattle.mls_msgs.proofs.Profiles.{messages_once}
 use Rattle.mls_msgs.specs.declared.group_info.GroupInfo.{GroupInfo}
 use Rattle.mls_msgs.specs.declared.message.Message.{Message}
@@ -28,7 +28,7 @@ use Rattle.mls_follow.specs.State.{State}
 use Rattle.mls_report.proofs.InOrder.{first_then, no_more, MetBefore, one_place, other_place}
 use Rattle.mls_report.proofs.StartsOnce.{one_tree_of, one_members_fault, no_members_fault, one_start, no_fault_of_start, one_start_fault}
 use Rattle.mls_report.specs.UniqueReports.{AreAlike, TreeFindingIsUnique, StartFindingIsUnique, StartIsUnique}
-use Rattle.mls_report.specs.Show.{IsMessage}
+use Rattle.mls_report.specs.Show.{IsMessageIn}
 use Rattle.mls_report.specs.StartInputs.{IsInfo, IsHanded, IsHandedUnread, IsReadAs, IsStarted, IsStartFinding, started_of}
 use Rattle.mls_report.specs.ValidateTree.{IsContext, IsTreeFinding}
 use Rattle.mls_report.specs.declared.finding.Finding.{Finding}
@@ -39,14 +39,14 @@ use Rattle.mls_report.specs.declared.finding.Finding.TheVariants.{ContextUnreada
 one_context : (bytes : List ℕ) (c d : GroupContext) → IsContext bytes c → IsContext bytes d → c ≡ d
 one_context bytes c d a b = one_value group_context group_context_at group_context_exact c d bytes a.spelled b.spelled
 
-one_message : (bytes : List ℕ) (m n : Message) → IsMessage bytes m → IsMessage bytes n → m ≡ n
-one_message bytes m n a b = messages_once Members m n bytes a.spelled b.spelled
+one_message : (profile : Profile) (bytes : List ℕ) (m n : Message) → IsMessageIn profile bytes m → IsMessageIn profile bytes n → m ≡ n
+one_message profile bytes m n a b = messages_once profile m n bytes a.spelled b.spelled
 
 info_in : (x y : GroupInfo) → messages.GroupInfo x ≡ messages.GroupInfo y → x ≡ y
 info_in x y e = cc
 
-pub one_info : (bytes : List ℕ) (x y : GroupInfo) → IsInfo bytes x → IsInfo bytes y → x ≡ y
-one_info bytes x y a b = info_in x y (one_message bytes (messages.GroupInfo x) (messages.GroupInfo y) a b)
+pub one_info : (profile : Profile) (bytes : List ℕ) (x y : GroupInfo) → IsInfo profile bytes x → IsInfo profile bytes y → x ≡ y
+one_info profile bytes x y a b = info_in x y (one_message profile bytes (messages.GroupInfo x) (messages.GroupInfo y) a b)
 
 pub one_handed : (bytes : Option (List ℕ)) (t u : Option RatchetTree) → IsHanded bytes t → IsHanded bytes u → t ≡ u
 one_handed None None None a b = refl
@@ -210,34 +210,34 @@ start_place (StartRefused x) = 3
 start_place (Starts x) = 4
 start_place _ = 5
 
-module _ (G : VerifyFn) (info_bytes : List ℕ) (tree_bytes : Option (List ℕ)) where
+module _ (profile : Profile) (G : VerifyFn) (info_bytes : List ℕ) (tree_bytes : Option (List ℕ)) where
   abbrev Begins : Finding → Type 0
-  Begins finding = IsStartFinding G info_bytes tree_bytes finding
+  Begins finding = IsStartFinding profile G info_bytes tree_bytes finding
 
   -- two readings are of one group info and one tree
-  moved : (P : GroupInfo → Option RatchetTree → Type 0) (x y : GroupInfo) (t u : Option RatchetTree) → IsReadAs info_bytes tree_bytes x t
-      → IsReadAs info_bytes tree_bytes y u → P x t → P y u
+  moved : (P : GroupInfo → Option RatchetTree → Type 0) (x y : GroupInfo) (t u : Option RatchetTree) → IsReadAs profile info_bytes tree_bytes x t
+      → IsReadAs profile info_bytes tree_bytes y u → P x t → P y u
   moved P x y t u a b p =
       subst (λ (h : Option RatchetTree). P y h) (one_handed tree_bytes t u a.is_handed b.is_handed)
-      (subst (λ (z : GroupInfo). P z t) (one_info info_bytes x y a.is_info b.is_info) p)
+      (subst (λ (z : GroupInfo). P z t) (one_info profile info_bytes x y a.is_info b.is_info) p)
 
   -- the start is one
-  same_start : (s u : State) → IsStarted G info_bytes tree_bytes s → IsStarted G info_bytes tree_bytes u → s ≡ u
+  same_start : (s u : State) → IsStarted profile G info_bytes tree_bytes s → IsStarted profile G info_bytes tree_bytes u → s ≡ u
   same_start s u a b =
-      one_start G b.info b.handed s u
-      (moved (λ (x : GroupInfo) (h : Option RatchetTree). IsStart G x h s) a.info b.info a.handed b.handed a.is_read b.is_read a.start) b.start
+      one_start profile G b.info b.handed s u
+      (moved (λ (x : GroupInfo) (h : Option RatchetTree). IsStart profile G x h s) a.info b.info a.handed b.handed a.is_read b.is_read a.start) b.start
 
   -- another message is no group info
-  no_other : (m : Message) (x : GroupInfo) → IsMessage info_bytes m → ((info : GroupInfo) → m ≢ messages.GroupInfo info) → IsInfo info_bytes x → ⊥
-  no_other m x a none b = none x (one_message info_bytes m (messages.GroupInfo x) a b)
+  no_other : (m : Message) (x : GroupInfo) → IsMessageIn profile info_bytes m → ((info : GroupInfo) → m ≢ messages.GroupInfo info) → IsInfo profile info_bytes x → ⊥
+  no_other m x a none b = none x (one_message profile info_bytes m (messages.GroupInfo x) a b)
 
   -- the conditions, in their order
   abbrev Ready : ℕ → Type 0
   Ready =
-      first_then ((m : Message) × IsMessage info_bytes m)
-      (first_then ((info : GroupInfo) × IsInfo info_bytes info)
+      first_then ((m : Message) × IsMessageIn profile info_bytes m)
+      (first_then ((info : GroupInfo) × IsInfo profile info_bytes info)
       (first_then ((handed : Option RatchetTree) × IsHanded tree_bytes handed)
-      (first_then ((s : State) × IsStarted G info_bytes tree_bytes s)
+      (first_then ((s : State) × IsStarted profile G info_bytes tree_bytes s)
       no_more)))
 
   -- a condition that fails is not met
@@ -246,17 +246,17 @@ module _ (G : VerifyFn) (info_bytes : List ℕ) (tree_bytes : Option (List ℕ))
   not_ready NotGroupInfo a m = no_other a.0 m.0 a.1 a.2 m.1
   not_ready (TreeUnreadable x) a m = not_handed tree_bytes m.0 a.2 m.1
   not_ready (StartRefused x) a m =
-      no_fault_of_start G a.0 a.1 m.0 x a.3
-      (moved (λ (z : GroupInfo) (h : Option RatchetTree). IsStart G z h m.0) m.1.info a.0 m.1.handed a.1 m.1.is_read a.2 m.1.start) a.4
+      no_fault_of_start profile G a.0 a.1 m.0 x a.3
+      (moved (λ (z : GroupInfo) (h : Option RatchetTree). IsStart profile G z h m.0) m.1.info a.0 m.1.handed a.1 m.1.is_read a.2 m.1.start) a.4
   not_ready (Starts x) a m = absurd m
   not_ready _ a m = absurd a
 
   -- what comes to a condition meets those before it
 
-  ready_info : (info : GroupInfo) → IsInfo info_bytes info → MetBefore Ready 2
+  ready_info : (info : GroupInfo) → IsInfo profile info_bytes info → MetBefore Ready 2
   ready_info info h = below_more Ready 1 (below_more Ready 0 (below_none Ready) (messages.GroupInfo info, h)) (info, h)
 
-  ready_both : (info : GroupInfo) (handed : Option RatchetTree) → IsReadAs info_bytes tree_bytes info handed → MetBefore Ready 3
+  ready_both : (info : GroupInfo) (handed : Option RatchetTree) → IsReadAs profile info_bytes tree_bytes info handed → MetBefore Ready 3
   ready_both info handed h = below_more Ready 2 (ready_info info h.is_info) (handed, h.is_handed)
 
   ready_before : (f : Finding) → Begins f → MetBefore Ready (start_place f)
@@ -284,10 +284,10 @@ module _ (G : VerifyFn) (info_bytes : List ℕ) (tree_bytes : Option (List ℕ))
   alike_start _ g e a b = absurd a
 
 pub one_start_finding : StartFindingIsUnique
-one_start_finding G info_bytes tree_bytes f g a b =
-    alike_start G info_bytes tree_bytes f g
-    (one_place start_place (Ready G info_bytes tree_bytes) (Begins G info_bytes tree_bytes)
-    (ready_before G info_bytes tree_bytes) (not_ready G info_bytes tree_bytes) f g a b) a b
+one_start_finding profile G info_bytes tree_bytes f g a b =
+    alike_start profile G info_bytes tree_bytes f g
+    (one_place start_place (Ready profile G info_bytes tree_bytes) (Begins profile G info_bytes tree_bytes)
+    (ready_before profile G info_bytes tree_bytes) (not_ready profile G info_bytes tree_bytes) f g a b) a b
 
 pub one_started : StartIsUnique
-one_started G info_bytes tree_bytes = same_start G info_bytes tree_bytes
+one_started profile G info_bytes tree_bytes = same_start profile G info_bytes tree_bytes

@@ -5,6 +5,7 @@ use Rattle.mls_hash.specs.SuiteHash.{hash_of}
 use Rattle.mls_hash.proofs.Lengths.{length-tree_hash, hash_length-limit}
 use Rattle.mls_check.specs.Signatures.{VerifyFn}
 use Rattle.mls_check.specs.ValidTree.{Valid}
+use Rattle.mls_msgs.specs.declared.profile.Profile.{Profile}
 use Rattle.mls_follow.proofs.StoredRuns.{resumption_valid}
 use Rattle.mls_follow.proofs.Validity.{start_valid}
 use Rattle.mls_follow.specs.Resumption.{IsResumed}
@@ -20,8 +21,8 @@ length_in : (G : VerifyFn) (s : State) → IsValidState G s → length s.context
 length_in G s v = length_valid s.context.cipher_suite s.context.tree_hash s.tree v.valid
 
 -- so of the state in which a follower starts
-pub length_started : (G : VerifyFn) (info_bytes : List ℕ) (tree_bytes : Option (List ℕ)) (s : State) → IsStarted G info_bytes tree_bytes s → length s.context.tree_hash ≤ 64
-length_started G info_bytes tree_bytes s h = length_in G s (start_valid G h.info h.handed s h.start)
+pub length_started : (profile : Profile) (G : VerifyFn) (info_bytes : List ℕ) (tree_bytes : Option (List ℕ)) (s : State) → IsStarted profile G info_bytes tree_bytes s → length s.context.tree_hash ≤ 64
+length_started profile G info_bytes tree_bytes s h = length_in G s (start_valid profile G h.info h.handed s h.start)
 
 -- or resumes
 pub length_resumed : (G : VerifyFn) (bytes : List ℕ) (s : State) → IsResumed G bytes s → length s.context.tree_hash ≤ 64

@@ -6,6 +6,7 @@ use Rattle.std.proofs.lemmas.List.{append_cancel_left}
 use Rattle.std.specs.Io.KnownBytes.{Appends}
 use Rattle.mls_wire.specs.Limits.{input_limit}
 use Rattle.mls_check.specs.Signatures.{VerifyFn}
+use Rattle.mls_msgs.specs.declared.profile.Profile.{Profile}
 use Rattle.mls_follow.specs.State.{State}
 use Rattle.mls_report.proofs.FindingsOnce.{one_start_finding, one_started}
 use Rattle.mls_report.specs.Finding.{finding_verdict}
@@ -80,31 +81,31 @@ alike_starts (MembersRefused x) s k e h = absurd cc
 alike_starts (StartRefused x) s k e h = absurd cc
 alike_starts (StateRefused x) s k e h = absurd cc
 
-module _ (G : VerifyFn) (info_bytes : List ℕ) (tree_bytes : Option (List ℕ)) (i j : Option (List ℕ)) (t u : Option (Option (List ℕ))) where
+module _ (profile : Profile) (G : VerifyFn) (info_bytes : List ℕ) (tree_bytes : Option (List ℕ)) (i j : Option (List ℕ)) (t u : Option (Option (List ℕ))) where
   abbrev Tree : Option (Option (List ℕ))
   Tree = option_map Some tree_bytes
 
   -- what is found of one reading is found of the other
   found_there : (x y : List ℕ) (z w : Option (List ℕ)) (finding : Finding) → ReadsBoth (Some info_bytes) i Tree t x z → ReadsBoth (Some info_bytes) j Tree u y w
-      → IsStartFinding G x z finding → IsStartFinding G y w finding
+      → IsStartFinding profile G x z finding → IsStartFinding profile G y w finding
   found_there x y z w finding a b h =
-      subst (λ (v : Option (List ℕ)). IsStartFinding G y v finding) (one_tree_input tree_bytes t u z w a.tree b.tree)
-      (subst (λ (v : List ℕ). IsStartFinding G v z finding) (one_input info_bytes i j x y a.info b.info) h)
+      subst (λ (v : Option (List ℕ)). IsStartFinding profile G y v finding) (one_tree_input tree_bytes t u z w a.tree b.tree)
+      (subst (λ (v : List ℕ). IsStartFinding profile G v z finding) (one_input info_bytes i j x y a.info b.info) h)
 
-  pub one_decline : (finding other : Finding) → ReadsAndDeclines G (Some info_bytes) i Tree t finding → ReadsAndDeclines G (Some info_bytes) j Tree u other
+  pub one_decline : (finding other : Finding) → ReadsAndDeclines profile G (Some info_bytes) i Tree t finding → ReadsAndDeclines profile G (Some info_bytes) j Tree u other
       → AreAlike finding other
   one_decline finding other a b =
-      one_start_finding G b.info_bytes b.tree_bytes finding other
+      one_start_finding profile G b.info_bytes b.tree_bytes finding other
       (found_there a.info_bytes b.info_bytes a.tree_bytes b.tree_bytes finding a.both_read b.both_read a.found) b.found
 
-  pub decline_or_start : (finding : Finding) (s : State) → ReadsAndDeclines G (Some info_bytes) i Tree t finding → ReadsAndStarts G (Some info_bytes) j Tree u s → ⊥
+  pub decline_or_start : (finding : Finding) (s : State) → ReadsAndDeclines profile G (Some info_bytes) i Tree t finding → ReadsAndStarts profile G (Some info_bytes) j Tree u s → ⊥
   decline_or_start finding s a b =
-      let alike = one_start_finding G b.info_bytes b.tree_bytes finding (Starts (started_of s))
+      let alike = one_start_finding profile G b.info_bytes b.tree_bytes finding (Starts (started_of s))
       (found_there a.info_bytes b.info_bytes a.tree_bytes b.tree_bytes finding a.both_read b.both_read a.found) (s, b.started, refl) in
       yes_no (sym (alike_starts finding s (started_of s) refl alike) ∙ a.verdict)
 
-  pub one_opening : (s other : State) → ReadsAndStarts G (Some info_bytes) i Tree t s → ReadsAndStarts G (Some info_bytes) j Tree u other → s ≡ other
+  pub one_opening : (s other : State) → ReadsAndStarts profile G (Some info_bytes) i Tree t s → ReadsAndStarts profile G (Some info_bytes) j Tree u other → s ≡ other
   one_opening s other a b =
-      one_started G b.info_bytes b.tree_bytes s other
-      (subst (λ (v : Option (List ℕ)). IsStarted G b.info_bytes v s) (one_tree_input tree_bytes t u a.tree_bytes b.tree_bytes a.both_read.tree b.both_read.tree)
-      (subst (λ (v : List ℕ). IsStarted G v a.tree_bytes s) (one_input info_bytes i j a.info_bytes b.info_bytes a.both_read.info b.both_read.info) a.started)) b.started
+      one_started profile G b.info_bytes b.tree_bytes s other
+      (subst (λ (v : Option (List ℕ)). IsStarted profile G b.info_bytes v s) (one_tree_input tree_bytes t u a.tree_bytes b.tree_bytes a.both_read.tree b.both_read.tree)
+      (subst (λ (v : List ℕ). IsStarted profile G v a.tree_bytes s) (one_input info_bytes i j a.info_bytes b.info_bytes a.both_read.info b.both_read.info) a.started)) b.started

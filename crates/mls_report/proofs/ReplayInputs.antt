@@ -1,6 +1,7 @@
 -- A replay from a group info, and from the file of a state.
 use Rattle.std.proofs.Common.{◌≡◌, ℕ, List, Option, None}
 use Rattle.mls_check.specs.Signatures.{VerifyFn}
+use Rattle.mls_msgs.specs.declared.profile.Profile.{Profile}
 use Rattle.mls_follow.specs.State.{State}
 use Rattle.mls_follow.specs.Resumption.{IsResumed}
 use Rattle.mls_report.specs.ReadAll.{ReadsAll}
@@ -14,27 +15,27 @@ use Rattle.mls_report.specs.declared.verdict.RunFault.{RunFault}
 use Rattle.mls_report.specs.declared.verdict.Verdict.{Verdict}
 use Rattle.mls_report.proofs.Replaying.{says-map, replays-to, replays-none, replays-before}
 
-module _ (G : VerifyFn) (i0 i1 : Option (List ℕ)) (t0 t1 : Option (Option (List ℕ))) (info_bytes : List ℕ) (tree_bytes : Option (List ℕ))
+module _ (profile : Profile) (G : VerifyFn) (i0 i1 : Option (List ℕ)) (t0 t1 : Option (Option (List ℕ))) (info_bytes : List ℕ) (tree_bytes : Option (List ℕ))
     (both : ReadsBoth i0 i1 t0 t1 info_bytes tree_bytes) where
-  pub group-to : (K : VerifyFn) → K ≡ G → (s : State) → IsStarted G info_bytes tree_bytes s → (l0 l1 w0 w1 : Option (List ℕ)) (verdict : Verdict) (last : Option State)
-      → ReturnsAfter K s l0 l1 w0 w1 verdict last → ReplaysGroupTo G i0 i1 t0 t1 l0 l1 w0 w1 verdict last
+  pub group-to : (K : VerifyFn) → K ≡ G → (s : State) → IsStarted profile G info_bytes tree_bytes s → (l0 l1 w0 w1 : Option (List ℕ)) (verdict : Verdict) (last : Option State)
+      → ReturnsAfter K s l0 l1 w0 w1 verdict last → ReplaysGroupTo profile G i0 i1 t0 t1 l0 l1 w0 w1 verdict last
   group-to K same s started l0 l1 w0 w1 verdict last h =
-      replays-to K G same (ReadsAndStarts G i0 i1 t0 t1) (ReadsAndDeclines G i0 i1 t0 t1) s
+      replays-to K G same (ReadsAndStarts profile G i0 i1 t0 t1) (ReadsAndDeclines profile G i0 i1 t0 t1) s
       (record { info_bytes = info_bytes; tree_bytes = tree_bytes; both_read = both; started = started }) l0 l1 w0 w1 verdict last h
 
-  module _ (failure : StartFailure) (refused : Says (DeclinesStart G info_bytes tree_bytes) failure) (l w0 w1 : Option (List ℕ)) where
-    declines : Says (ReadsAndDeclines G i0 i1 t0 t1) failure
+  module _ (failure : StartFailure) (refused : Says (DeclinesStart profile G info_bytes tree_bytes) failure) (l w0 w1 : Option (List ℕ)) where
+    declines : Says (ReadsAndDeclines profile G i0 i1 t0 t1) failure
     declines =
-        says-map (DeclinesStart G info_bytes tree_bytes) (ReadsAndDeclines G i0 i1 t0 t1)
+        says-map (DeclinesStart profile G info_bytes tree_bytes) (ReadsAndDeclines profile G i0 i1 t0 t1)
         (λ f d. record { info_bytes = info_bytes; tree_bytes = tree_bytes; both_read = both; found = d.found; verdict = d.verdict }) failure refused
 
-    pub group-none : (verdict : Verdict) (last : Option State) → last ≡ None → WritesDecline failure w0 w1 verdict → ReplaysGroupTo G i0 i1 t0 t1 l l w0 w1 verdict last
+    pub group-none : (verdict : Verdict) (last : Option State) → last ≡ None → WritesDecline failure w0 w1 verdict → ReplaysGroupTo profile G i0 i1 t0 t1 l l w0 w1 verdict last
     group-none verdict last none h =
-        replays-none G (ReadsAndStarts G i0 i1 t0 t1) (ReadsAndDeclines G i0 i1 t0 t1) (λ f d. d.verdict) failure declines l w0 w1 verdict last none h
+        replays-none G (ReadsAndStarts profile G i0 i1 t0 t1) (ReadsAndDeclines profile G i0 i1 t0 t1) (λ f d. d.verdict) failure declines l w0 w1 verdict last none h
 
-    pub group-before : (fault : RunFault) → WritesDeclinePart failure w0 w1 fault → ReplaysPart G i0 i1 t0 t1 l l w0 w1 fault
+    pub group-before : (fault : RunFault) → WritesDeclinePart failure w0 w1 fault → ReplaysPart profile G i0 i1 t0 t1 l l w0 w1 fault
     group-before fault h =
-        replays-before G (ReadsAndStarts G i0 i1 t0 t1) (ReadsAndDeclines G i0 i1 t0 t1) (λ f d. d.verdict) failure declines l w0 w1 fault h
+        replays-before G (ReadsAndStarts profile G i0 i1 t0 t1) (ReadsAndDeclines profile G i0 i1 t0 t1) (λ f d. d.verdict) failure declines l w0 w1 fault h
 
 module _ (G : VerifyFn) (i0 i1 : Option (List ℕ)) (bytes : List ℕ) (read : ReadsAll i0 i1 bytes) where
   pub state-to : (K : VerifyFn) → K ≡ G → (s : State) → IsResumed G bytes s → (l0 l1 w0 w1 : Option (List ℕ)) (verdict : Verdict) (last : Option State)

@@ -6,6 +6,7 @@ use Rattle.mls_wire.specs.Devices.{AppendsPrefix}
 use Rattle.mls_wire.proofs.KnownBytes.{Appends-trans, Consumes-trans}
 use Rattle.mls_wire.specs.Logs.{IsRecord, IsBrokenAt, IsIncomplete}
 use Rattle.mls_check.specs.Signatures.{VerifyFn}
+use Rattle.mls_msgs.specs.declared.profile.Profile.{Profile}
 use Rattle.mls_follow.specs.Runs.{IsAnswer}
 use Rattle.mls_follow.specs.State.{State}
 use Rattle.mls_report.specs.declared.verdict.RunFault.{RunFault}
@@ -15,8 +16,7 @@ use Rattle.mls_report.specs.declared.verdict.Verdict.TheVariants.{No}
 use Rattle.mls_report.specs.Replay.{ProcessedMessage, AreProcessed, state_after, processed_line, processed_lines, one_if, accepted_count, refused_count, message_limit, still_to_come, AreRecords, Follows, TellsPart, IsVerdict, last_lines, ending, ReplaysFrom, ReplaysTo, ReplaysPartFrom}
 use Rattle.mls_report.specs.ReplaySteps.{ReadsUndecided, TellsTurn, StopsAt, FollowsLog, ReplaysLog, ReturnsAfter, WritesDecline, WritesDeclinePart}
 use Rattle.mls_report.specs.Finding.{finding_verdict}
-use Rattle.mls_report.specs.StartInputs.{ReadsBoth, ReadsAndDeclines}
-use Rattle.mls_report.specs.StartSteps.{IsUnread, Says}
+use Rattle.mls_report.specs.StartSteps.{Says}
 use Rattle.mls_report.specs.declared.finding.Finding.{Finding}
 use Rattle.mls_report.specs.declared.read_inputs.StartFailure.{StartFailure}
 use Rattle.mls_report.specs.declared.read_inputs.StartFailure.TheVariants.{Found, Fault}
@@ -255,17 +255,6 @@ line-part (Ok verdict) P part of_part memory of_memory own = tt
 line-part (Err Read) P part of_part memory of_memory own = absurd (own refl)
 line-part (Err Write) P part of_part memory of_memory own = of_part part
 line-part (Err Memory) P part of_part memory of_memory own = of_memory (memory refl)
-
-pub declines-unread :
-    (G : VerifyFn) (i0 i1 : Option (List ℕ)) (t0 t1 : Option (Option (List ℕ))) (info_bytes : List ℕ) (tree_bytes : Option (List ℕ)) (finding : Finding)
-    → ReadsBoth i0 i1 t0 t1 info_bytes tree_bytes → IsUnread info_bytes tree_bytes finding → ReadsAndDeclines G i0 i1 t0 t1 finding
-declines-unread G i0 i1 t0 t1 info_bytes tree_bytes finding both unread = record {
-  info_bytes = info_bytes;
-  tree_bytes = tree_bytes;
-  both_read = both;
-  found = unread.found G;
-  verdict = unread.verdict;
-}
 
 -- ---- a follower has started, or none has
 

@@ -3,6 +3,7 @@ use Rattle.std.proofs.Common.{ℕ, zero, suc, ◌+◌, ◌≤◌, List, [], ◌+
 use Rattle.std.specs.Prelude.{option_map}
 use Rattle.mls_wire.specs.Limits.{input_limit}
 use Rattle.mls_check.specs.Signatures.{VerifyFn}
+use Rattle.mls_msgs.specs.declared.profile.Profile.{Profile}
 use Rattle.mls_follow.proofs.Holding.{run_answered}
 use Rattle.mls_follow.proofs.ResumedOrNot.{some_resumption}
 use Rattle.mls_follow.proofs.StoredRuns.{resumed_answered}
@@ -108,31 +109,31 @@ module _ (G : VerifyFn) (Begins : State → Type 0) (Declines : Finding → Type
 
 -- ---- from a group info
 
-module _ (G : VerifyFn) (info_bytes : List ℕ) (tree_bytes : Option (List ℕ)) (log_bytes : List ℕ) (info : IsRead info_bytes) (tree : IsHandedRead tree_bytes) where
+module _ (profile : Profile) (G : VerifyFn) (info_bytes : List ℕ) (tree_bytes : Option (List ℕ)) (log_bytes : List ℕ) (info : IsRead info_bytes) (tree : IsHandedRead tree_bytes) where
   abbrev Begins : State → Type 0
-  Begins = ReadsAndStarts G (Some info_bytes) (Some info.left) (option_map Some tree_bytes) tree.left
+  Begins = ReadsAndStarts profile G (Some info_bytes) (Some info.left) (option_map Some tree_bytes) tree.left
 
   abbrev Declines : Finding → Type 0
-  Declines = ReadsAndDeclines G (Some info_bytes) (Some info.left) (option_map Some tree_bytes) tree.left
+  Declines = ReadsAndDeclines profile G (Some info_bytes) (Some info.left) (option_map Some tree_bytes) tree.left
 
   both : ReadsBoth (Some info_bytes) (Some info.left) (option_map Some tree_bytes) tree.left info.bytes tree.bytes
   both = record { info = info.reads; tree = tree.reads }
 
   from_inputs : IsReplayed G Begins Declines log_bytes
   from_inputs =
-      elim (begun G info.bytes tree.bytes) [
+      elim (begun profile G info.bytes tree.bytes) [
         | inl s ↦
-            (let started : IsStarted G info.bytes tree.bytes s.0 = s.1 in
+            (let started : IsStarted profile G info.bytes tree.bytes s.0 = s.1 in
             replayed G Begins Declines log_bytes s.0 (record { info_bytes = info.bytes; tree_bytes = tree.bytes; both_read = both; started = started })
-            (λ calls last bytes run. run_answered G started.info started.handed s.0 last calls bytes started.start run))
+            (λ calls last bytes run. run_answered profile G started.info started.handed s.0 last calls bytes started.start run))
         | inr f ↦ declined G Begins Declines log_bytes f.0 (record { info_bytes = info.bytes; tree_bytes = tree.bytes; both_read = both; found = f.1; verdict = f.2 })
       ]
 
 pub some_replay : ReplayExists
-some_replay G info_bytes tree_bytes log_bytes =
+some_replay profile G info_bytes tree_bytes log_bytes =
     let info = read_input info_bytes in
     let tree = read_optional_tree tree_bytes in
-    let report = from_inputs G info_bytes tree_bytes log_bytes info tree in
+    let report = from_inputs profile G info_bytes tree_bytes log_bytes info tree in
     (report.text, report.verdict, record { info_left = Some info.left; tree_left = tree.left; log_left = report.left; before = []; replays = report.replays })
 
 -- ---- from the file of a state

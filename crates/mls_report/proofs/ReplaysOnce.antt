@@ -67,13 +67,13 @@ module _ (G : VerifyFn) (log_bytes : List ℕ) (Starts More : State → Type 0) 
 -- ---- from a group info
 
 pub one_replay : ReplayIsUnique
-one_replay G info_bytes tree_bytes log_bytes text other verdict more a b =
-    one_report G log_bytes (ReadsAndStarts G (Some info_bytes) a.info_left Tree a.tree_left) (ReadsAndStarts G (Some info_bytes) b.info_left Tree b.tree_left)
-    (ReadsAndDeclines G (Some info_bytes) a.info_left Tree a.tree_left) (ReadsAndDeclines G (Some info_bytes) b.info_left Tree b.tree_left)
-    (one_decline G info_bytes tree_bytes a.info_left b.info_left a.tree_left b.tree_left)
-    (decline_or_start G info_bytes tree_bytes a.info_left b.info_left a.tree_left b.tree_left)
-    (decline_or_start G info_bytes tree_bytes b.info_left a.info_left b.tree_left a.tree_left)
-    (one_opening G info_bytes tree_bytes a.info_left b.info_left a.tree_left b.tree_left)
+one_replay profile G info_bytes tree_bytes log_bytes text other verdict more a b =
+    one_report G log_bytes (ReadsAndStarts profile G (Some info_bytes) a.info_left Tree a.tree_left) (ReadsAndStarts profile G (Some info_bytes) b.info_left Tree b.tree_left)
+    (ReadsAndDeclines profile G (Some info_bytes) a.info_left Tree a.tree_left) (ReadsAndDeclines profile G (Some info_bytes) b.info_left Tree b.tree_left)
+    (one_decline profile G info_bytes tree_bytes a.info_left b.info_left a.tree_left b.tree_left)
+    (decline_or_start profile G info_bytes tree_bytes a.info_left b.info_left a.tree_left b.tree_left)
+    (decline_or_start profile G info_bytes tree_bytes b.info_left a.info_left b.tree_left a.tree_left)
+    (one_opening profile G info_bytes tree_bytes a.info_left b.info_left a.tree_left b.tree_left)
     a.log_left b.log_left a.before b.before text other verdict more a.replays b.replays
   where
     Tree : Option (Option (List ℕ))

@@ -2,7 +2,10 @@
 use Rattle.std.proofs.Common.{◌≡◌, ◌≢◌, ℕ, List, [], ◌∷◌, ◌++◌, length, Option, Some, None, Result, Ok, Err, refl, ap, subst, inl, inr}
 use Rattle.std.specs.Prelude.{option_map}
 use Rattle.mls_check.specs.Signatures.{VerifyFn}
+use Rattle.mls_msgs.specs.declared.profile.Profile.{Profile}
 use Rattle.mls_follow.proofs.Holding.{run_answered}
+use Rattle.mls_follow.proofs.ResumedOrNot.{some_resumption}
+use Rattle.mls_follow.proofs.StoredRuns.{resumed_answered}
 use Rattle.mls_follow.specs.CoveredLogs.{all_good}
 use Rattle.mls_follow.specs.MessageSignatures.{message_signatures}
 use Rattle.mls_follow.specs.Runs.{IsAnswer}
@@ -14,13 +17,17 @@ use Rattle.mls_signatures.specs.SignaturesToVerify.{start_signatures}
 use Rattle.mls_signatures.specs.declared.signature_to_verify.SignatureToVerify.{SignatureToVerify}
 use Rattle.mls_report.proofs.FindingsExist.{begun}
 use Rattle.mls_report.proofs.LogsExist.{IsAnswering, IsTold, log_told}
-use Rattle.mls_report.proofs.ReplaysExist.{read_input, read_optional_tree}
+use Rattle.mls_report.proofs.ReplaysExist.{IsRead, IsHandedRead, read_input, read_optional_tree}
 use Rattle.mls_report.proofs.TurnsOnce.{MessageLines}
 use Rattle.mls_report.specs.Finding.{finding_line}
 use Rattle.mls_report.specs.Replay.{ProcessedMessage, AreProcessed, message_limit}
-use Rattle.mls_report.specs.ReportsExist.{SignaturesExist}
-use Rattle.mls_report.specs.SignaturesReport.{HasSignatures, LoggedMessage, HaveSignatures, turns_of, log_lines, break_line, log_verdict, all_read, wanted_lines, TellsLogIf}
-use Rattle.mls_report.specs.StartInputs.{ReadsBoth, IsStarted}
+use Rattle.mls_report.specs.ReportsExist.{SignaturesExist, StateSignaturesExist}
+use Rattle.mls_report.specs.SignaturesReport.{HasSignatures, LoggedMessage, HaveSignatures, turns_of, log_lines, break_line, log_verdict, all_read, wanted_lines, TellsLogIf, ReadsStartSignatures, ReadsStateSignatures, SignaturesFrom}
+use Rattle.mls_report.specs.SignaturesSteps.{signatures_of_state}
+use Rattle.mls_report.specs.StartInputs.{ReadsBoth, ReadsAndDeclines, IsStarted}
+use Rattle.mls_report.specs.StateInputs.{ReadsAndDeclinesState}
+use Rattle.mls_report.specs.declared.finding.Finding.{Finding}
+use Rattle.mls_report.specs.declared.finding.Finding.TheVariants.{StateRefused}
 use Rattle.mls_report.specs.declared.verdict.Verdict.{Verdict}
 use Rattle.mls_report.specs.declared.verdict.Verdict.TheVariants.{Yes, No}
 
@@ -90,57 +97,95 @@ module _ (R : VerifyFn) (s : State) (answering : IsAnswering all_good s) where
 
 -- ---- the report
 
+module _ (R : VerifyFn) (Begins : State → List SignatureToVerify → Type 0) (Declines : Finding → Type 0) (log_bytes : Option (List ℕ)) where
+  -- what is written
+  record IsReported : Type 0 where
+    text : List ℕ
+    verdict : Verdict
+    left : Option (Option (List ℕ))
+    signatures : SignaturesFrom R Begins Declines (option_map Some log_bytes) left (Some []) (Some text) verdict
+
+  -- a follower starts
+  reported : (s : State) (wanted : List SignatureToVerify) → Begins s wanted → IsAnswering all_good s → IsReported
+  reported s wanted begins answering =
+      let behind : HasBehind R s answering log_bytes = some_behind R s answering log_bytes in
+      record {
+        text = wanted_lines R wanted ++ behind.more;
+        verdict = behind.verdict;
+        left = behind.left;
+        signatures = inr (record {
+          state = s;
+          wanted = wanted;
+          opens = begins;
+          between = Some (wanted_lines R wanted);
+          wrote = refl;
+          tells = behind.tells (wanted_lines R wanted);
+        });
+      }
+
+  -- none does
+  declined : (finding : Finding) → Declines finding → IsReported
+  declined finding declines = record {
+    text = finding_line finding;
+    verdict = No;
+    left = option_map Some log_bytes;
+    signatures = inl (record { finding = finding; declines = declines; unread = refl; wrote = refl; verdict_is = refl });
+  }
+
+-- ---- from a GroupInfo
+
+from_inputs : (profile : Profile) (R : VerifyFn) (info_bytes : List ℕ) (tree_bytes log_bytes : Option (List ℕ)) (info : IsRead info_bytes) (tree : IsHandedRead tree_bytes)
+    → IsReported R (ReadsStartSignatures profile (Some info_bytes) (Some info.left) (option_map Some tree_bytes) tree.left)
+    (ReadsAndDeclines profile all_good (Some info_bytes) (Some info.left) (option_map Some tree_bytes) tree.left) log_bytes
+from_inputs profile R info_bytes tree_bytes log_bytes info tree =
+    let Begins = ReadsStartSignatures profile (Some info_bytes) (Some info.left) (option_map Some tree_bytes) tree.left in
+    let Declines = ReadsAndDeclines profile all_good (Some info_bytes) (Some info.left) (option_map Some tree_bytes) tree.left in
+    let both : ReadsBoth (Some info_bytes) (Some info.left) (option_map Some tree_bytes) tree.left info.bytes tree.bytes = record { info = info.reads; tree = tree.reads } in
+    elim (begun profile all_good info.bytes tree.bytes) [
+      | inl s ↦
+          (let started : IsStarted profile all_good info.bytes tree.bytes s.0 = s.1 in
+          reported R Begins Declines log_bytes s.0 (start_signatures started.info s.0.tree)
+          (record {
+            info_bytes = info.bytes;
+            tree_bytes = tree.bytes;
+            both_read = both;
+            info = started.info;
+            handed = started.handed;
+            is_read = started.is_read;
+            starts = record { start = started.start; wanted_is = refl };
+          })
+          (λ calls last bytes run. run_answered profile all_good started.info started.handed s.0 last calls bytes started.start run))
+      | inr f ↦
+          declined R Begins Declines log_bytes f.0
+          (record { info_bytes = info.bytes; tree_bytes = tree.bytes; both_read = both; found = f.1; verdict = f.2 })
+    ]
+
 pub some_signatures : SignaturesExist
-some_signatures R info_bytes tree_bytes log_bytes =
+some_signatures profile R info_bytes tree_bytes log_bytes =
     let info = read_input info_bytes in
     let tree = read_optional_tree tree_bytes in
-    let both : ReadsBoth (Some info_bytes) (Some info.left) (option_map Some tree_bytes) tree.left info.bytes tree.bytes = record { info = info.reads; tree = tree.reads } in
-    elim (begun all_good info.bytes tree.bytes) [
+    let report = from_inputs profile R info_bytes tree_bytes log_bytes info tree in
+    (report.text, report.verdict, record { info_left = Some info.left; tree_left = tree.left; log_left = report.left; before = []; signatures = report.signatures })
+
+-- ---- from the file of a state
+
+from_file : (R : VerifyFn) (state_bytes : List ℕ) (log_bytes : Option (List ℕ)) (state : IsRead state_bytes)
+    → IsReported R (ReadsStateSignatures (Some state_bytes) (Some state.left)) (ReadsAndDeclinesState all_good (Some state_bytes) (Some state.left)) log_bytes
+from_file R state_bytes log_bytes state =
+    let Begins = ReadsStateSignatures (Some state_bytes) (Some state.left) in
+    let Declines = ReadsAndDeclinesState all_good (Some state_bytes) (Some state.left) in
+    elim (some_resumption all_good state.bytes) [
       | inl s ↦
-          (let started : IsStarted all_good info.bytes tree.bytes s.0 = s.1 in
-          let wanted = start_signatures started.info s.0.tree in
-          let behind : HasBehind R s.0 (λ calls last bytes run. run_answered all_good started.info started.handed s.0 last calls bytes started.start run) log_bytes =
-          some_behind R s.0 (λ calls last bytes run. run_answered all_good started.info started.handed s.0 last calls bytes started.start run) log_bytes in (
-            wanted_lines R wanted ++ behind.more,
-            behind.verdict,
-            record {
-              info_left = Some info.left;
-              tree_left = tree.left;
-              log_left = behind.left;
-              before = [];
-              signatures = inr (record {
-                state = s.0;
-                wanted = wanted;
-                opens = record {
-                  info_bytes = info.bytes;
-                  tree_bytes = tree.bytes;
-                  both_read = both;
-                  info = started.info;
-                  handed = started.handed;
-                  is_read = started.is_read;
-                  starts = record { start = started.start; wanted_is = refl };
-                };
-                between = Some (wanted_lines R wanted);
-                wrote = refl;
-                tells = behind.tells (wanted_lines R wanted);
-              });
-            },
-          ))
-      | inr f ↦ (
-        finding_line f.0,
-        No,
-        record {
-          info_left = Some info.left;
-          tree_left = tree.left;
-          log_left = option_map Some log_bytes;
-          before = [];
-          signatures = inl (record {
-            finding = f.0;
-            declines = record { info_bytes = info.bytes; tree_bytes = tree.bytes; both_read = both; found = f.1; verdict = f.2 };
-            unread = refl;
-            wrote = refl;
-            verdict_is = refl;
-          });
-        },
-      )
+          reported R Begins Declines log_bytes s.0 (signatures_of_state s.0)
+          (record { resumes = record { bytes = state.bytes; read = state.reads; resumed = s.1 }; wanted_is = refl })
+          (λ calls last bytes run. resumed_answered all_good state.bytes bytes s.0 last calls s.1 run)
+      | inr f ↦
+          declined R Begins Declines log_bytes (StateRefused f.0)
+          (record { bytes = state.bytes; read = state.reads; found = (f.1, f.2); verdict = refl })
     ]
+
+pub some_state_signatures : StateSignaturesExist
+some_state_signatures R state_bytes log_bytes =
+    let state = read_input state_bytes in
+    let report = from_file R state_bytes log_bytes state in
+    (report.text, report.verdict, record { state_left = Some state.left; log_left = report.left; before = []; signatures = report.signatures })

@@ -1,5 +1,7 @@
 -- Lines that are written one signature after the other.
-use Rattle.std.proofs.Common.{◌≡◌, ◌∙◌, ℕ, ◌+◌, ◌<◌, ◌≤◌, List, [], ◌∷◌, ◌++◌, Option, refl, sym, ap, subst, arith, append_assoc, add-one}
+use Rattle.std.proofs.Common.{◌≡◌, ◌∙◌, ℕ, ◌+◌, ◌<◌, ◌≤◌, List, [], ◌∷◌, ◌++◌, length, take, drop, get_or, Option, Result, Ok, Err, refl, sym, ap, subst, arith, append_assoc, add-one}
+use Rattle.std.specs.Prelude.{OnErr, IfErr}
+use Rattle.std.proofs.lemmas.List.{take_more, take-append-drop, take_all}
 use Rattle.std.specs.Io.KnownBytes.{Appends}
 use Rattle.mls_wire.proofs.KnownBytes.{Appends-trans}
 use Rattle.mls_wire.specs.Devices.{AppendsPrefix}
@@ -84,6 +86,31 @@ module _ (lines : List SignatureToVerify → List ℕ) (both : (ws vs : List Sig
       subst (λ (ws : List SignatureToVerify). StopsInLines lines ws a c fault) (sym split)
       (stops-before a c (leaves_below s n ++ signatures_of_leaf s n) (leaves_from s (n + 1)) fault
       (stops-behind a b c (leaves_below s n) (signatures_of_leaf s n) fault w p))
+
+  -- of a list, from its first signature on
+  module _ (ws : List SignatureToVerify) (n : ℕ) (x : SignatureToVerify) (low : n < length ws) (is : x ≡ get_or ws n x) where
+    front-more : take (n + 1) ws ≡ take n ws ++ x ∷ []
+    front-more = take_more ws n x low ∙ ap (λ (y : SignatureToVerify). take n ws ++ y ∷ []) (sym is)
+
+    pub wrote-next : (a b c : Option (List ℕ)) → Appends a b (lines (take n ws)) → Appends b c (lines (x ∷ [])) → Appends a c (lines (take (n + 1) ws))
+    wrote-next a b c p q = subst (λ (vs : List SignatureToVerify). Appends a c (lines vs)) (sym front-more) (wrote-both a b c (take n ws) (x ∷ []) p q)
+
+    pub stops-next : (a b c : Option (List ℕ)) (fault : RunFault) → Appends a b (lines (take n ws)) → StopsInLines lines (x ∷ []) b c fault → StopsInLines lines ws a c fault
+    stops-next a b c fault w p =
+        let split : ws ≡ (take n ws ++ x ∷ []) ++ drop (n + 1) ws =
+        sym (take-append-drop (n + 1) ws) ∙ ap (λ (vs : List SignatureToVerify). vs ++ drop (n + 1) ws) front-more in
+        subst (λ (vs : List SignatureToVerify). StopsInLines lines vs a c fault) (sym split)
+        (stops-before a c (take n ws ++ x ∷ []) (drop (n + 1) ws) fault (stops-behind a b c (take n ws) (x ∷ []) fault w p))
+
+  pub wrote-all : (ws : List SignatureToVerify) (n : ℕ) (a b : Option (List ℕ)) → length ws ≤ n → Appends a b (lines (take n ws)) → Appends a b (lines ws)
+  wrote-all ws n a b end p = subst (λ (vs : List SignatureToVerify). Appends a b (lines vs)) (take_all n ws end) p
+
+-- the text of the lines was not written whole
+pub stops-writing :
+    {T : Type 0} (r : Result T RunFault) (lines : List SignatureToVerify → List ℕ) (ws : List SignatureToVerify) (a b : Option (List ℕ)) (text : List ℕ)
+    → OnErr r (AppendsPrefix a b text) → IfErr r (λ e. e ≡ Write) → text ≡ lines ws → IfErr r (StopsInLines lines ws a b)
+stops-writing (Ok x) lines ws a b text part own is = tt
+stops-writing (Err e) lines ws a b text part own is = subst (StopsInLines lines ws a b) (sym own) (subst (AppendsPrefix a b) is part)
 
 -- ---- the lines of `signatures`
 

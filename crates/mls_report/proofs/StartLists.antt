@@ -12,6 +12,7 @@ use Rattle.mls_nodes.specs.declared.required_capabilities.RequiredCapabilities.{
 use Rattle.mls_signatures.proofs.DistinctStarts.{start_signatures_are_distinct}
 use Rattle.mls_signatures.specs.SignaturesToVerify.{info_signatures, is_supported, start_signatures}
 use Rattle.mls_signatures.specs.declared.signature_to_verify.SignatureToVerify.{SignatureToVerify}
+use Rattle.mls_msgs.specs.declared.profile.Profile.{Profile}
 use Rattle.mls_follow.specs.CoveredLogs.{all_good}
 use Rattle.mls_follow.specs.MessageSignatures.{state_signatures}
 use Rattle.mls_follow.specs.Start.{UsesTree, UsesNoTree, IsStart, initial_state}
@@ -51,11 +52,11 @@ unfolding member_rule
 own_keys G suite group_id required t h = h.rules 4
 
 -- the leaves are valid, so none is a duplicate
-pub start-has : (info : GroupInfo) (handed : Option RatchetTree) (s : State) (signatures : List SignatureToVerify) → IsStart all_good info handed s
-    → AreInfoSignatures info handed signatures → StartHasSignatures info handed s (signatures ++ state_signatures s)
-start-has info handed s signatures start of_info =
+pub start-has : (profile : Profile) (info : GroupInfo) (handed : Option RatchetTree) (s : State) (signatures : List SignatureToVerify) → IsStart profile all_good info handed s
+    → AreInfoSignatures info handed signatures → StartHasSignatures profile info handed s (signatures ++ state_signatures s)
+start-has profile info handed s signatures start of_info =
     let members = start.has_signer.has_members in
-    let first : State = initial_state info start.tree start.interim in
+    let first : State = initial_state profile info start.tree start.interim in
     let whole : start_signatures info first.tree ≡ info_signatures info (leaf_at 0 start.tree.tree info.signer) ++ state_signatures first =
     start_signatures_are_distinct info start.tree.tree (own_keys all_good info.context.cipher_suite info.context.group_id start.has_signer.required start.tree.tree members.members)
     ∙ all_if (is_supported info) (info_signatures info (leaf_at 0 start.tree.tree info.signer) ++ state_signatures first) (supported info members.valid_tree.readable.has_tree.followed) in

@@ -23,6 +23,7 @@ use Rattle.mls_msgs.specs.Layout.{group_info}
 use Rattle.mls_msgs.specs.Message.{message, header}
 use Rattle.mls_msgs.specs.declared.group_info.GroupInfo.{GroupInfo}
 use Rattle.mls_msgs.specs.declared.message.Message.TheVariants as messages
+use Rattle.mls_msgs.specs.declared.profile.Profile.{Profile}
 use Rattle.mls_follow.specs.Start.{UsesTree, UsesNoTree, IsTreeIn, HasSigner, IsStart, IsStartFault, is_info_signed, info_interim, initial_state, start_fault_of}
 use Rattle.mls_follow.specs.State.{State}
 use Rattle.mls_follow.specs.Transcript.{interim_hash}
@@ -65,9 +66,9 @@ own_fault (groups.Tree fault) own = λ e. cc
 own_fault (groups.Member fault) own = λ e. cc
 own_fault groups.OutOfMemory own = absurd (own refl)
 
-module _ (G : VerifyFn) (info : GroupInfo) (handed : Option RatchetTree) (interim : List ℕ) (hashed : info_interim info ≡ Some interim) where
+module _ (profile : Profile) (G : VerifyFn) (info : GroupInfo) (handed : Option RatchetTree) (interim : List ℕ) (hashed : info_interim info ≡ Some interim) where
   abbrev pub StartsOrNot : Type 0
-  StartsOrNot = ((s : State) × IsStart G info handed s) ⊎ ((fault : StartFault) × (fault ≢ OutOfMemory) × IsStartFault G info handed fault)
+  StartsOrNot = ((s : State) × IsStart profile G info handed s) ⊎ ((fault : StartFault) × (fault ≢ OutOfMemory) × IsStartFault G info handed fault)
 
   uses_or_not : (o : Option RatchetTree) → ((t : RatchetTree) × UsesTree o info.extensions t) ⊎ UsesNoTree o info.extensions
   uses_or_not None = in_extension (extension_of 2 info.extensions)
@@ -75,7 +76,7 @@ module _ (G : VerifyFn) (info : GroupInfo) (handed : Option RatchetTree) (interi
 
   by_signature : (t : RatchetTree) (signer : LeafNode) → HasSigner G info handed t signer → (b : Bool) → is_info_signed G info signer ≡ b → StartsOrNot
   by_signature t signer h true e =
-      inl (initial_state info t interim, record { tree = t; signer = signer; has_signer = h; signed = e; interim = interim; hashed = hashed; state = refl })
+      inl (initial_state profile info t interim, record { tree = t; signer = signer; has_signer = h; signed = e; interim = interim; hashed = hashed; state = refl })
   by_signature t signer h false e = inr (InfoSignature, λ own. cc, record { tree = t; signer = signer; has_signer = h; unsigned = e })
 
   by_signer : (t : RatchetTree) (required : RequiredCapabilities) → HasMembers G info.context (UsesTree handed info.extensions) t required → (o : Option LeafNode) → leaf_at 0 t.tree info.signer ≡ o → StartsOrNot
@@ -104,10 +105,10 @@ module _ (G : VerifyFn) (info : GroupInfo) (handed : Option RatchetTree) (interi
   by_suite version (inr none) = inr (UnsupportedSuite, λ own. cc, record { version = version; unsupported = none })
 
 -- a follower starts, or there is a fault
-pub starts_or_not : (G : VerifyFn) (info : GroupInfo) (handed : Option RatchetTree) (interim : List ℕ) → info_interim info ≡ Some interim
-    → ((s : State) × IsStart G info handed s) ⊎ ((fault : StartFault) × (fault ≢ OutOfMemory) × IsStartFault G info handed fault)
-starts_or_not G info handed interim hashed =
+pub starts_or_not : (profile : Profile) (G : VerifyFn) (info : GroupInfo) (handed : Option RatchetTree) (interim : List ℕ) → info_interim info ≡ Some interim
+    → ((s : State) × IsStart profile G info handed s) ⊎ ((fault : StartFault) × (fault ≢ OutOfMemory) × IsStartFault G info handed fault)
+starts_or_not profile G info handed interim hashed =
     elim (same_or_not info.context.version 1) [
-      | inl version ↦ by_suite G info handed interim hashed version (supported_or_not info.context.cipher_suite)
+      | inl version ↦ by_suite profile G info handed interim hashed version (supported_or_not info.context.cipher_suite)
       | inr other ↦ inr (UnsupportedVersion, λ own. cc, other)
     ]

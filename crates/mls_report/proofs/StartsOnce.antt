@@ -31,6 +31,7 @@ use Rattle.mls_follow.specs.Start.{UsesTree, IsTreeIn, HasSigner, is_info_signed
 use Rattle.mls_follow.specs.declared.start_fault.StartFault.{StartFault}
 use Rattle.mls_follow.specs.declared.start_fault.StartFault.TheVariants.{UnsupportedVersion, UnsupportedSuite, NoTree, RequirementsUnreadable, Tree, Member, SignerNotMember, InfoSignature, OutOfMemory}
 use Rattle.mls_report.proofs.InOrder.{first_then, no_more, MetBefore, one_place, other_place}
+use Rattle.mls_msgs.specs.declared.profile.Profile.{Profile}
 
 -- ---- what is read is one
 
@@ -156,8 +157,8 @@ module _ (G : VerifyFn) (info : GroupInfo) (handed : Option RatchetTree) where
       below_more Met 6 (met_members t h.required h.has_members) (t, x, h.has_members.valid_tree.readable.has_tree.uses, h.set)
 
   -- where a follower starts, all are met
-  met_start : (s : State) → IsStart G info handed s → MetBefore Met 8
-  met_start s a =
+  met_start : (profile : Profile) (s : State) → IsStart profile G info handed s → MetBefore Met 8
+  met_start profile s a =
       below_more Met 7 (met_signer a.tree a.signer a.has_signer)
       (a.tree, a.signer, a.has_signer.has_members.valid_tree.readable.has_tree.uses, a.has_signer.set, a.signed)
 
@@ -176,8 +177,8 @@ module _ (G : VerifyFn) (info : GroupInfo) (handed : Option RatchetTree) where
   own_place OutOfMemory own = absurd (own refl)
   own_place _ own = omega arith
 
-  no_fault : (s : State) (f : StartFault) → Refuses f → IsStart G info handed s → ⊥
-  no_fault s f a start = fails f a (met_start s start (place f) (own_place f a.0))
+  no_fault : (profile : Profile) (s : State) (f : StartFault) → Refuses f → IsStart profile G info handed s → ⊥
+  no_fault profile s f a start = fails f a (met_start profile s start (place f) (own_place f a.0))
 
   -- two faults of one condition
   same_fault : (f g : StartFault) → place f ≡ place g → Refuses f → Refuses g → f ≡ g
@@ -200,18 +201,18 @@ module _ (G : VerifyFn) (info : GroupInfo) (handed : Option RatchetTree) where
   one_fault : (f g : StartFault) → Refuses f → Refuses g → f ≡ g
   one_fault f g a b = same_fault f g (one_place place Met Refuses met_before fails f g a b) a b
 
-  one_state : (s u : State) → IsStart G info handed s → IsStart G info handed u → s ≡ u
-  one_state s u a b =
+  one_state : (profile : Profile) (s u : State) → IsStart profile G info handed s → IsStart profile G info handed u → s ≡ u
+  one_state profile s u a b =
       let et = same_tree a.tree b.tree a.has_signer.has_members.valid_tree.readable.has_tree.uses b.has_signer.has_members.valid_tree.readable.has_tree.uses in
       let ei = same_Some a.interim b.interim (sym a.hashed ∙ b.hashed) in
-      a.state ∙ (λ i. initial_state info (et i) (ei i)) ∙ sym b.state
+      a.state ∙ (λ i. initial_state profile info (et i) (ei i)) ∙ sym b.state
 
-pub one_start : (G : VerifyFn) (info : GroupInfo) (handed : Option RatchetTree) (s u : State) → IsStart G info handed s → IsStart G info handed u → s ≡ u
-one_start G info handed = one_state G info handed
+pub one_start : (profile : Profile) (G : VerifyFn) (info : GroupInfo) (handed : Option RatchetTree) (s u : State) → IsStart profile G info handed s → IsStart profile G info handed u → s ≡ u
+one_start profile G info handed = one_state G info handed profile
 
-pub no_fault_of_start : (G : VerifyFn) (info : GroupInfo) (handed : Option RatchetTree) (s : State) (fault : StartFault) → fault ≢ OutOfMemory → IsStart G info handed s
+pub no_fault_of_start : (profile : Profile) (G : VerifyFn) (info : GroupInfo) (handed : Option RatchetTree) (s : State) (fault : StartFault) → fault ≢ OutOfMemory → IsStart profile G info handed s
     → IsStartFault G info handed fault → ⊥
-no_fault_of_start G info handed s f own start fails = no_fault G info handed s f (own, fails) start
+no_fault_of_start profile G info handed s f own start fails = no_fault G info handed profile s f (own, fails) start
 
 pub one_start_fault : (G : VerifyFn) (info : GroupInfo) (handed : Option RatchetTree) (fault other : StartFault) → fault ≢ OutOfMemory → other ≢ OutOfMemory
     → IsStartFault G info handed fault → IsStartFault G info handed other → fault ≡ other

@@ -11,6 +11,7 @@ use Rattle.mls_follow.specs.State.{State}
 use Rattle.mls_signatures.specs.declared.signature_to_verify.SignatureToVerify.{SignatureToVerify}
 use Rattle.mls_report.specs.Replay.{Follows}
 use Rattle.mls_report.specs.SignaturesReport.{LoggedMessage, ProcessesLog, StartHasSignatures, turns_of}
+use Rattle.mls_msgs.specs.declared.profile.Profile.{Profile}
 
 -- `CoversWanted R wanted`: `R` accepts each signature of a message, if the message can be read.
 abbrev pub CoversWanted : VerifyFn → Option (List SignatureToVerify) → Type 0
@@ -22,11 +23,12 @@ abbrev pub CoversAsked : VerifyFn → List LoggedMessage → Type 0
 CoversAsked R [] = Unit {0}
 CoversAsked R (a ∷ asked) = CoversWanted R a.wanted × CoversAsked R asked
 
--- If `R` accepts each signature that `signatures` prints of a start and a log, a follower with `R` starts in the same
--- state, returns the same result for each message, and moves to the same state.
+-- If `R` accepts each signature that `signatures` prints of a start and a log, a follower with `R` and the same profile
+-- starts in the same state, returns the same result for each message, and moves to the same state.
 abbrev pub CoveredReportsReplay : Type 0
 CoveredReportsReplay =
-    (R : VerifyFn) (info : GroupInfo) (handed : Option RatchetTree) (s : State) (wanted : List SignatureToVerify)
+    (profile : Profile) (R : VerifyFn) (info : GroupInfo) (handed : Option RatchetTree) (s : State) (wanted : List SignatureToVerify)
     (log0 log1 : Option (List ℕ)) (asked : List LoggedMessage) (rest : List ℕ)
-    → StartHasSignatures info handed s wanted → Covers R wanted → ProcessesLog s log0 log1 asked rest → CoversAsked R asked
-    → IsStart R info handed s × Follows R s log0 log1 (turns_of asked) rest
+    → StartHasSignatures profile info handed s wanted → Covers R wanted → ProcessesLog s log0 log1 asked rest
+    → CoversAsked R asked
+    → IsStart profile R info handed s × Follows R s log0 log1 (turns_of asked) rest

@@ -7,6 +7,7 @@ use Rattle.std.specs.Io.KnownBytes.{Appends, Consumes, IsAtEnd}
 use Rattle.mls_wire.specs.Devices.{AppendsPrefix}
 use Rattle.mls_wire.specs.Logs.{IsRecord, IsBrokenAt, IsIncomplete}
 use Rattle.mls_check.specs.Signatures.{VerifyFn}
+use Rattle.mls_msgs.specs.declared.profile.Profile.{Profile}
 use Rattle.mls_follow.specs.RefusalNumbers.{number_of}
 use Rattle.mls_follow.specs.Runs.{IsAnswer}
 use Rattle.mls_follow.specs.State.{State}
@@ -54,13 +55,19 @@ abbrev pub refusal_text : Refusal → List ℕ
 refusal_text (Member fault) = codes "25 " ++ decimal (member_number fault)
 refusal_text e = decimal (number_of e)
 
+-- `ended_text ended` is the word behind a commit after which the group is over (RFC 9420, 11.2), else nothing.
+abbrev pub ended_text : Bool → List ℕ
+ended_text false = []
+ended_text true = codes " ended"
+
 -- `answer_text answer s` is the text of a result: the reference of a proposal (RFC 9420, 5.2); of a commit the epoch
--- that it begins, and the tree hash and the confirmed transcript hash of that epoch (8.1).
+-- that it begins, the tree hash and the confirmed transcript hash of that epoch (8.1), and whether the group is over.
 abbrev pub answer_text : Result Taken Refusal → State → List ℕ
 answer_text (Ok (Proposal reference)) s = codes " accepted proposal " ++ hex_text reference
 answer_text (Ok (Commit epoch)) s =
     codes " accepted commit " ++ (decimal epoch
-    ++ (codes " " ++ (hex_text s.context.tree_hash ++ (codes " " ++ hex_text s.context.confirmed))))
+    ++ (codes " " ++ (hex_text s.context.tree_hash ++ (codes " " ++ (hex_text s.context.confirmed
+    ++ ended_text s.ended)))))
 answer_text (Err e) s = codes " refused " ++ refusal_text e
 
 -- `processed_line n turn` is the line of message n.
@@ -290,27 +297,30 @@ ReplaysPartFrom G Starts Declines log0 log1 written0 written1 fault =
     StopsBefore Declines log0 log1 written0 written1 fault
     ⊎ StopsAfter G Starts log0 log1 written0 written1 fault
 
--- ---- from a GroupInfo, and a tree if one is passed
+-- ---- from a GroupInfo, and a tree if one is passed. The group is followed in `profile`
 
-module _ (G : VerifyFn) (info0 info1 : Option (List ℕ)) (tree0 tree1 : Option (Option (List ℕ)))
+module _ (profile : Profile) (G : VerifyFn) (info0 info1 : Option (List ℕ)) (tree0 tree1 : Option (Option (List ℕ)))
     (log0 log1 written0 written1 : Option (List ℕ)) where
-  -- `Replays G info0 info1 tree0 tree1 log0 log1 written0 written1 verdict`: the report was written whole.
+  -- `Replays profile G info0 info1 tree0 tree1 log0 log1 written0 written1 verdict`: the report was written whole.
   abbrev pub Replays : Verdict → Type 0
   Replays =
-      ReplaysFrom G (ReadsAndStarts G info0 info1 tree0 tree1) (ReadsAndDeclines G info0 info1 tree0 tree1)
+      ReplaysFrom G (ReadsAndStarts profile G info0 info1 tree0 tree1)
+      (ReadsAndDeclines profile G info0 info1 tree0 tree1)
       log0 log1 written0 written1
 
-  -- `ReplaysGroupTo G info0 info1 tree0 tree1 log0 log1 written0 written1 verdict last`: moreover `last` is the state
-  -- after the last whole message; None if no follower starts.
+  -- `ReplaysGroupTo profile G info0 info1 tree0 tree1 log0 log1 written0 written1 verdict last`: moreover `last` is the
+  -- state after the last whole message; None if no follower starts.
   abbrev pub ReplaysGroupTo : Verdict → Option State → Type 0
   ReplaysGroupTo =
-      ReplaysTo G (ReadsAndStarts G info0 info1 tree0 tree1) (ReadsAndDeclines G info0 info1 tree0 tree1)
+      ReplaysTo G (ReadsAndStarts profile G info0 info1 tree0 tree1)
+      (ReadsAndDeclines profile G info0 info1 tree0 tree1)
       log0 log1 written0 written1
 
-  -- `ReplaysPart G info0 info1 tree0 tree1 log0 log1 written0 written1 fault`: the report was not written whole.
+  -- `ReplaysPart profile G info0 info1 tree0 tree1 log0 log1 written0 written1 fault`: the report was not written whole.
   abbrev pub ReplaysPart : RunFault → Type 0
   ReplaysPart =
-      ReplaysPartFrom G (ReadsAndStarts G info0 info1 tree0 tree1) (ReadsAndDeclines G info0 info1 tree0 tree1)
+      ReplaysPartFrom G (ReadsAndStarts profile G info0 info1 tree0 tree1)
+      (ReadsAndDeclines profile G info0 info1 tree0 tree1)
       log0 log1 written0 written1
 
 -- ---- from the file of a state

@@ -1,8 +1,9 @@
--- Something is found of any bytes, and `replay` and `signatures` have a report, for any checker and any receipts. Used
--- by contracts.
+-- Something is found of any bytes, and `replay` and `signatures` have a report, in each profile, for any checker and any
+-- receipts. Used by contracts.
 use Rattle.std.specs.Prelude.{List, ℕ, Option}
 use Rattle.mls_check.specs.Signatures.{VerifyFn}
-use Rattle.mls_report.specs.UniqueReports.{IsReplayReport, IsStateReplayReport, IsSignaturesReport}
+use Rattle.mls_msgs.specs.declared.profile.Profile.{Profile}
+use Rattle.mls_report.specs.UniqueReports.{IsReplayReport, IsStateReplayReport, IsSignaturesReport, IsStateSignaturesReport}
 use Rattle.mls_report.specs.StartInputs.{IsStartFinding}
 use Rattle.mls_report.specs.StateInputs.{IsStateFinding}
 use Rattle.mls_report.specs.ValidateTree.{IsTreeFinding}
@@ -18,8 +19,8 @@ TreeFindingExists =
 -- Something is found of the bytes of a GroupInfo, and of a tree if one is passed.
 abbrev pub StartFindingExists : Type 0
 StartFindingExists =
-    (G : VerifyFn) (info_bytes : List ℕ) (tree_bytes : Option (List ℕ))
-    → (finding : Finding) × IsStartFinding G info_bytes tree_bytes finding
+    (profile : Profile) (G : VerifyFn) (info_bytes : List ℕ) (tree_bytes : Option (List ℕ))
+    → (finding : Finding) × IsStartFinding profile G info_bytes tree_bytes finding
 
 -- Something is found of the bytes of a state's file.
 abbrev pub StateFindingExists : Type 0
@@ -28,9 +29,9 @@ StateFindingExists = (G : VerifyFn) (bytes : List ℕ) → (finding : Finding) �
 -- The bytes of the inputs of a replay have a report.
 abbrev pub ReplayExists : Type 0
 ReplayExists =
-    (G : VerifyFn) (info_bytes : List ℕ) (tree_bytes : Option (List ℕ)) (log_bytes : List ℕ)
+    (profile : Profile) (G : VerifyFn) (info_bytes : List ℕ) (tree_bytes : Option (List ℕ)) (log_bytes : List ℕ)
     → (text : List ℕ) × (verdict : Verdict)
-    × IsReplayReport G info_bytes tree_bytes log_bytes text verdict
+    × IsReplayReport profile G info_bytes tree_bytes log_bytes text verdict
 
 -- The bytes of a state's file and of a log have a report.
 abbrev pub StateReplayExists : Type 0
@@ -41,6 +42,12 @@ StateReplayExists =
 -- The bytes of the inputs of `signatures` have a report, with a tree and a log or without.
 abbrev pub SignaturesExist : Type 0
 SignaturesExist =
-    (R : VerifyFn) (info_bytes : List ℕ) (tree_bytes log_bytes : Option (List ℕ))
+    (profile : Profile) (R : VerifyFn) (info_bytes : List ℕ) (tree_bytes log_bytes : Option (List ℕ))
     → (text : List ℕ) × (verdict : Verdict)
-    × IsSignaturesReport R info_bytes tree_bytes log_bytes text verdict
+    × IsSignaturesReport profile R info_bytes tree_bytes log_bytes text verdict
+
+-- The bytes of a state's file, and of a log or without, have a report `signatures`.
+abbrev pub StateSignaturesExist : Type 0
+StateSignaturesExist =
+    (R : VerifyFn) (state_bytes : List ℕ) (log_bytes : Option (List ℕ))
+    → (text : List ℕ) × (verdict : Verdict) × IsStateSignaturesReport R state_bytes log_bytes text verdict

@@ -15,18 +15,20 @@ use Rattle.mls_follow.specs.Acceptance.{EncodesNoMessage}
 use Rattle.mls_follow.specs.CoveredLogs.{all_good}
 use Rattle.mls_follow.specs.Start.{IsStart}
 use Rattle.mls_follow.specs.State.{State}
-use Rattle.mls_signatures.specs.SignaturesToVerify.{start_signatures}
+use Rattle.mls_signatures.specs.SignaturesToVerify.{start_signatures, resumption_signatures}
 use Rattle.mls_follow.specs.MessageSignatures.{AreSignaturesOf}
 use Rattle.mls_signatures.specs.declared.signature_to_verify.SignatureToVerify.{SignatureToVerify}
 use Rattle.mls_report.specs.Finding.{finding_line}
 use Rattle.mls_report.specs.Replay.{ProcessedMessage, Follows, IsLogEnd, IsLeftOver, still_to_come}
 use Rattle.mls_report.specs.StartInputs.{IsReadAs, ReadsBoth, ReadsAndDeclines}
+use Rattle.mls_report.specs.StateInputs.{ReadsAndResumes, ReadsAndDeclinesState}
 use Rattle.mls_report.specs.ValueTexts.{hex_text}
 use Rattle.mls_report.specs.declared.finding.Finding.{Finding}
 use Rattle.mls_report.specs.declared.verdict.RunFault.{RunFault}
 use Rattle.mls_report.specs.declared.verdict.RunFault.TheVariants.{Read, Write, Memory}
 use Rattle.mls_report.specs.declared.verdict.Verdict.{Verdict}
 use Rattle.mls_report.specs.declared.verdict.Verdict.TheVariants.{Yes, No}
+use Rattle.mls_msgs.specs.declared.profile.Profile.{Profile}
 
 -- ---- lines
 
@@ -60,7 +62,7 @@ wanted_lines R (w ∷ ws) = line_unless R w ++ wanted_lines R ws
 -- `HasSignatures s bytes wanted`: `wanted` is the signatures of a message in a state, or `None` if the bytes are no
 -- message.
 abbrev pub HasSignatures : State → List ℕ → Option (List SignatureToVerify) → Type 0
-HasSignatures s bytes None = EncodesNoMessage bytes
+HasSignatures s bytes None = EncodesNoMessage s.profile bytes
 HasSignatures s bytes (Some wanted) = AreSignaturesOf s bytes wanted
 
 -- A message of a log, and its signatures in the state before it.
@@ -197,56 +199,37 @@ LogPartIf R s (Some log0) (Some log1) written0 written1 fault =
     AskedPart R s log0 log1 written0 written1 fault
 LogPartIf R s _ _ written0 written1 fault = ⊥
 
--- ---- the whole report
+-- ---- the whole report. `Starts s wanted`: the inputs were read, a follower starts or resumes from them in the state
+-- `s`, each signature being good, and `wanted` are the signatures of that. `Declines finding`: the inputs were read, and
+-- no follower does although each signature is good, for this finding.
 
--- `StartHasSignatures info handed s wanted`: a follower starts from a GroupInfo and a tree in this state, each
--- signature being good, and the start has these signatures.
-pub record StartHasSignatures (info : GroupInfo) (handed : Option RatchetTree) (s : State)
-    (wanted : List SignatureToVerify) : Type 0 where
-  pub start : IsStart all_good info handed s
-  pub wanted_is : wanted ≡ start_signatures info s.tree
-
--- `ReadsStartSignatures info0 info1 tree0 tree1 s wanted`: both were read, and so a follower starts from them.
-pub record ReadsStartSignatures (info0 info1 : Option (List ℕ)) (tree0 tree1 : Option (Option (List ℕ)))
-    (s : State) (wanted : List SignatureToVerify) : Type 0 where
-  pub info_bytes : List ℕ
-  pub tree_bytes : Option (List ℕ)
-  pub both_read : ReadsBoth info0 info1 tree0 tree1 info_bytes tree_bytes
-  pub info : GroupInfo
-  pub handed : Option RatchetTree
-  pub is_read : IsReadAs info_bytes tree_bytes info handed
-  pub starts : StartHasSignatures info handed s wanted
-
--- `DeclinesSignatures ..`: no follower starts although each signature is good. The log was not read, and one line says
--- why.
-pub record DeclinesSignatures (info0 info1 : Option (List ℕ)) (tree0 tree1 : Option (Option (List ℕ)))
-    (log0 log1 : Option (Option (List ℕ))) (written0 written1 : Option (List ℕ))
-    (verdict : Verdict) : Type 0 where
+-- `DeclinesSignatures Declines ..`: no follower starts. The log was not read, and one line says why.
+pub record DeclinesSignatures (Declines : Finding → Type 0) (log0 log1 : Option (Option (List ℕ)))
+    (written0 written1 : Option (List ℕ)) (verdict : Verdict) : Type 0 where
   pub finding : Finding
-  pub declines : ReadsAndDeclines all_good info0 info1 tree0 tree1 finding
+  pub declines : Declines finding
   pub unread : log1 ≡ log0
   pub wrote : Appends written0 written1 (finding_line finding)
   pub verdict_is : verdict ≡ No
 
--- `TellsSignatures ..`: a follower starts. The lines of the start were written, and then those of the log, if there is
--- one.
-pub record TellsSignatures (R : VerifyFn) (info0 info1 : Option (List ℕ))
-    (tree0 tree1 log0 log1 : Option (Option (List ℕ))) (written0 written1 : Option (List ℕ))
-    (verdict : Verdict) : Type 0 where
+-- `TellsSignatures R Starts ..`: a follower starts. The lines of the start were written, and then those of the log, if
+-- there is one.
+pub record TellsSignatures (R : VerifyFn) (Starts : State → List SignatureToVerify → Type 0)
+    (log0 log1 : Option (Option (List ℕ))) (written0 written1 : Option (List ℕ)) (verdict : Verdict)
+    : Type 0 where
   pub state : State
   pub wanted : List SignatureToVerify
-  pub opens : ReadsStartSignatures info0 info1 tree0 tree1 state wanted
+  pub opens : Starts state wanted
   pub between : Option (List ℕ)
   pub wrote : Appends written0 between (wanted_lines R wanted)
   pub tells : TellsLogIf R state log0 log1 between written1 verdict
 
--- `Signatures R ..`: the whole report `signatures`, for a start that fails or succeeds.
-abbrev pub Signatures : VerifyFn → Option (List ℕ) → Option (List ℕ) → Option (Option (List ℕ))
-    → Option (Option (List ℕ)) → Option (Option (List ℕ)) → Option (Option (List ℕ))
-    → Option (List ℕ) → Option (List ℕ) → Verdict → Type 0
-Signatures R info0 info1 tree0 tree1 log0 log1 written0 written1 verdict =
-    DeclinesSignatures info0 info1 tree0 tree1 log0 log1 written0 written1 verdict
-    ⊎ TellsSignatures R info0 info1 tree0 tree1 log0 log1 written0 written1 verdict
+-- `SignaturesFrom R Starts Declines ..`: the report was written whole.
+abbrev pub SignaturesFrom : VerifyFn → (State → List SignatureToVerify → Type 0) → (Finding → Type 0)
+    → Option (Option (List ℕ)) → Option (Option (List ℕ)) → Option (List ℕ) → Option (List ℕ) → Verdict → Type 0
+SignaturesFrom R Starts Declines log0 log1 written0 written1 verdict =
+    DeclinesSignatures Declines log0 log1 written0 written1 verdict
+    ⊎ TellsSignatures R Starts log0 log1 written0 written1 verdict
 
 -- ---- a part of the report
 
@@ -256,66 +239,117 @@ pub record WritesNothing (log0 log1 : Option (Option (List ℕ))) (written0 writ
   pub unread : log1 ≡ log0
   pub wrote : Appends written0 written1 []
 
--- `SignaturesInDecline ..`: the output failed in the line of a refused start.
-pub record SignaturesInDecline (info0 info1 : Option (List ℕ))
-    (tree0 tree1 log0 log1 : Option (Option (List ℕ))) (written0 written1 : Option (List ℕ))
-    : Type 0 where
+-- `SignaturesInDecline Declines ..`: the output failed in the line that says why no follower starts.
+pub record SignaturesInDecline (Declines : Finding → Type 0) (log0 log1 : Option (Option (List ℕ)))
+    (written0 written1 : Option (List ℕ)) : Type 0 where
   pub finding : Finding
-  pub declines : ReadsAndDeclines all_good info0 info1 tree0 tree1 finding
+  pub declines : Declines finding
   pub unread : log1 ≡ log0
   pub wrote : AppendsPrefix written0 written1 (finding_line finding)
 
--- `SignaturesInStart ..`: the output failed in the lines of the start.
-pub record SignaturesInStart (R : VerifyFn) (info0 info1 : Option (List ℕ))
-    (tree0 tree1 log0 log1 : Option (Option (List ℕ))) (written0 written1 : Option (List ℕ))
-    : Type 0 where
+-- `SignaturesInStart R Starts ..`: the output failed in the lines of the start.
+pub record SignaturesInStart (R : VerifyFn) (Starts : State → List SignatureToVerify → Type 0)
+    (log0 log1 : Option (Option (List ℕ))) (written0 written1 : Option (List ℕ)) : Type 0 where
   pub state : State
   pub wanted : List SignatureToVerify
-  pub opens : ReadsStartSignatures info0 info1 tree0 tree1 state wanted
+  pub opens : Starts state wanted
   pub unread : log1 ≡ log0
   pub wrote : AppendsPrefix written0 written1 (wanted_lines R wanted)
 
--- `SignaturesWithoutMemory ..`: memory ran out in the lines of the start. The lines of the signatures before were
--- written whole.
-pub record SignaturesWithoutMemory (R : VerifyFn) (info0 info1 : Option (List ℕ))
-    (tree0 tree1 log0 log1 : Option (Option (List ℕ))) (written0 written1 : Option (List ℕ))
-    : Type 0 where
+-- `SignaturesWithoutMemory R Starts ..`: memory ran out in the lines of the start. The lines of the signatures before
+-- were written whole.
+pub record SignaturesWithoutMemory (R : VerifyFn) (Starts : State → List SignatureToVerify → Type 0)
+    (log0 log1 : Option (Option (List ℕ))) (written0 written1 : Option (List ℕ)) : Type 0 where
   pub state : State
   pub front : List SignatureToVerify
   pub rest : List SignatureToVerify
-  pub opens : ReadsStartSignatures info0 info1 tree0 tree1 state (front ++ rest)
+  pub opens : Starts state (front ++ rest)
   pub unread : log1 ≡ log0
   pub wrote : Appends written0 written1 (wanted_lines R front)
 
--- `SignaturesBefore .. fault`: nothing of the log was read, by the fault that is returned.
-abbrev pub SignaturesBefore : VerifyFn → Option (List ℕ) → Option (List ℕ) → Option (Option (List ℕ))
-    → Option (Option (List ℕ)) → Option (Option (List ℕ)) → Option (Option (List ℕ))
-    → Option (List ℕ) → Option (List ℕ) → RunFault → Type 0
-SignaturesBefore R info0 info1 tree0 tree1 log0 log1 written0 written1 Read =
+-- `SignaturesBefore R Starts Declines .. fault`: nothing of the log was read, by the fault that is returned.
+abbrev pub SignaturesBefore : VerifyFn → (State → List SignatureToVerify → Type 0) → (Finding → Type 0)
+    → Option (Option (List ℕ)) → Option (Option (List ℕ)) → Option (List ℕ) → Option (List ℕ) → RunFault → Type 0
+SignaturesBefore R Starts Declines log0 log1 written0 written1 Read = WritesNothing log0 log1 written0 written1
+SignaturesBefore R Starts Declines log0 log1 written0 written1 Write =
+    SignaturesInDecline Declines log0 log1 written0 written1
+    ⊎ SignaturesInStart R Starts log0 log1 written0 written1
+SignaturesBefore R Starts Declines log0 log1 written0 written1 Memory =
     WritesNothing log0 log1 written0 written1
-SignaturesBefore R info0 info1 tree0 tree1 log0 log1 written0 written1 Write =
-    SignaturesInDecline info0 info1 tree0 tree1 log0 log1 written0 written1
-    ⊎ SignaturesInStart R info0 info1 tree0 tree1 log0 log1 written0 written1
-SignaturesBefore R info0 info1 tree0 tree1 log0 log1 written0 written1 Memory =
-    WritesNothing log0 log1 written0 written1
-    ⊎ SignaturesWithoutMemory R info0 info1 tree0 tree1 log0 log1 written0 written1
+    ⊎ SignaturesWithoutMemory R Starts log0 log1 written0 written1
 
--- `SignaturesAfter .. fault`: the lines of the start were written whole, and those of the log were not.
-pub record SignaturesAfter (R : VerifyFn) (info0 info1 : Option (List ℕ))
-    (tree0 tree1 log0 log1 : Option (Option (List ℕ))) (written0 written1 : Option (List ℕ))
-    (fault : RunFault) : Type 0 where
+-- `SignaturesAfter R Starts .. fault`: the lines of the start were written whole, and those of the log were not.
+pub record SignaturesAfter (R : VerifyFn) (Starts : State → List SignatureToVerify → Type 0)
+    (log0 log1 : Option (Option (List ℕ))) (written0 written1 : Option (List ℕ)) (fault : RunFault)
+    : Type 0 where
   pub state : State
   pub wanted : List SignatureToVerify
-  pub opens : ReadsStartSignatures info0 info1 tree0 tree1 state wanted
+  pub opens : Starts state wanted
   pub between : Option (List ℕ)
   pub wrote : Appends written0 between (wanted_lines R wanted)
   pub tells : LogPartIf R state log0 log1 between written1 fault
 
--- `SignaturesPart .. fault`: what was written if the report was not written whole, by the fault that is returned. It is
--- a prefix of what the bytes that were read determine.
-abbrev pub SignaturesPart : VerifyFn → Option (List ℕ) → Option (List ℕ) → Option (Option (List ℕ))
-    → Option (Option (List ℕ)) → Option (Option (List ℕ)) → Option (Option (List ℕ))
-    → Option (List ℕ) → Option (List ℕ) → RunFault → Type 0
-SignaturesPart R info0 info1 tree0 tree1 log0 log1 written0 written1 fault =
-    SignaturesBefore R info0 info1 tree0 tree1 log0 log1 written0 written1 fault
-    ⊎ SignaturesAfter R info0 info1 tree0 tree1 log0 log1 written0 written1 fault
+-- `SignaturesPartFrom R Starts Declines .. fault`: what was written if the report was not written whole, by the fault
+-- that is returned. It is a prefix of what the bytes that were read determine.
+abbrev pub SignaturesPartFrom : VerifyFn → (State → List SignatureToVerify → Type 0) → (Finding → Type 0)
+    → Option (Option (List ℕ)) → Option (Option (List ℕ)) → Option (List ℕ) → Option (List ℕ) → RunFault → Type 0
+SignaturesPartFrom R Starts Declines log0 log1 written0 written1 fault =
+    SignaturesBefore R Starts Declines log0 log1 written0 written1 fault
+    ⊎ SignaturesAfter R Starts log0 log1 written0 written1 fault
+
+-- ---- from a GroupInfo, and a tree if one is passed. The group is followed in `profile`
+
+-- `StartHasSignatures profile info handed s wanted`: a follower starts from a GroupInfo and a tree in this state, each
+-- signature being good, and the start has these signatures.
+pub record StartHasSignatures (profile : Profile) (info : GroupInfo) (handed : Option RatchetTree)
+    (s : State) (wanted : List SignatureToVerify) : Type 0 where
+  pub start : IsStart profile all_good info handed s
+  pub wanted_is : wanted ≡ start_signatures info s.tree
+
+-- `ReadsStartSignatures profile info0 info1 tree0 tree1 s wanted`: both were read, and so a follower starts from them.
+pub record ReadsStartSignatures (profile : Profile) (info0 info1 : Option (List ℕ))
+    (tree0 tree1 : Option (Option (List ℕ))) (s : State) (wanted : List SignatureToVerify) : Type 0 where
+  pub info_bytes : List ℕ
+  pub tree_bytes : Option (List ℕ)
+  pub both_read : ReadsBoth info0 info1 tree0 tree1 info_bytes tree_bytes
+  pub info : GroupInfo
+  pub handed : Option RatchetTree
+  pub is_read : IsReadAs profile info_bytes tree_bytes info handed
+  pub starts : StartHasSignatures profile info handed s wanted
+
+module _ (profile : Profile) (R : VerifyFn) (info0 info1 : Option (List ℕ))
+    (tree0 tree1 log0 log1 : Option (Option (List ℕ))) (written0 written1 : Option (List ℕ)) where
+  -- `Signatures profile R info0 info1 tree0 tree1 log0 log1 written0 written1 verdict`: the report was written whole.
+  abbrev pub Signatures : Verdict → Type 0
+  Signatures =
+      SignaturesFrom R (ReadsStartSignatures profile info0 info1 tree0 tree1)
+      (ReadsAndDeclines profile all_good info0 info1 tree0 tree1) log0 log1 written0 written1
+
+  -- `SignaturesPart profile R info0 info1 tree0 tree1 log0 log1 written0 written1 fault`: it was not written whole.
+  abbrev pub SignaturesPart : RunFault → Type 0
+  SignaturesPart =
+      SignaturesPartFrom R (ReadsStartSignatures profile info0 info1 tree0 tree1)
+      (ReadsAndDeclines profile all_good info0 info1 tree0 tree1) log0 log1 written0 written1
+
+-- ---- from the file of a state
+
+-- `ReadsStateSignatures state0 state1 s wanted`: the file was read, a follower resumes from it in this state, each
+-- signature being good, and the resumption has these signatures.
+pub record ReadsStateSignatures (state0 state1 : Option (List ℕ)) (s : State) (wanted : List SignatureToVerify)
+    : Type 0 where
+  pub resumes : ReadsAndResumes all_good state0 state1 s
+  pub wanted_is : wanted ≡ resumption_signatures s.context s.tree s.known
+
+module _ (R : VerifyFn) (state0 state1 : Option (List ℕ)) (log0 log1 : Option (Option (List ℕ)))
+    (written0 written1 : Option (List ℕ)) where
+  -- `SignaturesState R state0 state1 log0 log1 written0 written1 verdict`: the report was written whole.
+  abbrev pub SignaturesState : Verdict → Type 0
+  SignaturesState =
+      SignaturesFrom R (ReadsStateSignatures state0 state1) (ReadsAndDeclinesState all_good state0 state1)
+      log0 log1 written0 written1
+
+  -- `SignaturesStatePart R state0 state1 log0 log1 written0 written1 fault`: it was not written whole.
+  abbrev pub SignaturesStatePart : RunFault → Type 0
+  SignaturesStatePart =
+      SignaturesPartFrom R (ReadsStateSignatures state0 state1) (ReadsAndDeclinesState all_good state0 state1)
+      log0 log1 written0 written1

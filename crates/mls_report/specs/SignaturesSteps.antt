@@ -1,28 +1,25 @@
 -- The contracts of the steps of `signatures`. Internal: no public contract uses this.
-use Rattle.std.specs.Prelude.{List, [], ◌++◌, ℕ, Bool, Option, is_some, Result, ◌≡◌, ◌≢◌, ◌⊎◌}
+use Rattle.std.specs.Prelude.{List, [], ◌++◌, ℕ, Bool, Option, is_some, Result, ◌≡◌, ◌⊎◌}
 use Rattle.std.specs.Io.KnownBytes.{Appends}
 use Rattle.mls_wire.specs.Devices.{AppendsPrefix}
 use Rattle.mls_tree.specs.RatchetTree.{RatchetTree}
 use Rattle.mls_tree.specs.Tree.{leaf_at}
 use Rattle.mls_check.specs.Signatures.{VerifyFn}
 use Rattle.mls_msgs.specs.declared.group_info.GroupInfo.{GroupInfo}
+use Rattle.mls_msgs.specs.declared.profile.Profile.{Profile}
 use Rattle.mls_follow.specs.Runs.{IsAnswer}
-use Rattle.mls_follow.specs.Start.{UsesTree, IsStartFault}
+use Rattle.mls_follow.specs.Start.{UsesTree}
 use Rattle.mls_follow.specs.State.{State}
-use Rattle.mls_signatures.specs.SignaturesToVerify.{info_signatures, non_blank_leaf_signatures}
+use Rattle.mls_signatures.specs.SignaturesToVerify.{info_signatures, non_blank_leaf_signatures, resumption_signatures}
 use Rattle.mls_follow.specs.declared.refusal.Refusal.{Refusal}
-use Rattle.mls_follow.specs.declared.start_fault.StartFault.{StartFault}
-use Rattle.mls_follow.specs.declared.start_fault.StartFault.TheVariants as starts
 use Rattle.mls_follow.specs.declared.taken.Taken.{Taken}
 use Rattle.mls_signatures.specs.declared.signature_to_verify.SignatureToVerify.{SignatureToVerify}
-use Rattle.mls_report.specs.Finding.{finding_line}
 use Rattle.mls_follow.specs.CoveredLogs.{all_good}
-use Rattle.mls_report.specs.SignaturesReport.{HasSignatures, signature_lines, wanted_lines, StartHasSignatures, TellsLogIf, LogPartIf, WritesNothing}
-use Rattle.mls_report.specs.declared.finding.Finding.TheVariants.{StartRefused}
+use Rattle.mls_report.specs.SignaturesReport.{HasSignatures, signature_lines, wanted_lines, StartHasSignatures, TellsLogIf, LogPartIf}
+use Rattle.mls_report.specs.StartInputs.{IsReadAs}
 use Rattle.mls_report.specs.declared.verdict.RunFault.{RunFault}
 use Rattle.mls_report.specs.declared.verdict.RunFault.TheVariants.{Read, Write, Memory}
 use Rattle.mls_report.specs.declared.verdict.Verdict.{Verdict}
-use Rattle.mls_report.specs.declared.verdict.Verdict.TheVariants.{No}
 
 -- The text of message n, and whether it is decodable.
 pub record TellsWanted (R : VerifyFn) (s : State) (n : ℕ) (bytes text : List ℕ) (is_read : Bool)
@@ -66,10 +63,23 @@ AreInfoSignatures info handed signatures =
     (t : RatchetTree) → UsesTree handed info.extensions t
     → signatures ≡ info_signatures info (leaf_at 0 t.tree info.signer)
 
+-- From the bytes of a GroupInfo, and of a tree if there is a file of it, a follower with the profile starts in this state,
+-- with these signatures.
+pub record StartsWithSignatures (profile : Profile) (info_bytes : List ℕ) (tree_bytes : Option (List ℕ))
+    (s : State) (signatures : List SignatureToVerify) : Type 0 where
+  pub info : GroupInfo
+  pub handed : Option RatchetTree
+  pub is_read : IsReadAs profile info_bytes tree_bytes info handed
+  pub starts : StartHasSignatures profile info handed s signatures
+
 -- The signature of the leaf of a state's tree at a leaf index.
 abbrev pub signatures_of_leaf : State → ℕ → List SignatureToVerify
 signatures_of_leaf s i =
     non_blank_leaf_signatures s.context.cipher_suite s.context.group_id i (leaf_at 0 s.tree i)
+
+-- The signatures of a resumption in a state.
+abbrev pub signatures_of_state : State → List SignatureToVerify
+signatures_of_state s = resumption_signatures s.context s.tree s.known
 
 -- ---- lines that are written one signature after the other. `lines` is the lines of a list of signatures
 
@@ -118,60 +128,3 @@ abbrev pub BehindPart : VerifyFn → State → List SignatureToVerify → Option
 BehindPart R s wanted log0 log1 written0 written1 fault =
     StopsInStart R wanted log0 log1 written0 written1 fault
     ⊎ StopsBehind R s wanted log0 log1 written0 written1 fault
-
--- A follower starts from a GroupInfo and a tree, and all needed signatures are reported.
-pub record StartsSignatures (R : VerifyFn) (info : GroupInfo) (handed : Option RatchetTree)
-    (log0 log1 : Option (Option (List ℕ))) (written0 written1 : Option (List ℕ)) (verdict : Verdict)
-    : Type 0 where
-  pub state : State
-  pub wanted : List SignatureToVerify
-  pub starts : StartHasSignatures info handed state wanted
-  pub behind : TellsBehind R state wanted log0 log1 written0 written1 verdict
-
--- No follower starts, and one line says why.
-pub record RefusesSignatures (info : GroupInfo) (handed : Option RatchetTree)
-    (log0 log1 : Option (Option (List ℕ))) (written0 written1 : Option (List ℕ)) (verdict : Verdict)
-    : Type 0 where
-  pub fault : StartFault
-  pub own : fault ≢ starts.OutOfMemory
-  pub fails : IsStartFault all_good info handed fault
-  pub unread : log1 ≡ log0
-  pub wrote : Appends written0 written1 (finding_line (StartRefused fault))
-  pub verdict_is : verdict ≡ No
-
-abbrev pub SignaturesStart : VerifyFn → GroupInfo → Option RatchetTree → Option (Option (List ℕ))
-    → Option (Option (List ℕ)) → Option (List ℕ) → Option (List ℕ) → Verdict → Type 0
-SignaturesStart R info handed log0 log1 written0 written1 verdict =
-    StartsSignatures R info handed log0 log1 written0 written1 verdict
-    ⊎ RefusesSignatures info handed log0 log1 written0 written1 verdict
-
--- The same for a report that was not written whole, with this fault.
-pub record StartsPart (R : VerifyFn) (info : GroupInfo) (handed : Option RatchetTree)
-    (log0 log1 : Option (Option (List ℕ))) (written0 written1 : Option (List ℕ)) (fault : RunFault)
-    : Type 0 where
-  pub state : State
-  pub wanted : List SignatureToVerify
-  pub starts : StartHasSignatures info handed state wanted
-  pub behind : BehindPart R state wanted log0 log1 written0 written1 fault
-
-pub record RefusesPart (info : GroupInfo) (handed : Option RatchetTree)
-    (log0 log1 : Option (Option (List ℕ))) (written0 written1 : Option (List ℕ)) : Type 0 where
-  pub fault : StartFault
-  pub own : fault ≢ starts.OutOfMemory
-  pub fails : IsStartFault all_good info handed fault
-  pub unread : log1 ≡ log0
-  pub wrote : AppendsPrefix written0 written1 (finding_line (StartRefused fault))
-
-abbrev pub RefusesBefore : GroupInfo → Option RatchetTree → Option (Option (List ℕ))
-    → Option (Option (List ℕ)) → Option (List ℕ) → Option (List ℕ) → RunFault → Type 0
-RefusesBefore info handed log0 log1 written0 written1 Read = ⊥
-RefusesBefore info handed log0 log1 written0 written1 Write =
-    RefusesPart info handed log0 log1 written0 written1
-RefusesBefore info handed log0 log1 written0 written1 Memory =
-    WritesNothing log0 log1 written0 written1
-
-abbrev pub SignaturesStartPart : VerifyFn → GroupInfo → Option RatchetTree → Option (Option (List ℕ))
-    → Option (Option (List ℕ)) → Option (List ℕ) → Option (List ℕ) → RunFault → Type 0
-SignaturesStartPart R info handed log0 log1 written0 written1 fault =
-    StartsPart R info handed log0 log1 written0 written1 fault
-    ⊎ RefusesBefore info handed log0 log1 written0 written1 fault

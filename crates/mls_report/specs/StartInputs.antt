@@ -1,5 +1,6 @@
 -- How `validate` and `replay` begin: a follower starts from a GroupInfo and a tree, or something is found for which
--- none does. `tree_bytes` and `tree0`, `tree1` are `None` if no tree is passed. Used by contracts.
+-- none does. `tree_bytes` and `tree0`, `tree1` are `None` if no tree is passed. `profile` is that in which the group is
+-- followed. Used by contracts.
 use Rattle.std.specs.Prelude.{List, ℕ, Bool, false, Option, Some, None, ◌≡◌, ◌≢◌}
 use Rattle.mls_nodes.specs.declared.fault.NodeFault.TheVariants as nodes
 use Rattle.mls_tree.specs.RatchetTree.{RatchetTree}
@@ -14,26 +15,28 @@ use Rattle.mls_follow.specs.Start.{IsStart, IsStartFault}
 use Rattle.mls_follow.specs.declared.start_fault.StartFault.TheVariants as starts
 use Rattle.mls_report.specs.Finding.{finding_verdict}
 use Rattle.mls_report.specs.ReadAll.{ReadsAll}
-use Rattle.mls_report.specs.Show.{IsMessage}
+use Rattle.mls_report.specs.Show.{IsMessageIn}
 use Rattle.mls_report.specs.declared.finding.Finding.{Finding}
 use Rattle.mls_report.specs.declared.finding.Finding.TheVariants.{InfoUnreadable, NotGroupInfo, TreeUnreadable, StartRefused, Starts}
 use Rattle.mls_report.specs.declared.finding.Started.{Started}
 use Rattle.mls_report.specs.declared.verdict.Verdict.TheVariants.{No}
+use Rattle.mls_msgs.specs.declared.profile.Profile.{Profile}
 
 -- ---- what is read of the inputs
 
--- `IsInfo bytes info`: the bytes are the encoding of a message with this GroupInfo (RFC 9420, 6 and 12.4.3).
-abbrev pub IsInfo : List ℕ → GroupInfo → Type 0
-IsInfo bytes info = IsMessage bytes (messages.GroupInfo info)
+-- `IsInfo profile bytes info`: the bytes are the encoding of a message in the profile, with this GroupInfo (RFC 9420, 6 and
+-- 12.4.3).
+abbrev pub IsInfo : Profile → List ℕ → GroupInfo → Type 0
+IsInfo profile bytes info = IsMessageIn profile bytes (messages.GroupInfo info)
 
--- `IsNoMessage bytes`: the bytes are no message.
-abbrev pub IsNoMessage : List ℕ → Type 0
-IsNoMessage bytes = (m : Message) → IsMessage bytes m → ⊥
+-- `IsNoMessage profile bytes`: the bytes are no message in the profile.
+abbrev pub IsNoMessage : Profile → List ℕ → Type 0
+IsNoMessage profile bytes = (m : Message) → IsMessageIn profile bytes m → ⊥
 
--- `IsOtherMessage bytes`: the bytes are a message without a GroupInfo.
-abbrev pub IsOtherMessage : List ℕ → Type 0
-IsOtherMessage bytes =
-    (m : Message) × IsMessage bytes m × ((info : GroupInfo) → m ≢ messages.GroupInfo info)
+-- `IsOtherMessage profile bytes`: the bytes are a message in the profile, without a GroupInfo.
+abbrev pub IsOtherMessage : Profile → List ℕ → Type 0
+IsOtherMessage profile bytes =
+    (m : Message) × IsMessageIn profile bytes m × ((info : GroupInfo) → m ≢ messages.GroupInfo info)
 
 -- `IsHanded bytes handed`: `handed` is the tree of the bytes, or there are none and no tree is passed.
 abbrev pub IsHanded : Option (List ℕ) → Option RatchetTree → Type 0
@@ -46,10 +49,10 @@ abbrev pub IsHandedUnread : Option (List ℕ) → Type 0
 IsHandedUnread None = ⊥
 IsHandedUnread (Some bytes) = IsNoTree bytes
 
--- `IsReadAs info_bytes tree_bytes info handed`: the GroupInfo can be read, and the tree if one is passed.
-pub record IsReadAs (info_bytes : List ℕ) (tree_bytes : Option (List ℕ)) (info : GroupInfo)
+-- `IsReadAs profile info_bytes tree_bytes info handed`: the GroupInfo can be read, and the tree if one is passed.
+pub record IsReadAs (profile : Profile) (info_bytes : List ℕ) (tree_bytes : Option (List ℕ)) (info : GroupInfo)
     (handed : Option RatchetTree) : Type 0 where
-  pub is_info : IsInfo info_bytes info
+  pub is_info : IsInfo profile info_bytes info
   pub is_handed : IsHanded tree_bytes handed
 
 -- ---- what is found of them
@@ -62,27 +65,27 @@ started_of s = record {
   tree_hash = s.context.tree_hash;
 }
 
--- `IsStarted G info_bytes tree_bytes s`: a follower starts in this state from the bytes of a GroupInfo, and of a tree
--- if one is passed.
-pub record IsStarted (G : VerifyFn) (info_bytes : List ℕ) (tree_bytes : Option (List ℕ))
+-- `IsStarted profile G info_bytes tree_bytes s`: a follower with this profile starts in this state from the bytes of a
+-- GroupInfo, and of a tree if one is passed.
+pub record IsStarted (profile : Profile) (G : VerifyFn) (info_bytes : List ℕ) (tree_bytes : Option (List ℕ))
     (s : State) : Type 0 where
   pub info : GroupInfo
   pub handed : Option RatchetTree
-  pub is_read : IsReadAs info_bytes tree_bytes info handed
-  pub start : IsStart G info handed s
+  pub is_read : IsReadAs profile info_bytes tree_bytes info handed
+  pub start : IsStart profile G info handed s
 
--- `IsStartFinding G info_bytes tree_bytes finding`: the first finding that applies, or that a follower starts.
-abbrev pub IsStartFinding : VerifyFn → List ℕ → Option (List ℕ) → Finding → Type 0
-IsStartFinding G info_bytes tree_bytes (InfoUnreadable fault) = IsNoMessage info_bytes
-IsStartFinding G info_bytes tree_bytes NotGroupInfo = IsOtherMessage info_bytes
-IsStartFinding G info_bytes tree_bytes (TreeUnreadable fault) =
-    (info : GroupInfo) × IsInfo info_bytes info × IsHandedUnread tree_bytes × (fault ≢ nodes.OutOfMemory)
-IsStartFinding G info_bytes tree_bytes (StartRefused fault) =
-    (info : GroupInfo) × (handed : Option RatchetTree) × IsReadAs info_bytes tree_bytes info handed
+-- `IsStartFinding profile G info_bytes tree_bytes finding`: the first finding that applies, or that a follower starts.
+abbrev pub IsStartFinding : Profile → VerifyFn → List ℕ → Option (List ℕ) → Finding → Type 0
+IsStartFinding profile G info_bytes tree_bytes (InfoUnreadable fault) = IsNoMessage profile info_bytes
+IsStartFinding profile G info_bytes tree_bytes NotGroupInfo = IsOtherMessage profile info_bytes
+IsStartFinding profile G info_bytes tree_bytes (TreeUnreadable fault) =
+    (info : GroupInfo) × IsInfo profile info_bytes info × IsHandedUnread tree_bytes × (fault ≢ nodes.OutOfMemory)
+IsStartFinding profile G info_bytes tree_bytes (StartRefused fault) =
+    (info : GroupInfo) × (handed : Option RatchetTree) × IsReadAs profile info_bytes tree_bytes info handed
     × (fault ≢ starts.OutOfMemory) × IsStartFault G info handed fault
-IsStartFinding G info_bytes tree_bytes (Starts started) =
-    (s : State) × IsStarted G info_bytes tree_bytes s × (started ≡ started_of s)
-IsStartFinding G info_bytes tree_bytes _ = ⊥
+IsStartFinding profile G info_bytes tree_bytes (Starts started) =
+    (s : State) × IsStarted profile G info_bytes tree_bytes s × (started ≡ started_of s)
+IsStartFinding profile G info_bytes tree_bytes _ = ⊥
 
 -- ---- the reading
 
@@ -106,20 +109,20 @@ pub record ReadsBoth (info0 info1 : Option (List ℕ)) (tree0 tree1 : Option (Op
   pub info : ReadsAll info0 info1 info_bytes
   pub tree : ReadsHanded tree0 tree1 tree_bytes
 
--- `ReadsAndStarts G info0 info1 tree0 tree1 s`: both were read, and a follower starts from them in this state.
-pub record ReadsAndStarts (G : VerifyFn) (info0 info1 : Option (List ℕ))
+-- `ReadsAndStarts profile G info0 info1 tree0 tree1 s`: both were read, and a follower starts from them in this state.
+pub record ReadsAndStarts (profile : Profile) (G : VerifyFn) (info0 info1 : Option (List ℕ))
     (tree0 tree1 : Option (Option (List ℕ))) (s : State) : Type 0 where
   pub info_bytes : List ℕ
   pub tree_bytes : Option (List ℕ)
   pub both_read : ReadsBoth info0 info1 tree0 tree1 info_bytes tree_bytes
-  pub started : IsStarted G info_bytes tree_bytes s
+  pub started : IsStarted profile G info_bytes tree_bytes s
 
--- `ReadsAndDeclines G info0 info1 tree0 tree1 finding`: both were read, and no follower starts from them, for this
--- finding.
-pub record ReadsAndDeclines (G : VerifyFn) (info0 info1 : Option (List ℕ))
+-- `ReadsAndDeclines profile G info0 info1 tree0 tree1 finding`: both were read, and no follower starts from them, for
+-- this finding.
+pub record ReadsAndDeclines (profile : Profile) (G : VerifyFn) (info0 info1 : Option (List ℕ))
     (tree0 tree1 : Option (Option (List ℕ))) (finding : Finding) : Type 0 where
   pub info_bytes : List ℕ
   pub tree_bytes : Option (List ℕ)
   pub both_read : ReadsBoth info0 info1 tree0 tree1 info_bytes tree_bytes
-  pub found : IsStartFinding G info_bytes tree_bytes finding
+  pub found : IsStartFinding profile G info_bytes tree_bytes finding
   pub verdict : finding_verdict finding ≡ No

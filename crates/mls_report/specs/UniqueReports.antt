@@ -1,11 +1,13 @@
--- A report is a function of the bytes of its inputs and of the checker's verification function G. Used by contracts.
+-- A report is a function of its profile, of the bytes of its inputs and of the checker's verification function G. Used by
+-- contracts.
 use Rattle.std.specs.Prelude.{List, ℕ, ◌++◌, Bool, true, Option, Some, option_map, ◌≡◌, ◌⊎◌}
 use Rattle.mls_check.specs.Signatures.{VerifyFn}
+use Rattle.mls_msgs.specs.declared.profile.Profile.{Profile}
 use Rattle.mls_follow.specs.State.{State}
 use Rattle.mls_follow.specs.StoredRuns.{is_unreadable}
 use Rattle.mls_report.specs.Finding.{finding_line}
 use Rattle.mls_report.specs.Replay.{ProcessedMessage, Follows, IsLogEnd, Replays, ReplaysState, still_to_come}
-use Rattle.mls_report.specs.SignaturesReport.{HasSignatures, Signatures}
+use Rattle.mls_report.specs.SignaturesReport.{HasSignatures, Signatures, SignaturesState}
 use Rattle.mls_report.specs.StartInputs.{IsStarted, IsStartFinding}
 use Rattle.mls_report.specs.StateInputs.{IsStateFinding}
 use Rattle.mls_report.specs.ValidateTree.{IsTreeFinding}
@@ -32,12 +34,12 @@ TreeFindingIsUnique =
     → IsTreeFinding G context_bytes tree_bytes finding
     → IsTreeFinding G context_bytes tree_bytes other → AreAlike finding other
 
--- Of the bytes of a GroupInfo, and of a tree if one is passed, one thing is found.
+-- Of the bytes of a GroupInfo, and of a tree if one is passed, one thing is found in a profile.
 abbrev pub StartFindingIsUnique : Type 0
 StartFindingIsUnique =
-    (G : VerifyFn) (info_bytes : List ℕ) (tree_bytes : Option (List ℕ)) (finding other : Finding)
-    → IsStartFinding G info_bytes tree_bytes finding
-    → IsStartFinding G info_bytes tree_bytes other → AreAlike finding other
+    (profile : Profile) (G : VerifyFn) (info_bytes : List ℕ) (tree_bytes : Option (List ℕ)) (finding other : Finding)
+    → IsStartFinding profile G info_bytes tree_bytes finding
+    → IsStartFinding profile G info_bytes tree_bytes other → AreAlike finding other
 
 -- Of the bytes of a state's file one thing is found.
 abbrev pub StateFindingIsUnique : Type 0
@@ -45,11 +47,11 @@ StateFindingIsUnique =
     (G : VerifyFn) (bytes : List ℕ) (finding other : Finding) → IsStateFinding G bytes finding
     → IsStateFinding G bytes other → AreAlike finding other
 
--- From the bytes of a GroupInfo, and of a tree if one is passed, a follower starts in one state.
+-- From the bytes of a GroupInfo, and of a tree if one is passed, a follower with a profile starts in one state.
 abbrev pub StartIsUnique : Type 0
 StartIsUnique =
-    (G : VerifyFn) (info_bytes : List ℕ) (tree_bytes : Option (List ℕ)) (s other : State)
-    → IsStarted G info_bytes tree_bytes s → IsStarted G info_bytes tree_bytes other → s ≡ other
+    (profile : Profile) (G : VerifyFn) (info_bytes : List ℕ) (tree_bytes : Option (List ℕ)) (s other : State)
+    → IsStarted profile G info_bytes tree_bytes s → IsStarted profile G info_bytes tree_bytes other → s ≡ other
 
 -- ---- a replay
 
@@ -74,23 +76,24 @@ AreAlikeTexts text other =
     (text ≡ other) ⊎ ((finding : Finding) × (more : Finding) × AreAlike finding more
     × (text ≡ finding_line finding) × (other ≡ finding_line more))
 
--- `IsReplayReport G info_bytes tree_bytes log_bytes text verdict`: a replay over these bytes has written this text, and
--- has this verdict.
-pub record IsReplayReport (G : VerifyFn) (info_bytes : List ℕ) (tree_bytes : Option (List ℕ))
-    (log_bytes text : List ℕ) (verdict : Verdict) : Type 0 where
+-- `IsReplayReport profile G info_bytes tree_bytes log_bytes text verdict`: a replay over these bytes in the profile has
+-- written this text, and has this verdict.
+pub record IsReplayReport (profile : Profile) (G : VerifyFn) (info_bytes : List ℕ)
+    (tree_bytes : Option (List ℕ)) (log_bytes text : List ℕ) (verdict : Verdict) : Type 0 where
   pub info_left : Option (List ℕ)
   pub tree_left : Option (Option (List ℕ))
   pub log_left : Option (List ℕ)
   pub before : List ℕ
-  pub replays : Replays G (Some info_bytes) info_left (option_map Some tree_bytes) tree_left
+  pub replays : Replays profile G (Some info_bytes) info_left (option_map Some tree_bytes) tree_left
       (Some log_bytes) log_left (Some before) (Some (before ++ text)) verdict
 
 -- The bytes of its inputs determine what a replay writes, and its verdict.
 abbrev pub ReplayIsUnique : Type 0
 ReplayIsUnique =
-    (G : VerifyFn) (info_bytes : List ℕ) (tree_bytes : Option (List ℕ)) (log_bytes text other : List ℕ)
-    (verdict more : Verdict) → IsReplayReport G info_bytes tree_bytes log_bytes text verdict
-    → IsReplayReport G info_bytes tree_bytes log_bytes other more
+    (profile : Profile) (G : VerifyFn) (info_bytes : List ℕ) (tree_bytes : Option (List ℕ))
+    (log_bytes text other : List ℕ) (verdict more : Verdict)
+    → IsReplayReport profile G info_bytes tree_bytes log_bytes text verdict
+    → IsReplayReport profile G info_bytes tree_bytes log_bytes other more
     → AreAlikeTexts text other × (verdict ≡ more)
 
 -- `IsStateReplayReport G state_bytes log_bytes text verdict`: a replay from the file of a state over these bytes has
@@ -118,22 +121,42 @@ MessageSignaturesAreUnique =
     (s : State) (bytes : List ℕ) (wanted other : Option (List SignatureToVerify))
     → HasSignatures s bytes wanted → HasSignatures s bytes other → wanted ≡ other
 
--- `IsSignaturesReport R info_bytes tree_bytes log_bytes text verdict`: the report `signatures` over these bytes, with a
--- tree and a log or without, has written this text, and has this verdict. `R` is the verification function of the
--- receipts.
-pub record IsSignaturesReport (R : VerifyFn) (info_bytes : List ℕ) (tree_bytes log_bytes : Option (List ℕ))
-    (text : List ℕ) (verdict : Verdict) : Type 0 where
+-- `IsSignaturesReport profile R info_bytes tree_bytes log_bytes text verdict`: the report `signatures` over these bytes in
+-- the profile, with a tree and a log or without, has written this text, and has this verdict. `R` is the verification
+-- function of the receipts.
+pub record IsSignaturesReport (profile : Profile) (R : VerifyFn) (info_bytes : List ℕ)
+    (tree_bytes log_bytes : Option (List ℕ)) (text : List ℕ) (verdict : Verdict) : Type 0 where
   pub info_left : Option (List ℕ)
   pub tree_left : Option (Option (List ℕ))
   pub log_left : Option (Option (List ℕ))
   pub before : List ℕ
-  pub signatures : Signatures R (Some info_bytes) info_left (option_map Some tree_bytes) tree_left
+  pub signatures : Signatures profile R (Some info_bytes) info_left (option_map Some tree_bytes) tree_left
       (option_map Some log_bytes) log_left (Some before) (Some (before ++ text)) verdict
 
 -- The bytes of its inputs and the verification function of the receipts determine what `signatures` writes, and its verdict.
 abbrev pub SignaturesAreUnique : Type 0
 SignaturesAreUnique =
-    (R : VerifyFn) (info_bytes : List ℕ) (tree_bytes log_bytes : Option (List ℕ)) (text other : List ℕ)
-    (verdict more : Verdict) → IsSignaturesReport R info_bytes tree_bytes log_bytes text verdict
-    → IsSignaturesReport R info_bytes tree_bytes log_bytes other more
+    (profile : Profile) (R : VerifyFn) (info_bytes : List ℕ) (tree_bytes log_bytes : Option (List ℕ))
+    (text other : List ℕ) (verdict more : Verdict)
+    → IsSignaturesReport profile R info_bytes tree_bytes log_bytes text verdict
+    → IsSignaturesReport profile R info_bytes tree_bytes log_bytes other more
+    → AreAlikeTexts text other × (verdict ≡ more)
+
+-- `IsStateSignaturesReport R state_bytes log_bytes text verdict`: the report `signatures` from the file of a state over
+-- these bytes, with a log or without, has written this text, and has this verdict.
+pub record IsStateSignaturesReport (R : VerifyFn) (state_bytes : List ℕ) (log_bytes : Option (List ℕ)) (text : List ℕ)
+    (verdict : Verdict) : Type 0 where
+  pub state_left : Option (List ℕ)
+  pub log_left : Option (Option (List ℕ))
+  pub before : List ℕ
+  pub signatures : SignaturesState R (Some state_bytes) state_left (option_map Some log_bytes) log_left
+      (Some before) (Some (before ++ text)) verdict
+
+-- The bytes of a state's file and of a log, and the meaning of the receipts, determine what `signatures` writes, and its
+-- verdict.
+abbrev pub StateSignaturesAreUnique : Type 0
+StateSignaturesAreUnique =
+    (R : VerifyFn) (state_bytes : List ℕ) (log_bytes : Option (List ℕ)) (text other : List ℕ)
+    (verdict more : Verdict) → IsStateSignaturesReport R state_bytes log_bytes text verdict
+    → IsStateSignaturesReport R state_bytes log_bytes other more
     → AreAlikeTexts text other × (verdict ≡ more)

@@ -6,21 +6,22 @@ use Rattle.mls_check.specs.Signatures.{VerifyFn}
 use Rattle.mls_follow.specs.State.{State}
 use Rattle.mls_follow.specs.Validity.{IsValidState}
 use Rattle.mls_follow.specs.Resumption.{IsResumed}
+use Rattle.mls_msgs.specs.declared.profile.Profile.{Profile}
 use Rattle.mls_report.specs.Replay.{ProcessedMessage, Follows}
 use Rattle.mls_report.specs.StartInputs.{IsStarted}
 
 -- A follower that starts from the bytes of a GroupInfo and a tree starts in a valid state.
 abbrev pub StartedEpochsAreValid : Type 0
 StartedEpochsAreValid =
-    (G : VerifyFn) (info_bytes : List ℕ) (tree_bytes : Option (List ℕ)) (s : State)
-    → IsStarted G info_bytes tree_bytes s → IsValidState G s
+    (profile : Profile) (G : VerifyFn) (info_bytes : List ℕ) (tree_bytes : Option (List ℕ)) (s : State)
+    → IsStarted profile G info_bytes tree_bytes s → IsValidState G s
 
 -- After each message of the log whose line was written, the follower is in a valid state.
 abbrev pub ReportedEpochsAreValid : Type 0
 ReportedEpochsAreValid =
-    (G : VerifyFn) (info_bytes : List ℕ) (tree_bytes : Option (List ℕ)) (s : State)
+    (profile : Profile) (G : VerifyFn) (info_bytes : List ℕ) (tree_bytes : Option (List ℕ)) (s : State)
     (log0 log1 : Option (List ℕ)) (turns : List ProcessedMessage) (rest : List ℕ)
-    → IsStarted G info_bytes tree_bytes s → Follows G s log0 log1 turns rest
+    → IsStarted profile G info_bytes tree_bytes s → Follows G s log0 log1 turns rest
     → All (λ turn. IsValidState G turn.state) turns
 
 -- A follower that resumes from the bytes of a state's file resumes in a valid state. So is the state after each message

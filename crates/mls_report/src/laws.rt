@@ -1,8 +1,8 @@
 //! Properties of the reports' definitions. No caller needs to run these functions.
 
 ghost use Rattle.mls_report.specs.CoveredReports.{CoveredReportsReplay};
-ghost use Rattle.mls_report.specs.UniqueReports.{TreeFindingIsUnique, StartFindingIsUnique, StartIsUnique, StateFindingIsUnique, LogIsUnique, ReplayIsUnique, StateReplayIsUnique, MessageSignaturesAreUnique, SignaturesAreUnique};
-ghost use Rattle.mls_report.specs.ReportsExist.{TreeFindingExists, StartFindingExists, StateFindingExists, ReplayExists, StateReplayExists, SignaturesExist};
+ghost use Rattle.mls_report.specs.UniqueReports.{TreeFindingIsUnique, StartFindingIsUnique, StartIsUnique, StateFindingIsUnique, LogIsUnique, ReplayIsUnique, StateReplayIsUnique, MessageSignaturesAreUnique, SignaturesAreUnique, StateSignaturesAreUnique};
+ghost use Rattle.mls_report.specs.ReportsExist.{TreeFindingExists, StartFindingExists, StateFindingExists, ReplayExists, StateReplayExists, SignaturesExist, StateSignaturesExist};
 ghost use Rattle.mls_report.specs.SavedStates.{SavedStatesResume, LaterMessagesFollow};
 ghost use Rattle.mls_report.specs.ValidEpochs.{StartedEpochsAreValid, ReportedEpochsAreValid, ResumedEpochsAreValid};
 
@@ -30,6 +30,7 @@ pub fn replays_are_determined()
 pub fn signatures_are_determined()
     ensures messages { MessageSignaturesAreUnique }
     ensures report { SignaturesAreUnique }
+    ensures stored { StateSignaturesAreUnique }
 {}
 
 /// For any bytes and any meaning of the signature check there is a finding, and `replay` and `signatures` have a report.
@@ -41,6 +42,7 @@ pub fn reports_exist()
     ensures replay { ReplayExists }
     ensures stored_replay { StateReplayExists }
     ensures signatures { SignaturesExist }
+    ensures stored_signatures { StateSignaturesExist }
 {}
 
 /// Each epoch that `validate` or `replay` reports has a tree that is valid by the GroupContext's tree hash, and valid

@@ -30,12 +30,15 @@ mod verdict;
 mod write;
 
 pub use read_to_end::read_all;
-pub use replay::{Replayed, replay_group, replay_state, run_replay, run_replay_state};
+pub use replay::{
+    Replayed, replay_group, replay_group_in, replay_state, run_replay, run_replay_in,
+    run_replay_state,
+};
 pub use report::Report;
 pub use show::{ShowKind, run_show, run_show_in};
-pub use signatures::run_signatures;
+pub use signatures::{run_signatures, run_signatures_in, run_signatures_state};
 pub use unreadable_receipts::run_unreadable_receipts;
-pub use validate::{run_validate, run_validate_state};
+pub use validate::{run_validate, run_validate_in, run_validate_state};
 pub use validate_tree::run_validate_tree;
 pub use verdict::{RunFault, Verdict, status_of};
 pub use write::{write_bytes, write_text};

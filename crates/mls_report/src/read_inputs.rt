@@ -4,17 +4,17 @@ ghost use Rattle.std.specs.Prelude.{◌≡◌, ◌≢◌, ◌↔◌, ◌⊎◌, 
 ghost use Rattle.mls_tree.specs.PublicTreeModel.{plain};
 ghost use Rattle.mls_follow.specs.FollowerModel.{checker_of, state_of};
 ghost use Rattle.mls_report.specs.StartInputs.{IsInfo, IsHanded, IsHandedUnread, IsReadAs, IsStarted, ReadsBoth, ReadsHanded, has_failed};
-ghost use Rattle.mls_report.specs.StartSteps.{Says, IsUnread, DeclinesStart, RefusesStart, RefusesStartPart};
+ghost use Rattle.mls_report.specs.StartSteps.{Says, IsUnread, DeclinesStart};
 
-use crate::finding::{Finding, tell};
+use crate::finding::Finding;
 use crate::read_to_end::read_all;
-use crate::verdict::{RunFault, Verdict};
+use crate::verdict::RunFault;
 use mls_check::SignatureCheck;
 use mls_follow::{Follower, StartFault};
-use mls_msgs::{GroupInfo, Message, decode_message};
+use mls_msgs::{GroupInfo, Message, Profile, decode_message_in};
 use mls_nodes::NodeFault;
 use mls_tree::PublicTree;
-use mls_wire::{CodecFault, Sink, Source};
+use mls_wire::{CodecFault, Source};
 use std::alloc::Global;
 
 /// Why no follower has started.
@@ -85,13 +85,13 @@ pub fn read_inputs_to_end<I: Source, T: Source>(
     }
 }
 
-/// Decodes the GroupInfo.
-fn read_info(alloc: Global, bytes: &[u8]) -> Result<GroupInfo, StartFailure>
-    ensures info { IfOk result (IsInfo bytes.now) }
+/// Decodes the GroupInfo in `profile`.
+fn read_info(alloc: Global, profile: Profile, bytes: &[u8]) -> Result<GroupInfo, StartFailure>
+    ensures info { IfOk result (IsInfo profile bytes.now) }
     ensures unread { (tree_bytes : Option (List ℕ))
-        → IfErr result (Says (IsUnread bytes.now tree_bytes)) }
+        → IfErr result (Says (IsUnread profile bytes.now tree_bytes)) }
 {
-    match decode_message(alloc, bytes) {
+    match decode_message_in(alloc, profile, bytes) {
         Ok(Message::GroupInfo(info)) => Ok(info),
         Ok(other) => {
             drop(other);
@@ -124,7 +124,7 @@ pub struct Inputs {
     pub tree: Option<PublicTree>,
 }
 
-/// Decodes the GroupInfo (RFC 9420, 12.4.3), and the tree if there is a file of it (12.4.3.3).
+/// Decodes the GroupInfo (RFC 9420, 12.4.3) in `profile`, and the tree if there is a file of it (12.4.3.3).
 ///
 /// # Errors
 ///
@@ -132,16 +132,17 @@ pub struct Inputs {
 /// - `Fault` of `Memory`.
 pub fn decode_inputs(
     alloc: Global,
+    profile: Profile,
     info_bytes: &[u8],
     tree_bytes: &Option<Vec<u8>>,
 ) -> Result<Inputs, StartFailure>
     ensures read { IfOk result
-        (λ inputs. IsReadAs info_bytes.now (option_map (λ v. v.items) tree_bytes.now)
+        (λ inputs. IsReadAs profile info_bytes.now (option_map (λ v. v.items) tree_bytes.now)
         inputs.info (option_map plain inputs.tree)) }
     ensures unread { IfErr result
-        (Says (IsUnread info_bytes.now (option_map (λ v. v.items) tree_bytes.now))) }
+        (Says (IsUnread profile info_bytes.now (option_map (λ v. v.items) tree_bytes.now))) }
 {
-    let info = read_info(alloc, info_bytes)?;
+    let info = read_info(alloc, profile, info_bytes)?;
     match read_tree(alloc, tree_bytes) {
         Ok(tree) => Ok(Inputs { info, tree }),
         Err(fault) => {
@@ -161,20 +162,21 @@ pub fn decode_inputs(
 /// Those of [`decode_inputs`].
 pub fn read_inputs(
     alloc: Global,
+    profile: Profile,
     info_bytes: Vec<u8>,
     tree_bytes: Option<Vec<u8>>,
 ) -> Result<Inputs, StartFailure>
     ensures read { IfOk result
-        (λ inputs. IsReadAs info_bytes.items (option_map (λ v. v.items) tree_bytes)
+        (λ inputs. IsReadAs profile info_bytes.items (option_map (λ v. v.items) tree_bytes)
         inputs.info (option_map plain inputs.tree)) }
     ensures unread { IfErr result
-        (Says (IsUnread info_bytes.items (option_map (λ v. v.items) tree_bytes))) }
+        (Says (IsUnread profile info_bytes.items (option_map (λ v. v.items) tree_bytes))) }
 {
-    decode_inputs(alloc, info_bytes.as_slice(), &tree_bytes)
+    decode_inputs(alloc, profile, info_bytes.as_slice(), &tree_bytes)
 }
 
 /// Returns why no follower has started.
-fn start_failure(fault: StartFault) -> StartFailure
+pub(crate) fn start_failure(fault: StartFault) -> StartFailure
     ensures { Says (λ finding. (fault ≢ StartFault.OutOfMemory)
         × (finding ≡ Finding.StartRefused fault)) result }
 {
@@ -184,21 +186,22 @@ fn start_failure(fault: StartFault) -> StartFailure
     }
 }
 
-/// Starts a follower from the decoded inputs.
+/// Starts a follower with this profile from the decoded inputs.
 fn start_decoded<C: SignatureCheck>(
     alloc: Global,
+    profile: Profile,
     inputs: Inputs,
     checker: C,
 ) -> Result<Follower<C>, StartFailure>
     ensures started { (info_bytes : List ℕ) (tree_bytes : Option (List ℕ))
-        → IsReadAs info_bytes tree_bytes inputs.info (option_map plain inputs.tree)
-        → IfOk result (λ f. IsStarted (C.meaning checker) info_bytes tree_bytes (state_of f)) }
+        → IsReadAs profile info_bytes tree_bytes inputs.info (option_map plain inputs.tree)
+        → IfOk result (λ f. IsStarted profile (C.meaning checker) info_bytes tree_bytes (state_of f)) }
     ensures checker { IfOk result (λ f. C.meaning (checker_of f) ≡ C.meaning checker) }
     ensures refused { (info_bytes : List ℕ) (tree_bytes : Option (List ℕ))
-        → IsReadAs info_bytes tree_bytes inputs.info (option_map plain inputs.tree)
-        → IfErr result (Says (DeclinesStart (C.meaning checker) info_bytes tree_bytes)) }
+        → IsReadAs profile info_bytes tree_bytes inputs.info (option_map plain inputs.tree)
+        → IfErr result (Says (DeclinesStart profile (C.meaning checker) info_bytes tree_bytes)) }
 {
-    match Follower::start(alloc, inputs.info, inputs.tree, checker) {
+    match Follower::start_in(alloc, profile, inputs.info, inputs.tree, checker) {
         Ok(follower) => Ok(follower),
         Err(refused) => {
             let fault = refused.fault;
@@ -208,61 +211,26 @@ fn start_decoded<C: SignatureCheck>(
     }
 }
 
-/// Starts a follower from the bytes of a GroupInfo, and of a tree if there is a file of it.
+/// Starts a follower with this profile from the bytes of a GroupInfo, and of a tree if there is a file of it.
 ///
 /// # Errors
 ///
-/// - `Found` if none starts: an input is not decodable, or the first condition of [`Follower::start`] that fails.
+/// - `Found` if none starts: an input is not decodable, or the first condition of [`Follower::start_in`] that fails.
 /// - `Fault` of `Memory`.
 pub fn start_from<C: SignatureCheck>(
     alloc: Global,
+    profile: Profile,
     bytes: InputBytes,
     checker: C,
 ) -> Result<Follower<C>, StartFailure>
-    ensures started { IfOk result (λ f. IsStarted (C.meaning checker) bytes.info.items
+    ensures started { IfOk result (λ f. IsStarted profile (C.meaning checker) bytes.info.items
         (option_map (λ v. v.items) bytes.tree) (state_of f)) }
     ensures checker { IfOk result (λ f. C.meaning (checker_of f) ≡ C.meaning checker) }
-    ensures refused { IfErr result (Says (DeclinesStart (C.meaning checker) bytes.info.items
+    ensures refused { IfErr result (Says (DeclinesStart profile (C.meaning checker) bytes.info.items
         (option_map (λ v. v.items) bytes.tree))) }
 {
-    match read_inputs(alloc, bytes.info, bytes.tree) {
-        Ok(inputs) => start_decoded(alloc, inputs, checker),
+    match read_inputs(alloc, profile, bytes.info, bytes.tree) {
+        Ok(inputs) => start_decoded(alloc, profile, inputs, checker),
         Err(failure) => Err(failure),
-    }
-}
-
-/// Returns the finding for a start that failed.
-pub(crate) fn refused_start(fault: StartFault) -> Result<Finding, RunFault>
-    ensures found { IfOk result
-        (λ finding. (fault ≢ StartFault.OutOfMemory) × (finding ≡ Finding.StartRefused fault)) }
-    ensures memory { IfErr result (λ e. e ≡ RunFault.Memory) }
-{
-    match fault {
-        StartFault::OutOfMemory => Err(RunFault::Memory),
-        _ => Ok(Finding::StartRefused(fault)),
-    }
-}
-
-/// Writes the line of a start that failed with this fault; the verdict is `No`.
-///
-/// # Errors
-///
-/// - `Memory` if the fault is `OutOfMemory`, or if an allocation fails; nothing is written.
-/// - `Write` if the output fails; then a prefix of the line may be written.
-pub fn tell_refused<K: Sink>(
-    alloc: Global,
-    fault: StartFault,
-    out: &mut K,
-) -> Result<Verdict, RunFault>
-    requires { K.is_failed out.old ≡ false }
-    ensures told { IfOk result (RefusesStart fault (K.written out.old) (K.written out.new)) }
-    ensures part { IfErr result
-        (RefusesStartPart fault (K.written out.old) (K.written out.new)) }
-    ensures write { (result ≡ Err RunFault.Write) ↔ (K.is_failed out.new ≡ true) }
-    ensures fault { IfErr result (λ e. e ≢ RunFault.Read) }
-{
-    match refused_start(fault) {
-        Ok(finding) => tell(alloc, &finding, out),
-        Err(fault) => Err(fault),
     }
 }

@@ -4,6 +4,7 @@
 ghost use Rattle.std.specs.Prelude.{◌≡◌, ◌≢◌, ◌↔◌, ◌⊎◌, ◌+◌, ◌≤◌, false, true, None, Ok, Err, IfOk, IfErr, IfSome, OnErr, option_map};
 ghost use Rattle.mls_wire.specs.Logs.{ReadsRecord, ReaderAfter};
 ghost use Rattle.std.specs.Result.{result_map_both};
+ghost use Rattle.mls_msgs.specs.declared.profile.Profile.TheVariants.{Members};
 ghost use Rattle.mls_follow.specs.FollowerModel.{checker_of, state_of};
 ghost use Rattle.mls_report.specs.StartInputs.{has_failed};
 ghost use Rattle.mls_report.specs.Replay.{message_limit, one_if, IsVerdict, TellsPart, Replays, ReplaysGroupTo, ReplaysPart, ReplaysState, ReplaysStateTo, ReplaysStatePart};
@@ -19,6 +20,7 @@ use crate::verdict::{RunFault, Verdict};
 use crate::write::write_text;
 use mls_check::SignatureCheck;
 use mls_follow::{Follower, Refusal};
+use mls_msgs::Profile;
 use mls_wire::{LogStep, RecordFault, Records, Sink, Source};
 use std::alloc::Global;
 
@@ -226,7 +228,11 @@ fn replay_log<L: Source, K: Sink, C: SignatureCheck>(
 }
 
 /// Writes why no follower has started.
-fn decline<K: Sink>(alloc: Global, failure: StartFailure, out: &mut K) -> Result<Verdict, RunFault>
+pub(crate) fn decline<K: Sink>(
+    alloc: Global,
+    failure: StartFailure,
+    out: &mut K,
+) -> Result<Verdict, RunFault>
     requires own { Says (λ finding. Unit {0}) failure }
     requires out { K.is_failed out.old ≡ false }
     ensures told { IfOk result (WritesDecline failure (K.written out.old) (K.written out.new)) }
@@ -264,14 +270,16 @@ fn replay_nothing<K: Sink, C: SignatureCheck>(
     })
 }
 
-/// Reads the GroupInfo to its end, then the tree if there is a file of it, and starts a follower. If none starts, it
-/// writes the line of [`run_validate`](crate::run_validate); the verdict is `No` and the log is not read.
+/// Reads the GroupInfo to its end, then the tree if there is a file of it, and starts a follower with this profile. If
+/// none starts, it writes the line of [`run_validate_in`](crate::run_validate_in); the verdict is `No` and the log is
+/// not read.
 ///
 /// Otherwise it reads the log: at most 1,000,000 records, each a message as a variable-length vector (RFC 9420, 2.1.2).
 /// It reads a record, processes the message, writes its line, and only then reads on. Message n is one of:
 ///
 /// - accepted as a proposal: the line has its reference;
-/// - accepted as a commit: the line has the new epoch, tree hash and confirmed transcript hash;
+/// - accepted as a commit: the line has the new epoch, tree hash and confirmed transcript hash, and `ended` if the group
+///   is over (11.2);
 /// - refused: the line has the number of the refusal;
 /// - no complete record: the log is broken.
 ///
@@ -283,6 +291,48 @@ fn replay_nothing<K: Sink, C: SignatureCheck>(
 /// - `Read` if an input fails: exactly the messages that were read whole have their lines.
 /// - `Write` if the output fails: nothing was read after the message in whose line it failed.
 /// - `Memory`: each message that was read has its line, except the one at which memory ran out.
+pub fn replay_group_in<I: Source, T: Source, L: Source, K: Sink, C: SignatureCheck>(
+    alloc: Global,
+    profile: Profile,
+    info: &mut I,
+    tree: &mut Option<T>,
+    log: &mut L,
+    checker: C,
+    out: &mut K,
+) -> Result<Replayed<C>, RunFault>
+    requires info { I.is_failed info.old ≡ false }
+    requires tree { has_failed (option_map T.is_failed tree.old) ≡ false }
+    requires log { L.is_failed log.old ≡ false }
+    requires out { K.is_failed out.old ≡ false }
+    ensures replayed { IfOk result (λ r.
+        ReplaysGroupTo profile (C.meaning checker) (I.left info.old) (I.left info.new)
+        (option_map T.left tree.old) (option_map T.left tree.new)
+        (L.left log.old) (L.left log.new) (K.written out.old) (K.written out.new)
+        r.verdict (option_map (λ f. state_of f) r.follower)) }
+    ensures checker { IfOk result (λ r. IfSome r.follower
+        (λ f. C.meaning (checker_of f) ≡ C.meaning checker)) }
+    ensures part { IfErr result
+        (ReplaysPart profile (C.meaning checker) (I.left info.old) (I.left info.new)
+        (option_map T.left tree.old) (option_map T.left tree.new)
+        (L.left log.old) (L.left log.new) (K.written out.old) (K.written out.new)) }
+    ensures read { (result ≡ Err RunFault.Read)
+        ↔ ((I.is_failed info.new ≡ true)
+        ⊎ ((has_failed (option_map T.is_failed tree.new) ≡ true)
+        ⊎ (L.is_failed log.new ≡ true))) }
+    ensures write { (result ≡ Err RunFault.Write) ↔ (K.is_failed out.new ≡ true) }
+{
+    let bytes = read_inputs_to_end(alloc, info, tree)?;
+    match start_from(alloc, profile, bytes, checker) {
+        Ok(follower) => replay_log(alloc, follower, log, out),
+        Err(failure) => replay_nothing(alloc, failure, out),
+    }
+}
+
+/// Writes the report of [`replay_group_in`] for the members' profile, and returns the follower after the log.
+///
+/// # Errors
+///
+/// Those of [`replay_group_in`].
 pub fn replay_group<I: Source, T: Source, L: Source, K: Sink, C: SignatureCheck>(
     alloc: Global,
     info: &mut I,
@@ -296,14 +346,14 @@ pub fn replay_group<I: Source, T: Source, L: Source, K: Sink, C: SignatureCheck>
     requires log { L.is_failed log.old ≡ false }
     requires out { K.is_failed out.old ≡ false }
     ensures replayed { IfOk result (λ r.
-        ReplaysGroupTo (C.meaning checker) (I.left info.old) (I.left info.new)
+        ReplaysGroupTo Members (C.meaning checker) (I.left info.old) (I.left info.new)
         (option_map T.left tree.old) (option_map T.left tree.new)
         (L.left log.old) (L.left log.new) (K.written out.old) (K.written out.new)
         r.verdict (option_map (λ f. state_of f) r.follower)) }
     ensures checker { IfOk result (λ r. IfSome r.follower
         (λ f. C.meaning (checker_of f) ≡ C.meaning checker)) }
     ensures part { IfErr result
-        (ReplaysPart (C.meaning checker) (I.left info.old) (I.left info.new)
+        (ReplaysPart Members (C.meaning checker) (I.left info.old) (I.left info.new)
         (option_map T.left tree.old) (option_map T.left tree.new)
         (L.left log.old) (L.left log.new) (K.written out.old) (K.written out.new)) }
     ensures read { (result ≡ Err RunFault.Read)
@@ -312,20 +362,16 @@ pub fn replay_group<I: Source, T: Source, L: Source, K: Sink, C: SignatureCheck>
         ⊎ (L.is_failed log.new ≡ true))) }
     ensures write { (result ≡ Err RunFault.Write) ↔ (K.is_failed out.new ≡ true) }
 {
-    let bytes = read_inputs_to_end(alloc, info, tree)?;
-    match start_from(alloc, bytes, checker) {
-        Ok(follower) => replay_log(alloc, follower, log, out),
-        Err(failure) => replay_nothing(alloc, failure, out),
-    }
+    replay_group_in(alloc, Profile::Members, info, tree, log, checker, out)
 }
 
 /// Reads the file of a state to its end, and resumes a follower. If none resumes, it writes the line of
 /// [`run_validate_state`](crate::run_validate_state); the verdict is `No` and the log is not read. Otherwise it reads
-/// the log and writes the report of [`replay_group`]. Message 1 is the first one of this log.
+/// the log and writes the report of [`replay_group_in`]. Message 1 is the first one of this log.
 ///
 /// # Errors
 ///
-/// Those of [`replay_group`].
+/// Those of [`replay_group_in`].
 pub fn replay_state<S: Source, L: Source, K: Sink, C: SignatureCheck>(
     alloc: Global,
     state: &mut S,
@@ -368,11 +414,46 @@ fn verdict_in<C: SignatureCheck>(
     }
 }
 
-/// Writes the report of [`replay_group`].
+/// Writes the report of [`replay_group_in`].
 ///
 /// # Errors
 ///
-/// Those of [`replay_group`].
+/// Those of [`replay_group_in`].
+pub fn run_replay_in<I: Source, T: Source, L: Source, K: Sink, C: SignatureCheck>(
+    alloc: Global,
+    profile: Profile,
+    info: &mut I,
+    tree: &mut Option<T>,
+    log: &mut L,
+    checker: C,
+    out: &mut K,
+) -> Result<Verdict, RunFault>
+    requires info { I.is_failed info.old ≡ false }
+    requires tree { has_failed (option_map T.is_failed tree.old) ≡ false }
+    requires log { L.is_failed log.old ≡ false }
+    requires out { K.is_failed out.old ≡ false }
+    ensures replayed { IfOk result
+        (Replays profile (C.meaning checker) (I.left info.old) (I.left info.new)
+        (option_map T.left tree.old) (option_map T.left tree.new)
+        (L.left log.old) (L.left log.new) (K.written out.old) (K.written out.new)) }
+    ensures part { IfErr result
+        (ReplaysPart profile (C.meaning checker) (I.left info.old) (I.left info.new)
+        (option_map T.left tree.old) (option_map T.left tree.new)
+        (L.left log.old) (L.left log.new) (K.written out.old) (K.written out.new)) }
+    ensures read { (result ≡ Err RunFault.Read)
+        ↔ ((I.is_failed info.new ≡ true)
+        ⊎ ((has_failed (option_map T.is_failed tree.new) ≡ true)
+        ⊎ (L.is_failed log.new ≡ true))) }
+    ensures write { (result ≡ Err RunFault.Write) ↔ (K.is_failed out.new ≡ true) }
+{
+    verdict_in(replay_group_in(alloc, profile, info, tree, log, checker, out))
+}
+
+/// Writes the report of [`replay_group`], which is that of the members' profile.
+///
+/// # Errors
+///
+/// Those of [`replay_group_in`].
 pub fn run_replay<I: Source, T: Source, L: Source, K: Sink, C: SignatureCheck>(
     alloc: Global,
     info: &mut I,
@@ -386,11 +467,11 @@ pub fn run_replay<I: Source, T: Source, L: Source, K: Sink, C: SignatureCheck>(
     requires log { L.is_failed log.old ≡ false }
     requires out { K.is_failed out.old ≡ false }
     ensures replayed { IfOk result
-        (Replays (C.meaning checker) (I.left info.old) (I.left info.new)
+        (Replays Members (C.meaning checker) (I.left info.old) (I.left info.new)
         (option_map T.left tree.old) (option_map T.left tree.new)
         (L.left log.old) (L.left log.new) (K.written out.old) (K.written out.new)) }
     ensures part { IfErr result
-        (ReplaysPart (C.meaning checker) (I.left info.old) (I.left info.new)
+        (ReplaysPart Members (C.meaning checker) (I.left info.old) (I.left info.new)
         (option_map T.left tree.old) (option_map T.left tree.new)
         (L.left log.old) (L.left log.new) (K.written out.old) (K.written out.new)) }
     ensures read { (result ≡ Err RunFault.Read)
@@ -399,14 +480,14 @@ pub fn run_replay<I: Source, T: Source, L: Source, K: Sink, C: SignatureCheck>(
         ⊎ (L.is_failed log.new ≡ true))) }
     ensures write { (result ≡ Err RunFault.Write) ↔ (K.is_failed out.new ≡ true) }
 {
-    verdict_in(replay_group(alloc, info, tree, log, checker, out))
+    run_replay_in(alloc, Profile::Members, info, tree, log, checker, out)
 }
 
 /// Writes the report of [`replay_state`].
 ///
 /// # Errors
 ///
-/// Those of [`replay_group`].
+/// Those of [`replay_group_in`].
 pub fn run_replay_state<S: Source, L: Source, K: Sink, C: SignatureCheck>(
     alloc: Global,
     state: &mut S,

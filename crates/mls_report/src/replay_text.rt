@@ -48,16 +48,29 @@ fn proposal_text(alloc: Global, reference: &HashValue) -> Result<String, AllocEr
     format!(in alloc; " accepted proposal {reference}")
 }
 
-/// Returns the words for a commit that began an epoch.
-fn commit_text(alloc: Global, epoch: u64, context: &GroupContext) -> Result<String, AllocError>
+/// Returns the word behind a commit after which the group is over, else nothing.
+pub fn ended_text(has_ended: bool) -> &'static str
+    ensures { result.now ≡ lines.ended_text has_ended }
+{
+    if has_ended { " ended" } else { "" }
+}
+
+/// Returns the words for a commit that began an epoch. `has_ended` is true if the group is over after it.
+fn commit_text(
+    alloc: Global,
+    epoch: u64,
+    context: &GroupContext,
+    has_ended: bool,
+) -> Result<String, AllocError>
     ensures { IfOk result
         (λ text. string_bytes text ≡ codes " accepted commit " ++ (decimal epoch
         ++ (codes " " ++ (hex_text context.now.tree_hash
-        ++ (codes " " ++ hex_text context.now.confirmed))))) }
+        ++ (codes " " ++ (hex_text context.now.confirmed ++ lines.ended_text has_ended)))))) }
 {
     let tree_hash = hex_of(alloc, context.tree_hash.as_slice())?;
     let confirmed = hex_of(alloc, context.confirmed.as_slice())?;
-    format!(in alloc; " accepted commit {epoch} {tree_hash} {confirmed}")
+    let ended = ended_text(has_ended);
+    format!(in alloc; " accepted commit {epoch} {tree_hash} {confirmed}{ended}")
 }
 
 /// Returns the answer to a message without its number, as ` refused 1`: from the space after the number to before the
@@ -72,7 +85,9 @@ pub fn answer_text<C: SignatureCheck>(
 {
     match answer {
         Ok(Taken::Proposal(reference)) => proposal_text(alloc, reference),
-        Ok(Taken::Commit(epoch)) => commit_text(alloc, *epoch, follower.context()),
+        Ok(Taken::Commit(epoch)) => {
+            commit_text(alloc, *epoch, follower.context(), follower.ended())
+        }
         Err(refusal) => refused_text(alloc, refusal),
     }
 }

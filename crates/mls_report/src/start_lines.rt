@@ -1,18 +1,18 @@
-//! The lines of the signatures of a start, written one after the other.
+//! The lines of the signatures of a start and of a resumption, written one after the other.
 
-ghost use Rattle.std.specs.Prelude.{◌≡◌, ◌++◌, ◌↔◌, true, false, Err, IfErr, OnOk};
+ghost use Rattle.std.specs.Prelude.{◌≡◌, ◌++◌, ◌↔◌, [], ◌∷◌, true, false, Err, IfErr, OnOk};
 ghost use Rattle.std.specs.Io.KnownBytes.{Appends};
 ghost use Rattle.mls_follow.specs.FollowerModel.{state_of};
 ghost use Rattle.mls_follow.specs.MessageSignatures.{state_signatures};
 ghost use Rattle.mls_report.specs.SignaturesReport.{wanted_lines};
-ghost use Rattle.mls_report.specs.SignaturesSteps.{signatures_of_leaf, StopsInLines};
+ghost use Rattle.mls_report.specs.SignaturesSteps.{signatures_of_leaf, signatures_of_state, StopsInLines};
 
-use crate::signature_text::wanted_text;
+use crate::signature_text::{put_line, wanted_text};
 use crate::verdict::RunFault;
 use crate::write::write_text;
 use mls_check::{SignatureCheck, Trusting};
 use mls_follow::Follower;
-use mls_signatures::{SignatureToVerify, leaf_signatures};
+use mls_signatures::{SignatureToVerify, leaf_signatures, resumption_signatures};
 use mls_wire::Sink;
 use std::alloc::Global;
 
@@ -100,4 +100,67 @@ pub(crate) fn write_start_lines<R: SignatureCheck, K: Sink>(
     drop(info_signatures);
     written?;
     write_tree_lines(alloc, follower, receipts, out)
+}
+
+/// Writes the line of a signature, if `receipts` don't cover it.
+fn write_line<R: SignatureCheck, K: Sink>(
+    alloc: Global,
+    signature: &SignatureToVerify,
+    receipts: &R,
+    out: &mut K,
+) -> Result<(), RunFault>
+    requires { K.is_failed out.old ≡ false }
+    ensures all { OnOk result (Appends (K.written out.old) (K.written out.new)
+        (wanted_lines (R.meaning receipts.now) (signature.now ∷ []))) }
+    ensures part { IfErr result (StopsInLines (wanted_lines (R.meaning receipts.now))
+        (signature.now ∷ []) (K.written out.old) (K.written out.new)) }
+    ensures write { (result ≡ Err RunFault.Write) ↔ (K.is_failed out.new ≡ true) }
+{
+    let mut text = String::new(alloc);
+    put_line(alloc, &mut text, signature, receipts)?;
+    write_text(out, text.as_str())
+}
+
+/// Writes the lines of signatures. Each line is written before the next one is made.
+fn write_each_line<R: SignatureCheck, K: Sink>(
+    alloc: Global,
+    signatures: &[SignatureToVerify],
+    receipts: &R,
+    out: &mut K,
+) -> Result<(), RunFault>
+    requires { K.is_failed out.old ≡ false }
+    ensures all { OnOk result (Appends (K.written out.old) (K.written out.new)
+        (wanted_lines (R.meaning receipts.now) signatures.now)) }
+    ensures part { IfErr result (StopsInLines (wanted_lines (R.meaning receipts.now)) signatures.now
+        (K.written out.old) (K.written out.new)) }
+    ensures write { (result ≡ Err RunFault.Write) ↔ (K.is_failed out.new ≡ true) }
+{
+    for signature in signatures {
+        write_line(alloc, signature, receipts, out)?;
+    }
+    Ok(())
+}
+
+/// Writes the lines of the signatures of a resumption in the follower's state. The list of the signatures is held
+/// meanwhile.
+pub(crate) fn write_resumption_lines<R: SignatureCheck, K: Sink>(
+    alloc: Global,
+    follower: &Follower<Trusting>,
+    receipts: &R,
+    out: &mut K,
+) -> Result<(), RunFault>
+    requires { K.is_failed out.old ≡ false }
+    ensures all { OnOk result (Appends (K.written out.old) (K.written out.new)
+        (wanted_lines (R.meaning receipts.now) (signatures_of_state (state_of follower.now)))) }
+    ensures part { IfErr result (StopsInLines (wanted_lines (R.meaning receipts.now))
+        (signatures_of_state (state_of follower.now)) (K.written out.old) (K.written out.new)) }
+    ensures write { (result ≡ Err RunFault.Write) ↔ (K.is_failed out.new ≡ true) }
+{
+    let (context, tree, known) = (follower.context(), follower.tree(), follower.known());
+    let Ok(signatures) = resumption_signatures(alloc, context, tree, known) else {
+        return Err(RunFault::Memory);
+    };
+    let written = write_each_line(alloc, signatures.as_slice(), receipts, out);
+    drop(signatures);
+    written
 }

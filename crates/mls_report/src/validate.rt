@@ -3,6 +3,7 @@
 
 ghost use Rattle.std.specs.Prelude.{◌≡◌, ◌≤◌, ◌↔◌, ◌⊎◌, false, true, [], length, Err, IfOk, IfErr, OnErr, option_map};
 ghost use Rattle.std.specs.Io.KnownBytes.{Appends};
+ghost use Rattle.mls_msgs.specs.declared.profile.Profile.TheVariants.{Members};
 ghost use Rattle.mls_follow.specs.FollowerModel.{state_of};
 ghost use Rattle.mls_report.specs.StartInputs.{IsStartFinding, has_failed, started_of};
 ghost use Rattle.mls_report.specs.StateInputs.{IsStateFinding};
@@ -15,6 +16,7 @@ use crate::state_input::resume_from;
 use crate::verdict::{RunFault, Verdict};
 use mls_check::SignatureCheck;
 use mls_follow::Follower;
+use mls_msgs::Profile;
 use mls_wire::{Sink, Source};
 use std::alloc::Global;
 
@@ -34,15 +36,16 @@ fn started<C: SignatureCheck>(follower: &Follower<C>) -> Finding
 #[tactic(auto, using(crate::proofs::Hashes::length_started))]
 fn check_bytes<C: SignatureCheck>(
     alloc: Global,
+    profile: Profile,
     bytes: InputBytes,
     checker: C,
 ) -> Result<Finding, RunFault>
     ensures found { IfOk result
-        (IsStartFinding (C.meaning checker) bytes.info.items
+        (IsStartFinding profile (C.meaning checker) bytes.info.items
         (option_map (λ v. v.items) bytes.tree)) }
     ensures memory { IfErr result (λ e. e ≡ RunFault.Memory) }
 {
-    match start_from(alloc, bytes, checker) {
+    match start_from(alloc, profile, bytes, checker) {
         Ok(follower) => {
             let finding = started(&follower);
             drop(follower);
@@ -76,12 +79,48 @@ fn check_state<C: SignatureCheck>(
 
 /// Reads the GroupInfo to its end, then the tree if there is a file of it, and writes one line. If a follower can
 /// start: the epoch, the number of members and the tree hash, with the verdict `Yes`. Otherwise the first cause, with
-/// the verdict `No`: the GroupInfo or the tree is not decodable, or the first condition of a start that fails.
+/// the verdict `No`: the GroupInfo or the tree is not decodable, or the first condition of a start that fails. The
+/// GroupInfo is decoded in `profile`, and the follower has this profile.
 ///
 /// # Errors
 ///
 /// `Read` if an input fails. `Write` if the output fails; a prefix of the line may be written. `Memory` comes before
 /// anything is written.
+pub fn run_validate_in<I: Source, T: Source, K: Sink, C: SignatureCheck>(
+    alloc: Global,
+    profile: Profile,
+    info: &mut I,
+    tree: &mut Option<T>,
+    checker: C,
+    out: &mut K,
+) -> Result<Verdict, RunFault>
+    requires info { I.is_failed info.old ≡ false }
+    requires tree { has_failed (option_map T.is_failed tree.old) ≡ false }
+    requires out { K.is_failed out.old ≡ false }
+    ensures validated { IfOk result
+        (Validates profile (C.meaning checker) (I.left info.old) (I.left info.new)
+        (option_map T.left tree.old) (option_map T.left tree.new)
+        (K.written out.old) (K.written out.new)) }
+    ensures part { OnErr result
+        (ValidatesPart profile (C.meaning checker) (I.left info.old) (I.left info.new)
+        (option_map T.left tree.old) (option_map T.left tree.new)
+        (K.written out.old) (K.written out.new)) }
+    ensures memory { result ≡ Err RunFault.Memory
+        → Appends (K.written out.old) (K.written out.new) [] }
+    ensures read { (result ≡ Err RunFault.Read)
+        ↔ ((I.is_failed info.new ≡ true) ⊎ (has_failed (option_map T.is_failed tree.new) ≡ true)) }
+    ensures write { (result ≡ Err RunFault.Write) ↔ (K.is_failed out.new ≡ true) }
+{
+    let bytes = read_inputs_to_end(alloc, info, tree)?;
+    let finding = check_bytes(alloc, profile, bytes, checker)?;
+    tell(alloc, &finding, out)
+}
+
+/// Writes the report of [`run_validate_in`] for the members' profile.
+///
+/// # Errors
+///
+/// Those of [`run_validate_in`].
 pub fn run_validate<I: Source, T: Source, K: Sink, C: SignatureCheck>(
     alloc: Global,
     info: &mut I,
@@ -93,11 +132,11 @@ pub fn run_validate<I: Source, T: Source, K: Sink, C: SignatureCheck>(
     requires tree { has_failed (option_map T.is_failed tree.old) ≡ false }
     requires out { K.is_failed out.old ≡ false }
     ensures validated { IfOk result
-        (Validates (C.meaning checker) (I.left info.old) (I.left info.new)
+        (Validates Members (C.meaning checker) (I.left info.old) (I.left info.new)
         (option_map T.left tree.old) (option_map T.left tree.new)
         (K.written out.old) (K.written out.new)) }
     ensures part { OnErr result
-        (ValidatesPart (C.meaning checker) (I.left info.old) (I.left info.new)
+        (ValidatesPart Members (C.meaning checker) (I.left info.old) (I.left info.new)
         (option_map T.left tree.old) (option_map T.left tree.new)
         (K.written out.old) (K.written out.new)) }
     ensures memory { result ≡ Err RunFault.Memory
@@ -106,9 +145,7 @@ pub fn run_validate<I: Source, T: Source, K: Sink, C: SignatureCheck>(
         ↔ ((I.is_failed info.new ≡ true) ⊎ (has_failed (option_map T.is_failed tree.new) ≡ true)) }
     ensures write { (result ≡ Err RunFault.Write) ↔ (K.is_failed out.new ≡ true) }
 {
-    let bytes = read_inputs_to_end(alloc, info, tree)?;
-    let finding = check_bytes(alloc, bytes, checker)?;
-    tell(alloc, &finding, out)
+    run_validate_in(alloc, Profile::Members, info, tree, checker, out)
 }
 
 /// Reads the file of a state to its end, and writes one line. If a follower resumes from it: the epoch, the number of

@@ -4,18 +4,18 @@ use Rattle.std.proofs.lemmas.Result.{IfOk-weaker, IfErr-weaker}
 use Rattle.mls_follow.specs.FollowerModel.{state_of}
 use Rattle.mls_report.proofs.Outcomes.{IfOk-both}
 use Rattle.mls_report.proofs.ReplayInputs.{group-to, group-none, group-before}
-use Rattle.mls_report.proofs.replay.replay_group.Goals as goal
+use Rattle.mls_report.proofs.replay.replay_group_in.Goals as goal
 
 pub returns-in-Ok-clause-replayed : goal.returns-in-Ok-clause-replayed
 returns-in-Ok-clause-replayed g c =
-    IfOk-weaker c.replay_log.result _ _ (λ r h. group-to _ _ _ _ _ _ _ c.in_ok-bytes.ensures.both _ c.in-Ok.ensures.checker _ c.in-Ok.ensures.started _ _ _ _ _ _ h) c.replay_log.ensures.told
+    IfOk-weaker c.replay_log.result _ _ (λ r h. group-to _ _ _ _ _ _ _ _ c.in_ok-bytes.ensures.both _ c.in-Ok.ensures.checker _ c.in-Ok.ensures.started _ _ _ _ _ _ h) c.replay_log.ensures.told
 
 pub returns-in-Err-clause-replayed : goal.returns-in-Err-clause-replayed
 returns-in-Err-clause-replayed g c =
     IfOk-both c.replay_nothing.result _ _ _
-    (λ r told none. group-none _ _ _ _ _ _ _ c.in_ok-bytes.ensures.both c.in-Err.failure c.in-Err.ensures.refused _ _ _ _ _ (ap (option_map (λ f. state_of f)) none) told)
+    (λ r told none. group-none _ _ _ _ _ _ _ _ c.in_ok-bytes.ensures.both c.in-Err.failure c.in-Err.ensures.refused _ _ _ _ _ (ap (option_map (λ f. state_of f)) none) told)
     c.replay_nothing.ensures.told c.replay_nothing.ensures.none
 
 pub returns-in-Err-clause-part : goal.returns-in-Err-clause-part
 returns-in-Err-clause-part g c =
-    IfErr-weaker c.replay_nothing.result _ _ (λ e h. group-before _ _ _ _ _ _ _ c.in_ok-bytes.ensures.both c.in-Err.failure c.in-Err.ensures.refused _ _ _ e h) c.replay_nothing.ensures.part
+    IfErr-weaker c.replay_nothing.result _ _ (λ e h. group-before _ _ _ _ _ _ _ _ c.in_ok-bytes.ensures.both c.in-Err.failure c.in-Err.ensures.refused _ _ _ e h) c.replay_nothing.ensures.part

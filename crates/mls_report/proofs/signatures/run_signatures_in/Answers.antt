@@ -1,0 +1,29 @@
+use Rattle.std.proofs.Common.{rules}
+use Rattle.std.proofs.lemmas.Result.{IfOk-weaker, IfErr-weaker}
+use Rattle.mls_report.proofs.AskedStarts.{report-behind, part-behind, report-declined, part-declined, part-unread, reads-start, reads-declines}
+use Rattle.mls_report.proofs.Outcomes.{IfErr-is}
+use Rattle.mls_report.proofs.signatures.run_signatures_in.Goals as goal
+
+pub returns-in-Ok-clause-told : goal.returns-in-Ok-clause-told
+returns-in-Ok-clause-told g c =
+    let starts = reads-start _ _ _ _ _ _ _ c.in_ok-bytes.ensures.both _ _ c.in-Ok.ensures.starts in
+    IfOk-weaker c.tell_started-verdict.result _ _ (λ v h. report-behind _ _ _ _ _ starts _ _ _ _ v h) c.tell_started-verdict.ensures.told
+
+pub returns-in-Ok-clause-part : goal.returns-in-Ok-clause-part
+returns-in-Ok-clause-part g c =
+    let starts = reads-start _ _ _ _ _ _ _ c.in_ok-bytes.ensures.both _ _ c.in-Ok.ensures.starts in
+    IfErr-weaker c.tell_started-verdict.result _ _ (λ e h. part-behind _ _ _ _ _ starts _ _ _ _ e h) c.tell_started-verdict.ensures.part
+
+pub returns-in-Err-clause-told : goal.returns-in-Err-clause-told
+returns-in-Err-clause-told g c =
+    let declines = reads-declines _ _ _ _ _ _ _ c.in_ok-bytes.ensures.both c.in-Err.failure c.in-Err.ensures.refused in
+    IfOk-weaker c.decline.result _ _ (λ v h. report-declined _ _ _ (λ f d. d.verdict) c.in-Err.failure declines _ _ _ v h) c.decline.ensures.told
+
+pub returns-in-Err-clause-part : goal.returns-in-Err-clause-part
+returns-in-Err-clause-part g c =
+    let declines = reads-declines _ _ _ _ _ _ _ c.in_ok-bytes.ensures.both c.in-Err.failure c.in-Err.ensures.refused in
+    IfErr-weaker c.decline.result _ _ (λ e h. part-declined _ _ _ (λ f d. d.verdict) c.in-Err.failure declines _ _ _ e h) c.decline.ensures.part
+
+pub returns-in_err-bytes-clause-part : goal.returns-in_err-bytes-clause-part
+returns-in_err-bytes-clause-part g c =
+    IfErr-is c.from_residual.result _ c.in_err-bytes.field-0.0 (search rules) (part-unread _ _ _ _ _ c.in_err-bytes.field-0.0 c.in_err-bytes.ensures.fault)

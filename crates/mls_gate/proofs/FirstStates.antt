@@ -5,7 +5,6 @@ use Rattle.std.proofs.lemmas.Bool.{false≢true}
 use Rattle.mls_tree.specs.RatchetTree.{RatchetTree}
 use Rattle.mls_check.specs.Signatures.{VerifyFn}
 use Rattle.mls_msgs.specs.declared.message.Message.TheVariants as messages
-use Rattle.mls_msgs.specs.declared.profile.Profile.TheVariants.{Members}
 use Rattle.mls_msgs.proofs.Profiles.{messages_once}
 use Rattle.mls_signatures.specs.SignaturesToVerify.{start_signatures, resumption_signatures}
 use Rattle.mls_signatures.specs.declared.signature_to_verify.SignatureToVerify.{SignatureToVerify}
@@ -48,7 +47,7 @@ refused-only : (G : VerifyFn) (files : GroupFiles) (finding : Finding) → IsRea
 refused-only G files (StartRefused fault) r d = (fault, refl)
 refused-only G files (InfoUnreadable fault) r d = absurd (d.found (messages.GroupInfo r.info) r.is_read.is_info)
 refused-only G files NotGroupInfo r d =
-    let same : d.found.0 ≡ messages.GroupInfo r.info = messages_once Members d.found.0 (messages.GroupInfo r.info) files.info d.found.1.spelled r.is_read.is_info.spelled in
+    let same : d.found.0 ≡ messages.GroupInfo r.info = messages_once files.profile d.found.0 (messages.GroupInfo r.info) files.info d.found.1.spelled r.is_read.is_info.spelled in
     absurd (d.found.2 r.info same)
 refused-only G files (TreeUnreadable fault) r d = absurd (not_handed files.tree r.handed d.found.2 r.is_read.is_handed)
 refused-only G files (Starts started) r d = absurd (yes_no d.verdict)
@@ -61,7 +60,7 @@ refused-only G files (MembersRefused fault) r d = absurd d.found
 refused-only G files (StateRefused fault) r d = absurd d.found
 refused-only G files (TreeValid hash) r d = absurd d.found
 
-files_start : (files : GroupFiles) (signatures : List SignatureToVerify) (c : StartSignatures files signatures) → IsStarted all_good files.info files.tree c.state
+files_start : (files : GroupFiles) (signatures : List SignatureToVerify) (c : StartSignatures files signatures) → IsStarted files.profile all_good files.info files.tree c.state
 files_start files signatures c = record { info = c.info; handed = c.handed; is_read = c.is_read; start = c.has_signatures.start }
 
 -- ---- the file of a state
@@ -109,18 +108,18 @@ is_refused G bytes (TreeValid hash) d = absurd d.found
 -- ---- one first state or one refusal
 
 pub one_first : (G : VerifyFn) (i : Inputs) (s t : State) → IsFirstState G i s → IsFirstState G i t → s ≡ t
-one_first G (OfGroup files) s t a b = one_started G files.info files.tree s t a b
+one_first G (OfGroup files) s t a b = one_started files.profile G files.info files.tree s t a b
 one_first G (OfState bytes) s t a b = one_resumption G bytes s t a b
 
 pub first_or_refuses : (G : VerifyFn) (i : Inputs) (s : State) (f : Finding) → IsFirstState G i s → Refuses G i f → ⊥
 first_or_refuses G (OfGroup files) s f a b =
-    let same : Starts (started_of s) ≡ StartRefused b.0 = one_start_finding G files.info files.tree (Starts (started_of s)) (StartRefused b.0) (s, a, refl) b.2 in
+    let same : Starts (started_of s) ≡ StartRefused b.0 = one_start_finding files.profile G files.info files.tree (Starts (started_of s)) (StartRefused b.0) (s, a, refl) b.2 in
     absurd cc
 first_or_refuses G (OfState bytes) s f a b = no_resume_fault G bytes s b.0 a b.3.0 b.3.1
 
 pub one_refusal : (G : VerifyFn) (i : Inputs) (f g : Finding) → Refuses G i f → Refuses G i g → f ≡ g
 one_refusal G (OfGroup files) f g a b =
-    let same : StartRefused a.0 ≡ StartRefused b.0 = one_start_finding G files.info files.tree (StartRefused a.0) (StartRefused b.0) a.2 b.2 in
+    let same : StartRefused a.0 ≡ StartRefused b.0 = one_start_finding files.profile G files.info files.tree (StartRefused a.0) (StartRefused b.0) a.2 b.2 in
     a.1 ∙ same ∙ sym b.1
 one_refusal G (OfState bytes) f g a b =
     elim (one_resume_fault G bytes a.0 b.0 a.3.0 b.3.0 a.3.1 b.3.1) [
@@ -132,14 +131,14 @@ one_refusal G (OfState bytes) f g a b =
 pub declines-refuses : (G : VerifyFn) (i : Inputs) (f : Finding) → IsReadable i → Declines G i f → Refuses G i f
 declines-refuses G (OfGroup files) f r d =
     let only = refused-only G files f r d in
-    (only.0, only.1, subst (IsStartFinding G files.info files.tree) only.1 d.found)
+    (only.0, only.1, subst (IsStartFinding files.profile G files.info files.tree) only.1 d.found)
 declines-refuses G (OfState bytes) f r d =
     let w = is_refused G bytes f d in
     (w.fault, w.finding_is, readable-fault bytes r.0 r.1 G w.fault w.found.1, w.found)
 
 pub first_or_refused : (G : VerifyFn) (i : Inputs) → IsReadable i → ((s : State) × IsFirstState G i s) ⊎ ((f : Finding) × Refuses G i f)
 first_or_refused G (OfGroup files) r =
-    elim (begun G files.info files.tree) [
+    elim (begun files.profile G files.info files.tree) [
       | inl s ↦ inl (s.0, s.1)
       | inr f ↦ inr (f.0, declines-refuses G (OfGroup files) f.0 r (record { found = f.1; verdict = f.2 }))
     ]
@@ -157,21 +156,21 @@ readable (OfState bytes) signatures c = (c.state, c.resumed)
 
 pub one_list : (i : Inputs) (ws vs : List SignatureToVerify) → CanStart i ws → CanStart i vs → ws ≡ vs
 one_list (OfGroup files) ws vs a b =
-    let info = one_info files.info a.info b.info a.is_read.is_info b.is_read.is_info in
-    let state = one_started all_good files.info files.tree a.state b.state (files_start files ws a) (files_start files vs b) in
+    let info = one_info files.profile files.info a.info b.info a.is_read.is_info b.is_read.is_info in
+    let state = one_started files.profile all_good files.info files.tree a.state b.state (files_start files ws a) (files_start files vs b) in
     a.has_signatures.wanted_is ∙ (λ k. start_signatures (info k) (state k).tree) ∙ sym b.has_signatures.wanted_is
 one_list (OfState bytes) ws vs a b =
     let state = one_resumption all_good bytes a.state b.state a.resumed b.resumed in
     a.signatures_are ∙ ap (λ (s : State). resumption_signatures s.context s.tree s.known) state ∙ sym b.signatures_are
 
 pub alike_findings : (i : Inputs) (f g : Finding) → Declines all_good i f → Declines all_good i g → AreAlike f g
-alike_findings (OfGroup files) f g a b = one_start_finding all_good files.info files.tree f g a.found b.found
+alike_findings (OfGroup files) f g a b = one_start_finding files.profile all_good files.info files.tree f g a.found b.found
 alike_findings (OfState bytes) f g a b = one_state_finding all_good bytes f g a.found b.found
 
 pub starts_or_declines : (i : Inputs) (signatures : List SignatureToVerify) (f : Finding) → CanStart i signatures → Declines all_good i f → ⊥
 starts_or_declines (OfGroup files) signatures f c d =
     let s = c.state in
-    let alike = one_start_finding all_good files.info files.tree f (Starts (started_of s)) d.found (s, files_start files signatures c, refl) in
+    let alike = one_start_finding files.profile all_good files.info files.tree f (Starts (started_of s)) d.found (s, files_start files signatures c, refl) in
     yes_no (sym (alike_starts f s (started_of s) refl alike) ∙ d.verdict)
 starts_or_declines (OfState bytes) signatures f c d =
     let s = c.state in
@@ -180,9 +179,9 @@ starts_or_declines (OfState bytes) signatures f c d =
 
 pub starts_or_declined : (i : Inputs) → ((signatures : List SignatureToVerify) × CanStart i signatures) ⊎ ((f : Finding) × Declines all_good i f)
 starts_or_declined (OfGroup files) =
-    elim (begun all_good files.info files.tree) [
+    elim (begun files.profile all_good files.info files.tree) [
       | inl s ↦
-          (let started : IsStarted all_good files.info files.tree s.0 = s.1 in
+          (let started : IsStarted files.profile all_good files.info files.tree s.0 = s.1 in
           inl (
             start_signatures started.info s.0.tree,
             record {
@@ -204,9 +203,9 @@ starts_or_declined (OfState bytes) =
 -- ---- what holds of a first state
 
 pub first_steady : (G : VerifyFn) (i : Inputs) (s : State) → IsFirstState G i s → IsSteady s
-first_steady G (OfGroup files) s h = start_steady G h.info h.handed s h.start
+first_steady G (OfGroup files) s h = start_steady files.profile G h.info h.handed s h.start
 first_steady G (OfState bytes) s h = resumed_steady G bytes s h
 
 pub first_resumable : (G : VerifyFn) (i : Inputs) (s : State) → IsFirstState G i s → IsResumable G s
-first_resumable G (OfGroup files) s h = start_resumable G h.info h.handed s h.start
+first_resumable G (OfGroup files) s h = start_resumable files.profile G h.info h.handed s h.start
 first_resumable G (OfState bytes) s h = resumed_resumable G bytes s h

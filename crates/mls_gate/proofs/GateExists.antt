@@ -248,12 +248,12 @@ has_report Reads G i records read =
     ]
 
 pub some_gate : GateExists
-some_gate G info_bytes tree_bytes records =
+some_gate profile G info_bytes tree_bytes records =
     let info = read_input info_bytes in
     let tree = read_optional_tree tree_bytes in
-    let files : GroupFiles = record { info = info.bytes; tree = tree.bytes } in
+    let files : GroupFiles = record { profile = profile; info = info.bytes; tree = tree.bytes } in
     let both : ReadsBoth (Some info_bytes) (Some info.left) (option_map Some tree_bytes) tree.left info.bytes tree.bytes = record { info = info.reads; tree = tree.reads } in
-    let made = has_report (ReadsGroup (Some info_bytes) (Some info.left) (option_map Some tree_bytes) tree.left) G (OfGroup files) records both in
+    let made = has_report (ReadsGroup profile (Some info_bytes) (Some info.left) (option_map Some tree_bytes) tree.left) G (OfGroup files) records (refl, both) in
     (made.text, made.verdict, record { info_left = Some info.left; tree_left = tree.left; records_left = made.left; before = []; gates = made.gates })
 
 pub some_state_gate : StateGateExists

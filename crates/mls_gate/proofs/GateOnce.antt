@@ -4,6 +4,7 @@ use Rattle.std.specs.Prelude.{option_map}
 use Rattle.std.specs.Io.KnownBytes.{Appends}
 use Rattle.mls_wire.proofs.KnownBytes.{Appends-trans}
 use Rattle.mls_check.specs.Signatures.{VerifyFn}
+use Rattle.mls_msgs.specs.declared.profile.Profile.{Profile}
 use Rattle.mls_follow.specs.CoveredLogs.{all_good}
 use Rattle.mls_report.specs.Finding.{finding_line}
 use Rattle.mls_report.specs.UniqueReports.{AreAlikeTexts}
@@ -73,19 +74,20 @@ module _ (G : VerifyFn) (records : List ℕ) (Reads Others : Inputs → Type 0) 
 
 -- ---- a GroupInfo and a tree
 
-one_group : (info_bytes : List ℕ) (tree_bytes : Option (List ℕ)) (i j : Option (List ℕ)) (t u : Option (Option (List ℕ))) (n m : Inputs)
-    → ReadsGroup (Some info_bytes) i (option_map Some tree_bytes) t n → ReadsGroup (Some info_bytes) j (option_map Some tree_bytes) u m → n ≡ m
-one_group info_bytes tree_bytes i j t u (OfGroup x) (OfGroup y) a b =
-    let info = one_input info_bytes i j x.info y.info a.info b.info in
-    let tree = one_tree_input tree_bytes t u x.tree y.tree a.tree b.tree in
-    λ k. OfGroup (record { info = info k; tree = tree k })
-one_group info_bytes tree_bytes i j t u (OfState x) m a b = absurd a
-one_group info_bytes tree_bytes i j t u (OfGroup x) (OfState y) a b = absurd b
+one_group : (profile : Profile) (info_bytes : List ℕ) (tree_bytes : Option (List ℕ)) (i j : Option (List ℕ)) (t u : Option (Option (List ℕ))) (n m : Inputs)
+    → ReadsGroup profile (Some info_bytes) i (option_map Some tree_bytes) t n → ReadsGroup profile (Some info_bytes) j (option_map Some tree_bytes) u m → n ≡ m
+one_group profile info_bytes tree_bytes i j t u (OfGroup x) (OfGroup y) a b =
+    let info = one_input info_bytes i j x.info y.info a.1.info b.1.info in
+    let tree = one_tree_input tree_bytes t u x.tree y.tree a.1.tree b.1.tree in
+    let profiles = a.0 ∙ sym b.0 in
+    λ k. OfGroup (record { profile = profiles k; info = info k; tree = tree k })
+one_group profile info_bytes tree_bytes i j t u (OfState x) m a b = absurd a
+one_group profile info_bytes tree_bytes i j t u (OfGroup x) (OfState y) a b = absurd b
 
 pub one_gate : GateIsUnique
-one_gate G info_bytes tree_bytes records text other verdict more a b =
-    either G records (ReadsGroup (Some info_bytes) a.info_left (option_map Some tree_bytes) a.tree_left) (ReadsGroup (Some info_bytes) b.info_left (option_map Some tree_bytes) b.tree_left)
-    (one_group info_bytes tree_bytes a.info_left b.info_left a.tree_left b.tree_left) a.records_left b.records_left a.before b.before text other verdict more a.gates b.gates
+one_gate profile G info_bytes tree_bytes records text other verdict more a b =
+    either G records (ReadsGroup profile (Some info_bytes) a.info_left (option_map Some tree_bytes) a.tree_left) (ReadsGroup profile (Some info_bytes) b.info_left (option_map Some tree_bytes) b.tree_left)
+    (one_group profile info_bytes tree_bytes a.info_left b.info_left a.tree_left b.tree_left) a.records_left b.records_left a.before b.before text other verdict more a.gates b.gates
 
 -- ---- the file of a state
 

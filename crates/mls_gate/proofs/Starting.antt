@@ -23,8 +23,8 @@ use Rattle.mls_gate.specs.Phases.{GroupFiles, Inputs, OfGroup, OfState}
 
 -- ---- from the bytes of a GroupInfo and a tree
 
-module _ (files : GroupFiles) (info : GroupInfo) (handed : Option RatchetTree) (is_read : IsReadAs files.info files.tree info handed) where
-  pub can-start : (s : State) (signatures : List SignatureToVerify) → StartHasSignatures info handed s signatures → StartSignatures files signatures
+module _ (files : GroupFiles) (info : GroupInfo) (handed : Option RatchetTree) (is_read : IsReadAs files.profile files.info files.tree info handed) where
+  pub can-start : (s : State) (signatures : List SignatureToVerify) → StartHasSignatures files.profile info handed s signatures → StartSignatures files signatures
   can-start s signatures has = record { info = info; handed = handed; is_read = is_read; state = s; has_signatures = has }
 
   declines : (G : VerifyFn) (finding : Finding) → FailsStart G info handed finding → Declines G (OfGroup files) finding
@@ -35,7 +35,7 @@ module _ (files : GroupFiles) (info : GroupInfo) (handed : Option RatchetTree) (
   says-declines G (Found finding) f = declines G finding f
   says-declines G (Fault e) f = f
 
-pub says-unread : (G : VerifyFn) (files : GroupFiles) (failure : StartFailure) → Says (IsUnread files.info files.tree) failure → Says (Declines G (OfGroup files)) failure
+pub says-unread : (G : VerifyFn) (files : GroupFiles) (failure : StartFailure) → Says (IsUnread files.profile files.info files.tree) failure → Says (Declines G (OfGroup files)) failure
 says-unread G files (Found finding) u = record { found = u.found G; verdict = u.verdict }
 says-unread G files (Fault e) u = u
 

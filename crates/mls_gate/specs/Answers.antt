@@ -15,6 +15,7 @@ use Rattle.mls_follow.specs.declared.taken.Taken.{Taken}
 use Rattle.mls_follow.specs.declared.taken.Taken.TheVariants.{Proposal, Commit}
 use Rattle.mls_report.specs.FaultText.{member_fault_text}
 use Rattle.mls_report.specs.Finding.{finding_line}
+use Rattle.mls_report.specs.Replay.{ended_text}
 use Rattle.mls_report.specs.SignaturesReport.{HasSignatures, wanted_line}
 use Rattle.mls_report.specs.ValueTexts.{hex_text}
 use Rattle.mls_report.specs.declared.finding.Finding.{Finding}
@@ -98,17 +99,26 @@ refusal_name refusals.KeyRepeated = codes "KeyRepeated"
 refusal_name (refusals.Member fault) = codes "Member " ++ member_fault_text fault
 refusal_name refusals.TwoContextExtensions = codes "TwoContextExtensions"
 refusal_name refusals.ContextExtensionsInvalid = codes "ContextExtensionsInvalid"
+refusal_name refusals.GroupOver = codes "GroupOver"
+refusal_name refusals.UnknownExternal = codes "UnknownExternal"
+refusal_name refusals.SenderContent = codes "SenderContent"
+refusal_name refusals.PskInvalid = codes "PskInvalid"
+refusal_name refusals.ReInitInvalid = codes "ReInitInvalid"
+refusal_name refusals.ExternalInitMisplaced = codes "ExternalInitMisplaced"
+refusal_name refusals.PskTwice = codes "PskTwice"
+refusal_name refusals.ReInitNotAlone = codes "ReInitNotAlone"
 refusal_name refusals.OutOfMemory = codes "OutOfMemory"
 
 -- `judged_line answer s` is the line of a processed message: the reference of a proposal (RFC 9420, 5.2); of a
--- commit the epoch that it begins, and the tree hash and the confirmed transcript hash of that epoch (8.1); or the
--- number and the name of the refusal, and for 25 those of the fault of the leaf node.
+-- commit the epoch that it begins, the tree hash and the confirmed transcript hash of that epoch (8.1), and whether the
+-- group is over; or the number and the name of the refusal, and for 25 those of the fault of the leaf node.
 abbrev pub judged_line : Result Taken Refusal → State → List ℕ
 judged_line (Ok (Proposal reference)) s = codes "accepted proposal " ++ (hex_text reference ++ codes "\n")
 judged_line (Ok (Commit epoch)) s =
     codes "accepted commit " ++ (decimal epoch
     ++ (codes " " ++ (hex_text s.context.tree_hash
-    ++ (codes " " ++ (hex_text s.context.confirmed ++ codes "\n")))))
+    ++ (codes " " ++ (hex_text s.context.confirmed
+    ++ (ended_text s.ended ++ codes "\n"))))))
 judged_line (Err e) s = codes "refused " ++ (decimal (number_of e) ++ (codes " " ++ (refusal_name e ++ codes "\n")))
 
 -- `stored_line bytes` is the line of a state that has this file.

@@ -4,6 +4,7 @@ use Rattle.std.specs.Prelude.{◌≡◌, ℕ, List, Bool, false, Option}
 use Rattle.mls_tree.specs.RatchetTree.{RatchetTree}
 use Rattle.mls_check.specs.Signatures.{VerifyFn}
 use Rattle.mls_msgs.specs.declared.group_info.GroupInfo.{GroupInfo}
+use Rattle.mls_msgs.specs.declared.profile.Profile.{Profile}
 use Rattle.mls_signatures.specs.SignaturesToVerify.{resumption_signatures}
 use Rattle.mls_signatures.specs.declared.signature_to_verify.SignatureToVerify.{SignatureToVerify}
 use Rattle.mls_follow.specs.CoveredLogs.{all_good}
@@ -26,7 +27,7 @@ use Rattle.mls_gate.specs.Phases.{GroupFiles, Inputs, OfGroup, OfState}
 
 -- `IsFirstState G i s`: a follower starts from the inputs in the state `s` (RFC 9420, 12.4.3), or resumes in it.
 abbrev pub IsFirstState : VerifyFn → Inputs → State → Type 0
-IsFirstState G (OfGroup files) s = IsStarted G files.info files.tree s
+IsFirstState G (OfGroup files) s = IsStarted files.profile G files.info files.tree s
 IsFirstState G (OfState bytes) s = IsResumed G bytes s
 
 -- `StartSignatures files signatures`: a follower starts from the files, each signature being good, and the start has
@@ -34,9 +35,9 @@ IsFirstState G (OfState bytes) s = IsResumed G bytes s
 pub record StartSignatures (files : GroupFiles) (signatures : List SignatureToVerify) : Type 0 where
   pub info : GroupInfo
   pub handed : Option RatchetTree
-  pub is_read : IsReadAs files.info files.tree info handed
+  pub is_read : IsReadAs files.profile files.info files.tree info handed
   pub state : State
-  pub has_signatures : StartHasSignatures info handed state signatures
+  pub has_signatures : StartHasSignatures files.profile info handed state signatures
 
 -- `ResumptionSignatures bytes signatures`: a follower resumes from the bytes, each signature being good, and the
 -- resumption has these signatures.
@@ -55,7 +56,7 @@ CanStart (OfState bytes) signatures = ResumptionSignatures bytes signatures
 
 -- `IsFindingOf G i finding`: the first cause for which no follower starts or resumes, or that one does.
 abbrev pub IsFindingOf : VerifyFn → Inputs → Finding → Type 0
-IsFindingOf G (OfGroup files) finding = IsStartFinding G files.info files.tree finding
+IsFindingOf G (OfGroup files) finding = IsStartFinding files.profile G files.info files.tree finding
 IsFindingOf G (OfState bytes) finding = IsStateFinding G bytes finding
 
 -- `Declines G i finding`: no follower starts or resumes, for this finding.
@@ -67,19 +68,20 @@ pub record Declines (G : VerifyFn) (i : Inputs) (finding : Finding) : Type 0 whe
 abbrev pub Refuses : VerifyFn → Inputs → Finding → Type 0
 Refuses G (OfGroup files) finding =
     (fault : StartFault) × (finding ≡ StartRefused fault)
-    × IsStartFinding G files.info files.tree (StartRefused fault)
+    × IsStartFinding files.profile G files.info files.tree (StartRefused fault)
 Refuses G (OfState bytes) finding =
     (fault : ResumeFault) × (finding ≡ StateRefused fault) × (is_unreadable fault ≡ false)
     × IsStateFinding G bytes (StateRefused fault)
 
 -- ---- the reading
 
--- `ReadsGroup info0 info1 tree0 tree1 i`: the GroupInfo was read to its end, and then the tree, if one is passed. `i` is
--- their bytes.
-abbrev pub ReadsGroup : Option (List ℕ) → Option (List ℕ) → Option (Option (List ℕ)) → Option (Option (List ℕ))
-    → Inputs → Type 0
-ReadsGroup info0 info1 tree0 tree1 (OfGroup files) = ReadsBoth info0 info1 tree0 tree1 files.info files.tree
-ReadsGroup info0 info1 tree0 tree1 (OfState bytes) = ⊥
+-- `ReadsGroup profile info0 info1 tree0 tree1 i`: the GroupInfo was read to its end, and then the tree, if one is passed.
+-- `i` is their bytes, with the profile.
+abbrev pub ReadsGroup : Profile → Option (List ℕ) → Option (List ℕ) → Option (Option (List ℕ))
+    → Option (Option (List ℕ)) → Inputs → Type 0
+ReadsGroup profile info0 info1 tree0 tree1 (OfGroup files) =
+    (files.profile ≡ profile) × ReadsBoth info0 info1 tree0 tree1 files.info files.tree
+ReadsGroup profile info0 info1 tree0 tree1 (OfState bytes) = ⊥
 
 -- `ReadsState state0 state1 i`: the file of a state was read to its end, and `i` is its bytes.
 abbrev pub ReadsState : Option (List ℕ) → Option (List ℕ) → Inputs → Type 0

@@ -7,6 +7,7 @@ use Rattle.std.specs.Io.KnownBytes.{Appends, Consumes, IsAtEnd}
 use Rattle.mls_wire.specs.Devices.{AppendsPrefix}
 use Rattle.mls_wire.specs.Logs.{IsRecord, IsBrokenAt, IsIncomplete}
 use Rattle.mls_check.specs.Signatures.{VerifyFn}
+use Rattle.mls_msgs.specs.declared.profile.Profile.{Profile}
 use Rattle.mls_signatures.specs.declared.signature_to_verify.SignatureToVerify.{SignatureToVerify}
 use Rattle.mls_follow.specs.CoveredLogs.{all_good}
 use Rattle.mls_report.specs.Finding.{finding_line}
@@ -190,11 +191,13 @@ GatesOf Reads G records0 records1 written0 written1 verdict =
     DeclinesGate Reads records0 records1 written0 written1 verdict
     ⊎ OpensGate Reads G records0 records1 written0 written1 verdict
 
--- `Gates G info0 info1 tree0 tree1 ..`: the report from a GroupInfo, and a tree if one is passed.
-abbrev pub Gates : VerifyFn → Option (List ℕ) → Option (List ℕ) → Option (Option (List ℕ)) → Option (Option (List ℕ))
-    → Option (List ℕ) → Option (List ℕ) → Option (List ℕ) → Option (List ℕ) → Verdict → Type 0
-Gates G info0 info1 tree0 tree1 records0 records1 written0 written1 verdict =
-    GatesOf (ReadsGroup info0 info1 tree0 tree1) G records0 records1 written0 written1 verdict
+-- `Gates profile G info0 info1 tree0 tree1 ..`: the report from a GroupInfo, and a tree if one is passed. The group is
+-- followed in the profile.
+abbrev pub Gates : Profile → VerifyFn → Option (List ℕ) → Option (List ℕ) → Option (Option (List ℕ))
+    → Option (Option (List ℕ)) → Option (List ℕ) → Option (List ℕ) → Option (List ℕ) → Option (List ℕ) → Verdict
+    → Type 0
+Gates profile G info0 info1 tree0 tree1 records0 records1 written0 written1 verdict =
+    GatesOf (ReadsGroup profile info0 info1 tree0 tree1) G records0 records1 written0 written1 verdict
 
 -- `GatesState G state0 state1 ..`: the report from the file of a state.
 abbrev pub GatesState : VerifyFn → Option (List ℕ) → Option (List ℕ) → Option (List ℕ) → Option (List ℕ)
@@ -266,12 +269,13 @@ GatesPartOf Reads G records0 records1 written0 written1 fault =
     GateBefore Reads G records0 records1 written0 written1 fault
     ⊎ GateAfter Reads G records0 records1 written0 written1 fault
 
--- `GatesPart G info0 info1 tree0 tree1 .. fault`: a part of the report from a GroupInfo, and a tree if one is passed.
-abbrev pub GatesPart : VerifyFn → Option (List ℕ) → Option (List ℕ) → Option (Option (List ℕ))
+-- `GatesPart profile G info0 info1 tree0 tree1 .. fault`: a part of the report from a GroupInfo, and a tree if one is
+-- passed.
+abbrev pub GatesPart : Profile → VerifyFn → Option (List ℕ) → Option (List ℕ) → Option (Option (List ℕ))
     → Option (Option (List ℕ)) → Option (List ℕ) → Option (List ℕ) → Option (List ℕ) → Option (List ℕ) → RunFault
     → Type 0
-GatesPart G info0 info1 tree0 tree1 records0 records1 written0 written1 fault =
-    GatesPartOf (ReadsGroup info0 info1 tree0 tree1) G records0 records1 written0 written1 fault
+GatesPart profile G info0 info1 tree0 tree1 records0 records1 written0 written1 fault =
+    GatesPartOf (ReadsGroup profile info0 info1 tree0 tree1) G records0 records1 written0 written1 fault
 
 -- `GatesStatePart G state0 state1 .. fault`: a part of the report from the file of a state.
 abbrev pub GatesStatePart : VerifyFn → Option (List ℕ) → Option (List ℕ) → Option (List ℕ) → Option (List ℕ)

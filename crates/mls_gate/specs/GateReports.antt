@@ -1,20 +1,21 @@
--- The report of the gate exists, and is a function of the bytes of its inputs and of the checker's verification function
--- G. Used by contracts.
+-- The report of the gate exists, and is a function of its profile, of the bytes of its inputs and of the checker's
+-- verification function G. Used by contracts.
 use Rattle.std.specs.Prelude.{◌≡◌, ℕ, List, ◌++◌, Option, Some, option_map}
 use Rattle.mls_check.specs.Signatures.{VerifyFn}
+use Rattle.mls_msgs.specs.declared.profile.Profile.{Profile}
 use Rattle.mls_report.specs.UniqueReports.{AreAlikeTexts}
 use Rattle.mls_report.specs.declared.verdict.Verdict.{Verdict}
 use Rattle.mls_gate.specs.GateReport.{Gates, GatesState}
 
--- `IsGateReport G info_bytes tree_bytes records text verdict`: a gate over these bytes has written this text, and has
--- this verdict.
-pub record IsGateReport (G : VerifyFn) (info_bytes : List ℕ) (tree_bytes : Option (List ℕ)) (records text : List ℕ)
-    (verdict : Verdict) : Type 0 where
+-- `IsGateReport profile G info_bytes tree_bytes records text verdict`: a gate over these bytes in the profile has written
+-- this text, and has this verdict.
+pub record IsGateReport (profile : Profile) (G : VerifyFn) (info_bytes : List ℕ)
+    (tree_bytes : Option (List ℕ)) (records text : List ℕ) (verdict : Verdict) : Type 0 where
   pub info_left : Option (List ℕ)
   pub tree_left : Option (Option (List ℕ))
   pub records_left : Option (List ℕ)
   pub before : List ℕ
-  pub gates : Gates G (Some info_bytes) info_left (option_map Some tree_bytes) tree_left
+  pub gates : Gates profile G (Some info_bytes) info_left (option_map Some tree_bytes) tree_left
       (Some records) records_left (Some before) (Some (before ++ text)) verdict
 
 -- `IsStateGateReport G state_bytes records text verdict`: a gate over the file of a state and these records has written
@@ -28,9 +29,10 @@ pub record IsStateGateReport (G : VerifyFn) (state_bytes records text : List ℕ
 -- The bytes of its inputs determine what a gate writes, and its verdict.
 abbrev pub GateIsUnique : Type 0
 GateIsUnique =
-    (G : VerifyFn) (info_bytes : List ℕ) (tree_bytes : Option (List ℕ)) (records text other : List ℕ)
-    (verdict more : Verdict) → IsGateReport G info_bytes tree_bytes records text verdict
-    → IsGateReport G info_bytes tree_bytes records other more
+    (profile : Profile) (G : VerifyFn) (info_bytes : List ℕ) (tree_bytes : Option (List ℕ))
+    (records text other : List ℕ) (verdict more : Verdict)
+    → IsGateReport profile G info_bytes tree_bytes records text verdict
+    → IsGateReport profile G info_bytes tree_bytes records other more
     → AreAlikeTexts text other × (verdict ≡ more)
 
 -- So do those of the file of a state.
@@ -43,8 +45,8 @@ StateGateIsUnique =
 -- The bytes of the inputs of a gate have a report.
 abbrev pub GateExists : Type 0
 GateExists =
-    (G : VerifyFn) (info_bytes : List ℕ) (tree_bytes : Option (List ℕ)) (records : List ℕ)
-    → (text : List ℕ) × (verdict : Verdict) × IsGateReport G info_bytes tree_bytes records text verdict
+    (profile : Profile) (G : VerifyFn) (info_bytes : List ℕ) (tree_bytes : Option (List ℕ)) (records : List ℕ)
+    → (text : List ℕ) × (verdict : Verdict) × IsGateReport profile G info_bytes tree_bytes records text verdict
 
 -- So do those of the file of a state.
 abbrev pub StateGateExists : Type 0

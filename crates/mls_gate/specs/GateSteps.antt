@@ -20,7 +20,6 @@ use Rattle.mls_report.specs.SignaturesSteps.{LinesWithoutMemory}
 use Rattle.mls_report.specs.StartInputs.{IsReadAs}
 use Rattle.mls_report.specs.declared.finding.Finding.{Finding}
 use Rattle.mls_report.specs.declared.finding.Finding.TheVariants.{StartRefused}
-use Rattle.mls_report.specs.declared.read_inputs.InputBytes.{InputBytes}
 use Rattle.mls_report.specs.declared.verdict.RunFault.{RunFault}
 use Rattle.mls_report.specs.declared.verdict.RunFault.TheVariants.{Read, Write, Memory}
 use Rattle.mls_report.specs.declared.verdict.Verdict.{Verdict}
@@ -30,15 +29,20 @@ use Rattle.mls_gate.specs.Phases.{GroupFiles, Inputs, OfGroup, OfState, Phase, O
 use Rattle.mls_gate.specs.Requests.{request_of}
 use Rattle.mls_gate.specs.declared.gate_inputs.GateInputs.{GateInputs}
 use Rattle.mls_gate.specs.declared.gate_inputs.GateInputs.TheVariants as gates
+use Rattle.mls_gate.specs.declared.gate_inputs.GroupBytes.{GroupBytes}
 use Rattle.mls_gate.specs.declared.phase.GatePhase.{GatePhase}
 use Rattle.mls_gate.specs.declared.phase.GatePhase.TheVariants as phases
 use Rattle.mls_gate.specs.declared.request.Request.{Request}
 
 -- ---- the phase
 
--- The bytes of a GroupInfo, and of a tree if there is a file of it.
-abbrev pub files_of : InputBytes → GroupFiles
-files_of b = record { info = b.info.items; tree = option_map (λ v. v.items) b.tree }
+-- The profile, and the bytes of a GroupInfo, and of a tree if there is a file of it.
+abbrev pub files_of : GroupBytes → GroupFiles
+files_of b = record {
+  profile = b.profile;
+  info = b.bytes.info.items;
+  tree = option_map (λ v. v.items) b.bytes.tree;
+}
 
 -- The bytes of the inputs.
 abbrev pub inputs_of : GateInputs → Inputs
@@ -55,7 +59,7 @@ phase_of meaning phases.Over = None
 pub record AreReadable (files : GroupFiles) : Type 0 where
   pub info : GroupInfo
   pub handed : Option RatchetTree
-  pub is_read : IsReadAs files.info files.tree info handed
+  pub is_read : IsReadAs files.profile files.info files.tree info handed
 
 -- The inputs can be read. The file of a state leads to a follower, each signature being good.
 abbrev pub IsReadable : Inputs → Type 0

@@ -1,12 +1,14 @@
 -- What the gate is at between two records (own format). Used by contracts.
 use Rattle.std.specs.Prelude.{ℕ, List, Option}
 use Rattle.mls_check.specs.Signatures.{VerifyFn}
+use Rattle.mls_msgs.specs.declared.profile.Profile.{Profile}
 use Rattle.mls_follow.specs.State.{State}
 use Rattle.mls_report.specs.declared.verdict.Verdict.{Verdict}
 use Rattle.mls_report.specs.declared.verdict.Verdict.TheVariants.{Yes, No}
 
--- The bytes of a GroupInfo, and of a tree if there is a file of it.
+-- The profile in which a group is followed, and the bytes of its GroupInfo, and of a tree if there is a file of it.
 pub record GroupFiles : Type 0 where
+  pub profile : Profile
   pub info : List ℕ
   pub tree : Option (List ℕ)
 

@@ -2,6 +2,7 @@
 
 ghost use Rattle.std.specs.Prelude.{◌≡◌, ◌≢◌, ◌++◌, ◌↔◌, ◌⊎◌, Some, Ok, Err, false, true, IfOk, IfErr, OnErr, option_map, string_bytes};
 ghost use Rattle.mls_wire.specs.Logs.{ReadsRecord, ReaderAfter};
+ghost use Rattle.mls_msgs.specs.declared.profile.Profile.TheVariants.{Members};
 ghost use Rattle.mls_follow.specs.FollowerModel.{state_of};
 ghost use Rattle.mls_follow.specs.MessageSignatures.{state_signatures};
 ghost use Rattle.mls_report.specs.StartInputs.{has_failed};
@@ -13,13 +14,14 @@ ghost use Rattle.mls_gate.specs.Phases.{OfGroup, Phase, Opening};
 ghost use Rattle.std.specs.Io.KnownBytes.{Appends};
 ghost use Rattle.mls_wire.specs.Devices.{AppendsPrefix};
 
-use crate::gate_inputs::GateInputs;
+use crate::gate_inputs::{GateInputs, GroupBytes};
 use crate::opening::opening_start;
 use crate::opening_lines::write_start_query;
 use crate::phase::GatePhase;
 use mls_check::LearningCheck;
+use mls_msgs::Profile;
 use mls_report::finding::tell;
-use mls_report::read_inputs::{InputBytes, StartFailure, read_inputs_to_end};
+use mls_report::read_inputs::{StartFailure, read_inputs_to_end};
 use mls_report::trusting_start::TrustingStart;
 use mls_report::{RunFault, Verdict, write_text};
 use mls_wire::{LogStep, RecordFault, Records, Sink, Source};
@@ -141,7 +143,7 @@ pub(crate) fn serve<R: Source, C: LearningCheck, K: Sink>(
 /// Writes the lines of the start, and then answers the records.
 fn gate_after<R: Source, C: LearningCheck, K: Sink>(
     alloc: Global,
-    inputs: InputBytes,
+    inputs: GroupBytes,
     start: TrustingStart,
     records: &mut R,
     checker: C,
@@ -165,7 +167,7 @@ fn gate_after<R: Source, C: LearningCheck, K: Sink>(
 /// Checks that a follower can start if every signature is good, and writes the report.
 fn gate_from<R: Source, C: LearningCheck, K: Sink>(
     alloc: Global,
-    inputs: InputBytes,
+    inputs: GroupBytes,
     records: &mut R,
     checker: C,
     out: &mut K,
@@ -186,9 +188,9 @@ fn gate_from<R: Source, C: LearningCheck, K: Sink>(
     }
 }
 
-/// Reads the GroupInfo to its end, then the tree if there is a file of it. If no follower can start from them though
-/// each signature is good, it writes the line of [`mls_report::run_validate`]; the verdict is `No` and no record is
-/// read.
+/// Reads the GroupInfo to its end, then the tree if there is a file of it. If no follower with this profile can start from
+/// them though each signature is good, it writes the line of [`mls_report::run_validate_in`]; the verdict is `No` and no
+/// record is read.
 ///
 /// Else it writes a line for each signature of the start that the checker does not accept, and one with their number. It
 /// computes a signature only after the line of the one before is written.
@@ -198,11 +200,11 @@ fn gate_from<R: Source, C: LearningCheck, K: Sink>(
 ///
 /// - `r` and receipts of 32 bytes each: these signatures are good. No line.
 /// - `b`: the follower starts by the signatures that it has learnt to be good by then. The line has the epoch, the number of members and the
-///   tree hash; or it is that of `run_validate`, and the gate ends with `No`.
+///   tree hash; or it is that of `run_validate_in`, and the gate ends with `No`.
 /// - `q` and a message: a line for each signature of the message that is not known to be good
 ///   ([`mls_follow::Follower::wanted`]), and one with their number.
 /// - `m` and a message: the message is processed ([`mls_follow::Follower::take`]). The line says that it was accepted
-///   and what it led to, or the number and the name of the refusal.
+///   and what it led to, with `ended` if the group is over (11.2); or the number and the name of the refusal.
 /// - `s`: the line has the file of the follower's state ([`mls_follow::Follower::encode_state`]), or says that it has
 ///   none. The state is unchanged.
 ///
@@ -216,6 +218,42 @@ fn gate_from<R: Source, C: LearningCheck, K: Sink>(
 /// - `Write` if the output fails: nothing was read after the record in whose answer it failed.
 /// - `Memory`: the lines of the signatures of the start before are written whole; or each record that was read is
 ///   answered, except the one at which memory ran out.
+pub fn run_gate_in<I: Source, T: Source, R: Source, C: LearningCheck, K: Sink>(
+    alloc: Global,
+    profile: Profile,
+    info: &mut I,
+    tree: &mut Option<T>,
+    records: &mut R,
+    checker: C,
+    out: &mut K,
+) -> Result<Verdict, RunFault>
+    requires info { I.is_failed info.old ≡ false }
+    requires tree { has_failed (option_map T.is_failed tree.old) ≡ false }
+    requires records { R.is_failed records.old ≡ false }
+    requires out { K.is_failed out.old ≡ false }
+    ensures told { IfOk result
+        (Gates profile (C.meaning checker) (I.left info.old) (I.left info.new)
+        (option_map T.left tree.old) (option_map T.left tree.new)
+        (R.left records.old) (R.left records.new) (K.written out.old) (K.written out.new)) }
+    ensures part { IfErr result
+        (GatesPart profile (C.meaning checker) (I.left info.old) (I.left info.new)
+        (option_map T.left tree.old) (option_map T.left tree.new)
+        (R.left records.old) (R.left records.new) (K.written out.old) (K.written out.new)) }
+    ensures read { (result ≡ Err RunFault.Read)
+        ↔ ((I.is_failed info.new ≡ true)
+        ⊎ ((has_failed (option_map T.is_failed tree.new) ≡ true)
+        ⊎ (R.is_failed records.new ≡ true))) }
+    ensures write { (result ≡ Err RunFault.Write) ↔ (K.is_failed out.new ≡ true) }
+{
+    let bytes = read_inputs_to_end(alloc, info, tree)?;
+    gate_from(alloc, GroupBytes { profile, bytes }, records, checker, out)
+}
+
+/// Writes the report of [`run_gate_in`] for the members' profile.
+///
+/// # Errors
+///
+/// Those of [`run_gate_in`].
 pub fn run_gate<I: Source, T: Source, R: Source, C: LearningCheck, K: Sink>(
     alloc: Global,
     info: &mut I,
@@ -229,11 +267,11 @@ pub fn run_gate<I: Source, T: Source, R: Source, C: LearningCheck, K: Sink>(
     requires records { R.is_failed records.old ≡ false }
     requires out { K.is_failed out.old ≡ false }
     ensures told { IfOk result
-        (Gates (C.meaning checker) (I.left info.old) (I.left info.new)
+        (Gates Members (C.meaning checker) (I.left info.old) (I.left info.new)
         (option_map T.left tree.old) (option_map T.left tree.new)
         (R.left records.old) (R.left records.new) (K.written out.old) (K.written out.new)) }
     ensures part { IfErr result
-        (GatesPart (C.meaning checker) (I.left info.old) (I.left info.new)
+        (GatesPart Members (C.meaning checker) (I.left info.old) (I.left info.new)
         (option_map T.left tree.old) (option_map T.left tree.new)
         (R.left records.old) (R.left records.new) (K.written out.old) (K.written out.new)) }
     ensures read { (result ≡ Err RunFault.Read)
@@ -242,6 +280,5 @@ pub fn run_gate<I: Source, T: Source, R: Source, C: LearningCheck, K: Sink>(
         ⊎ (R.is_failed records.new ≡ true))) }
     ensures write { (result ≡ Err RunFault.Write) ↔ (K.is_failed out.new ≡ true) }
 {
-    let inputs = read_inputs_to_end(alloc, info, tree)?;
-    gate_from(alloc, inputs, records, checker, out)
+    run_gate_in(alloc, Profile::Members, info, tree, records, checker, out)
 }

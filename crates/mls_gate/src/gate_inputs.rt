@@ -9,15 +9,23 @@ ghost use Rattle.mls_gate.specs.GateSteps.{inputs_of};
 use crate::opening::started;
 use mls_check::SignatureCheck;
 use mls_follow::Follower;
+use mls_msgs::Profile;
 use mls_report::read_inputs::{InputBytes, StartFailure};
 use mls_report::state_input::resume_from;
 use std::alloc::Global;
+
+/// The profile in which a group is followed, and the bytes of its GroupInfo, and of a tree if there is a file of it.
+#[derive(Drop)]
+pub(crate) struct GroupBytes {
+    pub(crate) profile: Profile,
+    pub(crate) bytes: InputBytes,
+}
 
 /// What a gate begins from, as bytes.
 #[derive(Drop)]
 pub(crate) enum GateInputs {
     /// A GroupInfo, and a tree if there is a file of it.
-    Group(InputBytes),
+    Group(GroupBytes),
     /// The file of a state.
     State(Vec<u8>),
 }

@@ -5,6 +5,7 @@ ghost use Rattle.std.specs.Fmt.{decimal};
 ghost use Rattle.mls_follow.specs.FollowerModel.{state_of};
 ghost use Rattle.mls_follow.specs.RefusalNumbers.{number_of};
 ghost use Rattle.mls_report.specs.FaultText.{member_fault_text};
+ghost use Rattle.mls_report.specs.Replay.{ended_text};
 ghost use Rattle.mls_report.specs.ValueTexts.{hex_text};
 ghost use Rattle.mls_gate.specs.Answers as answers;
 
@@ -12,6 +13,7 @@ use mls_check::{MemberFault, SignatureCheck};
 use mls_follow::{Follower, Refusal, Taken};
 use mls_nodes::GroupContext;
 use mls_report::fault_text::member_fault_text;
+use mls_report::replay_text::ended_text;
 use mls_report::signature_text::wanted_line;
 use mls_report::value_text::hex_of;
 use mls_signatures::SignatureToVerify;
@@ -153,6 +155,14 @@ fn refusal_name(alloc: Global, refusal: &Refusal) -> Result<String, AllocError>
         Refusal::Member(fault) => member_name(alloc, *fault),
         Refusal::TwoContextExtensions => String::from_str(alloc, "TwoContextExtensions"),
         Refusal::ContextExtensionsInvalid => String::from_str(alloc, "ContextExtensionsInvalid"),
+        Refusal::GroupOver => String::from_str(alloc, "GroupOver"),
+        Refusal::UnknownExternal => String::from_str(alloc, "UnknownExternal"),
+        Refusal::SenderContent => String::from_str(alloc, "SenderContent"),
+        Refusal::PskInvalid => String::from_str(alloc, "PskInvalid"),
+        Refusal::ReInitInvalid => String::from_str(alloc, "ReInitInvalid"),
+        Refusal::ExternalInitMisplaced => String::from_str(alloc, "ExternalInitMisplaced"),
+        Refusal::PskTwice => String::from_str(alloc, "PskTwice"),
+        Refusal::ReInitNotAlone => String::from_str(alloc, "ReInitNotAlone"),
         Refusal::OutOfMemory => String::from_str(alloc, "OutOfMemory"),
     }
 }
@@ -177,16 +187,23 @@ fn proposal_line(alloc: Global, reference: &HashValue) -> Result<String, AllocEr
     format!(in alloc; "accepted proposal {reference}\n")
 }
 
-/// Returns the line of a commit that began an epoch.
-fn commit_line(alloc: Global, epoch: u64, context: &GroupContext) -> Result<String, AllocError>
+/// Returns the line of a commit that began an epoch. `has_ended` is true if the group is over after it.
+fn commit_line(
+    alloc: Global,
+    epoch: u64,
+    context: &GroupContext,
+    has_ended: bool,
+) -> Result<String, AllocError>
     ensures { IfOk result (λ text. string_bytes text
         ≡ codes "accepted commit " ++ (decimal epoch
         ++ (codes " " ++ (hex_text context.now.tree_hash
-        ++ (codes " " ++ (hex_text context.now.confirmed ++ codes "\n")))))) }
+        ++ (codes " " ++ (hex_text context.now.confirmed
+        ++ (ended_text has_ended ++ codes "\n"))))))) }
 {
     let tree_hash = hex_of(alloc, context.tree_hash.as_slice())?;
     let confirmed = hex_of(alloc, context.confirmed.as_slice())?;
-    format!(in alloc; "accepted commit {epoch} {tree_hash} {confirmed}\n")
+    let ended = ended_text(has_ended);
+    format!(in alloc; "accepted commit {epoch} {tree_hash} {confirmed}{ended}\n")
 }
 
 /// Returns the line of a state that has this file. It allocates the text once, beside the hexadecimal digits.
@@ -214,7 +231,9 @@ pub(crate) fn judged_line<C: SignatureCheck>(
 {
     match answer {
         Ok(Taken::Proposal(reference)) => proposal_line(alloc, reference),
-        Ok(Taken::Commit(epoch)) => commit_line(alloc, *epoch, follower.context()),
+        Ok(Taken::Commit(epoch)) => {
+            commit_line(alloc, *epoch, follower.context(), follower.ended())
+        }
         Err(refusal) => refused_line(alloc, refusal),
     }
 }

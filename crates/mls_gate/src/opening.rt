@@ -16,12 +16,13 @@ ghost use Rattle.mls_gate.specs.FirstStates.{CanStart, Declines};
 ghost use Rattle.mls_gate.specs.GateSteps.{files_of, FailsStart};
 ghost use Rattle.mls_gate.specs.Phases.{OfGroup};
 
+use crate::gate_inputs::GroupBytes;
 use mls_check::SignatureCheck;
 use mls_follow::{Follower, StartFault};
-use mls_msgs::GroupInfo;
+use mls_msgs::{GroupInfo, Profile};
 use mls_report::RunFault;
 use mls_report::finding::Finding;
-use mls_report::read_inputs::{InputBytes, StartFailure, decode_inputs};
+use mls_report::read_inputs::{StartFailure, decode_inputs};
 use mls_report::trusting_start::{TrustingStart, trusting_start};
 use mls_tree::PublicTree;
 use std::alloc::Global;
@@ -37,20 +38,21 @@ fn failure_of(fault: StartFault) -> StartFailure
     }
 }
 
-/// Starts a follower from a decoded GroupInfo and tree.
+/// Starts a follower with this profile from a decoded GroupInfo and tree.
 fn start_from<C: SignatureCheck>(
     alloc: Global,
+    profile: Profile,
     info: GroupInfo,
     tree: Option<PublicTree>,
     checker: C,
 ) -> Result<Follower<C>, StartFailure>
     ensures started { IfOk result
-        (λ f. IsStart (C.meaning checker) info (option_map plain tree) (state_of f)) }
+        (λ f. IsStart profile (C.meaning checker) info (option_map plain tree) (state_of f)) }
     ensures checker { IfOk result (λ f. C.meaning (checker_of f) ≡ C.meaning checker) }
     ensures refused { IfErr result
         (Says (FailsStart (C.meaning checker) info (option_map plain tree))) }
 {
-    match Follower::start(alloc, info, tree, checker) {
+    match Follower::start_in(alloc, profile, info, tree, checker) {
         Ok(follower) => Ok(follower),
         Err(refused) => {
             let fault = refused.fault;
@@ -60,18 +62,19 @@ fn start_from<C: SignatureCheck>(
     }
 }
 
-/// Starts a follower from a decoded GroupInfo and tree, each signature being good.
+/// Starts a follower with this profile from a decoded GroupInfo and tree, each signature being good.
 fn trust_from(
     alloc: Global,
+    profile: Profile,
     info: GroupInfo,
     tree: Option<PublicTree>,
 ) -> Result<TrustingStart, StartFailure>
     ensures starts { IfOk result (λ start.
-        StartHasSignatures info (option_map plain tree) (state_of start.follower)
+        StartHasSignatures profile info (option_map plain tree) (state_of start.follower)
         (start.info_signatures.items ++ state_signatures (state_of start.follower))) }
     ensures refused { IfErr result (Says (FailsStart all_good info (option_map plain tree))) }
 {
-    match trusting_start(alloc, info, tree) {
+    match trusting_start(alloc, profile, info, tree) {
         Ok(start) => Ok(start),
         Err(fault) => Err(failure_of(fault)),
     }
@@ -80,29 +83,39 @@ fn trust_from(
 /// Starts a follower from these bytes, each signature being good.
 pub(crate) fn opening_start(
     alloc: Global,
-    bytes: &InputBytes,
+    group: &GroupBytes,
 ) -> Result<TrustingStart, StartFailure>
-    ensures opens { IfOk result (λ start. CanStart (OfGroup (files_of bytes.now))
+    ensures opens { IfOk result (λ start. CanStart (OfGroup (files_of group.now))
         (start.info_signatures.items ++ state_signatures (state_of start.follower))) }
-    ensures refused { IfErr result (Says (Declines all_good (OfGroup (files_of bytes.now)))) }
+    ensures refused { IfErr result (Says (Declines all_good (OfGroup (files_of group.now)))) }
 {
-    let inputs = decode_inputs(alloc, bytes.info.as_slice(), &bytes.tree)?;
-    trust_from(alloc, inputs.info, inputs.tree)
+    let inputs = decode_inputs(
+        alloc,
+        group.profile,
+        group.bytes.info.as_slice(),
+        &group.bytes.tree,
+    )?;
+    trust_from(alloc, group.profile, inputs.info, inputs.tree)
 }
 
 /// Starts a follower from these bytes.
 pub(crate) fn started<C: SignatureCheck>(
     alloc: Global,
-    bytes: &InputBytes,
+    group: &GroupBytes,
     checker: C,
 ) -> Result<Follower<C>, StartFailure>
-    ensures started { IfOk result (λ f. IsStarted (C.meaning checker)
-        (files_of bytes.now).info (files_of bytes.now).tree (state_of f)) }
+    ensures started { IfOk result (λ f. IsStarted (files_of group.now).profile (C.meaning checker)
+        (files_of group.now).info (files_of group.now).tree (state_of f)) }
     ensures checker { IfOk result (λ f. C.meaning (checker_of f) ≡ C.meaning checker) }
-    ensures refused { IfErr result (Says (Declines (C.meaning checker) (OfGroup (files_of bytes.now)))) }
+    ensures refused { IfErr result (Says (Declines (C.meaning checker) (OfGroup (files_of group.now)))) }
 {
-    match decode_inputs(alloc, bytes.info.as_slice(), &bytes.tree) {
-        Ok(inputs) => start_from(alloc, inputs.info, inputs.tree, checker),
+    match decode_inputs(
+        alloc,
+        group.profile,
+        group.bytes.info.as_slice(),
+        &group.bytes.tree,
+    ) {
+        Ok(inputs) => start_from(alloc, group.profile, inputs.info, inputs.tree, checker),
         Err(failure) => Err(failure),
     }
 }

@@ -71,12 +71,12 @@ fn gate_from_state<R: Source, C: LearningCheck, K: Sink>(
 /// line of `validate`; the verdict is `No` and no record is read.
 ///
 /// Else it writes a line for each signature of the resumption ([`mls_signatures::resumption_signatures`]) that the
-/// checker does not accept, and one with their number. Then it reads and answers records as [`crate::run_gate`]; `b`
+/// checker does not accept, and one with their number. Then it reads and answers records as [`crate::run_gate_in`]; `b`
 /// resumes the follower by what is known to be good then.
 ///
 /// # Errors
 ///
-/// Those of [`crate::run_gate`].
+/// Those of [`crate::run_gate_in`].
 pub fn run_gate_state<S: Source, R: Source, C: LearningCheck, K: Sink>(
     alloc: Global,
     state: &mut S,

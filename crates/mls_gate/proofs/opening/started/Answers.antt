@@ -11,9 +11,9 @@ returns-in-Ok-clause-started g c =
 pub returns-in-Ok-clause-refused : goal.returns-in-Ok-clause-refused
 returns-in-Ok-clause-refused g c =
     let read = rw c.as_slice.ensures.value at c.in-Ok.ensures.read in
-    IfErr-weaker c.start_from.result _ _ (λ failure f. says-declines (files_of c.args.bytes.now) _ _ read _ failure f) c.start_from.ensures.refused
+    IfErr-weaker c.start_from.result _ _ (λ failure f. says-declines (files_of c.args.group.now) _ _ read _ failure f) c.start_from.ensures.refused
 
 pub returns-in-Err-clause-refused : goal.returns-in-Err-clause-refused
 returns-in-Err-clause-refused g c =
     let unread = rw c.as_slice.ensures.value at c.in-Err.ensures.unread in
-    says-unread _ (files_of c.args.bytes.now) c.in-Err.failure unread
+    says-unread _ (files_of c.args.group.now) c.in-Err.failure unread

@@ -41,20 +41,23 @@ validate_tree_app =
     (needed_rule (codes "context")))
     (needed_rule (codes "tree")))
 
--- `with_group app` adds the options of what a group is followed from: `--info FILE`, `--tree FILE` and `--state FILE`.
+-- `with_group app` adds the options of what a group is followed from: `--info FILE`, `--tree FILE`, `--state FILE` and
+-- `--profile PROFILE`.
 abbrev pub with_group : App → App
 with_group a =
-    with_rule (with_rule (with_rule a
+    with_rule (with_rule (with_rule (with_rule a
     (file_rule (codes "info")))
     (file_rule (codes "tree")))
-    (file_rule (codes "state"))
+    (file_rule (codes "state")))
+    (file_rule (codes "profile"))
 
--- `validate --info FILE [--tree FILE]` or `validate --state FILE`, and one of `--trust` and `--receipts FILE`
+-- `validate --info FILE [--tree FILE] [--profile PROFILE]` or `validate --state FILE`, and one of `--trust` and
+-- `--receipts FILE`
 abbrev pub validate_app : App
 validate_app = with_checker (with_group (new_app (codes "validate")))
 
--- `replay --info FILE [--tree FILE] --log FILE [--save FILE]`, or with `--state FILE` in place of the first two, and one of
--- `--trust` and `--receipts FILE`
+-- `replay --info FILE [--tree FILE] [--profile PROFILE] --log FILE [--save FILE]`, or with `--state FILE` in place of the
+-- first three, and one of `--trust` and `--receipts FILE`
 abbrev pub replay_app : App
 replay_app =
     with_checker (with_rule (with_rule (with_group
@@ -62,17 +65,17 @@ replay_app =
     (needed_rule (codes "log")))
     (file_rule (codes "save")))
 
--- `signatures --info FILE [--tree FILE] [--log FILE] [--receipts FILE]`
+-- `signatures --info FILE [--tree FILE] [--profile PROFILE] [--log FILE] [--receipts FILE]`, or with `--state FILE` in place
+-- of the first three
 abbrev pub signatures_app : App
 signatures_app =
-    with_rule (with_rule (with_rule (with_rule
-    (new_app (codes "signatures"))
-    (needed_rule (codes "info")))
-    (file_rule (codes "tree")))
+    with_rule (with_rule (with_group
+    (new_app (codes "signatures")))
     (file_rule (codes "log")))
     (file_rule (codes "receipts"))
 
--- `gate --info FILE [--tree FILE]` or `gate --state FILE`, and at most one of `--trust` and `--receipts FILE`
+-- `gate --info FILE [--tree FILE] [--profile PROFILE]` or `gate --state FILE`, and at most one of `--trust` and
+-- `--receipts FILE`
 abbrev pub gate_app : App
 gate_app = with_checker (with_group (new_app (codes "gate")))
 

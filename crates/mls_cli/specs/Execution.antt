@@ -20,7 +20,7 @@ use Rattle.mls_follow.specs.StoredState.{EncodesState, HasNoFile}
 use Rattle.mls_msgs.specs.declared.profile.Profile.{Profile}
 use Rattle.mls_report.specs.Replay.{ReplaysGroupTo, ReplaysPart, ReplaysStateTo, ReplaysStatePart}
 use Rattle.mls_report.specs.Show.{Shows, ShowsPart}
-use Rattle.mls_report.specs.SignaturesReport.{SignaturesPart}
+use Rattle.mls_report.specs.SignaturesReport.{SignaturesPart, SignaturesState, SignaturesStatePart}
 use Rattle.mls_report.specs.SignaturesReport as signatures
 use Rattle.mls_report.specs.StartInputs.{has_failed}
 use Rattle.mls_report.specs.Validate.{Validates, ValidatesPart, ValidatesState, ValidatesStatePart}
@@ -78,8 +78,9 @@ module _ {File : Type 0} (F : Opener File) where
       ⊎ ((Opens F context × CannotOpen F tree written0 written1 outcome)
       ⊎ RunsValidateTree G context tree written0 written1 outcome)
 
-  -- `RunsValidate G info tree ..`: the report `validate` of files with these names. That of the tree is optional.
-  pub record RunsValidate (G : VerifyFn) (info : List ℕ) (tree : Option (List ℕ))
+  -- `RunsValidate profile G info tree ..`: the report `validate` of files with these names, in the profile. That of the tree
+  -- is optional.
+  pub record RunsValidate (profile : Profile) (G : VerifyFn) (info : List ℕ) (tree : Option (List ℕ))
       (written0 written1 : Option (List ℕ)) (outcome : Outcome) : Type 0 where
     pub info_opened : File
     pub info_ended : File
@@ -87,9 +88,9 @@ module _ {File : Type 0} (F : Opener File) where
     pub tree_ended : Option File
     pub info_given : F.gives info info_opened
     pub tree_given : IsOpened F tree tree_opened
-    pub validated : IfOk outcome (Validates G (F.left info_opened) (F.left info_ended)
+    pub validated : IfOk outcome (Validates profile G (F.left info_opened) (F.left info_ended)
         (option_map F.left tree_opened) (option_map F.left tree_ended) written0 written1)
-    pub part : OnErr outcome (ValidatesPart G (F.left info_opened) (F.left info_ended)
+    pub part : OnErr outcome (ValidatesPart profile G (F.left info_opened) (F.left info_ended)
         (option_map F.left tree_opened) (option_map F.left tree_ended) written0 written1)
     pub memory : outcome ≡ Err Memory → Appends written0 written1 []
     pub failed : (outcome ≡ Err Read)
@@ -109,10 +110,10 @@ module _ {File : Type 0} (F : Opener File) where
 
   -- `CarriesValidate G group ..`: the command `validate` was executed, or a file cannot be opened.
   abbrev pub CarriesValidate : VerifyFn → GroupFiles → Option (List ℕ) → Option (List ℕ) → Outcome → Type 0
-  CarriesValidate G (Info info tree) written0 written1 outcome =
+  CarriesValidate G (Info profile info tree) written0 written1 outcome =
       CannotOpen F info written0 written1 outcome
       ⊎ ((Opens F info × CannotOpenNamed F tree written0 written1 outcome)
-      ⊎ RunsValidate G info tree written0 written1 outcome)
+      ⊎ RunsValidate profile G info tree written0 written1 outcome)
   CarriesValidate G (State state) written0 written1 outcome =
       CannotOpen F state written0 written1 outcome ⊎ RunsValidateState G state written0 written1 outcome
 
@@ -162,8 +163,9 @@ module _ {File : Type 0} (F : Opener File) where
   EndsReplay save Whole Part is_failed outcome =
       EndsWhole save Whole is_failed outcome ⊎ EndsPart Part is_failed outcome
 
-  -- `RunsReplay G info tree files ..`: the report `replay` of files with these names. That of the tree is optional.
-  pub record RunsReplay (G : VerifyFn) (info : List ℕ) (tree : Option (List ℕ)) (files : ReplayFiles)
+  -- `RunsReplay profile G info tree files ..`: the report `replay` of files with these names, in the profile. That of the
+  -- tree is optional.
+  pub record RunsReplay (profile : Profile) (G : VerifyFn) (info : List ℕ) (tree : Option (List ℕ)) (files : ReplayFiles)
       (written0 written1 : Option (List ℕ)) (is_failed : Bool) (outcome : Outcome) : Type 0 where
     pub info_opened : File
     pub info_ended : File
@@ -175,10 +177,10 @@ module _ {File : Type 0} (F : Opener File) where
     pub tree_given : IsOpened F tree tree_opened
     pub log_given : F.gives files.log log_opened
     pub replayed : EndsReplay files.save
-        (ReplaysGroupTo G (F.left info_opened) (F.left info_ended)
+        (ReplaysGroupTo profile G (F.left info_opened) (F.left info_ended)
         (option_map F.left tree_opened) (option_map F.left tree_ended)
         (F.left log_opened) (F.left log_ended) written0 written1)
-        (ReplaysPart G (F.left info_opened) (F.left info_ended)
+        (ReplaysPart profile G (F.left info_opened) (F.left info_ended)
         (option_map F.left tree_opened) (option_map F.left tree_ended)
         (F.left log_opened) (F.left log_ended) written0 written1)
         is_failed outcome
@@ -206,19 +208,19 @@ module _ {File : Type 0} (F : Opener File) where
   -- `CarriesReplay G group files ..`: the command `replay` was executed, or a file cannot be opened.
   abbrev pub CarriesReplay : VerifyFn → GroupFiles → ReplayFiles → Option (List ℕ) → Option (List ℕ) → Bool → Outcome
       → Type 0
-  CarriesReplay G (Info info tree) files written0 written1 is_failed outcome =
+  CarriesReplay G (Info profile info tree) files written0 written1 is_failed outcome =
       CannotOpen F info written0 written1 outcome
       ⊎ ((Opens F info × CannotOpenNamed F tree written0 written1 outcome)
       ⊎ ((Opens F info × OpensNamed F tree × CannotOpen F files.log written0 written1 outcome)
-      ⊎ RunsReplay G info tree files written0 written1 is_failed outcome))
+      ⊎ RunsReplay profile G info tree files written0 written1 is_failed outcome))
   CarriesReplay G (State state) files written0 written1 is_failed outcome =
       CannotOpen F state written0 written1 outcome
       ⊎ ((Opens F state × CannotOpen F files.log written0 written1 outcome)
       ⊎ RunsReplayState G state files written0 written1 is_failed outcome)
 
-  -- `RunsSignatures G info tree log ..`: the report `signatures` of files with these names. Those of the tree and of
-  -- the log are optional.
-  pub record RunsSignatures (G : VerifyFn) (info : List ℕ) (tree log : Option (List ℕ))
+  -- `RunsSignatures profile G info tree log ..`: the report `signatures` of files with these names, in the profile. Those of
+  -- the tree and of the log are optional.
+  pub record RunsSignatures (profile : Profile) (G : VerifyFn) (info : List ℕ) (tree log : Option (List ℕ))
       (written0 written1 : Option (List ℕ)) (outcome : Outcome) : Type 0 where
     pub info_opened : File
     pub info_ended : File
@@ -229,10 +231,10 @@ module _ {File : Type 0} (F : Opener File) where
     pub info_given : F.gives info info_opened
     pub tree_given : IsOpened F tree tree_opened
     pub log_given : IsOpened F log log_opened
-    pub told : IfOk outcome (signatures.Signatures G (F.left info_opened) (F.left info_ended)
+    pub told : IfOk outcome (signatures.Signatures profile G (F.left info_opened) (F.left info_ended)
         (option_map F.left tree_opened) (option_map F.left tree_ended)
         (option_map F.left log_opened) (option_map F.left log_ended) written0 written1)
-    pub part : IfErr outcome (SignaturesPart G (F.left info_opened) (F.left info_ended)
+    pub part : IfErr outcome (SignaturesPart profile G (F.left info_opened) (F.left info_ended)
         (option_map F.left tree_opened) (option_map F.left tree_ended)
         (option_map F.left log_opened) (option_map F.left log_ended) written0 written1)
     pub failed : (outcome ≡ Err Read)
@@ -240,19 +242,40 @@ module _ {File : Type 0} (F : Opener File) where
         ⊎ ((has_failed (option_map F.is_failed tree_ended) ≡ true)
         ⊎ (has_failed (option_map F.is_failed log_ended) ≡ true)))
 
-  -- `CarriesSignatures G info tree log ..`: the command `signatures` was executed, or a file cannot be opened. G is the
+  -- `RunsStateSignatures G state log ..`: the report `signatures` from the file of a state, of files with these names. That
+  -- of the log is optional.
+  pub record RunsStateSignatures (G : VerifyFn) (state : List ℕ) (log : Option (List ℕ))
+      (written0 written1 : Option (List ℕ)) (outcome : Outcome) : Type 0 where
+    pub state_opened : File
+    pub state_ended : File
+    pub log_opened : Option File
+    pub log_ended : Option File
+    pub state_given : F.gives state state_opened
+    pub log_given : IsOpened F log log_opened
+    pub reported : IfOk outcome (SignaturesState G (F.left state_opened) (F.left state_ended)
+        (option_map F.left log_opened) (option_map F.left log_ended) written0 written1)
+    pub part : IfErr outcome (SignaturesStatePart G (F.left state_opened) (F.left state_ended)
+        (option_map F.left log_opened) (option_map F.left log_ended) written0 written1)
+    pub failed : (outcome ≡ Err Read)
+        ↔ ((F.is_failed state_ended ≡ true) ⊎ (has_failed (option_map F.is_failed log_ended) ≡ true))
+
+  -- `CarriesSignatures G group log ..`: the command `signatures` was executed, or a file cannot be opened. G is the
   -- verification function of the receipts.
-  abbrev pub CarriesSignatures : VerifyFn → List ℕ → Option (List ℕ) → Option (List ℕ)
+  abbrev pub CarriesSignatures : VerifyFn → GroupFiles → Option (List ℕ)
       → Option (List ℕ) → Option (List ℕ) → Outcome → Type 0
-  CarriesSignatures G info tree log written0 written1 outcome =
+  CarriesSignatures G (Info profile info tree) log written0 written1 outcome =
       CannotOpen F info written0 written1 outcome
       ⊎ ((Opens F info × CannotOpenNamed F tree written0 written1 outcome)
       ⊎ ((Opens F info × OpensNamed F tree × CannotOpenNamed F log written0 written1 outcome)
-      ⊎ RunsSignatures G info tree log written0 written1 outcome))
+      ⊎ RunsSignatures profile G info tree log written0 written1 outcome))
+  CarriesSignatures G (State state) log written0 written1 outcome =
+      CannotOpen F state written0 written1 outcome
+      ⊎ ((Opens F state × CannotOpenNamed F log written0 written1 outcome)
+      ⊎ RunsStateSignatures G state log written0 written1 outcome)
 
-  -- `RunsGate G info tree ..`: the report `gate` of files with these names and of standard input, which has the records.
-  -- The file of the tree is optional.
-  pub record RunsGate (G : VerifyFn) (info : List ℕ) (tree : Option (List ℕ))
+  -- `RunsGate profile G info tree ..`: the report `gate` of files with these names and of standard input, which has the
+  -- records, in the profile. The file of the tree is optional.
+  pub record RunsGate (profile : Profile) (G : VerifyFn) (info : List ℕ) (tree : Option (List ℕ))
       (written0 written1 : Option (List ℕ)) (outcome : Outcome) : Type 0 where
     pub info_opened : File
     pub info_ended : File
@@ -263,10 +286,10 @@ module _ {File : Type 0} (F : Opener File) where
     pub info_given : F.gives info info_opened
     pub tree_given : IsOpened F tree tree_opened
     pub records_given : F.gives stdin records_opened
-    pub told : IfOk outcome (Gates G (F.left info_opened) (F.left info_ended)
+    pub told : IfOk outcome (Gates profile G (F.left info_opened) (F.left info_ended)
         (option_map F.left tree_opened) (option_map F.left tree_ended)
         (F.left records_opened) (F.left records_ended) written0 written1)
-    pub part : IfErr outcome (GatesPart G (F.left info_opened) (F.left info_ended)
+    pub part : IfErr outcome (GatesPart profile G (F.left info_opened) (F.left info_ended)
         (option_map F.left tree_opened) (option_map F.left tree_ended)
         (F.left records_opened) (F.left records_ended) written0 written1)
     pub failed : (outcome ≡ Err Read)
@@ -293,11 +316,11 @@ module _ {File : Type 0} (F : Opener File) where
   -- `CarriesGate G group ..`: the command `gate` was executed, or a file cannot be opened. G is the verification function
   -- of what is known to be good at first.
   abbrev pub CarriesGate : VerifyFn → GroupFiles → Option (List ℕ) → Option (List ℕ) → Outcome → Type 0
-  CarriesGate G (Info info tree) written0 written1 outcome =
+  CarriesGate G (Info profile info tree) written0 written1 outcome =
       CannotOpen F info written0 written1 outcome
       ⊎ ((Opens F info × CannotOpenNamed F tree written0 written1 outcome)
       ⊎ ((Opens F info × OpensNamed F tree × CannotOpen F stdin written0 written1 outcome)
-      ⊎ RunsGate G info tree written0 written1 outcome))
+      ⊎ RunsGate profile G info tree written0 written1 outcome))
   CarriesGate G (State state) written0 written1 outcome =
       CannotOpen F state written0 written1 outcome
       ⊎ ((Opens F state × CannotOpen F stdin written0 written1 outcome)
@@ -330,8 +353,8 @@ module _ {File : Type 0} (F : Opener File) where
       CarriesValidate G group written0 written1 outcome
   CarriesReport G (Replay group files) written0 written1 is_failed outcome =
       CarriesReplay G group files written0 written1 is_failed outcome
-  CarriesReport G (Signatures info tree log) written0 written1 is_failed outcome =
-      CarriesSignatures G info tree log written0 written1 outcome
+  CarriesReport G (Signatures group log) written0 written1 is_failed outcome =
+      CarriesSignatures G group log written0 written1 outcome
   CarriesReport G (Gate group) written0 written1 is_failed outcome =
       CarriesGate G group written0 written1 outcome
 

@@ -101,14 +101,21 @@ IsValidateTree rows context tree c =
     (first_of (codes "context") rows ≡ Some context) × (first_of (codes "tree") rows ≡ Some tree)
     × IsChecker (first_of (codes "trust") rows) (first_of (codes "receipts") rows) c
 
--- `IsGroup rows group`: this is what a group is followed from: `--info` with or without `--tree`, or else `--state`.
+-- `IsNamedProfile given profile`: a group is followed in `profile`, where `given` is the value of `--profile`, if it is
+-- there. Without it `profile` is that of the members.
+abbrev pub IsNamedProfile : Option Text → Profile → Type 0
+IsNamedProfile None profile = profile ≡ profiles.Members
+IsNamedProfile (Some text) profile = text ≡ profile_text profile
+
+-- `IsGroup rows group`: this is what a group is followed from: `--info` with or without `--tree` and `--profile`, or else
+-- `--state` without both.
 abbrev pub IsGroup : List Row → GroupFiles → Type 0
-IsGroup rows (groups.Info info tree) =
+IsGroup rows (groups.Info profile info tree) =
     (first_of (codes "info") rows ≡ Some info) × (first_of (codes "tree") rows ≡ tree)
-    × (first_of (codes "state") rows ≡ None)
+    × (first_of (codes "state") rows ≡ None) × IsNamedProfile (first_of (codes "profile") rows) profile
 IsGroup rows (groups.State state) =
     (first_of (codes "info") rows ≡ None) × (first_of (codes "tree") rows ≡ None)
-    × (first_of (codes "state") rows ≡ Some state)
+    × (first_of (codes "state") rows ≡ Some state) × (first_of (codes "profile") rows ≡ None)
 
 -- `IsValidate rows group c`: these are the options of `validate`.
 abbrev pub IsValidate : List Row → GroupFiles → CheckerChoice → Type 0
@@ -125,11 +132,10 @@ IsReplay rows group files c =
     IsValidate rows group c × (first_of (codes "log") rows ≡ Some files.log)
     × IsSave (first_of (codes "save") rows) files.save
 
--- `IsSignatures rows info tree log c`: these are the options of `signatures`.
-abbrev pub IsSignatures : List Row → Text → Option Text → Option Text → CheckerChoice → Type 0
-IsSignatures rows info tree log c =
-    (first_of (codes "info") rows ≡ Some info) × (first_of (codes "tree") rows ≡ tree)
-    × (first_of (codes "log") rows ≡ log) × SelectsReceipts (first_of (codes "receipts") rows) c
+-- `IsSignatures rows group log c`: these are the options of `signatures`.
+abbrev pub IsSignatures : List Row → GroupFiles → Option Text → CheckerChoice → Type 0
+IsSignatures rows group log c =
+    IsGroup rows group × (first_of (codes "log") rows ≡ log) × SelectsReceipts (first_of (codes "receipts") rows) c
 
 -- `IsGate rows group c`: these are the options of `gate`. No file is standard input, which has the records.
 abbrev pub IsGate : List Row → GroupFiles → CheckerChoice → Type 0
@@ -146,9 +152,8 @@ IsJudgedReport found (report.Validate group) c =
     (rows : List Row) × (found ≡ Some (codes "validate", rows)) × IsValidate rows group c
 IsJudgedReport found (report.Replay group files) c =
     (rows : List Row) × (found ≡ Some (codes "replay", rows)) × IsReplay rows group files c
-IsJudgedReport found (report.Signatures info tree log) c =
-    (rows : List Row) × (found ≡ Some (codes "signatures", rows))
-    × IsSignatures rows info tree log c
+IsJudgedReport found (report.Signatures group log) c =
+    (rows : List Row) × (found ≡ Some (codes "signatures", rows)) × IsSignatures rows group log c
 IsJudgedReport found (report.Gate group) c =
     (rows : List Row) × (found ≡ Some (codes "gate", rows)) × IsGate rows group c
 

@@ -58,8 +58,9 @@ const SIGNATURES_HELP: &str = "\
 Prints a line for each signature that is wanted and that no receipt covers:
   RECEIPT SUITE KEY CONTENT SIGNATURE
 Where the signature is good, RECEIPT is its line in the list of good signatures.
-A log is followed as if each signature were good: give one whose messages another
-party has accepted, or from which bad ones are struck after a first replay.
+A group is followed from its info, or from the file of a state. A log is followed
+as if each signature were good: give one whose messages another party has
+accepted, or from which bad ones are struck after a first replay.
 
 Example:
   mlscheck signatures --info examples/real/epoch-1.info \\
@@ -204,25 +205,7 @@ fn validate_tree_command<'a>(alloc: Global) -> Result<Command<'a>, AllocError>
     with_checker(alloc, command, SIGNATURES)
 }
 
-/// Adds the files of a group's start to the command: its GroupInfo, and its tree.
-fn with_start<'a>(alloc: Global, command: Command<'a>) -> Result<Command<'a>, AllocError>
-    requires { (fields_of command).has_globals ≡ false }
-    ensures app { IfOk result
-        (λ r. app_of r ≡ with_rule (with_rule (app_of command.entry)
-        (needed_rule (codes "info"))) (file_rule (codes "tree"))) }
-    ensures own { IfOk result (λ r. (fields_of r).has_globals ≡ false) }
-{
-    let info = needed(alloc, "info", "The group info's path");
-    let command = with(command, info)?;
-    let tree = file(
-        alloc,
-        "tree",
-        "The ratchet tree's path, where the info holds none",
-    );
-    with(command, tree)
-}
-
-/// Adds the files of what a group is followed from to the command: its GroupInfo and its tree, or a state.
+/// Adds what a group is followed from to the command: its GroupInfo and its tree, or a state, and the profile.
 fn with_group<'a>(alloc: Global, command: Command<'a>) -> Result<Command<'a>, AllocError>
     requires { (fields_of command).has_globals ≡ false }
     ensures app { IfOk result (λ r. app_of r ≡ specs.with_group (app_of command.entry)) }
@@ -241,10 +224,13 @@ fn with_group<'a>(alloc: Global, command: Command<'a>) -> Result<Command<'a>, Al
         "state",
         "The path of a state, in place of the info and the tree",
     );
-    with(command, state)
+    let command = with(command, state)?;
+    let help = "The profile of an info: members, which is taken without it, or full";
+    with(command, valued(alloc, "profile", "PROFILE", help))
 }
 
-/// `validate --info FILE [--tree FILE]` or `validate --state FILE`, and one of `--trust` and `--receipts FILE`.
+/// `validate --info FILE [--tree FILE] [--profile PROFILE]` or `validate --state FILE`, and one of `--trust` and
+/// `--receipts FILE`.
 fn validate_command<'a>(alloc: Global) -> Result<Command<'a>, AllocError>
     ensures app { IfOk result (λ c. app_of c ≡ validate_app) }
     ensures own { IfOk result (λ c. (fields_of c).has_globals ≡ false) }
@@ -255,8 +241,8 @@ fn validate_command<'a>(alloc: Global) -> Result<Command<'a>, AllocError>
     with_checker(alloc, command, SIGNATURES)
 }
 
-/// `replay --info FILE [--tree FILE] --log FILE [--save FILE]`, or with `--state FILE` in place of the first two, and
-/// one of `--trust` and `--receipts FILE`.
+/// `replay --info FILE [--tree FILE] [--profile PROFILE] --log FILE [--save FILE]`, or with `--state FILE` in place of the
+/// first three, and one of `--trust` and `--receipts FILE`.
 fn replay_command<'a>(alloc: Global) -> Result<Command<'a>, AllocError>
     ensures app { IfOk result (λ c. app_of c ≡ replay_app) }
     ensures own { IfOk result (λ c. (fields_of c).has_globals ≡ false) }
@@ -279,14 +265,15 @@ fn replay_command<'a>(alloc: Global) -> Result<Command<'a>, AllocError>
     with_checker(alloc, command, SIGNATURES)
 }
 
-/// `signatures --info FILE [--tree FILE] [--log FILE] [--receipts FILE]`.
+/// `signatures --info FILE [--tree FILE] [--profile PROFILE] [--log FILE] [--receipts FILE]`, or with `--state FILE` in
+/// place of the first three.
 fn signatures_command<'a>(alloc: Global) -> Result<Command<'a>, AllocError>
     ensures app { IfOk result (λ c. app_of c ≡ signatures_app) }
     ensures own { IfOk result (λ c. (fields_of c).has_globals ≡ false) }
 {
-    let about = "Prints the signatures that a group's start and its handshakes want";
+    let about = "Prints the signatures to verify of a group's start and its handshakes";
     let command = titled(alloc, "signatures", about, SIGNATURES_HELP);
-    let command = with_start(alloc, command)?;
+    let command = with_group(alloc, command)?;
     let log = file(
         alloc,
         "log",
@@ -297,7 +284,8 @@ fn signatures_command<'a>(alloc: Global) -> Result<Command<'a>, AllocError>
     with(command, receipts)
 }
 
-/// `gate --info FILE [--tree FILE]` or `gate --state FILE`, and at most one of `--trust` and `--receipts FILE`.
+/// `gate --info FILE [--tree FILE] [--profile PROFILE]` or `gate --state FILE`, and at most one of `--trust` and
+/// `--receipts FILE`.
 fn gate_command<'a>(alloc: Global) -> Result<Command<'a>, AllocError>
     ensures app { IfOk result (λ c. app_of c ≡ gate_app) }
     ensures own { IfOk result (λ c. (fields_of c).has_globals ≡ false) }

@@ -16,11 +16,12 @@ use crate::load_checker::read_judge;
 use crate::order::{CheckedReport, CheckerChoice, GroupFiles, Order, ReplayFiles};
 use crate::program_checker::{CheckerFault, ProgramChecker};
 use mls_follow::Follower;
-use mls_gate::{run_gate, run_gate_state};
+use mls_gate::{run_gate_in, run_gate_state};
 use mls_msgs::Profile;
 use mls_report::{
-    Replayed, RunFault, ShowKind, Verdict, replay_group, replay_state, run_show_in, run_signatures,
-    run_unreadable_receipts, run_validate, run_validate_state, run_validate_tree,
+    Replayed, RunFault, ShowKind, Verdict, replay_group_in, replay_state, run_show_in,
+    run_signatures_in, run_signatures_state, run_unreadable_receipts, run_validate_in,
+    run_validate_state, run_validate_tree,
 };
 use mls_vectors::{CheckKind, run_check};
 use mls_wire::{CodecFault, Sink};
@@ -112,9 +113,10 @@ fn open_named<F: Files>(name: &Option<FileName>, files: &F) -> Option<Option<F::
     }
 }
 
-/// Says whether a group can be followed from its GroupInfo.
+/// Says whether a group can be followed from its GroupInfo in a profile.
 fn validate_info<F: Files, K: Sink>(
     alloc: Global,
+    profile: Profile,
     info: &FileName,
     tree: &Option<FileName>,
     files: &F,
@@ -125,7 +127,7 @@ fn validate_info<F: Files, K: Sink>(
     ensures carried { CarriesValidate
         (opener (F.gives files.now) (F.lacks files.now) (F.stores files.now) (F.refuses files.now)
         F.File.left F.File.is_failed)
-        (checker_verify judge) (GroupFiles.Info info.now tree.now)
+        (checker_verify judge) (GroupFiles.Info profile info.now tree.now)
         (K.written out.old) (K.written out.new) result }
     ensures write { (result ≡ Err RunFault.Write) ↔ (K.is_failed out.new ≡ true) }
 {
@@ -135,7 +137,7 @@ fn validate_info<F: Files, K: Sink>(
     let Some(mut tree) = open_named(tree, files) else {
         return Err(RunFault::Read);
     };
-    run_validate(alloc, &mut info, &mut tree, judge, out)
+    run_validate_in(alloc, profile, &mut info, &mut tree, judge, out)
 }
 
 /// Says whether a follower resumes from the file of a state.
@@ -176,7 +178,11 @@ fn validate<F: Files, K: Sink>(
     ensures write { (result ≡ Err RunFault.Write) ↔ (K.is_failed out.new ≡ true) }
 {
     match group {
-        GroupFiles::Info { info, tree } => validate_info(alloc, info, tree, files, judge, out),
+        GroupFiles::Info {
+            profile,
+            info,
+            tree,
+        } => validate_info(alloc, *profile, info, tree, files, judge, out),
         GroupFiles::State(state) => validate_state(alloc, state, files, judge, out),
     }
 }
@@ -241,9 +247,10 @@ fn store_after<F: Files>(
     }
 }
 
-/// Follows a group from its GroupInfo through a log of handshakes, and stores its state if a file is named.
+/// Follows a group in a profile from its GroupInfo through a log of handshakes, and stores its state if a file is named.
 fn replay_info<F: Files, K: Sink>(
     alloc: Global,
+    profile: Profile,
     info: &FileName,
     tree: &Option<FileName>,
     replay: &ReplayFiles,
@@ -255,7 +262,7 @@ fn replay_info<F: Files, K: Sink>(
     ensures carried { CarriesReplay
         (opener (F.gives files.now) (F.lacks files.now) (F.stores files.now) (F.refuses files.now)
         F.File.left F.File.is_failed)
-        (checker_verify judge) (GroupFiles.Info info.now tree.now) replay.now
+        (checker_verify judge) (GroupFiles.Info profile info.now tree.now) replay.now
         (K.written out.old) (K.written out.new) (K.is_failed out.new) result }
     ensures write { MeansWrite (is_some replay.now.save) (K.is_failed out.new) result }
 {
@@ -268,7 +275,7 @@ fn replay_info<F: Files, K: Sink>(
     let Some(mut log) = files.open(replay.log.as_str()) else {
         return Err(RunFault::Read);
     };
-    match replay_group(alloc, &mut info, &mut tree, &mut log, judge, out) {
+    match replay_group_in(alloc, profile, &mut info, &mut tree, &mut log, judge, out) {
         Ok(replayed) => store_after(&replayed, &replay.save, files),
         Err(fault) => Err(fault),
     }
@@ -321,16 +328,19 @@ fn replay<F: Files, K: Sink>(
     ensures write { MeansWrite (is_some replay.now.save) (K.is_failed out.new) result }
 {
     match group {
-        GroupFiles::Info { info, tree } => {
-            replay_info(alloc, info, tree, replay, files, judge, out)
-        }
+        GroupFiles::Info {
+            profile,
+            info,
+            tree,
+        } => replay_info(alloc, *profile, info, tree, replay, files, judge, out),
         GroupFiles::State(state) => replay_stored(alloc, state, replay, files, judge, out),
     }
 }
 
-/// Prints the signatures to verify of a group's start and its handshakes.
-fn signatures<F: Files, K: Sink>(
+/// Prints the signatures to verify of a group's start from a GroupInfo in a profile, and of its handshakes.
+fn signatures_info<F: Files, K: Sink>(
     alloc: Global,
+    profile: Profile,
     info: &FileName,
     tree: &Option<FileName>,
     log: &Option<FileName>,
@@ -342,7 +352,7 @@ fn signatures<F: Files, K: Sink>(
     ensures carried { CarriesSignatures
         (opener (F.gives files.now) (F.lacks files.now) (F.stores files.now) (F.refuses files.now)
         F.File.left F.File.is_failed)
-        (checker_verify receipts.now) info.now tree.now log.now
+        (checker_verify receipts.now) (GroupFiles.Info profile info.now tree.now) log.now
         (K.written out.old) (K.written out.new) result }
     ensures write { (result ≡ Err RunFault.Write) ↔ (K.is_failed out.new ≡ true) }
 {
@@ -355,12 +365,69 @@ fn signatures<F: Files, K: Sink>(
     let Some(mut log) = open_named(log, files) else {
         return Err(RunFault::Read);
     };
-    run_signatures(alloc, &mut info, &mut tree, &mut log, receipts, out)
+    run_signatures_in(
+        alloc, profile, &mut info, &mut tree, &mut log, receipts, out,
+    )
 }
 
-/// Answers the records of standard input, one after the other, for a group that is followed from its GroupInfo.
+/// Prints the signatures to verify of a resumption from the file of a state, and of the group's handshakes.
+fn signatures_stored<F: Files, K: Sink>(
+    alloc: Global,
+    state: &FileName,
+    log: &Option<FileName>,
+    files: &F,
+    receipts: &ProgramChecker,
+    out: &mut K,
+) -> Result<Verdict, RunFault>
+    requires { K.is_failed out.old ≡ false }
+    ensures carried { CarriesSignatures
+        (opener (F.gives files.now) (F.lacks files.now) (F.stores files.now) (F.refuses files.now)
+        F.File.left F.File.is_failed)
+        (checker_verify receipts.now) (GroupFiles.State state.now) log.now
+        (K.written out.old) (K.written out.new) result }
+    ensures write { (result ≡ Err RunFault.Write) ↔ (K.is_failed out.new ≡ true) }
+{
+    let Some(mut input) = files.open(state.as_str()) else {
+        return Err(RunFault::Read);
+    };
+    let Some(mut log) = open_named(log, files) else {
+        return Err(RunFault::Read);
+    };
+    run_signatures_state(alloc, &mut input, &mut log, receipts, out)
+}
+
+/// Prints the signatures to verify of a group's start or resumption and its handshakes.
+fn signatures<F: Files, K: Sink>(
+    alloc: Global,
+    group: &GroupFiles,
+    log: &Option<FileName>,
+    files: &F,
+    receipts: &ProgramChecker,
+    out: &mut K,
+) -> Result<Verdict, RunFault>
+    requires { K.is_failed out.old ≡ false }
+    ensures carried { CarriesSignatures
+        (opener (F.gives files.now) (F.lacks files.now) (F.stores files.now) (F.refuses files.now)
+        F.File.left F.File.is_failed)
+        (checker_verify receipts.now) group.now log.now
+        (K.written out.old) (K.written out.new) result }
+    ensures write { (result ≡ Err RunFault.Write) ↔ (K.is_failed out.new ≡ true) }
+{
+    match group {
+        GroupFiles::Info {
+            profile,
+            info,
+            tree,
+        } => signatures_info(alloc, *profile, info, tree, log, files, receipts, out),
+        GroupFiles::State(state) => signatures_stored(alloc, state, log, files, receipts, out),
+    }
+}
+
+/// Answers the records of standard input, one after the other, for a group that is followed in a profile from its
+/// GroupInfo.
 fn gate_info<F: Files, K: Sink>(
     alloc: Global,
+    profile: Profile,
     info: &FileName,
     tree: &Option<FileName>,
     files: &F,
@@ -371,7 +438,7 @@ fn gate_info<F: Files, K: Sink>(
     ensures carried { CarriesGate
         (opener (F.gives files.now) (F.lacks files.now) (F.stores files.now) (F.refuses files.now)
         F.File.left F.File.is_failed)
-        (checker_verify checker) (GroupFiles.Info info.now tree.now)
+        (checker_verify checker) (GroupFiles.Info profile info.now tree.now)
         (K.written out.old) (K.written out.new) result }
     ensures write { (result ≡ Err RunFault.Write) ↔ (K.is_failed out.new ≡ true) }
 {
@@ -384,7 +451,15 @@ fn gate_info<F: Files, K: Sink>(
     let Some(mut records) = files.open("-") else {
         return Err(RunFault::Read);
     };
-    run_gate(alloc, &mut info, &mut tree, &mut records, checker, out)
+    run_gate_in(
+        alloc,
+        profile,
+        &mut info,
+        &mut tree,
+        &mut records,
+        checker,
+        out,
+    )
 }
 
 /// Answers the records of standard input, one after the other, for a group that is followed from the file of a state.
@@ -428,7 +503,11 @@ fn gate<F: Files, K: Sink>(
     ensures write { (result ≡ Err RunFault.Write) ↔ (K.is_failed out.new ≡ true) }
 {
     match group {
-        GroupFiles::Info { info, tree } => gate_info(alloc, info, tree, files, checker, out),
+        GroupFiles::Info {
+            profile,
+            info,
+            tree,
+        } => gate_info(alloc, *profile, info, tree, files, checker, out),
         GroupFiles::State(state) => gate_stored(alloc, state, files, checker, out),
     }
 }
@@ -484,8 +563,8 @@ fn report_by<F: Files, K: Sink>(
             group,
             files: replay_files,
         } => replay(alloc, group, replay_files, files, judge, out),
-        CheckedReport::Signatures { info, tree, log } => {
-            signatures(alloc, info, tree, log, files, &judge, out)
+        CheckedReport::Signatures { group, log } => {
+            signatures(alloc, group, log, files, &judge, out)
         }
         CheckedReport::Gate(group) => gate(alloc, group, files, judge, out),
     }

@@ -17,9 +17,9 @@ pub use file_name::FileName;
 pub use files::Files;
 pub use mls_msgs::Profile;
 pub use mls_report::{
-    RunFault, ShowKind, Verdict, read_all, run_replay, run_replay_state, run_show, run_show_in,
-    run_signatures, run_unreadable_receipts, run_validate, run_validate_state, run_validate_tree,
-    status_of,
+    RunFault, ShowKind, Verdict, read_all, run_replay, run_replay_in, run_replay_state, run_show,
+    run_show_in, run_signatures, run_signatures_in, run_signatures_state, run_unreadable_receipts,
+    run_validate, run_validate_in, run_validate_state, run_validate_tree, status_of,
 };
 pub use mls_vectors::{CheckKind, run_check};
 pub use order::{CheckedReport, CheckerChoice, GroupFiles, Order, OrderFault, ReplayFiles};

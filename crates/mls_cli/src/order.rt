@@ -24,8 +24,10 @@ pub enum CheckerChoice {
 /// What a group is followed from.
 #[derive(Debug, Drop)]
 pub enum GroupFiles {
-    /// `--info FILE [--tree FILE]`: its GroupInfo.
+    /// `--info FILE [--tree FILE] [--profile PROFILE]`: its GroupInfo.
     Info {
+        /// The profile in which it is followed.
+        profile: Profile,
         /// The file of the GroupInfo.
         info: FileName,
         /// The file of the ratchet tree, if one is named.
@@ -63,12 +65,10 @@ pub enum CheckedReport {
         /// The log, and where the state after it is stored.
         files: ReplayFiles,
     },
-    /// `signatures`: print the signatures to verify of a group's start and its handshakes.
+    /// `signatures`: print the signatures to verify of a group's start or resumption and its handshakes.
     Signatures {
-        /// The file of the GroupInfo.
-        info: FileName,
-        /// The file of the ratchet tree, if one is named.
-        tree: Option<FileName>,
+        /// What the group is followed from.
+        group: GroupFiles,
         /// The file of the log, if one is named.
         log: Option<FileName>,
     },

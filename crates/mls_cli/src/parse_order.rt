@@ -3,7 +3,7 @@
 ghost use Rattle.std.specs.Prelude.{◌≡◌, ◌≢◌, ◌↔◌, ◌⊎◌, IsTrue, IfOk, IfErr, codes, Some, option_map, map, string_bytes};
 ghost use Rattle.clap.specs.Values.{kind_of};
 ghost use Rattle.clap.specs.Words.{first_of, rows_of, found_of, subcommand_rows_of};
-ghost use Rattle.mls_cli.specs.Orders.{IsProfile, IsChecker, IsGroup, IsSave, IsFirstChecker, SelectsReceipts, IsOrder, IsGiven, IsOrderOf, stdin_count, IsHelp, IsUsage, AsksForHelp, AsksForHelpAlone, Refuses, kind_text, check_kind_text};
+ghost use Rattle.mls_cli.specs.Orders.{IsProfile, IsNamedProfile, IsChecker, IsGroup, IsSave, IsFirstChecker, SelectsReceipts, IsOrder, IsGiven, IsOrderOf, stdin_count, IsHelp, IsUsage, AsksForHelp, AsksForHelpAlone, Refuses, kind_text, check_kind_text};
 ghost use Rattle.mls_cli.specs.Orders as specs;
 
 use crate::clap_command::mlscheck_command;
@@ -175,7 +175,24 @@ fn validate_tree_order(alloc: Global, matches: &ArgMatches<'_>) -> Result<Order,
     Ok(Order::Judged { report, checker })
 }
 
-/// Returns what a group is followed from: a GroupInfo, with or without a tree, or the file of a state.
+/// Returns the profile that a command is given for a group: the members' profile without `--profile`.
+fn group_profile(alloc: Global, matches: &ArgMatches<'_>) -> Result<Profile, OrderFault>
+    ensures profile { IfOk result
+        (IsNamedProfile (first_of (codes "profile") (rows_of (found_of matches.now)))) }
+    ensures refused { IfErr result
+        (Refuses (IsNamedProfile (first_of (codes "profile") (rows_of (found_of matches.now))))) }
+    ensures own { IfErr result (λ e. IsHelp e → ⊥) }
+{
+    match value(matches, "profile") {
+        None => Ok(Profile::Members),
+        Some("members") => Ok(Profile::Members),
+        Some("full") => Ok(Profile::Full),
+        Some(_) => Err(usage(alloc, "usage: PROFILE is members or full\n")),
+    }
+}
+
+/// Returns what a group is followed from: a GroupInfo, with or without a tree, in a profile; or the file of a state, which
+/// names its profile.
 fn group_of(alloc: Global, matches: &ArgMatches<'_>) -> Result<GroupFiles, OrderFault>
     ensures group { IfOk result (IsGroup (rows_of (found_of matches.now))) }
     ensures refused { IfErr result (Refuses (IsGroup (rows_of (found_of matches.now)))) }
@@ -185,13 +202,23 @@ fn group_of(alloc: Global, matches: &ArgMatches<'_>) -> Result<GroupFiles, Order
         value(matches, "info"),
         value(matches, "tree"),
         value(matches, "state"),
+        value(matches, "profile"),
     ) {
-        (Some(info), _, None) => {
+        (Some(info), _, None, _) => {
+            let profile = group_profile(alloc, matches)?;
             let info = FileName::new(alloc, info)?;
             let tree = optional_file_of(alloc, matches, "tree")?;
-            Ok(GroupFiles::Info { info, tree })
+            Ok(GroupFiles::Info {
+                profile,
+                info,
+                tree,
+            })
         }
-        (None, None, Some(state)) => Ok(GroupFiles::State(FileName::new(alloc, state)?)),
+        (None, None, Some(state), None) => Ok(GroupFiles::State(FileName::new(alloc, state)?)),
+        (None, None, Some(_), Some(_)) => Err(usage(
+            alloc,
+            "usage: a state names its profile: give no --profile with --state\n",
+        )),
         _ => Err(usage(
             alloc,
             "usage: give --info, with --tree or without it, or --state\n",
@@ -275,11 +302,10 @@ fn signatures_order(alloc: Global, matches: &ArgMatches<'_>) -> Result<Order, Or
         (Refuses (IsOrder (Some (codes "signatures", rows_of (found_of matches.now))))) }
     ensures own { IfErr result (λ e. IsHelp e → ⊥) }
 {
-    let info = file_of(alloc, matches, "info")?;
-    let tree = optional_file_of(alloc, matches, "tree")?;
+    let group = group_of(alloc, matches)?;
     let log = optional_file_of(alloc, matches, "log")?;
     let checker = cover(alloc, matches)?;
-    let report = CheckedReport::Signatures { info, tree, log };
+    let report = CheckedReport::Signatures { group, log };
     Ok(Order::Judged { report, checker })
 }
 

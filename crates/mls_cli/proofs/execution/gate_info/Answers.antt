@@ -5,15 +5,15 @@ pub returns-clause-carried : goal.returns-clause-carried
 returns-clause-carried g c =
     inr (inr (inr (record {
       info_opened = c.in-Some.info;
-      info_ended = c.run_gate.new.info;
+      info_ended = c.run_gate_in.new.info;
       tree_opened = c.in-Some-open_named.tree;
-      tree_ended = c.run_gate.new.tree;
+      tree_ended = c.run_gate_in.new.tree;
       records_opened = c.in-Some-open.records;
-      records_ended = c.run_gate.new.records;
+      records_ended = c.run_gate_in.new.records;
       info_given = search rules;
       tree_given = c.in-Some-open_named.ensures.given;
       records_given = search rules;
-      told = c.run_gate.ensures.told;
-      part = c.run_gate.ensures.part;
-      failed = c.run_gate.ensures.read;
+      told = c.run_gate_in.ensures.told;
+      part = c.run_gate_in.ensures.part;
+      failed = c.run_gate_in.ensures.read;
     })))

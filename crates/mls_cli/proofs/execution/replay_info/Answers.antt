@@ -10,11 +10,11 @@ returns-in-Ok-clause-carried g c =
     let last = option_map (λ f. state_of f) c.in-Ok.replayed.follower in
     inr (inr (inr (record {
       info_opened = c.in-Some.info;
-      info_ended = c.replay_group.new.info;
+      info_ended = c.replay_group_in.new.info;
       tree_opened = c.in-Some-open_named.tree;
-      tree_ended = c.replay_group.new.tree;
+      tree_ended = c.replay_group_in.new.tree;
       log_opened = c.in-Some-open.log;
-      log_ended = c.replay_group.new.log;
+      log_ended = c.replay_group_in.new.log;
       info_given = search rules;
       tree_given = c.in-Some-open_named.ensures.given;
       log_given = search rules;
@@ -23,24 +23,24 @@ returns-in-Ok-clause-carried g c =
         last = last;
         whole = c.in-Ok.ensures.replayed;
         saved = c.store_after.ensures.saved;
-        going = going c.replay_group.result c.in-Ok.replayed _ c.in-Ok.is c.replay_group.ensures.write;
+        going = going c.replay_group_in.result c.in-Ok.replayed _ c.in-Ok.is c.replay_group_in.ensures.write;
       });
-      failed = saved-read c.store_after.result c.store_after.ensures.fault (unfailed c.replay_group.result c.in-Ok.replayed c.in-Ok.is c.replay_group.ensures.read);
+      failed = saved-read c.store_after.result c.store_after.ensures.fault (unfailed c.replay_group_in.result c.in-Ok.replayed c.in-Ok.is c.replay_group_in.ensures.read);
     })))
 
 pub returns-in-Ok-clause-write : goal.returns-in-Ok-clause-write
 returns-in-Ok-clause-write g c =
-    saved-write _ c.store_after.result _ c.store_after.ensures.write (going c.replay_group.result c.in-Ok.replayed _ c.in-Ok.is c.replay_group.ensures.write)
+    saved-write _ c.store_after.result _ c.store_after.ensures.write (going c.replay_group_in.result c.in-Ok.replayed _ c.in-Ok.is c.replay_group_in.ensures.write)
 
 pub returns-clause-carried : goal.returns-clause-carried
 returns-clause-carried g c =
     inr (inr (inr (record {
       info_opened = c.in-Some.info;
-      info_ended = c.replay_group.new.info;
+      info_ended = c.replay_group_in.new.info;
       tree_opened = c.in-Some-open_named.tree;
-      tree_ended = c.replay_group.new.tree;
+      tree_ended = c.replay_group_in.new.tree;
       log_opened = c.in-Some-open.log;
-      log_ended = c.replay_group.new.log;
+      log_ended = c.replay_group_in.new.log;
       info_given = search rules;
       tree_given = c.in-Some-open_named.ensures.given;
       log_given = search rules;
@@ -48,10 +48,10 @@ returns-clause-carried g c =
         fault = c.in-Err.fault;
         outcome_is = refl;
         part = c.in-Err.ensures.part;
-        write = fault_means c.replay_group.result c.in-Err.fault _ c.in-Err.is c.replay_group.ensures.write;
+        write = fault_means c.replay_group_in.result c.in-Err.fault _ c.in-Err.is c.replay_group_in.ensures.write;
       });
-      failed = outcome_means c.replay_group.result c.in-Err.fault Read c.in-Err.is c.replay_group.ensures.read;
+      failed = outcome_means c.replay_group_in.result c.in-Err.fault Read c.in-Err.is c.replay_group_in.ensures.read;
     })))
 
 pub returns-clause-write : goal.returns-clause-write
-returns-clause-write g c = means-write _ _ _ (outcome_means c.replay_group.result c.in-Err.fault Write c.in-Err.is c.replay_group.ensures.write)
+returns-clause-write g c = means-write _ _ _ (outcome_means c.replay_group_in.result c.in-Err.fault Write c.in-Err.is c.replay_group_in.ensures.write)

@@ -5,13 +5,13 @@ pub returns-clause-carried : goal.returns-clause-carried
 returns-clause-carried g c =
     inr (inr (record {
       info_opened = c.in-Some.info;
-      info_ended = c.run_validate.new.info;
+      info_ended = c.run_validate_in.new.info;
       tree_opened = c.in-Some-open_named.tree;
-      tree_ended = c.run_validate.new.tree;
+      tree_ended = c.run_validate_in.new.tree;
       info_given = search rules;
       tree_given = c.in-Some-open_named.ensures.given;
-      validated = c.run_validate.ensures.validated;
-      part = c.run_validate.ensures.part;
-      memory = c.run_validate.ensures.memory;
-      failed = c.run_validate.ensures.read;
+      validated = c.run_validate_in.ensures.validated;
+      part = c.run_validate_in.ensures.part;
+      memory = c.run_validate_in.ensures.memory;
+      failed = c.run_validate_in.ensures.read;
     }))

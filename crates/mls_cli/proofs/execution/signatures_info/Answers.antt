@@ -1,19 +1,19 @@
 use Rattle.std.proofs.Common.{inr, rules}
-use Rattle.mls_cli.proofs.execution.signatures.Goals as goal
+use Rattle.mls_cli.proofs.execution.signatures_info.Goals as goal
 
 pub returns-clause-carried : goal.returns-clause-carried
 returns-clause-carried g c =
     inr (inr (inr (record {
       info_opened = c.in-Some.info;
-      info_ended = c.run_signatures.new.info;
+      info_ended = c.run_signatures_in.new.info;
       tree_opened = c.in-Some-open_named.tree;
-      tree_ended = c.run_signatures.new.tree;
+      tree_ended = c.run_signatures_in.new.tree;
       log_opened = c.in-Some-open_named-2.log;
-      log_ended = c.run_signatures.new.log;
+      log_ended = c.run_signatures_in.new.log;
       info_given = search rules;
       tree_given = c.in-Some-open_named.ensures.given;
       log_given = c.in-Some-open_named-2.ensures.given;
-      told = c.run_signatures.ensures.told;
-      part = c.run_signatures.ensures.part;
-      failed = c.run_signatures.ensures.read;
+      told = c.run_signatures_in.ensures.told;
+      part = c.run_signatures_in.ensures.part;
+      failed = c.run_signatures_in.ensures.read;
     })))

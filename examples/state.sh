@@ -1,7 +1,8 @@
 #!/bin/sh
 # Cuts the log of the real group of this folder in two at each message: the first part is replayed with --save, the second
 # one with --state. The lines have to be those of the whole log, except for their numbers, and the last state that of the
-# whole log. Then a state is stored where no more bytes can be written: neither the old state nor the report may be lost.
+# whole log. The signatures to verify of each state and second part have to be among those of the whole log. Then a state
+# is stored where no more bytes can be written: neither the old state nor the report may be lost.
 # Run it by hand, from anywhere: neither `rt ci` nor any test runs it. It ends with 1 at the first difference.
 set -eu
 
@@ -43,6 +44,7 @@ log=examples/real/handshakes.log
 receipts=examples/real/receipts.txt
 ./mlscheck replay --info "$info" --log "$log" --receipts "$receipts" --save "$made/whole.state" >"$made/whole"
 answers "$made/whole" >"$made/wanted"
+./mlscheck signatures --info "$info" --log "$log" | sort -u >"$made/signatures"
 count=$(cut_log "$log" 0 0 "$made/none")
 
 at=0
@@ -53,6 +55,9 @@ while [ "$at" -le "$count" ]; do
         >"$made/front"
     ./mlscheck validate --state "$made/group.state" --receipts "$receipts" >"$made/valid"
     grep -q '^valid epoch ' "$made/valid" || fail "the state after $at messages is not valid"
+    ./mlscheck signatures --state "$made/group.state" --log "$made/back.log" | sort -u >"$made/found"
+    [ -s "$made/found" ] && [ -z "$(comm -23 "$made/found" "$made/signatures")" ] \
+        || fail "cut after $at messages: other signatures"
     ./mlscheck replay --state "$made/group.state" --log "$made/back.log" --receipts "$receipts" \
         --save "$made/group.state" >"$made/back"
     { answers "$made/front"; answers "$made/back"; } >"$made/found"

@@ -55,18 +55,20 @@ enum mls_number {
     MLS_OUT_OF_MEMORY = 100,        /* an allocation failed; the call may be made again */
     MLS_BUFFER_TOO_SMALL = 101,     /* `*needed` says how many bytes the value has */
     MLS_NO_FOLLOWER = 102,          /* the handle has no follower */
-    MLS_UNSUPPORTED_PROFILE = 103,  /* the profile is not MLS_PROFILE_MEMBERS */
+    MLS_UNSUPPORTED_PROFILE = 103,  /* the profile is no mls_profile */
     MLS_BAD_RECEIPTS = 104,         /* the length of the receipts is no multiple of 32 */
     MLS_TOO_LONG = 105,             /* the state has no file: it would have more than 268,435,456 bytes */
     MLS_INFO_UNREADABLE = 106,      /* the GroupInfo is no message: inner is an mls_decode_fault, place the offset */
     MLS_NOT_GROUP_INFO = 107,       /* the message is no GroupInfo */
     MLS_TREE_UNREADABLE = 108,      /* the tree is no ratchet_tree: inner is an mls_decode_fault, place the offset or index */
-    MLS_CONTEXT_UNREADABLE = 109    /* the context is no GroupContext: inner is an mls_decode_fault, place the offset */
+    MLS_CONTEXT_UNREADABLE = 109,   /* the context is no GroupContext: inner is an mls_decode_fault, place the offset */
+    MLS_OTHER_PROFILE = 110         /* the state is of another profile */
 };
 
-/* Profiles. 2 is for groups with the other proposals of the standard, and is not supported yet. */
+/* Profiles: in which handshakes a group is followed. External commits are refused in both. */
 enum mls_profile {
-    MLS_PROFILE_MEMBERS = 1         /* handshakes of members: Add, Update, Remove, GroupContextExtensions, Commit */
+    MLS_PROFILE_MEMBERS = 1,        /* handshakes of members: Add, Update, Remove, GroupContextExtensions, Commit */
+    MLS_PROFILE_FULL = 2            /* also PreSharedKey and ReInit, and proposals from outside (RFC 9420, 12.1.8) */
 };
 
 /* Why bytes cannot be decoded (RFC 9420, 2.1; from 9 on 12.4.3.3). */
@@ -156,7 +158,15 @@ enum mls_refusal {
     MLS_REFUSED_KEY_REPEATED = 24,
     MLS_REFUSED_MEMBER = 25,                /* inner is an mls_member_fault, leaf the leaf index */
     MLS_REFUSED_TWO_CONTEXT_EXTENSIONS = 26,
-    MLS_REFUSED_CONTEXT_EXTENSIONS_INVALID = 27
+    MLS_REFUSED_CONTEXT_EXTENSIONS_INVALID = 27,
+    MLS_REFUSED_GROUP_OVER = 28,            /* from 28 on: in the full profile alone */
+    MLS_REFUSED_UNKNOWN_EXTERNAL = 29,
+    MLS_REFUSED_SENDER_CONTENT = 30,
+    MLS_REFUSED_PSK_INVALID = 31,
+    MLS_REFUSED_REINIT_INVALID = 32,
+    MLS_REFUSED_EXTERNAL_INIT_MISPLACED = 33,
+    MLS_REFUSED_PSK_TWICE = 34,
+    MLS_REFUSED_REINIT_NOT_ALONE = 35
 };
 
 /* What an accepted message is. */
@@ -182,7 +192,7 @@ typedef struct {
 
 /* What came of a message. */
 typedef struct {
-    uint32_t number; /* 0: accepted. 1 to 27, an mls_refusal: refused. From 100 on: not processed. */
+    uint32_t number; /* 0: accepted. 1 to 35, an mls_refusal: refused. From 100 on: not processed. */
     uint32_t kind;   /* if accepted, an mls_kind, otherwise 0 */
     uint32_t inner;  /* if number is 25, an mls_member_fault, otherwise 0 */
     uint32_t leaf;   /* if number is 25, the leaf index, otherwise 0 */
@@ -215,7 +225,7 @@ mls_verdict mls_validate_tree(const uint8_t *context, size_t context_len, const 
  * They are listed if a follower starts once each of them is good. Otherwise the verdict is that of such a start.
  *
  * `tree` of length 0 is none: the tree is then the one in the GroupInfo. Before the first query there are no receipts:
- * MLS_EMPTY.
+ * MLS_EMPTY. The signatures of a start are the same in each profile.
  *
  * The buffer `records` takes a record for each signature, a variable-size vector (2.1.2): the receipt (32 bytes), the cipher
  * suite (uint16), and as vectors the public key, the SignContent (5.1.2) and the signature. The caller verifies the
@@ -229,9 +239,9 @@ mls_verdict mls_start_query(const uint8_t *info, size_t info_len, const uint8_t 
                             size_t *needed);
 
 /*
- * Starts a follower from a GroupInfo (RFC 9420, 12.4.3) and a tree, by these receipts, and puts it into the handle. The
- * follower accepts exactly the signatures that have a receipt. `tree` of length 0 is none: the tree is then the one in the
- * GroupInfo.
+ * Starts a follower with this mls_profile from a GroupInfo (RFC 9420, 12.4.3) and a tree, by these receipts, and puts it
+ * into the handle. The follower accepts exactly the signatures that have a receipt. `tree` of length 0 is none: the tree is
+ * then the one in the GroupInfo.
  *
  * If the handle has a follower, the new one takes its place, and the old one is freed. If none starts, the handle is
  * unchanged.
@@ -244,10 +254,12 @@ mls_verdict mls_follower_start(const uint8_t *info, size_t info_len, const uint8
 
 /*
  * Resumes a follower from a state (mls_follower_state), by these receipts, and puts it into the handle, as
- * mls_follower_start does. Whoever wrote the state, the follower's tree is valid and its pending proposals satisfy their
- * rules. That the transcript hash and the pending proposals are those of the group rests on who stored the state.
+ * mls_follower_start does. A state names the profile of its follower: `profile` has to be this one.
  *
- * Returns 0, or an mls_resume_fault, or MLS_UNSUPPORTED_PROFILE, MLS_BAD_RECEIPTS, MLS_OUT_OF_MEMORY.
+ * Whoever wrote the state, the follower's tree is valid and its pending proposals satisfy their rules. That the transcript
+ * hash and the pending proposals are those of the group rests on who stored the state.
+ *
+ * Returns 0, or an mls_resume_fault, or MLS_UNSUPPORTED_PROFILE, MLS_OTHER_PROFILE, MLS_BAD_RECEIPTS, MLS_OUT_OF_MEMORY.
  */
 mls_verdict mls_follower_resume(const uint8_t *state, size_t state_len, const uint8_t *receipts, size_t receipts_len,
                                 uint32_t profile, mls_follower *follower);
@@ -260,6 +272,12 @@ uint32_t mls_follower_epoch(mls_follower *follower, uint64_t *epoch);
 
 /* Writes the number of members: of non-blank leaves (RFC 9420, 4.1). Returns 0 or MLS_NO_FOLLOWER. */
 uint32_t mls_follower_members(mls_follower *follower, uint32_t *members);
+
+/*
+ * Writes 1 if the group is over, otherwise 0. It is over once a commit with a ReInit is accepted (RFC 9420, 11.2): every
+ * later message of its last epoch is refused with MLS_REFUSED_GROUP_OVER. Returns 0 or MLS_NO_FOLLOWER.
+ */
+uint32_t mls_follower_ended(mls_follower *follower, uint32_t *ended);
 
 /* Writes the tree hash (RFC 9420, 7.8, 8.1). Returns 0, MLS_NO_FOLLOWER or MLS_BUFFER_TOO_SMALL. */
 uint32_t mls_follower_tree_hash(mls_follower *follower, uint8_t *tree_hash, size_t tree_hash_len, size_t *needed);
@@ -314,7 +332,8 @@ static inline const char *mls_refusal_name(uint32_t number) {
         "KnownProposal", "AddInvalid", "UpdateInvalid", "RemoveInvalid", "LastEpoch", "UnknownReference",
         "UpdateByCommitter", "RemovesCommitter", "SameLeafTwice", "PathMissing", "TooManyLeaves", "PathLength",
         "PathSource", "PathKeyUsed", "CiphertextCount", "PathParentHash", "KeyRepeated", "Member",
-        "TwoContextExtensions", "ContextExtensionsInvalid"};
+        "TwoContextExtensions", "ContextExtensionsInvalid", "GroupOver", "UnknownExternal", "SenderContent",
+        "PskInvalid", "ReInitInvalid", "ExternalInitMisplaced", "PskTwice", "ReInitNotAlone"};
     return number < sizeof names / sizeof names[0] ? names[number] : "";
 }
 

@@ -156,7 +156,17 @@ func StartQuery(info, tree []byte, receipts [][32]byte) ([]Signature, error) {
 	return signatures(records), err
 }
 
-// A Follower follows a group by the handshakes of its members.
+// A Profile says in which handshakes a group is followed.
+type Profile uint32
+
+const (
+	// Members: Add, Update, Remove, GroupContextExtensions and Commit of members.
+	Members Profile = C.MLS_PROFILE_MEMBERS
+	// Full: also PreSharedKey and ReInit, and proposals from outside (12.1.8).
+	Full Profile = C.MLS_PROFILE_FULL
+)
+
+// A Follower follows a group in a profile.
 type Follower struct {
 	handle C.mls_follower
 }
@@ -168,17 +178,27 @@ func begun(f *Follower, verdict C.mls_verdict) (*Follower, error) {
 	return f, nil
 }
 
-// Start starts a follower from a GroupInfo (12.4.3) and a tree, by these receipts. Close frees it.
+// Start starts a follower of the handshakes of members: StartIn with Members.
 func Start(info, tree []byte, receipts [][32]byte) (*Follower, error) {
-	f, good := new(Follower), joined(receipts)
-	return begun(f, C.mls_follower_start(at(info), size(info), at(tree), size(tree), at(good), size(good),
-		C.MLS_PROFILE_MEMBERS, &f.handle))
+	return StartIn(Members, info, tree, receipts)
 }
 
-// Resume resumes a follower from a state, by these receipts. Close frees it.
-func Resume(state []byte, receipts [][32]byte) (*Follower, error) {
+// StartIn starts a follower with this profile from a GroupInfo (12.4.3) and a tree, by these receipts. Close frees it.
+func StartIn(profile Profile, info, tree []byte, receipts [][32]byte) (*Follower, error) {
 	f, good := new(Follower), joined(receipts)
-	return begun(f, C.mls_follower_resume(at(state), size(state), at(good), size(good), C.MLS_PROFILE_MEMBERS, &f.handle))
+	return begun(f, C.mls_follower_start(at(info), size(info), at(tree), size(tree), at(good), size(good),
+		C.uint32_t(profile), &f.handle))
+}
+
+// Resume resumes a follower of the handshakes of members: ResumeIn with Members.
+func Resume(state []byte, receipts [][32]byte) (*Follower, error) {
+	return ResumeIn(Members, state, receipts)
+}
+
+// ResumeIn resumes a follower from a state of this profile, by these receipts. Close frees it.
+func ResumeIn(profile Profile, state []byte, receipts [][32]byte) (*Follower, error) {
+	f, good := new(Follower), joined(receipts)
+	return begun(f, C.mls_follower_resume(at(state), size(state), at(good), size(good), C.uint32_t(profile), &f.handle))
 }
 
 // Close frees the follower.
@@ -196,6 +216,13 @@ func (f *Follower) Members() uint32 {
 	var members C.uint32_t
 	C.mls_follower_members(&f.handle, &members)
 	return uint32(members)
+}
+
+// Ended returns whether the group is over: a commit with a ReInit was accepted (11.2).
+func (f *Follower) Ended() bool {
+	var ended C.uint32_t
+	C.mls_follower_ended(&f.handle, &ended)
+	return ended == 1
 }
 
 // TreeHash returns the tree hash (7.8, 8.1).

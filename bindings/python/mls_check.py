@@ -15,6 +15,7 @@ RECEIPT_SIZE = 32
 REFERENCE_SIZE = 64
 BUFFER_TOO_SMALL = 101
 PROFILE_MEMBERS = 1
+PROFILE_FULL = 2
 MALFORMED = 1
 
 NAMES = (
@@ -22,6 +23,8 @@ NAMES = (
     "KnownProposal", "AddInvalid", "UpdateInvalid", "RemoveInvalid", "LastEpoch", "UnknownReference", "UpdateByCommitter",
     "RemovesCommitter", "SameLeafTwice", "PathMissing", "TooManyLeaves", "PathLength", "PathSource", "PathKeyUsed",
     "CiphertextCount", "PathParentHash", "KeyRepeated", "Member", "TwoContextExtensions", "ContextExtensionsInvalid",
+    "GroupOver", "UnknownExternal", "SenderContent", "PskInvalid", "ReInitInvalid", "ExternalInitMisplaced", "PskTwice",
+    "ReInitNotAlone",
 )
 
 # A signature that has to be verified: whether it is good for `content` under `key` in the cipher suite `suite` (5.1.2).
@@ -78,6 +81,7 @@ def _load():
         ("mls_follower_free", None, [handle]),
         ("mls_follower_epoch", number, [handle, ctypes.POINTER(ctypes.c_uint64)]),
         ("mls_follower_members", number, [handle, ctypes.POINTER(ctypes.c_uint32)]),
+        ("mls_follower_ended", number, [handle, ctypes.POINTER(ctypes.c_uint32)]),
         ("mls_follower_tree_hash", number, [handle] + sized + [size]),
         ("mls_follower_confirmed_hash", number, [handle] + sized + [size]),
         ("mls_follower_query", number, [handle] + sized * 2 + [size]),
@@ -148,23 +152,23 @@ def start_query(info, tree=b"", receipts=()):
 
 
 class Follower:
-    """A follower of a group, by the handshakes of its members."""
+    """A follower of a group, in a profile."""
 
-    def __init__(self, info, tree=b"", receipts=()):
+    def __init__(self, info, tree=b"", receipts=(), profile=PROFILE_MEMBERS):
         """Starts from a GroupInfo (12.4.3), by these receipts. Raises Refused."""
         good = b"".join(receipts)
-        self._begin(_library.mls_follower_start, info, len(info), tree, len(tree), good, len(good))
+        self._begin(_library.mls_follower_start, info, len(info), tree, len(tree), good, len(good), profile)
 
     @classmethod
-    def resume(cls, state, receipts=()):
-        """Resumes from a state, by these receipts. Raises Refused."""
+    def resume(cls, state, receipts=(), profile=PROFILE_MEMBERS):
+        """Resumes from a state of this profile, by these receipts. Raises Refused."""
         follower, good = cls.__new__(cls), b"".join(receipts)
-        follower._begin(_library.mls_follower_resume, state, len(state), good, len(good))
+        follower._begin(_library.mls_follower_resume, state, len(state), good, len(good), profile)
         return follower
 
     def _begin(self, call, *words):
         self._handle = _Handle()
-        verdict = call(*words, PROFILE_MEMBERS, ctypes.byref(self._handle))
+        verdict = call(*words, ctypes.byref(self._handle))
         if verdict.number:
             raise Refused(verdict.number, verdict.inner, verdict.place)
 
@@ -199,6 +203,11 @@ class Follower:
     @property
     def members(self):
         return self._number(_library.mls_follower_members, ctypes.c_uint32)
+
+    @property
+    def ended(self):
+        """Whether the group is over: a commit with a ReInit was accepted (11.2)."""
+        return self._number(_library.mls_follower_ended, ctypes.c_uint32) == 1
 
     @property
     def tree_hash(self):

@@ -81,10 +81,11 @@ static const struct bytes nothing = {(uint8_t *)mls_no_bytes, 0};
 static void expect_no_follower(mls_follower *group) {
     uint8_t out[64] = {7};
     uint64_t epoch = 7;
-    uint32_t members = 7;
+    uint32_t members = 7, ended = 7;
     size_t needed = 7;
     EXPECT(mls_follower_epoch(group, &epoch) == MLS_NO_FOLLOWER && epoch == 7);
     EXPECT(mls_follower_members(group, &members) == MLS_NO_FOLLOWER && members == 7);
+    EXPECT(mls_follower_ended(group, &ended) == MLS_NO_FOLLOWER && ended == 7);
     EXPECT(mls_follower_tree_hash(group, out, sizeof out, &needed) == MLS_NO_FOLLOWER && needed == 0);
     needed = 7;
     EXPECT(mls_follower_confirmed_hash(group, out, sizeof out, &needed) == MLS_NO_FOLLOWER && needed == 0);
@@ -106,7 +107,7 @@ static void refused_starts(void) {
     expect_no_follower(&group);
     EXPECT(is(start(&group, nothing), MLS_START_MEMBER, MLS_MEMBER_LEAF_SIGNATURE, 0));
     expect_no_follower(&group);
-    EXPECT(is(mls_follower_start(info.at, info.len, MLS_EMPTY, receipts.at, receipts.len, 2, &group),
+    EXPECT(is(mls_follower_start(info.at, info.len, MLS_EMPTY, receipts.at, receipts.len, 3, &group),
               MLS_UNSUPPORTED_PROFILE, 0, 0));
     EXPECT(is(mls_follower_start(info.at, info.len, MLS_EMPTY, receipts.at, receipts.len, 0, &group),
               MLS_UNSUPPORTED_PROFILE, 0, 0));
@@ -122,7 +123,7 @@ static void refused_starts(void) {
               MLS_NOT_GROUP_INFO, 0, 0));
     EXPECT(is(mls_follower_resume(MLS_EMPTY, MLS_EMPTY, MLS_PROFILE_MEMBERS, &group), MLS_RESUME_UNREADABLE,
               MLS_DECODE_TRUNCATED, 0));
-    EXPECT(is(mls_follower_resume(info.at, info.len, MLS_EMPTY, 2, &group), MLS_UNSUPPORTED_PROFILE, 0, 0));
+    EXPECT(is(mls_follower_resume(info.at, info.len, MLS_EMPTY, 3, &group), MLS_UNSUPPORTED_PROFILE, 0, 0));
     expect_no_follower(&group);
     EXPECT(blocks == before);
 }
@@ -271,7 +272,9 @@ static void stored_states(void) {
         two = mls_follower_judge(&other, message.at, message.len, again, sizeof again);
         EXPECT(one.number == MLS_OK && memcmp(&one, &two, sizeof one) == 0);
         EXPECT(memcmp(reference, again, sizeof again) == 0);
-        /* a damaged state is refused, and the handle keeps its follower */
+        /* a state of another profile and a damaged state are refused, and the handle keeps its follower */
+        EXPECT(is(mls_follower_resume(state.at, state.len, receipts.at, receipts.len, MLS_PROFILE_FULL, &other),
+                  MLS_OTHER_PROFILE, 0, 0));
         state.at[state.len / 2] ^= 1;
         EXPECT(mls_follower_resume(state.at, state.len, receipts.at, receipts.len, MLS_PROFILE_MEMBERS, &other).number !=
                MLS_OK);

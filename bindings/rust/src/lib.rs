@@ -48,12 +48,14 @@ pub struct Refusal {
 impl Refusal {
     /// Returns the name of the rule, as `mlscheck` prints it.
     pub fn name(&self) -> &'static str {
-        const NAMES: [&str; 28] = [
+        const NAMES: [&str; 36] = [
             "", "Malformed", "NotPublic", "WrongGroup", "WrongEpoch", "SenderNotMember", "NotHandshake",
             "BadSignature", "KnownProposal", "AddInvalid", "UpdateInvalid", "RemoveInvalid", "LastEpoch",
             "UnknownReference", "UpdateByCommitter", "RemovesCommitter", "SameLeafTwice", "PathMissing",
             "TooManyLeaves", "PathLength", "PathSource", "PathKeyUsed", "CiphertextCount", "PathParentHash",
-            "KeyRepeated", "Member", "TwoContextExtensions", "ContextExtensionsInvalid",
+            "KeyRepeated", "Member", "TwoContextExtensions", "ContextExtensionsInvalid", "GroupOver",
+            "UnknownExternal", "SenderContent", "PskInvalid", "ReInitInvalid", "ExternalInitMisplaced", "PskTwice",
+            "ReInitNotAlone",
         ];
         NAMES.get(self.number as usize).unwrap_or(&"")
     }
@@ -107,6 +109,7 @@ mod sys {
         pub fn mls_follower_free(follower: *mut Handle);
         pub fn mls_follower_epoch(follower: *mut Handle, epoch: *mut u64) -> u32;
         pub fn mls_follower_members(follower: *mut Handle, members: *mut u32) -> u32;
+        pub fn mls_follower_ended(follower: *mut Handle, ended: *mut u32) -> u32;
         pub fn mls_follower_tree_hash(follower: *mut Handle, hash: *mut u8, len: usize, needed: *mut usize) -> u32;
         pub fn mls_follower_confirmed_hash(follower: *mut Handle, hash: *mut u8, len: usize, needed: *mut usize) -> u32;
         pub fn mls_follower_query(
@@ -122,7 +125,15 @@ mod sys {
 }
 
 const BUFFER_TOO_SMALL: u32 = 101;
-const PROFILE_MEMBERS: u32 = 1;
+
+/// In which handshakes a group is followed.
+#[derive(Clone, Copy, Debug, PartialEq, Eq)]
+pub enum Profile {
+    /// Those of members: Add, Update, Remove, GroupContextExtensions and Commit.
+    Members = 1,
+    /// Also PreSharedKey and ReInit, and proposals from outside (RFC 9420, 12.1.8).
+    Full = 2,
+}
 
 /// Calls `call` with a buffer, and again with a longer one if it is too small.
 fn filled(mut call: impl FnMut(&mut [u8], &mut usize) -> u32) -> Result<Vec<u8>, u32> {
@@ -210,7 +221,7 @@ pub fn start_query(info: &[u8], tree: Option<&[u8]>, receipts: &[Receipt]) -> Re
     Ok(signatures_in(&records))
 }
 
-/// A follower of a group, by the handshakes of its members.
+/// A follower of a group, in a profile.
 pub struct Follower {
     handle: sys::Handle,
 }
@@ -223,28 +234,40 @@ impl Follower {
         Follower { handle: sys::Handle { at: std::ptr::null_mut() } }
     }
 
-    /// Starts a follower from a GroupInfo (RFC 9420, 12.4.3) and a tree, by these receipts. With no tree, the tree is the one
-    /// in the GroupInfo.
+    /// Starts a follower of the handshakes of members: [`Follower::start_in`] with [`Profile::Members`].
     pub fn start(info: &[u8], tree: Option<&[u8]>, receipts: &[Receipt]) -> Result<Follower, Refused> {
+        Follower::start_in(Profile::Members, info, tree, receipts)
+    }
+
+    /// Starts a follower with this profile from a GroupInfo (RFC 9420, 12.4.3) and a tree, by these receipts. With no tree,
+    /// the tree is the one in the GroupInfo.
+    pub fn start_in(
+        profile: Profile, info: &[u8], tree: Option<&[u8]>, receipts: &[Receipt],
+    ) -> Result<Follower, Refused> {
         let mut follower = Follower::new();
         let tree = tree.unwrap_or(&[]);
         let receipts = receipts.concat();
         checked(unsafe {
             sys::mls_follower_start(
                 info.as_ptr(), info.len(), tree.as_ptr(), tree.len(), receipts.as_ptr(), receipts.len(),
-                PROFILE_MEMBERS, &mut follower.handle,
+                profile as u32, &mut follower.handle,
             )
         })?;
         Ok(follower)
     }
 
-    /// Resumes a follower from a state ([`Follower::state`]), by these receipts.
+    /// Resumes a follower of the handshakes of members: [`Follower::resume_in`] with [`Profile::Members`].
     pub fn resume(state: &[u8], receipts: &[Receipt]) -> Result<Follower, Refused> {
+        Follower::resume_in(Profile::Members, state, receipts)
+    }
+
+    /// Resumes a follower from a state of this profile ([`Follower::state`]), by these receipts.
+    pub fn resume_in(profile: Profile, state: &[u8], receipts: &[Receipt]) -> Result<Follower, Refused> {
         let mut follower = Follower::new();
         let receipts = receipts.concat();
         checked(unsafe {
             sys::mls_follower_resume(
-                state.as_ptr(), state.len(), receipts.as_ptr(), receipts.len(), PROFILE_MEMBERS,
+                state.as_ptr(), state.len(), receipts.as_ptr(), receipts.len(), profile as u32,
                 &mut follower.handle,
             )
         })?;
@@ -263,6 +286,13 @@ impl Follower {
         let mut members = 0;
         unsafe { sys::mls_follower_members(&mut self.handle, &mut members) };
         members
+    }
+
+    /// Returns whether the group is over: a commit with a ReInit was accepted (RFC 9420, 11.2).
+    pub fn ended(&mut self) -> bool {
+        let mut ended = 0;
+        unsafe { sys::mls_follower_ended(&mut self.handle, &mut ended) };
+        ended == 1
     }
 
     /// Returns the tree hash (RFC 9420, 7.8, 8.1).

@@ -3,6 +3,8 @@ use Rattle.std.proofs.Common.{◌≡◌, ◌≢◌, ◌∙◌, ℕ, List, Option
 use Rattle.mls_tree.specs.RatchetTree.{RatchetTree}
 use Rattle.mls_check.specs.Signatures.{VerifyFn}
 use Rattle.mls_msgs.specs.declared.group_info.GroupInfo.{GroupInfo}
+use Rattle.mls_msgs.specs.declared.profile.Profile.{Profile}
+use Rattle.mls_msgs.specs.declared.profile.Profile.TheVariants.{Members}
 use Rattle.mls_signatures.specs.SignaturesToVerify.{start_signatures}
 use Rattle.mls_follow.specs.CoveredLogs.{all_good}
 use Rattle.mls_follow.specs.Start.{UsesTree, UsesNoTree, IsStart}
@@ -29,7 +31,7 @@ pub records-handed : (G : VerifyFn) (info : GroupInfo) (h : RatchetTree) (record
 records-handed G info h records e t uses = e ∙ ap (λ (v : RatchetTree). query_records G (start_signatures info v.tree)) (sym uses)
 
 -- a follower starts, so the tree that it uses is there
-pub records-start : (G : VerifyFn) (info : GroupInfo) (handed : Option RatchetTree) (s : State) (records : List ℕ) → IsStart all_good info handed s
+pub records-start : (G : VerifyFn) (info : GroupInfo) (handed : Option RatchetTree) (s : State) (records : List ℕ) → IsStart Members all_good info handed s
     → IsStartQuery G info handed records → ListsStart G info handed records
 records-start G info handed s records start lines = record {
   state = s;
@@ -39,7 +41,7 @@ records-start G info handed s records start lines = record {
       ∙ ap (λ (st : State). query_records G (start_signatures info st.tree)) (sym start.state);
 }
 
-module _ (info_bytes tree_bytes : List ℕ) (info : GroupInfo) (handed : Option RatchetTree) (is_read : IsReadAs info_bytes (passed tree_bytes) info handed) where
+module _ (info_bytes tree_bytes : List ℕ) (info : GroupInfo) (handed : Option RatchetTree) (is_read : IsReadAs Members info_bytes (passed tree_bytes) info handed) where
   pub lists-from : (G : VerifyFn) (records : List ℕ) → ListsStart G info handed records → ListsFrom G info_bytes tree_bytes records
   lists-from G records q = record {
     wanted = start_signatures info q.state.tree;
@@ -47,15 +49,16 @@ module _ (info_bytes tree_bytes : List ℕ) (info : GroupInfo) (handed : Option 
     records_are = q.records_are;
   }
 
-  declines : (G : VerifyFn) (finding : Finding) → FailsStart G info handed finding → Declines G info_bytes tree_bytes finding
+module _ (profile : Profile) (info_bytes tree_bytes : List ℕ) (info : GroupInfo) (handed : Option RatchetTree) (is_read : IsReadAs profile info_bytes (passed tree_bytes) info handed) where
+  declines : (G : VerifyFn) (finding : Finding) → FailsStart G info handed finding → Declines profile G info_bytes tree_bytes finding
   declines G finding f =
-      subst (Declines G info_bytes tree_bytes) (sym f.finding_is) (record { found = (info, handed, is_read, f.own, f.fails); verdict = refl })
+      subst (Declines profile G info_bytes tree_bytes) (sym f.finding_is) (record { found = (info, handed, is_read, f.own, f.fails); verdict = refl })
 
-  pub says-declines : (G : VerifyFn) (failure : StartFailure) → Says (FailsStart G info handed) failure → Says (Declines G info_bytes tree_bytes) failure
+  pub says-declines : (G : VerifyFn) (failure : StartFailure) → Says (FailsStart G info handed) failure → Says (Declines profile G info_bytes tree_bytes) failure
   says-declines G (Found finding) f = declines G finding f
   says-declines G (Fault e) f = f
 
-pub says-unread : (G : VerifyFn) (info_bytes tree_bytes : List ℕ) (failure : StartFailure) → Says (IsUnread info_bytes (passed tree_bytes)) failure
-    → Says (Declines G info_bytes tree_bytes) failure
-says-unread G info_bytes tree_bytes (Found finding) u = record { found = u.found G; verdict = u.verdict }
-says-unread G info_bytes tree_bytes (Fault e) u = u
+pub says-unread : (profile : Profile) (G : VerifyFn) (info_bytes tree_bytes : List ℕ) (failure : StartFailure) → Says (IsUnread profile info_bytes (passed tree_bytes)) failure
+    → Says (Declines profile G info_bytes tree_bytes) failure
+says-unread profile G info_bytes tree_bytes (Found finding) u = record { found = u.found G; verdict = u.verdict }
+says-unread profile G info_bytes tree_bytes (Fault e) u = u

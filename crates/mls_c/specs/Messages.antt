@@ -32,7 +32,7 @@ Moves (Some f) new P = (g : GroupFollower) × (new ≡ Some g) × P f g
 -- were put into the buffer; or the bytes are no message, with the number of that refusal.
 pub data Queries (f : GroupFollower) (message old new : List ℕ) (needed number : ℕ) : Type 0 where
   runs_out : number ≡ out_of_memory → new ≡ old → needed ≡ 0 → Queries f message old new needed number
-  malformed : EncodesNoMessage message → number ≡ 1 → new ≡ old → needed ≡ 0
+  malformed : EncodesNoMessage (state_in f).profile message → number ≡ 1 → new ≡ old → needed ≡ 0
       → Queries f message old new needed number
   lists : (wanted : List SignatureToVerify) → AreSignaturesOf (state_in f) message wanted
       → IsPut (query_records (meaning_in f) wanted) old new needed number

@@ -1,6 +1,6 @@
 -- The numbers by which the calls for C name what came of a call: 0 for success, up to 99 those of the reports
 -- (docs/FORMATS.md), from 100 on their own. Used by contracts.
-use Rattle.std.specs.Prelude.{ℕ, Result, Ok, Err}
+use Rattle.std.specs.Prelude.{ℕ, ◌==◌, if◌then◌else◌, Option, Some, None, Result, Ok, Err}
 use Rattle.mls_wire.specs.declared.fault.WireFault.{WireFault}
 use Rattle.mls_wire.specs.declared.fault.WireFaultKind.{WireFaultKind}
 use Rattle.mls_wire.specs.declared.fault.WireFaultKind.TheVariants as kinds
@@ -10,6 +10,8 @@ use Rattle.mls_check.specs.declared.members.MemberFault.{MemberFault}
 use Rattle.mls_check.specs.declared.members.MemberFault.TheVariants as members
 use Rattle.mls_check.specs.declared.tree_validation.TreeFault.{TreeFault}
 use Rattle.mls_check.specs.declared.tree_validation.TreeFault.TheVariants as trees
+use Rattle.mls_msgs.specs.declared.profile.Profile.{Profile}
+use Rattle.mls_msgs.specs.declared.profile.Profile.TheVariants.{Members, Full}
 use Rattle.mls_follow.specs.RefusalNumbers.{number_of, start_number_of}
 use Rattle.mls_follow.specs.declared.refusal.Refusal.{Refusal}
 use Rattle.mls_follow.specs.declared.refusal.Refusal.TheVariants as refusals
@@ -39,7 +41,7 @@ buffer_too_small = 101
 abbrev pub no_follower : ℕ
 no_follower = 102
 
--- the profile is not one that is supported
+-- no profile has this number
 abbrev pub unsupported_profile : ℕ
 unsupported_profile = 103
 
@@ -67,9 +69,25 @@ tree_unreadable = 108
 abbrev pub context_unreadable : ℕ
 context_unreadable = 109
 
--- the profile in which a group is followed by the handshakes of its members
+-- the state is of another profile
+abbrev pub other_profile : ℕ
+other_profile = 110
+
+-- ---- profiles
+
+-- the number of the members' profile
 abbrev pub members_profile : ℕ
 members_profile = 1
+
+-- the number of the full profile
+abbrev pub full_profile : ℕ
+full_profile = 2
+
+-- `profile_of number` is the profile with this number.
+abbrev pub profile_of : ℕ → Option Profile
+profile_of number =
+    if number == members_profile then Some Members
+    else (if number == full_profile then Some Full else None)
 
 -- ---- verdicts
 

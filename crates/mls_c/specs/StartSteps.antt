@@ -1,8 +1,10 @@
 -- What the steps of a start return. `G` is the verification function of the checker. Internal: no public contract uses
 -- this.
-use Rattle.std.specs.Prelude.{◌≡◌, ◌≢◌, ℕ, List, Option}
+use Rattle.std.specs.Prelude.{◌≡◌, ◌≢◌, ◌⊎◌, ℕ, List, Option, Some}
 use Rattle.mls_check.specs.Signatures.{VerifyFn}
 use Rattle.mls_msgs.specs.declared.group_info.GroupInfo.{GroupInfo}
+use Rattle.mls_msgs.specs.declared.profile.Profile.{Profile}
+use Rattle.mls_msgs.specs.declared.profile.Profile.TheVariants.{Members}
 use Rattle.mls_tree.specs.RatchetTree.{RatchetTree}
 use Rattle.mls_signatures.specs.SignaturesToVerify.{start_signatures}
 use Rattle.mls_signatures.specs.declared.signature_to_verify.SignatureToVerify.{SignatureToVerify}
@@ -16,8 +18,12 @@ use Rattle.mls_report.specs.StartInputs.{IsStartFinding}
 use Rattle.mls_report.specs.declared.finding.Finding.{Finding}
 use Rattle.mls_report.specs.declared.finding.Finding.TheVariants.{StartRefused}
 use Rattle.mls_report.specs.declared.verdict.Verdict.TheVariants.{No}
+use Rattle.mls_c.specs.declared.group_follower.GroupFollower.{GroupFollower}
+use Rattle.mls_c.specs.declared.input_verdict.InputVerdict.{InputVerdict}
+use Rattle.mls_c.specs.Followers.{state_in}
+use Rattle.mls_c.specs.Numbers.{plain_verdict, other_profile}
 use Rattle.mls_c.specs.Queries.{query_records}
-use Rattle.mls_c.specs.Starts.{passed, CanStartFrom}
+use Rattle.mls_c.specs.Starts.{passed, RunsOut, CanStartFrom}
 
 -- `FailsStart G info handed finding`: no follower starts from a GroupInfo and a tree, and this is the finding.
 pub record FailsStart (G : VerifyFn) (info : GroupInfo) (handed : Option RatchetTree) (finding : Finding)
@@ -27,9 +33,11 @@ pub record FailsStart (G : VerifyFn) (info : GroupInfo) (handed : Option Ratchet
   pub fails : IsStartFault G info handed fault
   pub finding_is : finding ≡ StartRefused fault
 
--- `Declines G info_bytes tree_bytes finding`: no follower starts from these bytes, and this is the finding.
-pub record Declines (G : VerifyFn) (info_bytes tree_bytes : List ℕ) (finding : Finding) : Type 0 where
-  pub found : IsStartFinding G info_bytes (passed tree_bytes) finding
+-- `Declines profile G info_bytes tree_bytes finding`: no follower with this profile starts from these bytes, and this is the
+-- finding.
+pub record Declines (profile : Profile) (G : VerifyFn) (info_bytes tree_bytes : List ℕ) (finding : Finding)
+    : Type 0 where
+  pub found : IsStartFinding profile G info_bytes (passed tree_bytes) finding
   pub verdict : finding_verdict finding ≡ No
 
 -- `IsStartQuery G info handed records`: the records of the start, by the tree that it uses.
@@ -43,7 +51,7 @@ IsStartQuery G info handed records =
 pub record ListsStart (G : VerifyFn) (info : GroupInfo) (handed : Option RatchetTree) (records : List ℕ)
     : Type 0 where
   pub state : State
-  pub start : IsStart all_good info handed state
+  pub start : IsStart Members all_good info handed state
   pub records_are : records ≡ query_records G (start_signatures info state.tree)
 
 -- `ListsFrom G info_bytes tree_bytes records`: a follower can start from these bytes, each signature being good, and these
@@ -52,3 +60,11 @@ pub record ListsFrom (G : VerifyFn) (info_bytes tree_bytes records : List ℕ) :
   pub wanted : List SignatureToVerify
   pub can_start : CanStartFrom info_bytes tree_bytes wanted
   pub records_are : records ≡ query_records G wanted
+
+-- `PutsInProfile profile f held new v`: a follower with this profile was put into a handle, or an allocation failed; a
+-- follower with another profile was not.
+abbrev pub PutsInProfile : Profile → GroupFollower → Option GroupFollower → Option GroupFollower → InputVerdict → Type 0
+PutsInProfile profile f held new v =
+    (((state_in f).profile ≡ profile)
+    × (((v ≡ plain_verdict 0) × (new ≡ Some f)) ⊎ (RunsOut v × (new ≡ held))))
+    ⊎ (((state_in f).profile ≢ profile) × (v ≡ plain_verdict other_profile) × (new ≡ held))

@@ -1,8 +1,10 @@
 -- What the calls that validate a tree, start a follower and resume one return. `G` accepts the signatures with a receipt;
 -- `old` and `new` are what a buffer holds before and after. Used by contracts.
-use Rattle.std.specs.Prelude.{ℕ, ◌≡◌, List, [], ◌∷◌, Option, Some, None}
+use Rattle.std.specs.Prelude.{ℕ, ◌≡◌, ◌≢◌, List, [], ◌∷◌, Option, Some, None}
 use Rattle.mls_check.specs.Signatures.{VerifyFn}
 use Rattle.mls_msgs.specs.declared.group_info.GroupInfo.{GroupInfo}
+use Rattle.mls_msgs.specs.declared.profile.Profile.{Profile}
+use Rattle.mls_msgs.specs.declared.profile.Profile.TheVariants.{Members}
 use Rattle.mls_tree.specs.RatchetTree.{RatchetTree}
 use Rattle.mls_signatures.specs.declared.signature_to_verify.SignatureToVerify.{SignatureToVerify}
 use Rattle.mls_follow.specs.CoveredLogs.{all_good}
@@ -20,7 +22,7 @@ use Rattle.mls_c.specs.declared.group_follower.GroupFollower.{GroupFollower}
 use Rattle.mls_c.specs.declared.input_verdict.InputVerdict.{InputVerdict}
 use Rattle.mls_c.specs.Buffers.{IsPut}
 use Rattle.mls_c.specs.Followers.{state_in, meaning_in}
-use Rattle.mls_c.specs.Numbers.{verdict_of, plain_verdict, resume_verdict, out_of_memory}
+use Rattle.mls_c.specs.Numbers.{verdict_of, plain_verdict, resume_verdict, out_of_memory, other_profile}
 use Rattle.mls_c.specs.Queries.{query_records}
 
 -- `passed bytes` is the bytes that a caller passes, or `None` if there are none. No ratchet_tree is encoded by no bytes.
@@ -50,47 +52,53 @@ pub data Finds (G : VerifyFn) (context tree old new : List ℕ) (needed : ℕ) (
 
 -- ---- a start
 
--- `RefusesStart G info_bytes tree_bytes v`: no follower starts, by these signatures, and the verdict says why.
-pub record RefusesStart (G : VerifyFn) (info_bytes tree_bytes : List ℕ) (v : InputVerdict) : Type 0 where
+-- `RefusesStart profile G info_bytes tree_bytes v`: no follower with this profile starts, by these signatures, and the
+-- verdict says why.
+pub record RefusesStart (profile : Profile) (G : VerifyFn) (info_bytes tree_bytes : List ℕ) (v : InputVerdict)
+    : Type 0 where
   pub finding : Finding
-  pub found : IsStartFinding G info_bytes (passed tree_bytes) finding
+  pub found : IsStartFinding profile G info_bytes (passed tree_bytes) finding
   pub refused : reports.finding_verdict finding ≡ No
   pub verdict_is : v ≡ verdict_of finding
 
--- `CanStartFrom info_bytes tree_bytes wanted`: a follower starts if every signature is good, and these are the signatures
--- of the start.
+-- `CanStartFrom info_bytes tree_bytes wanted`: a follower with the members' profile starts if every signature is good, and
+-- these are the signatures of the start.
 pub record CanStartFrom (info_bytes tree_bytes : List ℕ) (wanted : List SignatureToVerify) : Type 0 where
   pub info : GroupInfo
   pub handed : Option RatchetTree
-  pub is_read : IsReadAs info_bytes (passed tree_bytes) info handed
+  pub is_read : IsReadAs Members info_bytes (passed tree_bytes) info handed
   pub state : State
-  pub has_signatures : StartHasSignatures info handed state wanted
+  pub has_signatures : StartHasSignatures Members info handed state wanted
 
 -- `QueriesStart G info_bytes tree_bytes old new needed v`: the records of the signatures of the start that `G` does not
 -- accept were put into the buffer; or no follower starts though every signature is good.
 pub data QueriesStart (G : VerifyFn) (info_bytes tree_bytes old new : List ℕ) (needed : ℕ) (v : InputVerdict)
     : Type 0 where
   runs_out : RunsOut v → new ≡ old → needed ≡ 0 → QueriesStart G info_bytes tree_bytes old new needed v
-  refuses : RefusesStart all_good info_bytes tree_bytes v → new ≡ old → needed ≡ 0
+  refuses : RefusesStart Members all_good info_bytes tree_bytes v → new ≡ old → needed ≡ 0
       → QueriesStart G info_bytes tree_bytes old new needed v
   lists : (wanted : List SignatureToVerify) → CanStartFrom info_bytes tree_bytes wanted
       → IsPut (query_records G wanted) old new needed v.number → v ≡ plain_verdict v.number
       → QueriesStart G info_bytes tree_bytes old new needed v
 
--- `Starts G info_bytes tree_bytes held new v`: a follower starts, and takes the place of what the handle held; or none
--- does, and the handle is as it was.
-pub data Starts (G : VerifyFn) (info_bytes tree_bytes : List ℕ) (held new : Option GroupFollower) (v : InputVerdict)
-    : Type 0 where
-  runs_out : RunsOut v → new ≡ held → Starts G info_bytes tree_bytes held new v
-  refuses : RefusesStart G info_bytes tree_bytes v → new ≡ held → Starts G info_bytes tree_bytes held new v
-  starts : (f : GroupFollower) → new ≡ Some f → IsStarted G info_bytes (passed tree_bytes) (state_in f)
-      → meaning_in f ≡ G → v ≡ plain_verdict 0 → Starts G info_bytes tree_bytes held new v
+-- `Starts profile G info_bytes tree_bytes held new v`: a follower with this profile starts, and takes the place of what the
+-- handle held; or none does, and the handle is as it was.
+pub data Starts (profile : Profile) (G : VerifyFn) (info_bytes tree_bytes : List ℕ) (held new : Option GroupFollower)
+    (v : InputVerdict) : Type 0 where
+  runs_out : RunsOut v → new ≡ held → Starts profile G info_bytes tree_bytes held new v
+  refuses : RefusesStart profile G info_bytes tree_bytes v → new ≡ held
+      → Starts profile G info_bytes tree_bytes held new v
+  starts : (f : GroupFollower) → new ≡ Some f → IsStarted profile G info_bytes (passed tree_bytes) (state_in f)
+      → meaning_in f ≡ G → v ≡ plain_verdict 0 → Starts profile G info_bytes tree_bytes held new v
 
--- `Resumes G state held new v`: a follower resumes from the file of a state, and takes the place of what the handle held;
--- or none does, and the handle is as it was.
-pub data Resumes (G : VerifyFn) (state : List ℕ) (held new : Option GroupFollower) (v : InputVerdict) : Type 0 where
-  runs_out : RunsOut v → new ≡ held → Resumes G state held new v
+-- `Resumes profile G state held new v`: a follower resumes from the file of a state of this profile, and takes the place of
+-- what the handle held; or none does, or the state is of another profile, and the handle is as it was.
+pub data Resumes (profile : Profile) (G : VerifyFn) (state : List ℕ) (held new : Option GroupFollower)
+    (v : InputVerdict) : Type 0 where
+  runs_out : RunsOut v → new ≡ held → Resumes profile G state held new v
   refuses : (fault : ResumeFault) → IsResumeFault G state fault → v ≡ resume_verdict fault → new ≡ held
-      → Resumes G state held new v
-  resumes : (f : GroupFollower) → new ≡ Some f → IsResumed G state (state_in f) → meaning_in f ≡ G
-      → v ≡ plain_verdict 0 → Resumes G state held new v
+      → Resumes profile G state held new v
+  differs : (s : State) → IsResumed G state s → s.profile ≢ profile → v ≡ plain_verdict other_profile → new ≡ held
+      → Resumes profile G state held new v
+  resumes : (f : GroupFollower) → new ≡ Some f → IsResumed G state (state_in f) → (state_in f).profile ≡ profile
+      → meaning_in f ≡ G → v ≡ plain_verdict 0 → Resumes profile G state held new v

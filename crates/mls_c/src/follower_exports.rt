@@ -2,6 +2,7 @@
 
 ghost use Rattle.std.specs.Prelude.{◌≡◌, None, IfSome};
 ghost use Rattle.mls_tree.specs.Tree.{member_count};
+ghost use Rattle.mls_report.specs.Replay.{one_if};
 ghost use Rattle.mls_c.specs.Buffers.{IsPut};
 ghost use Rattle.mls_c.specs.Followers.{state_in, meaning_in};
 ghost use Rattle.mls_c.specs.Messages.{Moves, Queries, Learns, Judges, Stores};
@@ -58,6 +59,26 @@ pub extern "C" fn mls_follower_members(
         return NO_FOLLOWER;
     };
     *members = open.follower.tree().member_count();
+    follower.put(open);
+    0
+}
+
+/// Writes 1 if the group is over, as a commit with a ReInit was accepted (RFC 9420, 11.2), else 0.
+#[unsafe(no_mangle)]
+pub extern "C" fn mls_follower_ended(
+    alloc: Global,
+    follower: &mut FollowerHandle,
+    ended: &mut u32,
+) -> u32
+    ensures none { follower.old.value ≡ None → (result ≡ no_follower) × (ended.new ≡ ended.old) }
+    ensures ended { IfSome follower.old.value
+        (λ f. (result ≡ 0) × (ended.new ≡ one_if (state_in f).ended)) }
+    ensures unchanged { follower.new.value ≡ follower.old.value }
+{
+    let Some(open) = follower.take(alloc) else {
+        return NO_FOLLOWER;
+    };
+    *ended = if open.follower.ended() { 1 } else { 0 };
     follower.put(open);
     0
 }

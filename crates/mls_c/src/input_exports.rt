@@ -1,18 +1,20 @@
 //! The calls on a group's inputs, for a caller in another language.
 
-ghost use Rattle.std.specs.Prelude.{◌≡◌, ◌≢◌, ◌⊎◌, Some, OnOk, OnErr};
+ghost use Rattle.std.specs.Prelude.{◌≡◌, ◌↔◌, ◌⊎◌, Some, None, true, OnOk, OnErr};
 ghost use Rattle.mls_check.specs.Receipts.{listed};
 ghost use Rattle.mls_c.specs.Followers.{AreWhole, good_by};
 ghost use Rattle.mls_c.specs.Numbers as numbers;
-ghost use Rattle.mls_c.specs.Numbers.{bad_receipts, unsupported_profile, members_profile};
+ghost use Rattle.mls_c.specs.Numbers.{bad_receipts, unsupported_profile};
+ghost use Rattle.mls_msgs.specs.declared.profile.Profile.{Profile};
+ghost use Rattle.mls_c.specs.StartSteps.{PutsInProfile};
 ghost use Rattle.mls_c.specs.Starts.{RunsOut, PutsFinding, Finds, QueriesStart, Starts, Resumes};
 
 use crate::buffer::put_sized;
 use crate::follower_handle::FollowerHandle;
 use crate::group_follower::GroupFollower;
 use crate::input_verdict::{
-    BAD_RECEIPTS, InputVerdict, OUT_OF_MEMORY, UNSUPPORTED_PROFILE, plain_verdict, resume_verdict,
-    verdict_of,
+    BAD_RECEIPTS, InputVerdict, OTHER_PROFILE, OUT_OF_MEMORY, UNSUPPORTED_PROFILE, plain_verdict,
+    resume_verdict, verdict_of,
 };
 use crate::receipts::{ReceiptBytesFault, receipts_in};
 use crate::start::started;
@@ -20,12 +22,32 @@ use crate::start_query::start_records;
 use crate::tree_finding::tree_finding;
 use mls_check::{OutOfMemory, Receipts, SignatureCheck};
 use mls_follow::Follower;
+use mls_msgs::Profile;
 use mls_report::finding::Finding;
 use mls_report::read_inputs::StartFailure;
 use std::alloc::Global;
 
-/// The profile in which a group is followed by the handshakes of its members.
-const MEMBERS_PROFILE: u32 = 1;
+/// Returns the profile with this number.
+fn profile_of(number: u32) -> Option<Profile>
+    ensures { result ≡ numbers.profile_of number }
+{
+    match number {
+        1 => Some(Profile::Members),
+        2 => Some(Profile::Full),
+        _ => None,
+    }
+}
+
+/// Returns whether the profiles are equal.
+fn are_equal(profile: Profile, other: Profile) -> bool
+    ensures { (result ≡ true) ↔ (profile ≡ other) }
+{
+    match (profile, other) {
+        (Profile::Members, Profile::Members) => true,
+        (Profile::Full, Profile::Full) => true,
+        _ => false,
+    }
+}
 
 /// Returns the verdict of receipts that cannot be read.
 fn receipts_verdict(fault: ReceiptBytesFault) -> InputVerdict
@@ -168,25 +190,27 @@ fn put_verdict(
     }
 }
 
-/// Starts a follower by these receipts, and puts it into a handle.
+/// Starts a follower with this profile by these receipts, and puts it into a handle.
 fn put_started(
     alloc: Global,
+    profile: Profile,
     info: &[u8],
     tree: &[u8],
     receipts: Receipts,
     handle: &mut FollowerHandle,
 ) -> InputVerdict
-    ensures { Starts (listed receipts) info.now tree.now handle.old.value handle.new.value result }
+    ensures { Starts profile (listed receipts) info.now tree.now handle.old.value handle.new.value result }
 {
-    match started(alloc, info, tree, receipts) {
+    match started(alloc, profile, info, tree, receipts) {
         Ok(follower) => put_verdict(alloc, follower, handle),
         Err(StartFailure::Found(finding)) => verdict_of(finding),
         Err(StartFailure::Fault(_)) => plain_verdict(OUT_OF_MEMORY),
     }
 }
 
-/// Starts a follower from a GroupInfo (RFC 9420, 12.4.3) and a tree, by these receipts, and puts it into the handle. If
-/// `tree` is empty, the tree is the one in the GroupInfo. If none starts, the handle is unchanged.
+/// Starts a follower with the profile of this number from a GroupInfo (RFC 9420, 12.4.3) and a tree, by these receipts, and
+/// puts it into the handle. If `tree` is empty, the tree is the one in the GroupInfo. If none starts, the handle is
+/// unchanged.
 #[unsafe(no_mangle)]
 pub extern "C" fn mls_follower_start(
     alloc: Global,
@@ -196,40 +220,58 @@ pub extern "C" fn mls_follower_start(
     profile: u32,
     follower: &mut FollowerHandle,
 ) -> InputVerdict
-    ensures profile { profile ≢ members_profile
+    ensures profile { numbers.profile_of profile ≡ None
         → (result ≡ numbers.plain_verdict unsupported_profile)
         × (follower.new.value ≡ follower.old.value) }
-    ensures not_whole { profile ≡ members_profile → (AreWhole receipts.now → ⊥)
+    ensures not_whole { (p : Profile) → numbers.profile_of profile ≡ Some p → (AreWhole receipts.now → ⊥)
         → (result ≡ numbers.plain_verdict bad_receipts) × (follower.new.value ≡ follower.old.value) }
-    ensures starts { profile ≡ members_profile → AreWhole receipts.now
-        → Starts (good_by receipts.now) info.now tree.now follower.old.value follower.new.value result }
+    ensures starts { (p : Profile) → numbers.profile_of profile ≡ Some p → AreWhole receipts.now
+        → Starts p (good_by receipts.now) info.now tree.now follower.old.value follower.new.value result }
 {
-    if profile != MEMBERS_PROFILE {
+    let Some(named) = profile_of(profile) else {
         return plain_verdict(UNSUPPORTED_PROFILE);
-    }
+    };
     match receipts_in(alloc, receipts) {
-        Ok(receipts) => put_started(alloc, info, tree, receipts, follower),
+        Ok(receipts) => put_started(alloc, named, info, tree, receipts, follower),
         Err(fault) => receipts_verdict(fault),
     }
 }
 
-/// Resumes a follower by these receipts, and puts it into a handle.
+/// Puts a follower that has resumed into a handle, if it has this profile.
+fn put_in_profile(
+    alloc: Global,
+    profile: Profile,
+    follower: Follower<Receipts>,
+    handle: &mut FollowerHandle,
+) -> InputVerdict
+    ensures { PutsInProfile profile (record { follower = follower }) handle.old.value handle.new.value result }
+{
+    if are_equal(follower.profile(), profile) {
+        put_verdict(alloc, follower, handle)
+    } else {
+        drop(follower);
+        plain_verdict(OTHER_PROFILE)
+    }
+}
+
+/// Resumes a follower with this profile by these receipts, and puts it into a handle.
 fn put_resumed(
     alloc: Global,
+    profile: Profile,
     state: &[u8],
     receipts: Receipts,
     handle: &mut FollowerHandle,
 ) -> InputVerdict
-    ensures { Resumes (listed receipts) state.now handle.old.value handle.new.value result }
+    ensures { Resumes profile (listed receipts) state.now handle.old.value handle.new.value result }
 {
     match Follower::resume(alloc, state, receipts) {
-        Ok(follower) => put_verdict(alloc, follower, handle),
+        Ok(follower) => put_in_profile(alloc, profile, follower, handle),
         Err(refused) => resume_verdict(refused.fault),
     }
 }
 
-/// Resumes a follower from the file of a state, by these receipts, and puts it into the handle. If none resumes, the handle
-/// is unchanged.
+/// Resumes a follower from the file of a state of the profile with this number, by these receipts, and puts it into the
+/// handle. If none resumes, or the state is of another profile, the handle is unchanged.
 #[unsafe(no_mangle)]
 pub extern "C" fn mls_follower_resume(
     alloc: Global,
@@ -238,19 +280,19 @@ pub extern "C" fn mls_follower_resume(
     profile: u32,
     follower: &mut FollowerHandle,
 ) -> InputVerdict
-    ensures profile { profile ≢ members_profile
+    ensures profile { numbers.profile_of profile ≡ None
         → (result ≡ numbers.plain_verdict unsupported_profile)
         × (follower.new.value ≡ follower.old.value) }
-    ensures not_whole { profile ≡ members_profile → (AreWhole receipts.now → ⊥)
+    ensures not_whole { (p : Profile) → numbers.profile_of profile ≡ Some p → (AreWhole receipts.now → ⊥)
         → (result ≡ numbers.plain_verdict bad_receipts) × (follower.new.value ≡ follower.old.value) }
-    ensures resumes { profile ≡ members_profile → AreWhole receipts.now
-        → Resumes (good_by receipts.now) state.now follower.old.value follower.new.value result }
+    ensures resumes { (p : Profile) → numbers.profile_of profile ≡ Some p → AreWhole receipts.now
+        → Resumes p (good_by receipts.now) state.now follower.old.value follower.new.value result }
 {
-    if profile != MEMBERS_PROFILE {
+    let Some(named) = profile_of(profile) else {
         return plain_verdict(UNSUPPORTED_PROFILE);
-    }
+    };
     match receipts_in(alloc, receipts) {
-        Ok(receipts) => put_resumed(alloc, state, receipts, follower),
+        Ok(receipts) => put_resumed(alloc, named, state, receipts, follower),
         Err(fault) => receipts_verdict(fault),
     }
 }

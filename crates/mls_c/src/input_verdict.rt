@@ -31,7 +31,7 @@ pub(crate) const BUFFER_TOO_SMALL: u32 = 101;
 /// The handle has no follower.
 pub(crate) const NO_FOLLOWER: u32 = 102;
 
-/// The profile is not supported.
+/// No profile has this number.
 pub(crate) const UNSUPPORTED_PROFILE: u32 = 103;
 
 /// The receipts are not of 32 bytes each.
@@ -51,6 +51,9 @@ const TREE_UNREADABLE: u32 = 108;
 
 /// The bytes of the context are no GroupContext.
 const CONTEXT_UNREADABLE: u32 = 109;
+
+/// The state is of another profile.
+pub(crate) const OTHER_PROFILE: u32 = 110;
 
 /// Returns a verdict with a number and no more.
 pub(crate) fn plain_verdict(number: u32) -> InputVerdict

@@ -12,7 +12,7 @@ ghost use Rattle.mls_c.specs.StartSteps.{FailsStart, Declines};
 
 use mls_check::SignatureCheck;
 use mls_follow::{Follower, StartFault};
-use mls_msgs::{GroupInfo, Message, decode_message};
+use mls_msgs::{GroupInfo, Message, Profile, decode_message_in};
 use mls_nodes::NodeFault;
 use mls_report::RunFault;
 use mls_report::finding::Finding;
@@ -21,12 +21,12 @@ use mls_tree::PublicTree;
 use mls_wire::CodecFault;
 use std::alloc::Global;
 
-/// Decodes a GroupInfo.
-fn read_info(alloc: Global, bytes: &[u8]) -> Result<GroupInfo, StartFailure>
-    ensures info { IfOk result (IsInfo bytes.now) }
-    ensures unread { (tree : List ℕ) → IfErr result (Says (IsUnread bytes.now (passed tree))) }
+/// Decodes a GroupInfo in `profile`.
+fn read_info(alloc: Global, profile: Profile, bytes: &[u8]) -> Result<GroupInfo, StartFailure>
+    ensures info { IfOk result (IsInfo profile bytes.now) }
+    ensures unread { (tree : List ℕ) → IfErr result (Says (IsUnread profile bytes.now (passed tree))) }
 {
-    match decode_message(alloc, bytes) {
+    match decode_message_in(alloc, profile, bytes) {
         Ok(Message::GroupInfo(info)) => Ok(info),
         Ok(other) => {
             drop(other);
@@ -49,13 +49,18 @@ fn read_tree(alloc: Global, bytes: &[u8]) -> Result<Option<PublicTree>, NodeFaul
     Ok(Some(PublicTree::decode(alloc, bytes)?))
 }
 
-/// Decodes a GroupInfo, and a tree if there is one.
-pub(crate) fn read_inputs(alloc: Global, info: &[u8], tree: &[u8]) -> Result<Inputs, StartFailure>
-    ensures read { IfOk result (λ inputs. IsReadAs info.now (passed tree.now)
+/// Decodes a GroupInfo in `profile`, and a tree if there is one.
+pub(crate) fn read_inputs(
+    alloc: Global,
+    profile: Profile,
+    info: &[u8],
+    tree: &[u8],
+) -> Result<Inputs, StartFailure>
+    ensures read { IfOk result (λ inputs. IsReadAs profile info.now (passed tree.now)
         inputs.info (option_map plain inputs.tree)) }
-    ensures unread { IfErr result (Says (IsUnread info.now (passed tree.now))) }
+    ensures unread { IfErr result (Says (IsUnread profile info.now (passed tree.now))) }
 {
-    let info = read_info(alloc, info)?;
+    let info = read_info(alloc, profile, info)?;
     match read_tree(alloc, tree) {
         Ok(tree) => Ok(Inputs { info, tree }),
         Err(fault) => {
@@ -68,19 +73,20 @@ pub(crate) fn read_inputs(alloc: Global, info: &[u8], tree: &[u8]) -> Result<Inp
     }
 }
 
-/// Starts a follower from decoded inputs.
+/// Starts a follower with this profile from decoded inputs.
 pub(crate) fn start_from<C: SignatureCheck>(
     alloc: Global,
+    profile: Profile,
     inputs: Inputs,
     checker: C,
 ) -> Result<Follower<C>, StartFailure>
-    ensures started { IfOk result (λ f. IsStart (C.meaning checker) inputs.info
+    ensures started { IfOk result (λ f. IsStart profile (C.meaning checker) inputs.info
         (option_map plain inputs.tree) (state_of f)) }
     ensures checker { IfOk result (λ f. C.meaning (checker_of f) ≡ C.meaning checker) }
     ensures refused { IfErr result
         (Says (FailsStart (C.meaning checker) inputs.info (option_map plain inputs.tree))) }
 {
-    match Follower::start(alloc, inputs.info, inputs.tree, checker) {
+    match Follower::start_in(alloc, profile, inputs.info, inputs.tree, checker) {
         Ok(follower) => Ok(follower),
         Err(refused) => {
             let fault = refused.fault;
@@ -93,20 +99,21 @@ pub(crate) fn start_from<C: SignatureCheck>(
     }
 }
 
-/// Starts a follower from these bytes.
+/// Starts a follower with this profile from these bytes.
 pub(crate) fn started<C: SignatureCheck>(
     alloc: Global,
+    profile: Profile,
     info: &[u8],
     tree: &[u8],
     checker: C,
 ) -> Result<Follower<C>, StartFailure>
     ensures started { IfOk result
-        (λ f. IsStarted (C.meaning checker) info.now (passed tree.now) (state_of f)) }
+        (λ f. IsStarted profile (C.meaning checker) info.now (passed tree.now) (state_of f)) }
     ensures checker { IfOk result (λ f. C.meaning (checker_of f) ≡ C.meaning checker) }
-    ensures refused { IfErr result (Says (Declines (C.meaning checker) info.now tree.now)) }
+    ensures refused { IfErr result (Says (Declines profile (C.meaning checker) info.now tree.now)) }
 {
-    match read_inputs(alloc, info, tree) {
-        Ok(inputs) => start_from(alloc, inputs, checker),
+    match read_inputs(alloc, profile, info, tree) {
+        Ok(inputs) => start_from(alloc, profile, inputs, checker),
         Err(failure) => Err(failure),
     }
 }

@@ -1,8 +1,9 @@
-//! Which signatures a start has that are not known to be good (RFC 9420, 12.4.3.1).
+//! Which signatures a start has that are not known to be good (RFC 9420, 12.4.3.1). They are those of both profiles.
 
 ghost use Rattle.std.specs.Prelude.{◌≡◌, List, ℕ, None, IfOk, IfErr, OnOk, option_map};
 ghost use Rattle.mls_tree.specs.PublicTreeModel.{plain};
 ghost use Rattle.mls_check.specs.Signatures.{VerifyFn};
+ghost use Rattle.mls_msgs.specs.declared.profile.Profile.TheVariants.{Members};
 ghost use Rattle.mls_signatures.specs.SignaturesToVerify as wanted;
 ghost use Rattle.mls_follow.specs.CoveredLogs.{all_good};
 ghost use Rattle.mls_report.specs.StartSteps.{Says};
@@ -14,7 +15,7 @@ use crate::query::query_records;
 use crate::start::{read_inputs, start_from};
 use mls_check::{SignatureCheck, Trusting};
 use mls_follow::{StartFault, tree_in};
-use mls_msgs::GroupInfo;
+use mls_msgs::{GroupInfo, Profile};
 use mls_report::RunFault;
 use mls_report::read_inputs::{Inputs, StartFailure};
 use mls_signatures::start_signatures;
@@ -88,7 +89,7 @@ fn records_if_started(
     ensures refused { IfErr result
         (Says (FailsStart all_good inputs.info (option_map plain inputs.tree))) }
 {
-    match start_from(alloc, inputs, Trusting) {
+    match start_from(alloc, Profile::Members, inputs, Trusting) {
         Ok(follower) => {
             drop(follower);
             Ok(records)
@@ -130,9 +131,9 @@ pub(crate) fn start_records<C: SignatureCheck>(
 ) -> Result<Vec<u8>, StartFailure>
     ensures records { IfOk result
         (λ v. ListsFrom (C.meaning checker.now) info.now tree.now v.items) }
-    ensures refused { IfErr result (Says (Declines all_good info.now tree.now)) }
+    ensures refused { IfErr result (Says (Declines Members all_good info.now tree.now)) }
 {
-    match read_inputs(alloc, info, tree) {
+    match read_inputs(alloc, Profile::Members, info, tree) {
         Ok(inputs) => records_from(alloc, inputs, checker),
         Err(failure) => Err(failure),
     }

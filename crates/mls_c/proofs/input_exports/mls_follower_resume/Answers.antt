@@ -1,9 +1,16 @@
-use Rattle.std.proofs.Common.{subst}
+use Rattle.std.proofs.Common.{◌≡◌, ◌∙◌, sym, subst}
+use Rattle.std.specs.Prelude.{Some}
+use Rattle.std.proofs.lemmas.Option.{same_Some}
 use Rattle.mls_check.specs.Signatures.{VerifyFn}
+use Rattle.mls_msgs.specs.declared.profile.Profile.{Profile}
+use Rattle.mls_c.specs.Followers.{good_by}
 use Rattle.mls_c.specs.Starts.{Resumes}
 use Rattle.mls_c.proofs.input_exports.mls_follower_resume.Goals as goal
 
 pub returns-in-Ok-clause-resumes : goal.returns-in-Ok-clause-resumes
 returns-in-Ok-clause-resumes c =
-    λ _ _. subst (λ (G : VerifyFn). Resumes G c.args.state.now c.args.follower.now.value c.put_resumed.new.handle.value c.put_resumed.result)
-    c.in-Ok.ensures.receipts c.put_resumed.ensures
+    λ p is _.
+    let same : c.in-Some.named ≡ p = same_Some c.in-Some.named p (sym c.in-Some.is ∙ c.profile_of.ensures ∙ is) in
+    subst (λ (q : Profile). Resumes q (good_by c.args.receipts.now) c.args.state.now c.args.follower.now.value c.put_resumed.new.handle.value c.put_resumed.result) same
+    (subst (λ (G : VerifyFn). Resumes c.in-Some.named G c.args.state.now c.args.follower.now.value c.put_resumed.new.handle.value c.put_resumed.result)
+    c.in-Ok.ensures.receipts c.put_resumed.ensures)

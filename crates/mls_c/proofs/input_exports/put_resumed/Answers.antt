@@ -5,7 +5,7 @@ use Rattle.mls_c.proofs.input_exports.put_resumed.Goals as goal
 
 pub returns-in-Ok : goal.returns-in-Ok
 returns-in-Ok c =
-    resumes-put _ _ _ _ (record { follower = c.in-Ok.follower }) c.in-Ok.ensures.checker c.put_verdict.ensures c.args.state.now c.in-Ok.ensures.resumed
+    resumes-put _ _ _ _ _ (record { follower = c.in-Ok.follower }) c.in-Ok.ensures.checker c.args.state.now c.put_in_profile.ensures c.in-Ok.ensures.resumed
 
 pub returns-in-Err : goal.returns-in-Err
 returns-in-Err c = Resumes.refuses c.in-Err.refused.fault c.in-Err.ensures.refused c.resume_verdict.ensures refl

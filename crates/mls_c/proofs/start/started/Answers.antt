@@ -8,7 +8,7 @@ returns-in-Ok-clause-started g c =
 
 pub returns-in-Ok-clause-refused : goal.returns-in-Ok-clause-refused
 returns-in-Ok-clause-refused g c =
-    IfErr-weaker c.start_from.result _ _ (λ failure f. says-declines _ _ _ _ c.in-Ok.ensures.read _ failure f) c.start_from.ensures.refused
+    IfErr-weaker c.start_from.result _ _ (λ failure f. says-declines _ _ _ _ _ c.in-Ok.ensures.read _ failure f) c.start_from.ensures.refused
 
 pub returns-in-Err-clause-refused : goal.returns-in-Err-clause-refused
-returns-in-Err-clause-refused g c = says-unread _ _ _ c.in-Err.failure c.in-Err.ensures.unread
+returns-in-Err-clause-refused g c = says-unread _ _ _ _ c.in-Err.failure c.in-Err.ensures.unread

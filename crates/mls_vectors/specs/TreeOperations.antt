@@ -4,6 +4,8 @@ use Rattle.std.specs.Prelude.{ℕ, ◌<◌, List, [], ◌∷◌, codes, Some, Is
 use Rattle.serde_json.specs.Data.{Data}
 use Rattle.mls_nodes.specs.RatchetTreeEncoding.{ratchet_tree, trimmed}
 use Rattle.mls_msgs.specs.Profile.{proposal_in}
+use Rattle.mls_msgs.specs.declared.framed_content.Sender.{Sender}
+use Rattle.mls_msgs.specs.declared.framed_content.Sender.TheVariants.{Member}
 use Rattle.mls_msgs.specs.declared.profile.Profile.TheVariants.{Members}
 use Rattle.mls_msgs.specs.declared.proposal.Proposal.{Proposal}
 use Rattle.mls_tree.specs.RatchetTree.{RatchetTree}
@@ -22,10 +24,12 @@ pub record HasProposal (d : Data) (p : Proposal) : Type 0 where
   pub found : bytes_under (codes "proposal") d ≡ Some bytes
   pub is_proposal : proposal_in Members p ≡ Some bytes
 
--- `HasSender d sender`: the vector has this leaf index of the proposal's sender.
-pub record HasSender (d : Data) (sender : ℕ) : Type 0 where
-  pub number : whole_under (codes "proposal_sender") d ≡ Some sender
-  pub fits : sender < 4294967296
+-- `HasSender d sender`: the vector has this leaf index of the proposal's sender, who is a member.
+pub record HasSender (d : Data) (sender : Sender) : Type 0 where
+  pub index : ℕ
+  pub member : sender ≡ Member index
+  pub number : whole_under (codes "proposal_sender") d ≡ Some index
+  pub fits : index < 4294967296
 
 -- `HasTreeHash H name t d`: the vector has the tree hash of the tree under a name (RFC 9420, 7.8).
 pub record HasTreeHash (H : List ℕ → List ℕ) (name : List ℕ) (t : Tree) (d : Data) : Type 0 where
@@ -46,7 +50,7 @@ operand_checks d =
     check (codes "cipher_suite") ((suite : ℕ) × HasSuite d suite)
     ∷ check (codes "tree_before") ((t : RatchetTree) × HasTreeUnder (codes "tree_before") d t)
     ∷ check (codes "proposal") ((p : Proposal) × HasProposal d p)
-    ∷ check (codes "proposal_sender") ((sender : ℕ) × HasSender d sender)
+    ∷ check (codes "proposal_sender") ((sender : Sender) × HasSender d sender)
     ∷ []
 
 -- `Operands d`: what the vector has.

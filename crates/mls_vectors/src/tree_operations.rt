@@ -2,6 +2,7 @@
 
 ghost use Rattle.std.specs.Prelude.{◌≡◌, ◌↔◌, ℕ, IsTrue, IfOk, IfSome, IfNone, codes, option_map};
 ghost use Rattle.serde_json.specs.View.{view};
+ghost use Rattle.mls_msgs.specs.declared.framed_content.Sender.{Sender};
 ghost use Rattle.mls_tree.specs.PublicTreeModel.{plain};
 ghost use Rattle.mls_nodes.specs.RatchetTreeEncoding.{ratchet_tree, trimmed};
 ghost use Rattle.mls_tree.specs.Tree.{listing};
@@ -17,7 +18,7 @@ use crate::vector_result::Outcome;
 use crate::vector_trees::{tree_under, whole_hash};
 use mls_apply::{Applied, ApplyFault, ListItem, apply_list};
 use mls_hash::Suite;
-use mls_msgs::{Proposal, decode_proposal};
+use mls_msgs::{Proposal, Sender, decode_proposal};
 use mls_nodes::{NodeFault, encode_ratchet_tree};
 use mls_tree::PublicTree;
 use mls_wire::CodecFault;
@@ -46,16 +47,16 @@ fn proposal_in(alloc: Global, vector: &Value) -> Result<Option<Proposal>, AllocE
     }
 }
 
-/// Returns the leaf of the proposal's sender. `None` if there is no such number.
-fn sender_in(vector: &Value) -> Option<u32>
-    ensures some { IfSome result (λ n. HasSender (view vector.now) n) }
-    ensures none { IfNone result ((n : ℕ) → ¬ HasSender (view vector.now) n) }
+/// Returns the proposal's sender, who is a member. `None` if there is no such leaf index.
+fn sender_in(vector: &Value) -> Option<Sender>
+    ensures some { IfSome result (λ sender. HasSender (view vector.now) sender) }
+    ensures none { IfNone result ((sender : Sender) → ¬ HasSender (view vector.now) sender) }
 {
     let sender = whole_under(vector, "proposal_sender")?;
     if sender > u64::from(u32::MAX) {
         return None;
     }
-    Some(sender as u32)
+    Some(Sender::Member(sender as u32))
 }
 
 /// Returns whether the tree hash of a tree is there under this name.

@@ -7,7 +7,7 @@ use crate::support::{
 };
 use mls_apply::{ListItem, apply_list_in_place};
 use mls_hash::fill_hashes;
-use mls_msgs::{Proposal, decode_proposal};
+use mls_msgs::{Proposal, Sender, decode_proposal};
 use mls_tree::{Journal, PublicTree};
 use std::alloc::Global;
 use std::test::Fail;
@@ -200,7 +200,7 @@ fn items_of(alloc: Global, proposals: &[(u32, Proposal)]) -> Result<Vec<ListItem
     let mut items = Vec::new(alloc);
     for (sender, proposal) in proposals {
         items.push(ListItem {
-            sender: *sender,
+            sender: Sender::Member(*sender),
             proposal,
         })?;
     }

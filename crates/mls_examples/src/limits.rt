@@ -5,7 +5,7 @@ use mls_apply::{Applied, Leaves, PendingProposals, apply_list, resolve_list};
 use mls_check::Trusting;
 use mls_follow::{Follower, Refusal};
 use mls_hash::tree_hash;
-use mls_msgs::{Commit, GroupInfo, Message, decode_message};
+use mls_msgs::{Commit, GroupInfo, Message, Sender, decode_message};
 use mls_nodes::decode_leaf;
 use mls_tree::PublicTree;
 use mls_wire::read_all_of;
@@ -67,7 +67,7 @@ fn applied_text(alloc: Global, applied: &Applied) -> Result<String, Fail> {
 fn outcome_of(alloc: Global, tree: &PublicTree, list: &str) -> Result<String, Fail> {
     let commit = commit_with(alloc, list)?;
     let known = PendingProposals::new(alloc);
-    let items = resolve_list(alloc, &commit, 0, &known)?;
+    let items = resolve_list(alloc, &commit, Sender::Member(0), &known)?;
     let outcome = apply_list(alloc, tree, items.as_slice());
     drop(items);
     drop(known);

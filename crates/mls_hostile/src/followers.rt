@@ -7,7 +7,7 @@ use mls_apply::KnownProposal;
 use mls_check::Trusting;
 use mls_follow::{Follower, Refusal, SignatureListFault, StartFault, StartRefused, Taken};
 use mls_hash::{Suite, tree_hash};
-use mls_msgs::encode_proposal;
+use mls_msgs::{Sender, encode_proposal};
 use mls_nodes::{GroupContext, encode_context, encode_ratchet_tree};
 use mls_tree::PublicTree;
 use mls_wire::bytes_of;
@@ -35,11 +35,23 @@ fn add_hashes(
     Ok(())
 }
 
+/// Appends the sender of a pending proposal to a state.
+fn add_sender(sender: Sender, state: &mut Vec<u8>) -> Result<(), Stop> {
+    let (kind, index) = match sender {
+        Sender::Member(index) => (1, index),
+        Sender::External(index) => (2, index),
+        Sender::NewMemberProposal => (3, 0),
+        Sender::NewMemberCommit => (4, 0),
+    };
+    have(state.push(kind))?;
+    have(state.extend_from_slice(&index.to_be_bytes()))
+}
+
 /// Appends the pending proposals to a state.
 fn add_known(alloc: Global, known: &[KnownProposal], state: &mut Vec<u8>) -> Result<(), Stop> {
     for proposal in known {
         have(state.extend_from_slice(proposal.reference.as_slice()))?;
-        have(state.extend_from_slice(&proposal.sender.to_be_bytes()))?;
+        add_sender(proposal.sender, state)?;
         let bytes = have(encode_proposal(alloc, &proposal.proposal))?;
         have(state.extend_from_slice(bytes.as_slice()))?;
     }

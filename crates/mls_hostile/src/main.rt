@@ -124,6 +124,11 @@ const CALLS: &[(&str, Call, &str)] = &[
         Call::Report(Report::Signatures),
         "no, 1821 bytes",
     ),
+    (
+        "run_signatures_state",
+        Call::Report(Report::SignaturesState),
+        "no, 1134 bytes",
+    ),
     ("run_gate", Call::Report(Report::Gate), "no, 2555 bytes"),
     (
         "run_gate_state",

@@ -2,16 +2,16 @@
 
 use crate::group::{
     CHECKED, COMMIT, GATE_RECORDS, GATED, GROUP_INFO, LOG, NEXT_STATE, REPLAYED, RESUMED,
-    SIGNATURES, STATE, STATE_GATED, STATE_RECORDS, STATE_VALIDATED, TREE, TREE_CONTEXT, VALIDATED,
-    VALIDATED_TREE, VECTORS,
+    SIGNATURES, STATE, STATE_GATED, STATE_RECORDS, STATE_SIGNATURES, STATE_VALIDATED, TREE,
+    TREE_CONTEXT, VALIDATED, VALIDATED_TREE, VECTORS,
 };
 use crate::told::{Stop, Told, have};
 use mls_check::{Receipts, Trusting};
 use mls_follow::Follower;
 use mls_gate::{run_gate, run_gate_state};
 use mls_report::{
-    RunFault, Verdict, replay_state, run_replay, run_signatures, run_validate, run_validate_state,
-    run_validate_tree,
+    RunFault, Verdict, replay_state, run_replay, run_signatures, run_signatures_state,
+    run_validate, run_validate_state, run_validate_tree,
 };
 use mls_vectors::{CheckKind, run_check};
 use mls_wire::{CodecFault, MemorySink, MemorySource};
@@ -30,6 +30,8 @@ pub(crate) enum Report {
     ValidateTree,
     /// `signatures` of the group of member 0 alone and of the log, with no receipts.
     Signatures,
+    /// `signatures` of a state with a pending proposal, and of a log, with no receipts.
+    SignaturesState,
     /// `gate` of the group of member 0 alone and of records, with no receipts at first.
     Gate,
     /// `gate` of a state with a pending proposal and of records, with no receipts at first.
@@ -107,6 +109,33 @@ fn signatures_ended(alloc: Global) -> Result<Ended, Stop> {
     Ok((outcome, out))
 }
 
+/// Returns the log of the commit and an empty record.
+fn commit_log(alloc: Global) -> Result<Vec<u8>, Stop> {
+    let mut log = Vec::new(alloc);
+    let commit = have(hex::decode(alloc, COMMIT))?;
+    let Ok(length) = u8::try_from(commit.len()) else {
+        return Err(Stop::NotRead);
+    };
+    have(log.push(length))?;
+    have(log.extend_from_slice(commit.as_slice()))?;
+    have(log.push(0))?;
+    Ok(log)
+}
+
+/// Returns how `signatures` from a state ends.
+fn signatures_state_ended(alloc: Global) -> Result<Ended, Stop> {
+    let Ok(mut out) = MemorySink::new(alloc, 2000, 40, None) else {
+        return Err(Stop::Memory);
+    };
+    let receipts = Receipts::new(alloc);
+    let state = have(hex::decode(alloc, STATE))?;
+    let log = commit_log(alloc)?;
+    let mut state = MemorySource::new(state.as_slice(), 40, None);
+    let mut log = Some(MemorySource::new(log.as_slice(), 40, None));
+    let outcome = run_signatures_state(alloc, &mut state, &mut log, &receipts, &mut out);
+    Ok((outcome, out))
+}
+
 /// Returns how `gate` ends.
 fn gate_ended(alloc: Global) -> Result<Ended, Stop> {
     let Ok(mut out) = MemorySink::new(alloc, 3000, 40, None) else {
@@ -163,19 +192,6 @@ fn stored_ended(
     }
 }
 
-/// Returns the log of the commit and an empty record.
-fn commit_log(alloc: Global) -> Result<Vec<u8>, Stop> {
-    let mut log = Vec::new(alloc);
-    let commit = have(hex::decode(alloc, COMMIT))?;
-    let Ok(length) = u8::try_from(commit.len()) else {
-        return Err(Stop::NotRead);
-    };
-    have(log.push(length))?;
-    have(log.extend_from_slice(commit.as_slice()))?;
-    have(log.push(0))?;
-    Ok(log)
-}
-
 /// Returns how `replay` from a state ends, once the state after it is stored.
 fn replay_state_ended(alloc: Global) -> Result<Ended, Stop> {
     let Ok(mut out) = MemorySink::new(alloc, 1000, 40, None) else {
@@ -201,6 +217,7 @@ fn ended(alloc: Global, report: Report) -> Result<Ended, Stop> {
         Report::Validate => validate_ended(alloc),
         Report::ValidateTree => validate_tree_ended(alloc),
         Report::Signatures => signatures_ended(alloc),
+        Report::SignaturesState => signatures_state_ended(alloc),
         Report::Gate => gate_ended(alloc),
         Report::GateState => gate_state_ended(alloc),
         Report::ValidateState => validate_state_ended(alloc),
@@ -216,6 +233,7 @@ fn usual(report: Report) -> (&'static str, &'static str) {
         Report::Validate => ("yes", VALIDATED),
         Report::ValidateTree => ("yes", VALIDATED_TREE),
         Report::Signatures => ("no", SIGNATURES),
+        Report::SignaturesState => ("no", STATE_SIGNATURES),
         Report::Gate => ("no", GATED),
         Report::GateState => ("yes", STATE_GATED),
         Report::ValidateState => ("yes", STATE_VALIDATED),
@@ -234,6 +252,7 @@ pub(crate) fn tell_report(alloc: Global, report: Report) -> Result<Told, Stop> {
             Report::Replay
             | Report::ReplayState
             | Report::Signatures
+            | Report::SignaturesState
             | Report::Gate
             | Report::GateState => usual_text.as_bytes(),
             Report::Check | Report::Validate | Report::ValidateState | Report::ValidateTree => b"",

@@ -95,6 +95,7 @@ fn list_call(row: &Row) -> Result<CallResult, RowFault> {
 fn story_call(row: &Row) -> Result<CallResult, RowFault> {
     match row.word(0) {
         "story" | "story_state" | "story_tree" => stories::story(row),
+        "full_story" | "full_story_state" | "full_story_tree" => stories::story(row),
         "start" => stories::start(row),
         "cut" => hostile_calls::cut(row),
         "cut_message" => hostile_calls::cut_message(row),

@@ -9,7 +9,7 @@ use mls_apply::{
     Applied, ApplyFault, Leaves, ListItem, apply_list, check_list, expected_parent_hashes,
     merge_path, new_extensions,
 };
-use mls_msgs::{Proposal, UpdatePath};
+use mls_msgs::{Proposal, Sender, UpdatePath};
 use mls_nodes::{GroupContext, write_extensions};
 use mls_tree::PublicTree;
 use mls_wire::{CodecFault, Opaque, Reader, Writer, read_value};
@@ -44,7 +44,7 @@ fn items_of(alloc: Global, proposals: &[(u32, Proposal)]) -> Result<Vec<ListItem
     let mut items = Vec::new(alloc);
     for (sender, proposal) in proposals {
         items.push(ListItem {
-            sender: *sender,
+            sender: Sender::Member(*sender),
             proposal,
         })?;
     }
@@ -62,7 +62,12 @@ pub(crate) fn checked(row: &Row) -> Result<CallResult, RowFault> {
     };
     let proposals = proposals_at(row, 3)?;
     let list = items_of(row.alloc, proposals.as_slice())?;
-    let found = check_list(row.alloc, committer, list.as_slice(), has_path);
+    let found = check_list(
+        row.alloc,
+        Sender::Member(committer),
+        list.as_slice(),
+        has_path,
+    );
     drop(list);
     drop(proposals);
     match found {

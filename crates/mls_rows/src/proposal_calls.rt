@@ -3,12 +3,13 @@
 use crate::call_result::CallResult;
 use crate::fault::RowFault;
 use crate::row::Row;
+use crate::state::sender_text;
 use mls_apply::{
     ApplyFault, EpochState, KnownProposal, ListItem, PendingProposals, check_proposal, resolve_list,
 };
 use mls_check::{SignatureCheck, Trusting};
 use mls_hash::Suite;
-use mls_msgs::{Commit, Proposal, encode_proposal};
+use mls_msgs::{Commit, Proposal, Sender, encode_proposal};
 use mls_nodes::GroupContext;
 use mls_tree::{HashValue, PublicTree};
 use mls_wire::{CodecFault, Reader, WireFault, read_value};
@@ -34,7 +35,7 @@ fn checked<C: SignatureCheck>(
     match Suite::from_u16(context.cipher_suite) {
         Ok(suite) if suite.number() == context.cipher_suite => {
             let epoch = EpochState { context, tree };
-            Ok(check_proposal(alloc, &epoch, sender, proposal, checker).err())
+            Ok(check_proposal(alloc, &epoch, Sender::Member(sender), proposal, checker).err())
         }
         _ => Err(RowFault::Field(1, "a context of a suite that is followed")),
     }
@@ -83,7 +84,7 @@ fn read_known(alloc: Global, reader: &mut Reader<'_>) -> Result<KnownProposal, C
     match HashValue::new(reference) {
         Some(reference) => Ok(KnownProposal {
             reference,
-            sender,
+            sender: Sender::Member(sender),
             proposal,
         }),
         None => Err(CodecFault::OutOfMemory),
@@ -118,7 +119,7 @@ fn items_text(alloc: Global, items: &[ListItem<'_>]) -> Result<String, RowFault>
             return Err(RowFault::OutOfMemory);
         };
         let proposal = hex::encode(alloc, proposal.as_slice())?;
-        let sender = item.sender;
+        let sender = sender_text(alloc, item.sender)?;
         write!(text, "{sender} {proposal}")?;
     }
     Ok(text)
@@ -131,7 +132,7 @@ fn resolved_text(
     committer: u32,
     known: &PendingProposals,
 ) -> Result<CallResult, RowFault> {
-    match resolve_list(alloc, commit, committer, known) {
+    match resolve_list(alloc, commit, Sender::Member(committer), known) {
         Ok(items) => {
             let text = items_text(alloc, items.as_slice());
             drop(items);
@@ -167,7 +168,7 @@ pub(crate) fn find(row: &Row) -> Result<CallResult, RowFault> {
     let sender = known.find(reference.as_slice()).map(|found| found.sender);
     drop(known);
     match sender {
-        Some(sender) => Ok(CallResult::text(format!(in row.alloc; "{sender}")?)),
+        Some(sender) => Ok(CallResult::text(sender_text(row.alloc, sender)?)),
         None => CallResult::word(row.alloc, "none"),
     }
 }

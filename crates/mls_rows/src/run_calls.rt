@@ -247,9 +247,16 @@ fn file_name(file: &Option<FileName>) -> &str {
 /// What a group is followed from, in words.
 fn group_text(alloc: Global, group: &GroupFiles) -> Result<String, RowFault> {
     match group {
-        GroupFiles::Info { info, tree } => {
+        GroupFiles::Info {
+            profile,
+            info,
+            tree,
+        } => {
             let (info, tree) = (info.as_str(), file_name(tree));
-            Ok(format!(in alloc; "{info} {tree}")?)
+            match profile {
+                Profile::Members => Ok(format!(in alloc; "{info} {tree}")?),
+                Profile::Full => Ok(format!(in alloc; "in full {info} {tree}")?),
+            }
         }
         GroupFiles::State(state) => {
             let state = state.as_str();
@@ -274,9 +281,10 @@ fn report_text(alloc: Global, report: &CheckedReport, receipts: &str) -> Result<
             let (log, save) = (files.log.as_str(), file_name(&files.save));
             Ok(format!(in alloc; "replay {group} {log} {save} {receipts}")?)
         }
-        CheckedReport::Signatures { info, tree, log } => {
-            let (info, tree, log) = (info.as_str(), file_name(tree), file_name(log));
-            Ok(format!(in alloc; "signatures {info} {tree} {log} {receipts}")?)
+        CheckedReport::Signatures { group, log } => {
+            let group = group_text(alloc, group)?;
+            let log = file_name(log);
+            Ok(format!(in alloc; "signatures {group} {log} {receipts}")?)
         }
         CheckedReport::Gate(group) => {
             let group = group_text(alloc, group)?;

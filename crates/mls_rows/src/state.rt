@@ -7,7 +7,7 @@ use mls_apply::KnownProposal;
 use mls_check::SignatureCheck;
 use mls_follow::Follower;
 use mls_hash::{Suite, tree_hash};
-use mls_msgs::encode_proposal;
+use mls_msgs::{Sender, encode_proposal};
 use mls_nodes::{Node, encode_context, encode_ratchet_tree};
 use mls_tree::PublicTree;
 use std::alloc::Global;
@@ -29,11 +29,24 @@ fn add_hashes(
     Ok(())
 }
 
+/// Adds a sender.
+fn add_sender(state: &mut Vec<u8>, sender: Sender) -> Result<(), RowFault> {
+    let (kind, index) = match sender {
+        Sender::Member(index) => (1, index),
+        Sender::External(index) => (2, index),
+        Sender::NewMemberProposal => (3, 0),
+        Sender::NewMemberCommit => (4, 0),
+    };
+    state.push(kind)?;
+    state.extend_from_slice(&index.to_be_bytes())?;
+    Ok(())
+}
+
 /// Adds the pending proposals.
 fn add_known(alloc: Global, known: &[KnownProposal], state: &mut Vec<u8>) -> Result<(), RowFault> {
     for proposal in known {
         state.extend_from_slice(proposal.reference.as_slice())?;
-        state.extend_from_slice(&proposal.sender.to_be_bytes())?;
+        add_sender(state, proposal.sender)?;
         let bytes = have(encode_proposal(alloc, &proposal.proposal))?;
         state.extend_from_slice(bytes.as_slice())?;
     }
@@ -106,8 +119,18 @@ fn add_bytes(alloc: Global, text: &mut String, bytes: &[u8]) -> Result<(), RowFa
     Ok(write!(text, " {digits}")?)
 }
 
-/// Adds a follower's state: the context, the ratchet_tree, the interim transcript hash, and each pending proposal by its reference and
-/// its sender.
+/// A sender: a member by its leaf index.
+pub(crate) fn sender_text(alloc: Global, sender: Sender) -> Result<String, RowFault> {
+    match sender {
+        Sender::Member(index) => Ok(format!(in alloc; "{index}")?),
+        Sender::External(index) => Ok(format!(in alloc; "external {index}")?),
+        Sender::NewMemberProposal => Ok(String::from_str(alloc, "new_member_proposal")?),
+        Sender::NewMemberCommit => Ok(String::from_str(alloc, "new_member_commit")?),
+    }
+}
+
+/// Adds a follower's state: the context, the ratchet_tree, the interim transcript hash, each pending proposal by its reference and
+/// its sender, and whether the group is over.
 pub(crate) fn add_state<C: SignatureCheck>(
     alloc: Global,
     follower: &Follower<C>,
@@ -120,7 +143,11 @@ pub(crate) fn add_state<C: SignatureCheck>(
     add_bytes(alloc, text, follower.interim().as_slice())?;
     for proposal in follower.known() {
         add_bytes(alloc, text, proposal.reference.as_slice())?;
-        write!(text, " of {}", proposal.sender)?;
+        let sender = sender_text(alloc, proposal.sender)?;
+        write!(text, " of {sender}")?;
+    }
+    if follower.ended() {
+        text.push_str(" ended")?;
     }
     Ok(())
 }

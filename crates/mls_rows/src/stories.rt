@@ -7,7 +7,7 @@ use crate::state::{add_keys, add_state, state_of};
 use mls_check::{SignatureCheck, Trusting, validate_members, validate_tree};
 use mls_follow::{Follower, Refusal, StartRefused, Taken};
 use mls_hash::{Suite, fill_hashes};
-use mls_msgs::{GroupInfo, Message, decode_message};
+use mls_msgs::{GroupInfo, Message, Profile, decode_message};
 use mls_nodes::requirements;
 use mls_tree::PublicTree;
 use std::alloc::Global;
@@ -135,11 +135,11 @@ fn hand_over<C: SignatureCheck>(
 fn end_text<C: SignatureCheck>(row: &Row, follower: &Follower<C>) -> Result<String, RowFault> {
     let mut end = String::new(row.alloc);
     match row.word(0) {
-        "story_state" => {
+        "story_state" | "full_story_state" => {
             end.push_str(" / state")?;
             add_state(row.alloc, follower, &mut end)?;
         }
-        "story_tree" => {
+        "story_tree" | "full_story_tree" => {
             end.push_str(" / tree")?;
             add_keys(row.alloc, follower, &mut end)?;
         }
@@ -181,10 +181,18 @@ fn info_at(row: &Row, at: usize) -> Result<GroupInfo, RowFault> {
     }
 }
 
-/// A follower that starts from the GroupInfo of the first field.
+/// The profile of a story.
+fn profile_of(row: &Row) -> Profile {
+    match row.word(0) {
+        "full_story" | "full_story_state" | "full_story_tree" => Profile::Full,
+        _ => Profile::Members,
+    }
+}
+
+/// A follower that starts from the GroupInfo of the first field, in the row's profile.
 pub(crate) fn started<C: SignatureCheck>(row: &Row, checker: C) -> Result<Follower<C>, RowFault> {
     let info = info_at(row, 1)?;
-    match Follower::start(row.alloc, info, None, checker) {
+    match Follower::start_in(row.alloc, profile_of(row), info, None, checker) {
         Ok(follower) => Ok(follower),
         Err(refused) => {
             drop(refused);
@@ -211,7 +219,8 @@ fn story_by_receipts(row: &Row) -> Result<Results, RowFault> {
 }
 
 /// `story | INFO | CHECKER | MESSAGE | ..`: what a follower returns for messages that starts from a GroupInfo. `story_state` and
-/// `story_tree` have the state or the tree after the last message as well.
+/// `story_tree` have the state or the tree after the last message as well. `full_story`, `full_story_state` and `full_story_tree` are
+/// the same in the full profile.
 pub(crate) fn story(row: &Row) -> Result<CallResult, RowFault> {
     if row.len() < 3 {
         return Err(RowFault::Fields(3));

@@ -152,3 +152,13 @@ add_at t j x = put_leaf 0 (enter_unmerged t j) j (Some x)
 -- `add t x` is the tree after an Add of a member with leaf node `x` (RFC 9420, 12.1.1).
 abbrev pub add : Tree → LeafNode → Tree
 add t x = add_at (grown_for (first_blank_leaf 0 t) t) (added_leaf t) x
+
+-- A tree, and the leaf index of it that a new member takes.
+pub record Seat : Type 0 where
+  pub tree : Tree
+  pub leaf : ℕ
+
+-- `seat t` is the tree, extended if it has no blank leaf, and the leaf that a new member takes: the leftmost blank one (RFC
+-- 9420, 7.7, 12.1.1 and 12.4.3.2). The leaf is still blank.
+abbrev pub seat : Tree → Seat
+seat t = record { tree = grown_for (first_blank_leaf 0 t) t; leaf = added_leaf t }

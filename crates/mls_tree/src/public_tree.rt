@@ -7,7 +7,7 @@ ghost use Rattle.mls_nodes.specs.NodeModel.{entry_value, node_value};
 ghost use Rattle.mls_tree.specs.Tree.{leaf_count, member_count, height, listing, node_at, leaf_at, IsBranch, IsParentPlace};
 ghost use Rattle.mls_tree.specs.Paths.{direct_path, copath, filtered_direct_path, resolution_at, count_not_in};
 ghost use Rattle.mls_tree.specs.BlankLeaves.{first_blank_leaf, next_blank_leaf, IsFirstBlank, AllLeavesSet};
-ghost use Rattle.mls_tree.specs.TreeOperations.{put_leaf, put_parent, clear_path, change_parent, with_unmerged, without_unmerged, enter_unmerged, is_overfilled, is_overfilled_above, IsOverfull, shrink, blank_tree, grow, left_half, rejoined};
+ghost use Rattle.mls_tree.specs.TreeOperations.{put_leaf, put_parent, clear_path, change_parent, with_unmerged, without_unmerged, enter_unmerged, is_overfilled, is_overfilled_above, IsOverfull, shrink, blank_tree, grow, left_half, rejoined, seat};
 ghost use Rattle.mls_tree.specs.NodeView.{parent_of};
 ghost use Rattle.mls_tree.specs.TreeSizes.{IsPowerOfTwo, IsTooLong, IsListing};
 ghost use Rattle.mls_tree.specs.HashCache.{emptied, empty_count, extended, parents_from, hash_in, IsRightHash, AreAllFilled};
@@ -654,5 +654,31 @@ impl PublicTree {
         let counts = mem::replace(&mut self.counts, None);
         self.counts = count_in_place(counts, &self.tree);
         Ok(())
+    }
+
+    /// Returns the leaf index of a new member: that of the leftmost blank leaf (RFC 9420, 7.7, 12.1.1 and 12.4.3.2). If no
+    /// leaf is blank, the tree is extended first. The leaf is still blank. The cache slots of the nodes before are unchanged.
+    ///
+    /// # Errors
+    ///
+    /// `TooManyLeaves` if no leaf is blank and the tree has 1,048,576 leaves, or `OutOfMemory`.
+    pub fn seat(&mut self) -> Result<u32, TreeError>
+        ensures leaf { IfOk result (λ j. j ≡ (seat self.old.tree).leaf) }
+        ensures tree { OnOk result (self.new.tree ≡ (seat self.old.tree).tree) }
+        ensures err { OnErr result (self.new ≡ self.old) }
+        ensures too_many_leaves { (result ≡ Err TreeError.TooManyLeaves)
+            ↔ ((first_blank_leaf 0 self.old.tree ≡ None) × (leaf_count self.old.tree ≡ leaf_limit)) }
+        ensures else_memory { IfErr result
+            (λ e. (e ≡ TreeError.TooManyLeaves) ⊎ (e ≡ TreeError.OutOfMemory)) }
+        ensures kind { self.new.kind ≡ self.old.kind }
+        ensures front { OnOk result
+            (take (2 * leaf_count self.old.tree - 1) self.new.cells ≡ self.old.cells) }
+    {
+        let count = self.tree.leaf_count();
+        if let Some(index) = self.first_blank_leaf() {
+            return Ok(index);
+        }
+        self.extend()?;
+        Ok(count)
     }
 }

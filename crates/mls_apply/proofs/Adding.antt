@@ -25,7 +25,7 @@ use Rattle.mls_apply.proofs.LeavesAreValid.{member_count-change_above, member_co
 -- ---- how many members are added
 
 -- where an item adds none
-same_members : (p : Proposal) (xs : List LeafNode) → is_add p ≡ false → added_to p xs ≡ xs
+pub same_members : (p : Proposal) (xs : List LeafNode) → is_add p ≡ false → added_to p xs ≡ xs
 same_members (Add k) xs e = absurd (false≢true (sym e))
 same_members (Update x) xs e = refl
 same_members (Remove i) xs e = refl
@@ -136,7 +136,7 @@ adding-all whole items i t added start past a =
     adding-end whole t added start (subst (λ xs. Adding whole xs t added start) (drop_all i items past) a)
 
 -- a proposal that is no Add
-no_add : (p : Proposal) → ((k : KeyPackage) → p ≡ Add k → ⊥) → is_add p ≡ false
+pub no_add : (p : Proposal) → ((k : KeyPackage) → p ≡ Add k → ⊥) → is_add p ≡ false
 no_add (Add k) none = absurd (none k refl)
 no_add (Update x) none = refl
 no_add (Remove i) none = refl

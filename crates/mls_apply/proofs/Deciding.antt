@@ -1,12 +1,12 @@
 -- To any arguments there is an answer that is no want of memory.
 use Rattle.std.proofs.Common.{◌≡◌, ℕ, List, [], ◌∷◌, length, Bool, true, false, Option, Some, None, IsSome, refl, ap, ◌∙◌, inl, inr, arith}
-use Rattle.std.specs.Prelude.{is_some, ◌==◌, All, reverse}
+use Rattle.std.specs.Prelude.{◌==◌, nat_lt, All, reverse}
 use Rattle.std.proofs.lemmas.Bool.Decides.{nat_tests}
 use Rattle.std.proofs.lemmas.List.{length-reverse}
 use Rattle.mls_wire.specs.EncodedSizes.{vector_some}
 use Rattle.mls_wire.specs.Encoding.{vector}
 use Rattle.mls_msgs.specs.declared.commit.UpdatePath.{UpdatePath}
-use Rattle.mls_tree.specs.Tree.{Tree, leaf_count, leaf_at}
+use Rattle.mls_tree.specs.Tree.{Tree, leaf_count}
 use Rattle.mls_tree.specs.TreeHash.{tree_hash}
 use Rattle.mls_apply.specs.declared.fault.ApplyFault.{ApplyFault}
 use Rattle.mls_apply.specs.declared.fault.ApplyFault.TheVariants.{UnknownReference, TooManyLeaves, NoSuchLeaf, PathLength, OutOfMemory}
@@ -21,7 +21,7 @@ use Rattle.mls_apply.specs.ProposalRules.{checked_rules, checked_refusal}
 use Rattle.mls_apply.specs.RuleLists.{Rule, rule, first_failing}
 use Rattle.mls_apply.proofs.Expected.{hashes_there, path_merged}
 use Rattle.mls_apply.proofs.Making.{All-reverse}
-use Rattle.mls_apply.proofs.Refusals.{blank, keys-no_leaf, keys-other_length, keys-kept}
+use Rattle.mls_apply.proofs.Refusals.{outside, keys-no_leaf, keys-other_length, keys-kept}
 use Rattle.mls_apply.proofs.RuleLists.{AreKept, passed, AreOthers, no_rules, one_more}
 use Rattle.mls_apply.proofs.Spellings.{taken_out, put_back}
 
@@ -72,9 +72,9 @@ module _ (H : List ℕ → List ℕ) (t : Tree) (committer : ℕ) (keys : List (
   expected long =
       hashes_there H short (leaf_count t) committer 0 t [] (reverse keys) there (vector_some [] (omega arith)) (All-reverse (λ k. IsSome (vector k)) keys written) (length-reverse keys ∙ long)
 
-  hashes : (b : Bool) → is_some (leaf_at 0 t committer) ≡ b → (c : Bool) → (length keys == path_length t committer) ≡ c
+  hashes : (b : Bool) → nat_lt committer (leaf_count t) ≡ b → (c : Bool) → (length keys == path_length t committer) ≡ c
       → IsAnswered (λ hashes. (keys_refusal t committer keys ≡ None) × (expected_hashes H t committer keys ≡ Some hashes)) (λ e. keys_refusal t committer keys ≡ Some e)
-  hashes false e c f = inr (NoSuchLeaf, λ h. absurd cc, keys-no_leaf t committer keys (blank (leaf_at 0 t committer) e))
+  hashes false e c f = inr (NoSuchLeaf, λ h. absurd cc, keys-no_leaf t committer keys (outside committer (leaf_count t) e))
   hashes true e false f =
       inr (PathLength, λ h. absurd cc, keys-other_length t committer keys e (λ (same : length keys ≡ path_length t committer). absurd (grind (arith, nat_tests))))
   hashes true e true f =
@@ -84,13 +84,13 @@ module _ (H : List ℕ → List ℕ) (t : Tree) (committer : ℕ) (keys : List (
 
 pub some_hashes : HashesExists
 some_hashes H t committer keys short there written =
-    hashes H t committer keys short there written (is_some (leaf_at 0 t committer)) refl (length keys == path_length t committer) refl
+    hashes H t committer keys short there written (nat_lt committer (leaf_count t)) refl (length keys == path_length t committer) refl
 
 path_merge : (H : List ℕ → List ℕ) (g : Grown) (committer : ℕ) (path : UpdatePath) → path_refusal H g committer path ≡ None
     → IsSome (merged H g.tree committer path.leaf_node (node_keys path))
 unfolding path_refusal
 path_merge H g committer path kept =
-    let a : AreKept (rule NoSuchLeaf (is_some (leaf_at 0 g.tree committer)) ∷ path_rules H g committer path) = record { none = kept } in
+    let a : AreKept (rule NoSuchLeaf (nat_lt committer (leaf_count g.tree)) ∷ path_rules H g committer path) = record { none = kept } in
     let b = passed a in
     let c = passed b.1 in
     let d = passed c.1 in
@@ -103,6 +103,6 @@ pub some_merge : MergeExists
 unfolding path_refusal
 some_merge H g committer path =
     judged (λ new. (path_refusal H g committer path ≡ None) × (merged H g.tree committer path.leaf_node (node_keys path) ≡ Some new))
-    (rule NoSuchLeaf (is_some (leaf_at 0 g.tree committer)) ∷ path_rules H g committer path)
+    (rule NoSuchLeaf (nat_lt committer (leaf_count g.tree)) ∷ path_rules H g committer path)
     (one_more (λ e. cc) (one_more (λ e. cc) (one_more (λ e. cc) (one_more (λ e. cc) (one_more (λ e. cc) (one_more (λ e. cc) no_rules))))))
     (λ kept. let new = taken_out (merged H g.tree committer path.leaf_node (node_keys path)) (path_merge H g committer path kept) in (new.0, (kept, new.1)))

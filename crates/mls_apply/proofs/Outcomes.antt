@@ -1,7 +1,7 @@
 -- The outcome of a list, in the steps that the code takes.
-use Rattle.std.proofs.Common.{◌≡◌, ◌∙◌, ℕ, ◌+◌, ◌≤◌, List, [], ◌∷◌, length, true, false, Some, None, IsSome, refl, sym, ap, inl, inr, arith}
+use Rattle.std.proofs.Common.{◌≡◌, ◌∙◌, ◌+◌, ◌≤◌, List, length, true, false, Some, None, IsSome, ap, inl, inr, arith}
 use Rattle.std.specs.Prelude.{nat_le, if◌then◌else◌, is_some, option_and_then}
-use Rattle.std.proofs.lemmas.Bool.{cases_lt, false≢true, or_parts}
+use Rattle.std.proofs.lemmas.Bool.{cases_lt}
 use Rattle.std.proofs.lemmas.Bool.Decides.{nat_tests}
 use Rattle.mls_nodes.specs.Limits.{leaf_limit}
 use Rattle.mls_tree.specs.Tree.{Tree, member_count}

@@ -1,5 +1,5 @@
 -- PreSharedKeyIDs in a set, for a walk along a list that has them.
-use Rattle.std.proofs.Common.{◌≡◌, ◌∙◌, ℕ, ◌+◌, ◌<◌, List, [], ◌∷◌, ◌++◌, take, drop, filter_map, length, get_or, Option, Some, None, Bool, true, false, cond, not, Bor, refl, sym, ap, arith}
+use Rattle.std.proofs.Common.{◌≡◌, ◌∙◌, ℕ, ◌+◌, ◌<◌, List, [], ◌∷◌, ◌++◌, take, drop, filter_map, length, get_or, Option, Some, None, Bool, true, false, cond, not, Bor, refl, sym, ap}
 use Rattle.std.specs.Prelude.{◌==◌, ◌&&◌, ◌||◌}
 use Rattle.std.specs.List.{list_any, cons_option}
 use Rattle.std.specs.Str.{bytes_eq}
@@ -18,8 +18,8 @@ use Rattle.mls_msgs.specs.declared.pre_shared_key.PskKind.{PskKind}
 use Rattle.mls_msgs.specs.declared.pre_shared_key.PskKind.TheVariants as kinds
 use Rattle.mls_msgs.specs.declared.pre_shared_key.PskUsage.{PskUsage}
 use Rattle.mls_msgs.specs.declared.pre_shared_key.PskUsage.TheVariants as usages
-use Rattle.mls_apply.specs.PskKeys.{usage_number, kind_number, kind_bytes, kind_epoch}
-use Rattle.mls_apply.specs.PskProposals.{is_same_usage, is_same_kind, is_same_psk, are_distinct_psks}
+use Rattle.mls_apply.specs.PskKeys.{kind_number, kind_bytes, kind_epoch}
+use Rattle.mls_apply.specs.PskProposals.{is_same_kind, is_same_psk, are_distinct_psks}
 
 -- the parts of one, as a set holds them
 abbrev pub Parts : Type 0

@@ -1,14 +1,14 @@
 -- The first rule that fails, of those for the keys of a path and of those for a path.
-use Rattle.std.proofs.Common.{◌≡◌, ◌≢◌, ◌↔◌, ℕ, List, [], ◌∷◌, length, Option, Some, None, Result, Ok, Err, Bool, true, false, refl, sym, ap, ◌∙◌, arith}
-use Rattle.std.specs.Prelude.{is_some, ◌==◌, map, option_map, reverse}
+use Rattle.std.proofs.Common.{◌≡◌, ◌≢◌, ◌↔◌, ℕ, List, [], ◌∷◌, length, Some, None, Result, Ok, Err, Bool, true, false, refl, sym, ap, ◌∙◌, arith}
+use Rattle.std.specs.Prelude.{◌==◌, ◌≤◌, nat_lt, map, option_map, reverse}
 use Rattle.std.proofs.lemmas.Bool.{false≢true}
 use Rattle.std.proofs.lemmas.Bool.Decides.{nat_tests}
 use Rattle.std.proofs.lemmas.Option.{none-some}
-use Rattle.mls_nodes.specs.declared.leaf.LeafNode.{LeafNode}
 use Rattle.mls_msgs.specs.declared.commit.PathNode.{PathNode}
 use Rattle.mls_msgs.specs.declared.commit.UpdatePath.{UpdatePath}
-use Rattle.mls_tree.specs.Tree.{Tree, leaf_count, leaf_at}
+use Rattle.mls_tree.specs.Tree.{Tree, leaf_count}
 use Rattle.mls_tree.specs.Paths.{filtered_direct_path}
+use Rattle.mls_tree.proofs.Choices.{not_less}
 use Rattle.mls_apply.specs.declared.fault.ApplyFault.{ApplyFault}
 use Rattle.mls_apply.specs.declared.fault.ApplyFault.TheVariants.{NoSuchLeaf, PathLength, PathSource, PathKeyUsed, CiphertextCount, PathParentHash}
 use Rattle.mls_apply.specs.AppliedList.{Grown}
@@ -31,9 +31,8 @@ pub path-long : (t : Tree) (i count : ℕ) (nodes all : List PathNode) (places :
     → length nodes ≡ count → length all ≡ path_length t i
 path-long t i count nodes all places n p a b = let d = ap length n in let e = ap length p in omega arith
 
-pub blank : (o : Option LeafNode) → is_some o ≡ false → o ≡ None
-blank None e = refl
-blank (Some x) e = absurd (false≢true (sym e))
+pub outside : (i n : ℕ) → nat_lt i n ≡ false → n ≤ i
+outside i n e = grind (arith, nat_tests)
 
 -- an error of one call is that of another
 same_error : {A B : Type 0} (e f g : ApplyFault) → e ≡ f → ◌≡◌ {A = Result A ApplyFault} (Err e) (Err g) → ◌≡◌ {A = Result B ApplyFault} (Err f) (Err g)
@@ -41,32 +40,32 @@ same_error e f g same h = let h' : e ≡ g = cc in ap Err (sym same ∙ h')
 
 module _ (t : Tree) (i : ℕ) (keys : List (List ℕ)) where
   -- of these refusals only the first rule's is named so
-  pub keys-told : keys_refusal t i keys ≡ Some NoSuchLeaf → leaf_at 0 t i ≡ None
+  pub keys-told : keys_refusal t i keys ≡ Some NoSuchLeaf → leaf_count t ≤ i
   unfolding keys_refusal
   keys-told h =
-      blank (leaf_at 0 t i)
-      (it_fails NoSuchLeaf (is_some (leaf_at 0 t i)) (rule PathLength (length keys == path_length t i) ∷ []) (one_more (λ e. cc) no_rules) h)
+      outside i (leaf_count t)
+      (it_fails NoSuchLeaf (nat_lt i (leaf_count t)) (rule PathLength (length keys == path_length t i) ∷ []) (one_more (λ e. cc) no_rules) h)
 
-  pub keys-no_leaf : leaf_at 0 t i ≡ None → keys_refusal t i keys ≡ Some NoSuchLeaf
+  pub keys-no_leaf : leaf_count t ≤ i → keys_refusal t i keys ≡ Some NoSuchLeaf
   unfolding keys_refusal
-  keys-no_leaf e = rw (ap (λ (o : Option LeafNode). is_some o) e) refl
+  keys-no_leaf e = rw (not_less i (leaf_count t) e) refl
 
-  pub keys-other_length : is_some (leaf_at 0 t i) ≡ true → length keys ≢ path_length t i → keys_refusal t i keys ≡ Some PathLength
+  pub keys-other_length : nat_lt i (leaf_count t) ≡ true → length keys ≢ path_length t i → keys_refusal t i keys ≡ Some PathLength
   unfolding keys_refusal
   keys-other_length set other = let e = other_number (length keys) (path_length t i) other in rw (set, e) refl
 
-  pub keys-kept : is_some (leaf_at 0 t i) ≡ true → length keys ≡ path_length t i → keys_refusal t i keys ≡ None
+  pub keys-kept : nat_lt i (leaf_count t) ≡ true → length keys ≡ path_length t i → keys_refusal t i keys ≡ None
   unfolding keys_refusal
   keys-kept set same = let e = same_number (length keys) (path_length t i) same in rw (set, e) refl
 
-  -- a set leaf isn't refused so
-  pub keys-set : {A : Type 0} (r : Result A ApplyFault) → (r ≡ Err NoSuchLeaf → ⊥) → is_some (leaf_at 0 t i) ≡ true
+  -- a leaf of the tree isn't refused so
+  pub keys-set : {A : Type 0} (r : Result A ApplyFault) → (r ≡ Err NoSuchLeaf → ⊥) → nat_lt i (leaf_count t) ≡ true
       → (r ≡ Err NoSuchLeaf) ↔ (keys_refusal t i keys ≡ Some NoSuchLeaf)
   keys-set r other set =
-      (λ h. absurd (other h), λ h. absurd (false≢true (sym (ap (λ (o : Option LeafNode). is_some o) (keys-told h)) ∙ set)))
+      (λ h. absurd (other h), λ h. absurd (false≢true (sym (not_less i (leaf_count t) (keys-told h)) ∙ set)))
 
   -- what a call said of the leaf is said of the keys
-  pub keys-by_leaf : {A B : Type 0} (e f : ApplyFault) → f ≡ e → ◌≡◌ {A = Result A ApplyFault} (Err e) (Err NoSuchLeaf) ↔ (leaf_at 0 t i ≡ None)
+  pub keys-by_leaf : {A B : Type 0} (e f : ApplyFault) → f ≡ e → ◌≡◌ {A = Result A ApplyFault} (Err e) (Err NoSuchLeaf) ↔ (leaf_count t ≤ i)
       → ◌≡◌ {A = Result B ApplyFault} (Err f) (Err NoSuchLeaf) ↔ (keys_refusal t i keys ≡ Some NoSuchLeaf)
   keys-by_leaf {A} {B} e f same of_leaf =
       (λ h. keys-no_leaf (of_leaf.0 (same_error {A = B} {B = A} f e NoSuchLeaf same h)), λ h. same_error {A = A} {B = B} e f NoSuchLeaf (sym same) (of_leaf.1 (keys-told h)))
@@ -77,33 +76,33 @@ same_fault {C = C} e f b c h = let both : ◌≡◌ {A = ApplyFault × C} (e, b)
 
 module _ (g : Grown) (i : ℕ) (path : UpdatePath) (H : List ℕ → List ℕ) where
   -- of these refusals only the first rule's is named so
-  pub path-told : path_refusal H g i path ≡ Some NoSuchLeaf → leaf_at 0 g.tree i ≡ None
+  pub path-told : path_refusal H g i path ≡ Some NoSuchLeaf → leaf_count g.tree ≤ i
   unfolding path_refusal
   path-told h =
-      blank (leaf_at 0 g.tree i)
-      (it_fails NoSuchLeaf (is_some (leaf_at 0 g.tree i)) (path_rules H g i path)
+      outside i (leaf_count g.tree)
+      (it_fails NoSuchLeaf (nat_lt i (leaf_count g.tree)) (path_rules H g i path)
       (one_more (λ e. cc) (one_more (λ e. cc) (one_more (λ e. cc) (one_more (λ e. cc) (one_more (λ e. cc) no_rules))))) h)
 
-  pub path-no_leaf : leaf_at 0 g.tree i ≡ None → path_refusal H g i path ≡ Some NoSuchLeaf
+  pub path-no_leaf : leaf_count g.tree ≤ i → path_refusal H g i path ≡ Some NoSuchLeaf
   unfolding path_refusal
-  path-no_leaf e = rw (ap (λ (o : Option LeafNode). is_some o) e) refl
+  path-no_leaf e = rw (not_less i (leaf_count g.tree) e) refl
 
   -- what a call said of the leaf is said of the path, with what it hands back
-  pub path-by_leaf : {A B C : Type 0} (e : ApplyFault) (back : C) → ◌≡◌ {A = Result A ApplyFault} (Err e) (Err NoSuchLeaf) ↔ (leaf_at 0 g.tree i ≡ None)
+  pub path-by_leaf : {A B C : Type 0} (e : ApplyFault) (back : C) → ◌≡◌ {A = Result A ApplyFault} (Err e) (Err NoSuchLeaf) ↔ (leaf_count g.tree ≤ i)
       → ◌≡◌ {A = Result B (ApplyFault × C)} (Err (e, back)) (Err (NoSuchLeaf, back)) ↔ (path_refusal H g i path ≡ Some NoSuchLeaf)
   path-by_leaf {C = C} e back of_leaf =
       (λ h. let both : ◌≡◌ {A = ApplyFault × C} (e, back) (NoSuchLeaf, back) = cc in path-no_leaf (of_leaf.0 (λ i. Err (both i).0)), λ h. let told = of_leaf.1 (path-told h) in let same : e ≡ NoSuchLeaf = cc in ap (λ f. Err (f, back)) same)
 
   -- the same, where nothing is handed back
-  pub path-by_fault : {A B : Type 0} (e f : ApplyFault) → f ≡ e → ◌≡◌ {A = Result A ApplyFault} (Err e) (Err NoSuchLeaf) ↔ (leaf_at 0 g.tree i ≡ None)
+  pub path-by_fault : {A B : Type 0} (e f : ApplyFault) → f ≡ e → ◌≡◌ {A = Result A ApplyFault} (Err e) (Err NoSuchLeaf) ↔ (leaf_count g.tree ≤ i)
       → ◌≡◌ {A = Result B ApplyFault} (Err f) (Err NoSuchLeaf) ↔ (path_refusal H g i path ≡ Some NoSuchLeaf)
   path-by_fault {A} {B} e f same of_leaf =
       (λ h. path-no_leaf (of_leaf.0 (same_error {A = B} {B = A} f e NoSuchLeaf same h)), λ h. same_error {A = A} {B = B} e f NoSuchLeaf (sym same) (of_leaf.1 (path-told h)))
 
-  -- where the leaf is set neither is said
-  pub path-set : {P : Type 0} → (P → leaf_at 0 g.tree i ≡ None) → is_some (leaf_at 0 g.tree i) ≡ true → P ↔ (path_refusal H g i path ≡ Some NoSuchLeaf)
+  -- where the tree has the leaf neither is said
+  pub path-set : {P : Type 0} → (P → leaf_count g.tree ≤ i) → nat_lt i (leaf_count g.tree) ≡ true → P ↔ (path_refusal H g i path ≡ Some NoSuchLeaf)
   path-set none set =
-      let there : leaf_at 0 g.tree i ≡ None → ⊥ = λ e. false≢true (sym (ap (λ (o : Option LeafNode). is_some o) e) ∙ set) in
+      let there : leaf_count g.tree ≤ i → ⊥ = λ e. false≢true (sym (not_less i (leaf_count g.tree) e) ∙ set) in
       (λ h. absurd (there (none h)), λ h. absurd (there (path-told h)))
 
   -- a path that keeps the rules isn't refused so
@@ -114,7 +113,7 @@ module _ (g : Grown) (i : ℕ) (path : UpdatePath) (H : List ℕ → List ℕ) w
   pub path-done : {A : Type 0} (x : A) → path_refusal H g i path ≡ None → ◌≡◌ {A = Result A ApplyFault} (Ok x) (Err NoSuchLeaf) ↔ (path_refusal H g i path ≡ Some NoSuchLeaf)
   path-done {A} x kept = path-kept {A = A} (Ok x) (λ e. cc) kept
 
-  module _ (set : is_some (leaf_at 0 g.tree i) ≡ true) where
+  module _ (set : nat_lt i (leaf_count g.tree) ≡ true) where
     pub path-other_length : length path.nodes ≢ path_length g.tree i → path_refusal H g i path ≡ Some PathLength
     unfolding path_refusal has_path_length
     path-other_length other = let e = other_number (length path.nodes) (path_length g.tree i) other in rw (set, e) refl

@@ -1,14 +1,14 @@
 -- The rules for the UpdatePath of a commit (RFC 9420, 7.3, 7.6, 7.9.2 and 12.4.2), in the tree after the commit's
 -- proposals. `i` is the committer's leaf, `g` that tree with the indices of the added leaves, H a hash function. Used
 -- by contracts.
-use Rattle.std.specs.Prelude.{ℕ, ◌+◌, ◌*◌, ◌==◌, nat_lt, ◌&&◌, not, is_some, if◌then◌else◌, List, [], ◌∷◌, ◌++◌, length, map, filter, Bool, true, false, Option, Some, None}
+use Rattle.std.specs.Prelude.{ℕ, ◌+◌, ◌*◌, ◌==◌, nat_lt, ◌&&◌, not, if◌then◌else◌, List, [], ◌∷◌, ◌++◌, length, map, filter, Bool, true, false, Option, Some, None}
 use Rattle.std.specs.List.{list_any}
 use Rattle.std.specs.Str.{bytes_eq}
 use Rattle.mls_nodes.specs.declared.leaf_source.LeafSource.{LeafSource}
 use Rattle.mls_nodes.specs.declared.leaf_source.LeafSource.TheVariants as sources
 use Rattle.mls_msgs.specs.declared.commit.PathNode.{PathNode}
 use Rattle.mls_msgs.specs.declared.commit.UpdatePath.{UpdatePath}
-use Rattle.mls_tree.specs.Tree.{Tree, leaf, branch, leaf_count, leaf_at}
+use Rattle.mls_tree.specs.Tree.{Tree, leaf, branch, leaf_count}
 use Rattle.mls_tree.specs.Paths.{resolution, filtered_direct_path}
 use Rattle.mls_check.specs.DistinctKeys.{are_distinct, has_key, tree_keys}
 use Rattle.mls_apply.specs.RuleLists.{Rule, rule, first_failing}
@@ -90,12 +90,13 @@ path_rules H g i path =
     rule CiphertextCount (has_ciphertexts path g i) ∷
     rule PathParentHash (has_expected_hash H path g.tree i) ∷ []
 
--- `path_refusal H g i path` is the refusal of the first of them that fails, or NoSuchLeaf if leaf i is blank.
+-- `path_refusal H g i path` is the refusal of the first of them that fails, or NoSuchLeaf if the tree has no leaf i. The leaf
+-- of a client that joins with a path is blank (12.4.3.2).
 unfoldable pub path_refusal : (List ℕ → List ℕ) → Grown → ℕ → UpdatePath → Option ApplyFault
-path_refusal H g i path = first_failing (rule NoSuchLeaf (is_some (leaf_at 0 g.tree i)) ∷ path_rules H g i path)
+path_refusal H g i path = first_failing (rule NoSuchLeaf (nat_lt i (leaf_count g.tree)) ∷ path_rules H g i path)
 
--- `keys_refusal t i keys` is the refusal of keys for a path of leaf i: NoSuchLeaf if leaf i is blank, PathLength if
+-- `keys_refusal t i keys` is the refusal of keys for a path of leaf i: NoSuchLeaf if the tree has no leaf i, PathLength if
 -- their number is wrong.
 unfoldable pub keys_refusal : Tree → ℕ → List (List ℕ) → Option ApplyFault
 keys_refusal t i keys =
-    first_failing (rule NoSuchLeaf (is_some (leaf_at 0 t i)) ∷ rule PathLength (length keys == path_length t i) ∷ [])
+    first_failing (rule NoSuchLeaf (nat_lt i (leaf_count t)) ∷ rule PathLength (length keys == path_length t i) ∷ [])

@@ -1,6 +1,6 @@
 //! The Adds of a proposal list (RFC 9420, 12.1.1).
 
-ghost use Rattle.std.specs.Prelude.{◌≡◌, ◌+◌, ◌<◌, ◌≤◌, ◌⊎◌, true, false, None, Some, Err, IfOk, IfErr, OnOk, length};
+ghost use Rattle.std.specs.Prelude.{◌≡◌, ◌+◌, ◌<◌, ◌≤◌, ◌⊎◌, true, false, None, Some, IsSome, Err, IfOk, IfErr, OnOk, length};
 ghost use Rattle.mls_nodes.specs.Limits.{leaf_limit};
 ghost use Rattle.mls_tree.specs.Tree.{leaf_count, member_count};
 ghost use Rattle.mls_tree.specs.BlankLeaves.{first_blank_leaf, AreSetBelow};
@@ -20,7 +20,7 @@ use std::alloc::Global;
 
 /// Returns the leaf of a new member: the leftmost blank one, or else the first one by which the tree is extended. The
 /// leaves before `start` must be non-blank.
-fn leaf_for_member(
+pub(crate) fn leaf_for_member(
     tree: &mut PublicTree,
     journal: &mut Journal,
     start: u32,
@@ -119,4 +119,31 @@ pub(crate) fn apply_adds(
         }
     }
     Ok(Leaves::new(added))
+}
+
+/// Applies the Adds of a list as [`apply_adds`] does, but adds each member with `leaf`. So no leaf node of an Add is copied,
+/// and the call fails if and only if `apply_adds` does, except for memory.
+pub(crate) fn fit_adds(
+    alloc: Global,
+    tree: &mut PublicTree,
+    journal: &mut Journal,
+    items: &[ListItem<'_>],
+    leaf: &LeafNode,
+) -> Result<(), ApplyFault>
+    requires { member_count tree.old.tree + length (new_members items.now) ≤ leaf_limit }
+    ensures fit { OnOk result (IsSome (after_adds (new_members items.now) tree.old.tree)) }
+    ensures too_many_leaves { result ≡ Err ApplyFault.TooManyLeaves
+        → after_adds (new_members items.now) tree.old.tree ≡ None }
+    ensures else_memory { IfErr result (λ e.
+        (e ≡ ApplyFault.TooManyLeaves) ⊎ (e ≡ ApplyFault.OutOfMemory)) }
+    ensures before { before journal.new tree.new.tree ≡ before journal.old tree.old.tree }
+{
+    let mut start = 0;
+    for item in items {
+        if let Proposal::Add(_) = item.proposal {
+            let index = add_member(alloc, tree, journal, start, leaf)?;
+            start = index + 1;
+        }
+    }
+    Ok(())
 }

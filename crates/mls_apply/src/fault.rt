@@ -79,8 +79,16 @@ pub enum ApplyFault {
     /// Refusal 35: the list has a ReInit and another proposal (RFC 9420, 12.2).
     #[error("a reinitialization is not alone")]
     ReInitNotAlone,
-    /// A leaf is blank: that of a member that sends a proposal or a commit, or one that is to be replaced or removed. Or an
-    /// Update is from no member.
+    /// Refusal 36: the list of an external commit has not one ExternalInit, or two Removes, or a proposal of another type
+    /// than ExternalInit, Remove and PreSharedKey, or a reference (RFC 9420, 12.2 and 12.4.3.2).
+    #[error("the list of an external commit is not one")]
+    JoinList,
+    /// Refusal 37: the leaf that an external commit removes has the encryption key of the path's leaf, or neither its
+    /// credential nor its signature key (RFC 9420, 12.4.3.2).
+    #[error("an external commit removes another client than its own")]
+    ResyncInvalid,
+    /// A leaf is blank: that of a member that sends a proposal, or one that is to be replaced or removed. Or an Update is from no
+    /// member. Or the tree has no leaf with the index of a path's committer.
     #[error("a leaf is not set")]
     NoSuchLeaf,
     /// An allocation failed.

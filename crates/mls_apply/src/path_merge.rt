@@ -1,8 +1,8 @@
 //! Update paths: the expected parent hashes, and the tree with a path merged (RFC 9420, 7.5, 7.6 and 7.9).
 
-ghost use Rattle.std.specs.Prelude.{◌≡◌, ◌≢◌, ◌<◌, ◌⊎◌, ◌↔◌, ◌∷◌, ℕ, List, Err, Some, None, IfOk, IfErr, OnOk, is_some, length, map, true};
+ghost use Rattle.std.specs.Prelude.{◌≡◌, ◌≢◌, ◌<◌, ◌≤◌, ◌⊎◌, ◌↔◌, ◌∷◌, ℕ, List, Err, Some, None, IfOk, IfErr, OnOk, length, map, true};
 ghost use Rattle.mls_hash.specs.SuiteHash.{hash_of};
-ghost use Rattle.mls_tree.specs.Tree.{leaf_at, leaf_count};
+ghost use Rattle.mls_tree.specs.Tree.{leaf_count};
 ghost use Rattle.mls_tree.specs.Paths.{filtered_direct_path};
 ghost use Rattle.mls_index.specs.TreeIndex.{ContainsKeysOf};
 ghost use Rattle.mls_apply.specs.MergePath.{expected_hashes, merged};
@@ -31,17 +31,17 @@ use std::alloc::{AllocError, Global};
 ///
 /// # Errors
 ///
-/// `NoSuchLeaf` if and only if the leaf is blank or outside the tree, or `OutOfMemory`.
+/// `NoSuchLeaf` if and only if the leaf is outside the tree, or `OutOfMemory`.
 fn path_places(alloc: Global, tree: &PublicTree, leaf: u32) -> Result<Vec<u32>, ApplyFault>
     ensures places { IfOk result (λ places. let t = tree.now.tree in
         places.items ≡ filtered_direct_path (leaf_count t) 0 t leaf) }
-    ensures set { OnOk result (is_some (leaf_at 0 tree.now.tree leaf) ≡ true) }
-    ensures not_set { (result ≡ Err ApplyFault.NoSuchLeaf)
-        ↔ (leaf_at 0 tree.now.tree leaf ≡ None) }
+    ensures inside { OnOk result (leaf < leaf_count tree.now.tree) }
+    ensures outside { (result ≡ Err ApplyFault.NoSuchLeaf)
+        ↔ (leaf_count tree.now.tree ≤ leaf) }
     ensures else_memory { IfErr result (λ e.
         (e ≡ ApplyFault.NoSuchLeaf) ⊎ (e ≡ ApplyFault.OutOfMemory)) }
 {
-    if tree.leaf(leaf).is_none() {
+    if leaf >= tree.leaf_count() {
         return Err(ApplyFault::NoSuchLeaf);
     }
     match tree.filtered_direct_path(alloc, leaf) {
@@ -94,7 +94,7 @@ fn carried(alloc: Global, new: NewParents) -> Result<Vec<Opaque>, AllocError>
 ///
 /// # Errors
 ///
-/// `NoSuchLeaf` if the committer's leaf is blank, which is checked before anything is allocated; else `PathLength` if
+/// `NoSuchLeaf` if the tree has no leaf of this index, which is checked before anything is allocated; else `PathLength` if
 /// the number of keys is not that of the filtered direct path; or `OutOfMemory`.
 pub fn expected_parent_hashes(
     alloc: Global,
@@ -160,8 +160,8 @@ fn checked_places(
         ≡ hash_refusal H path.now.path.now tree.now.tree path.now.leaf) }
     ensures refused { IfErr result (λ e. e ≢ ApplyFault.OutOfMemory → (H : List ℕ → List ℕ)
         → refusal_of H tree.now.tree path.now ≡ Some e) }
-    ensures not_set { (result ≡ Err ApplyFault.NoSuchLeaf)
-        ↔ (leaf_at 0 tree.now.tree path.now.leaf ≡ None) }
+    ensures outside { (result ≡ Err ApplyFault.NoSuchLeaf)
+        ↔ (leaf_count tree.now.tree ≤ path.now.leaf) }
 {
     let nodes = path.path.nodes.as_slice();
     let places = path_places(alloc, tree, path.leaf)?;
@@ -227,7 +227,7 @@ fn new_nodes(
 ///
 /// # Errors
 ///
-/// `NoSuchLeaf` if the leaf is blank, before any allocation; else the first of `PathLength`, `PathSource`,
+/// `NoSuchLeaf` if the tree has no such leaf, before any allocation; else the first of `PathLength`, `PathSource`,
 /// `PathKeyUsed`, `CiphertextCount` and `PathParentHash` that applies; `OutOfMemory`. The tree is unchanged, except
 /// for hashes that are filled.
 pub(crate) fn filled_nodes(
@@ -243,8 +243,8 @@ pub(crate) fn filled_nodes(
     ensures kept { OnOk result (refusal_of (hash_of suite) tree.old.tree path.now ≡ None) }
     ensures refused { IfErr result (λ e. e ≢ ApplyFault.OutOfMemory
         → refusal_of (hash_of suite) tree.old.tree path.now ≡ Some e) }
-    ensures not_set { (result ≡ Err ApplyFault.NoSuchLeaf)
-        ↔ (leaf_at 0 tree.old.tree path.now.leaf ≡ None) }
+    ensures outside { (result ≡ Err ApplyFault.NoSuchLeaf)
+        ↔ (leaf_count tree.old.tree ≤ path.now.leaf) }
 {
     let places = checked_places(alloc, tree, index, path)?;
     fill(alloc, suite, tree)?;
@@ -259,7 +259,7 @@ pub(crate) fn filled_nodes(
 ///
 /// # Errors
 ///
-/// `NoSuchLeaf` if the committer's leaf is blank, which is checked before anything is allocated; else the first of
+/// `NoSuchLeaf` if the tree has no leaf of this index, which is checked before anything is allocated; else the first of
 /// `PathLength`, `PathSource`, `PathKeyUsed`, `CiphertextCount` and `PathParentHash` that applies; or `OutOfMemory`.
 /// The arguments are returned as they were, except that slots of the tree's hash cache may have been filled.
 pub fn merge_path(
@@ -283,7 +283,7 @@ pub fn merge_path(
     ensures handed_back { IfErr result (λ e.
         (e.1.tree.tree ≡ applied.tree.tree) × (e.1.added ≡ applied.added)) }
 {
-    if applied.tree.leaf(committer).is_none() {
+    if committer >= applied.tree.leaf_count() {
         return Err((ApplyFault::NoSuchLeaf, applied));
     }
     let Applied { mut tree, added } = applied;

@@ -3,11 +3,13 @@
 //! A commit's list and its path change a large tree in place, and the tree after both is checked from its changes. A
 //! [`StagedTree`] has what this needs. Until it is settled, the changes can be undone.
 
-ghost use Rattle.std.specs.Prelude.{◌≡◌, ◌≢◌, ◌⊎◌, Err, None, Some, IsSome, IfOk, IfErr, OnOk, true};
+ghost use Rattle.std.specs.Prelude.{◌≡◌, ◌≢◌, ◌<◌, ◌≤◌, ◌↔◌, ◌⊎◌, Err, None, Some, IsSome, IfOk, IfErr, OnOk, true};
 ghost use Rattle.mls_hash.specs.SuiteHash.{hash_of};
 ghost use Rattle.mls_tree.specs.ChangedNodes.{AgreeExceptAt};
 ghost use Rattle.mls_tree.specs.Journals.{before};
-ghost use Rattle.mls_tree.specs.Tree.{Tree};
+ghost use Rattle.mls_nodes.specs.Limits.{leaf_limit};
+ghost use Rattle.mls_tree.specs.Tree.{Tree, leaf_count, member_count};
+ghost use Rattle.mls_tree.specs.TreeOperations.{seat};
 ghost use Rattle.mls_tree.specs.TreeHash.{tree_hash};
 ghost use Rattle.mls_index.specs.TreeIndex.{ContainsKeysOf, HasBase};
 ghost use Rattle.mls_apply.specs.AppliedList.{grown, outcome, without_adds, ExceedsCapacity};
@@ -16,9 +18,11 @@ ghost use Rattle.mls_check.specs.DistinctKeys.{has_distinct_keys};
 ghost use Rattle.mls_check.specs.LeafValidation.{FindsFailing, IsMemberFault, LeavesAreValid, all_leaves, has_own_signature_key, supports_required, supports_used_credentials};
 ghost use Rattle.mls_index.specs.FirstChanged.{leaf_rule};
 
+use crate::adds::leaf_for_member;
 use crate::committer_path::CommitterPath;
 use crate::fault::ApplyFault;
 use crate::list_application::{Leaves, apply_list_in_place};
+use crate::list_fit::check_list_fits;
 use crate::list_item::ListItem;
 use crate::new_parents::{fill, put_path_in_place};
 use crate::path_merge::filled_nodes;
@@ -130,6 +134,53 @@ impl StagedTree {
     {
         self.entered = None;
         apply_list_in_place(alloc, &mut self.tree, &mut self.journal, items)
+    }
+
+    /// Checks whether a list of proposals can be applied (RFC 9420, 12.3): whether [`StagedTree::apply_list`] would succeed. No
+    /// leaf node of an Add is copied. Whatever is returned, the tree is not the one after the list: it has to be taken back.
+    ///
+    /// # Errors
+    ///
+    /// Those of `apply_list`.
+    pub fn check_list_fits(
+        &mut self,
+        alloc: Global,
+        items: &[ListItem<'_>],
+    ) -> Result<(), ApplyFault>
+        ensures fit { OnOk result (IsSome (outcome items.now self.old.tree)) }
+        ensures no_such_leaf { result ≡ Err ApplyFault.NoSuchLeaf
+            → without_adds items.now self.old.tree ≡ None }
+        ensures too_many_leaves { result ≡ Err ApplyFault.TooManyLeaves
+            → IsSome (without_adds items.now self.old.tree) × (outcome items.now self.old.tree ≡ None) }
+        ensures else_memory { IfErr result (λ e.
+            (e ≡ ApplyFault.NoSuchLeaf) ⊎ (e ≡ ApplyFault.TooManyLeaves)
+            ⊎ (e ≡ ApplyFault.OutOfMemory)) }
+        ensures base { self.new.base ≡ self.old.base }
+    {
+        self.entered = None;
+        check_list_fits(alloc, &mut self.tree, &mut self.journal, items)
+    }
+
+    /// Returns the leaf of a client that joins with a commit: the leftmost blank one, or else the first one by which the tree
+    /// is extended (RFC 9420, 7.7 and 12.4.3.2). The leaf is still blank.
+    ///
+    /// # Errors
+    ///
+    /// `TooManyLeaves` if and only if the tree has 1,048,576 members: then nothing changes. Or `OutOfMemory`.
+    pub fn seat(&mut self) -> Result<u32, ApplyFault>
+        ensures leaf { IfOk result (λ j. j ≡ (seat self.old.tree).leaf) }
+        ensures tree { OnOk result (self.new.tree ≡ (seat self.old.tree).tree) }
+        ensures inside { IfOk result (λ j. j < leaf_count self.new.tree) }
+        ensures room { OnOk result (member_count self.old.tree < leaf_limit) }
+        ensures too_many_leaves { (result ≡ Err ApplyFault.TooManyLeaves) ↔ (leaf_limit ≤ member_count self.old.tree) }
+        ensures else_memory { IfErr result (λ e. (e ≡ ApplyFault.TooManyLeaves) ⊎ (e ≡ ApplyFault.OutOfMemory)) }
+        ensures base { self.new.base ≡ self.old.base }
+    {
+        if self.tree.member_count() >= 1_048_576 {
+            return Err(ApplyFault::TooManyLeaves);
+        }
+        self.entered = None;
+        leaf_for_member(&mut self.tree, &mut self.journal, 0)
     }
 
     /// Merges an update path (RFC 9420, 7.5). The path's keys are looked up in the index, to which the

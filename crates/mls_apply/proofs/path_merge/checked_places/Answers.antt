@@ -3,7 +3,8 @@ use Rattle.std.proofs.lemmas.Result.{err_from_is_err_and}
 use Rattle.mls_apply.specs.AppliedList.{grown}
 use Rattle.mls_apply.specs.PathRules.{path_length}
 use Rattle.mls_apply.proofs.Counting.{has_ciphertexts-counted}
-use Rattle.mls_apply.proofs.Paths.{filtered-parents, set_inside}
+use Rattle.mls_tree.proofs.Choices.{is_less}
+use Rattle.mls_apply.proofs.Paths.{filtered-parents}
 use Rattle.mls_apply.proofs.Refusals.{path-no_leaf, path-other_length, path-no_commit, path-old_key, path-other_count, path-checked, path-long}
 use Rattle.mls_apply.proofs.path_merge.checked_places.Goals as goal
 
@@ -12,7 +13,7 @@ returns-in_err-places-clause-refused c =
     let p = err_from_is_err_and c.from_residual.result c.from_residual.ensures.1 in
     rw (p.1, p.2) (λ not_memory H.
     elim c.in_err-places.ensures.else_memory [
-      | inl e ↦ path-no_leaf (grown c.args.tree.now.tree c.args.path.now.added.now) c.args.path.now.leaf c.args.path.now.path.now H (c.in_err-places.ensures.not_set.0 (ap Err e)) ∙ ap Some (sym e)
+      | inl e ↦ path-no_leaf (grown c.args.tree.now.tree c.args.path.now.added.now) c.args.path.now.leaf c.args.path.now.path.now H (c.in_err-places.ensures.outside.0 (ap Err e)) ∙ ap Some (sym e)
       | inr e ↦ absurd (not_memory e)
     ])
 
@@ -22,20 +23,20 @@ returns-then-nodes-len-clause-refused c _ H =
     let places = ap length c.in_ok-places.ensures.places in
     let kept = c.in_ok-places.places.ok in
     let other : length c.args.path.now.path.now.nodes ≢ path_length c.args.tree.now.tree c.args.path.now.leaf = λ e. c.if-nodes-len.true (omega arith) in
-    path-other_length (grown c.args.tree.now.tree c.args.path.now.added.now) c.args.path.now.leaf c.args.path.now.path.now H c.in_ok-places.ensures.set other
+    path-other_length (grown c.args.tree.now.tree c.args.path.now.added.now) c.args.path.now.leaf c.args.path.now.path.now H (is_less _ _ c.in_ok-places.ensures.inside) other
 
 pub returns-then-not-is_from_commit-clause-refused : goal.returns-then-not-is_from_commit-clause-refused
 returns-then-not-is_from_commit-clause-refused c _ H =
     let long = path-long c.args.tree.now.tree c.args.path.now.leaf c.len.result c.as_slice-nodes.result.now c.args.path.now.path.now.nodes c.in_ok-places.places.items
     c.as_slice-nodes.ensures c.in_ok-places.ensures.places (omega (arith, c.in_ok-places.places.ok)) c.if-nodes-len.false in
-    path-no_commit (grown c.args.tree.now.tree c.args.path.now.added.now) c.args.path.now.leaf c.args.path.now.path.now H c.in_ok-places.ensures.set long (sym c.is_from_commit.ensures ∙ c.if-not-is_from_commit.true)
+    path-no_commit (grown c.args.tree.now.tree c.args.path.now.added.now) c.args.path.now.leaf c.args.path.now.path.now H (is_less _ _ c.in_ok-places.ensures.inside) long (sym c.is_from_commit.ensures ∙ c.if-not-is_from_commit.true)
 
 pub returns-then-not-branch-clause-refused : goal.returns-then-not-branch-clause-refused
 returns-then-not-branch-clause-refused c _ H =
     let long = path-long c.args.tree.now.tree c.args.path.now.leaf c.len.result c.as_slice-nodes.result.now c.args.path.now.path.now.nodes c.in_ok-places.places.items
     c.as_slice-nodes.ensures c.in_ok-places.ensures.places (omega (arith, c.in_ok-places.places.ok)) c.if-nodes-len.false in
     let commit = sym c.is_from_commit.ensures ∙ c.if-not-is_from_commit.false in
-    path-old_key (grown c.args.tree.now.tree c.args.path.now.added.now) c.args.path.now.leaf c.args.path.now.path.now H c.in_ok-places.ensures.set long commit (sym c.in_ok-has_new_keys.ensures ∙ c.if-not-branch.true)
+    path-old_key (grown c.args.tree.now.tree c.args.path.now.added.now) c.args.path.now.leaf c.args.path.now.path.now H (is_less _ _ c.in_ok-places.ensures.inside) long commit (sym c.in_ok-has_new_keys.ensures ∙ c.if-not-branch.true)
 
 pub have_counts-requires-clause-parents : goal.have_counts-requires-clause-parents
 have_counts-requires-clause-parents c =
@@ -49,7 +50,7 @@ returns-then-not-branch-2-clause-refused c _ H =
     let new = sym c.in_ok-has_new_keys.ensures ∙ c.if-not-branch.false in
     let counted = has_ciphertexts-counted c.args.path.now.path.now (grown c.args.tree.now.tree c.args.path.now.added.now) c.args.path.now.leaf c.as_slice-added.result.now c.deref.result.now c.as_slice-nodes.result.now c.in_ok-have_counts.field-0
     c.as_slice-added.ensures (c.deref.ensures.value ∙ c.in_ok-places.ensures.places) c.as_slice-nodes.ensures c.in_ok-have_counts.ensures in
-    path-other_count (grown c.args.tree.now.tree c.args.path.now.added.now) c.args.path.now.leaf c.args.path.now.path.now H c.in_ok-places.ensures.set long commit new (counted ∙ c.if-not-branch-2.true)
+    path-other_count (grown c.args.tree.now.tree c.args.path.now.added.now) c.args.path.now.leaf c.args.path.now.path.now H (is_less _ _ c.in_ok-places.ensures.inside) long commit new (counted ∙ c.if-not-branch-2.true)
 
 pub returns-clause-kept : goal.returns-clause-kept
 returns-clause-kept c H =
@@ -59,7 +60,4 @@ returns-clause-kept c H =
     let new = sym c.in_ok-has_new_keys.ensures ∙ c.if-not-branch.false in
     let counted = has_ciphertexts-counted c.args.path.now.path.now (grown c.args.tree.now.tree c.args.path.now.added.now) c.args.path.now.leaf c.as_slice-added.result.now c.deref.result.now c.as_slice-nodes.result.now c.in_ok-have_counts.field-0
     c.as_slice-added.ensures (c.deref.ensures.value ∙ c.in_ok-places.ensures.places) c.as_slice-nodes.ensures c.in_ok-have_counts.ensures in
-    path-checked (grown c.args.tree.now.tree c.args.path.now.added.now) c.args.path.now.leaf c.args.path.now.path.now H c.in_ok-places.ensures.set long commit new (counted ∙ c.if-not-branch-2.false)
-
-pub returns-clause-inside : goal.returns-clause-inside
-returns-clause-inside c = set_inside c.args.tree.now.tree c.args.path.now.leaf c.in_ok-places.ensures.set
+    path-checked (grown c.args.tree.now.tree c.args.path.now.added.now) c.args.path.now.leaf c.args.path.now.path.now H (is_less _ _ c.in_ok-places.ensures.inside) long commit new (counted ∙ c.if-not-branch-2.false)

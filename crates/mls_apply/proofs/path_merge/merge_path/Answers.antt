@@ -1,7 +1,7 @@
 use Rattle.std.proofs.Common.{rules, refl, ◌∙◌, Some, Err, map, sym, ap}
-use Rattle.std.specs.Prelude.{is_some}
 use Rattle.mls_tree.specs.TreeOperations.{clear_path, put_leaf}
-use Rattle.mls_tree.proofs.Walking.{is_some-copied}
+use Rattle.mls_tree.specs.Tree.{leaf_count}
+use Rattle.mls_tree.proofs.Choices.{is_less}
 use Rattle.mls_hash.specs.SuiteHash.{hash_of}
 use Rattle.mls_apply.specs.declared.fault.ApplyFault.TheVariants.{NoSuchLeaf, OutOfMemory}
 use Rattle.mls_apply.specs.AppliedList.{grown}
@@ -13,12 +13,12 @@ use Rattle.mls_apply.proofs.Refusals.{path-no_leaf, path-set, same_fault}
 use Rattle.mls_apply.proofs.Routes.{merged-changes}
 use Rattle.mls_apply.proofs.path_merge.merge_path.Goals as goal
 
-pub returns-then-is_none-clause-refused : goal.returns-then-is_none-clause-refused
-returns-then-is_none-clause-refused c _ =
+pub returns-then-committer-leaf_count-clause-refused : goal.returns-then-committer-leaf_count-clause-refused
+returns-then-committer-leaf_count-clause-refused c _ =
     path-no_leaf (grown c.args.applied.tree.tree c.args.applied.added) c.args.committer c.args.path.now (hash_of c.args.suite) (search rules)
 
-pub returns-then-is_none-clause-no_such_leaf : goal.returns-then-is_none-clause-no_such_leaf
-returns-then-is_none-clause-no_such_leaf c =
+pub returns-then-committer-leaf_count-clause-no_such_leaf : goal.returns-then-committer-leaf_count-clause-no_such_leaf
+returns-then-committer-leaf_count-clause-no_such_leaf c =
     (λ _. path-no_leaf (grown c.args.applied.tree.tree c.args.applied.added) c.args.committer c.args.path.now (hash_of c.args.suite) (search rules), λ _. refl)
 
 pub returns-in-Ok-new-clause-merged : goal.returns-in-Ok-new-clause-merged
@@ -31,15 +31,15 @@ returns-in-Ok-new-clause-merged c =
 
 pub returns-in_default-clause-no_such_leaf : goal.returns-in_default-clause-no_such_leaf
 returns-in_default-clause-no_such_leaf c =
-    let set = ap is_some (sym c.leaf.ensures) ∙ is_some-copied c.leaf.result ∙ c.if-is_none.ensures in
+    let set = is_less c.args.committer (leaf_count c.args.applied.tree.tree) (search rules) in
     path-set (grown c.args.applied.tree.tree c.args.applied.added) c.args.committer c.args.path.now (hash_of c.args.suite)
     (λ h. let f = same_fault OutOfMemory NoSuchLeaf _ _ h in absurd (cc)) set
 
 pub returns-in-Err-clause-no_such_leaf : goal.returns-in-Err-clause-no_such_leaf
 returns-in-Err-clause-no_such_leaf c =
-    let set = ap is_some (sym c.leaf.ensures) ∙ is_some-copied c.leaf.result ∙ c.if-is_none.ensures in
+    let set = is_less c.args.committer (leaf_count c.args.applied.tree.tree) (search rules) in
     path-set (grown c.args.applied.tree.tree c.args.applied.added) c.args.committer c.args.path.now (hash_of c.args.suite)
-    (λ h. c.in-Err.ensures.not_set.0 (ap Err (same_fault c.in-Err.fault NoSuchLeaf _ _ h))) set
+    (λ h. c.in-Err.ensures.outside.0 (ap Err (same_fault c.in-Err.fault NoSuchLeaf _ _ h))) set
 
 -- an index of a tree covers it
 pub filled_nodes-new-requires : goal.filled_nodes-new-requires

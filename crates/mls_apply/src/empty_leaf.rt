@@ -1,0 +1,48 @@
+//! A leaf node without content, which stands for one that is not copied.
+
+use mls_nodes::{Capabilities, Codes, Credential, Extensions, LeafNode, LeafSource};
+use mls_wire::Opaque;
+use std::alloc::Global;
+
+/// Returns the body without bytes.
+fn no_bytes(alloc: Global) -> Opaque {
+    match Opaque::new(Vec::new(alloc)) {
+        Ok(body) => body,
+        Err(_) => unreachable!(),
+    }
+}
+
+/// Returns the empty list of codes.
+fn no_codes(alloc: Global) -> Codes {
+    match Codes::new(Vec::new(alloc)) {
+        Ok(codes) => codes,
+        Err(_) => unreachable!(),
+    }
+}
+
+/// Returns the empty list of extensions.
+fn no_extensions(alloc: Global) -> Extensions {
+    match Extensions::new(Vec::new(alloc)) {
+        Ok(extensions) => extensions,
+        Err(_) => unreachable!(),
+    }
+}
+
+/// Returns a leaf node whose fields are empty. Does not allocate.
+pub(crate) fn empty_leaf(alloc: Global) -> LeafNode {
+    LeafNode {
+        encryption_key: no_bytes(alloc),
+        signature_key: no_bytes(alloc),
+        credential: Credential::Basic(no_bytes(alloc)),
+        capabilities: Capabilities {
+            versions: no_codes(alloc),
+            cipher_suites: no_codes(alloc),
+            extensions: no_codes(alloc),
+            proposals: no_codes(alloc),
+            credentials: no_codes(alloc),
+        },
+        source: LeafSource::Update,
+        extensions: no_extensions(alloc),
+        signature: no_bytes(alloc),
+    }
+}

@@ -1,0 +1,66 @@
+//! Whether a proposal list can be applied to a tree (RFC 9420, 12.3).
+
+ghost use Rattle.std.specs.Prelude.{◌≡◌, ◌⊎◌, Err, None, IfErr, IsSome, OnOk};
+ghost use Rattle.mls_tree.specs.Journals.{before};
+ghost use Rattle.mls_apply.specs.AppliedList.{outcome, without_adds, ExceedsCapacity};
+
+use crate::adds::fit_adds;
+use crate::capacity::exceeds_capacity;
+use crate::empty_leaf::empty_leaf;
+use crate::fault::ApplyFault;
+use crate::list_item::ListItem;
+use crate::removes::apply_removes;
+use crate::updates::apply_updates;
+use mls_tree::{Journal, PublicTree};
+use std::alloc::Global;
+
+/// Applies the items of a list, for whose Adds the tree has capacity, with an empty leaf node for each Add.
+fn fit_items(
+    alloc: Global,
+    tree: &mut PublicTree,
+    journal: &mut Journal,
+    items: &[ListItem<'_>],
+) -> Result<(), ApplyFault>
+    requires { ExceedsCapacity items.now tree.old.tree → ⊥ }
+    ensures fit { OnOk result (IsSome (outcome items.now tree.old.tree)) }
+    ensures no_such_leaf { result ≡ Err ApplyFault.NoSuchLeaf
+        → without_adds items.now tree.old.tree ≡ None }
+    ensures too_many_leaves { result ≡ Err ApplyFault.TooManyLeaves
+        → IsSome (without_adds items.now tree.old.tree) × (outcome items.now tree.old.tree ≡ None) }
+    ensures else_memory { IfErr result (λ e.
+        (e ≡ ApplyFault.NoSuchLeaf) ⊎ (e ≡ ApplyFault.TooManyLeaves)
+        ⊎ (e ≡ ApplyFault.OutOfMemory)) }
+    ensures before { before journal.new tree.new.tree ≡ before journal.old tree.old.tree }
+{
+    apply_updates(alloc, tree, journal, items)?;
+    apply_removes(alloc, tree, journal, items)?;
+    let leaf = empty_leaf(alloc);
+    let answer = fit_adds(alloc, tree, journal, items, &leaf);
+    drop(leaf);
+    answer
+}
+
+/// Checks whether a proposal list can be applied. No leaf node of an Add is copied: the list is applied to the tree in place,
+/// with an empty leaf node for each Add. The journal logs what is changed. Whatever is returned, the tree is not the one after
+/// the list, and has to be taken back.
+pub(crate) fn check_list_fits(
+    alloc: Global,
+    tree: &mut PublicTree,
+    journal: &mut Journal,
+    items: &[ListItem<'_>],
+) -> Result<(), ApplyFault>
+    ensures fit { OnOk result (IsSome (outcome items.now tree.old.tree)) }
+    ensures no_such_leaf { result ≡ Err ApplyFault.NoSuchLeaf
+        → without_adds items.now tree.old.tree ≡ None }
+    ensures too_many_leaves { result ≡ Err ApplyFault.TooManyLeaves
+        → IsSome (without_adds items.now tree.old.tree) × (outcome items.now tree.old.tree ≡ None) }
+    ensures else_memory { IfErr result (λ e.
+        (e ≡ ApplyFault.NoSuchLeaf) ⊎ (e ≡ ApplyFault.TooManyLeaves)
+        ⊎ (e ≡ ApplyFault.OutOfMemory)) }
+    ensures before { before journal.new tree.new.tree ≡ before journal.old tree.old.tree }
+{
+    if exceeds_capacity(tree, items) {
+        return Err(ApplyFault::TooManyLeaves);
+    }
+    fit_items(alloc, tree, journal, items)
+}

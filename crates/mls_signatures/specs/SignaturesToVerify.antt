@@ -8,6 +8,7 @@ use Rattle.mls_nodes.specs.declared.context.GroupContext.{GroupContext}
 use Rattle.mls_nodes.specs.declared.leaf.LeafNode.{LeafNode}
 use Rattle.mls_nodes.specs.LeafNodeTBS.{leaf_tbs}
 use Rattle.mls_tree.specs.Tree.{Tree, leaf, branch, leaf_count, leaf_at}
+use Rattle.mls_tree.specs.TreeOperations.{added_leaf}
 use Rattle.mls_check.specs.Signatures.{sign_content}
 use Rattle.mls_msgs.specs.Tbs.{content_label, content_tbs, package_label, package_tbs, info_label, info_tbs}
 use Rattle.mls_msgs.specs.declared.authenticated.AuthenticatedParts.{AuthenticatedParts}
@@ -30,6 +31,7 @@ use Rattle.mls_msgs.specs.declared.proposal.ProposalOrRef.TheVariants as entries
 use Rattle.mls_apply.specs.declared.list_item.KnownProposal.{KnownProposal}
 use Rattle.mls_apply.specs.declared.list_item.ListItem.{ListItem}
 use Rattle.mls_apply.specs.ResolvedList.{resolved}
+use Rattle.mls_apply.specs.JoinRules.{is_join_list, join_items}
 use Rattle.mls_apply.specs.ListRules.{replaced_leaf}
 use Rattle.mls_apply.specs.AppliedList.{Grown, outcome}
 use Rattle.mls_apply.specs.Senders.{member_index}
@@ -266,12 +268,39 @@ abbrev pub outside_signatures : GroupContext → AuthenticatedParts → Sender �
 outside_signatures context a sender None = []
 outside_signatures context a sender (Some key) = outside_content_signatures context a sender key a.content.content
 
+-- of a client that joins with a commit, its path's leaf, at the leaf that it takes in the tree after the list (12.4.3.2); none
+-- if no tree is after the list
+abbrev pub seated_signatures : GroupContext → UpdatePath → Option Grown → List SignatureToVerify
+seated_signatures context path None = []
+seated_signatures context path (Some g) =
+    leaf_signatures context.cipher_suite context.group_id (added_leaf g.tree) path.leaf_node
+
+-- of this external commit with this path that leaf's; none if its list is not one of an external commit
+abbrev pub join_list_signatures : GroupContext → Tree → Commit → UpdatePath → List SignatureToVerify
+join_list_signatures context t c path =
+    if is_join_list c.proposals
+    then seated_signatures context path (outcome (join_items c.proposals) t)
+    else []
+
+-- of an external commit with this path: the message's own, under the key of the path's leaf, then that of the leaf; none
+-- without a path
+abbrev pub join_signatures : GroupContext → Tree → AuthenticatedParts → Commit → Option UpdatePath → List SignatureToVerify
+join_signatures context t a c None = []
+join_signatures context t a c (Some path) =
+    framed_content_signatures context path.leaf_node.signature_key a ++ join_list_signatures context t c path
+
+-- of what a client that joins with a commit has sent; none if it is no commit
+abbrev pub join_content_signatures : GroupContext → Tree → AuthenticatedParts → Content → List SignatureToVerify
+join_content_signatures context t a (contents.Application _) = []
+join_content_signatures context t a (contents.Proposal _) = []
+join_content_signatures context t a (contents.Commit c) = join_signatures context t a c c.path
+
 -- these in the full profile; none in the members' profile
 abbrev pub in_full : Profile → List SignatureToVerify → List SignatureToVerify
 in_full Members qs = []
 in_full Full qs = qs
 
--- of what a sender has sent; none of a client that joins with a commit
+-- of what a sender has sent
 abbrev pub sender_signatures : Profile → GroupContext → List KnownProposal → Tree → AuthenticatedParts → Sender
     → List SignatureToVerify
 sender_signatures profile context known t a (senders.Member i) = member_signatures context known t a i (leaf_at 0 t i)
@@ -281,7 +310,8 @@ sender_signatures profile context known t a (senders.External k) =
 sender_signatures profile context known t a senders.NewMemberProposal =
     in_full profile (outside_signatures context a senders.NewMemberProposal
     (outside_key context senders.NewMemberProposal a.content.content))
-sender_signatures profile context known t a senders.NewMemberCommit = []
+sender_signatures profile context known t a senders.NewMemberCommit =
+    in_full profile (join_content_signatures context t a a.content.content)
 
 -- of an AuthenticatedContent; none if it is of another group or epoch (6.1)
 abbrev pub authenticated_signatures : Profile → GroupContext → List KnownProposal → Tree → AuthenticatedParts

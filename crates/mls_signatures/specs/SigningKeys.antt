@@ -8,6 +8,7 @@ use Rattle.mls_nodes.specs.declared.extension.Extension.{Extension}
 use Rattle.mls_nodes.specs.declared.leaf.LeafNode.{LeafNode}
 use Rattle.mls_nodes.specs.declared.senders.ExternalSender.{ExternalSender}
 use Rattle.mls_tree.specs.Tree.{Tree, leaf_at}
+use Rattle.mls_msgs.specs.declared.commit.UpdatePath.{UpdatePath}
 use Rattle.mls_msgs.specs.declared.framed_content.Content.{Content}
 use Rattle.mls_msgs.specs.declared.framed_content.Content.TheVariants as contents
 use Rattle.mls_msgs.specs.declared.framed_content.Sender.{Sender}
@@ -50,13 +51,23 @@ joiner_key (contents.Application _) = None
 joiner_key (contents.Proposal p) = added_key p
 joiner_key (contents.Commit _) = None
 
--- `outside_key context sender c` is the key of a sender that is no member. `None` of one that joins with a commit: such
--- commits are not processed (own rule).
+-- `path_key path` is the signature key of the leaf node of a path, if there is one.
+abbrev pub path_key : Option UpdatePath → Option (List ℕ)
+path_key None = None
+path_key (Some path) = Some path.leaf_node.signature_key
+
+-- `committer_key c` is the signature key of a client that joins with a commit: that of its path's leaf node (12.4.3.2).
+abbrev pub committer_key : Content → Option (List ℕ)
+committer_key (contents.Application _) = None
+committer_key (contents.Proposal _) = None
+committer_key (contents.Commit c) = path_key c.path
+
+-- `outside_key context sender c` is the key of a sender that is no member.
 abbrev pub outside_key : GroupContext → Sender → Content → Option (List ℕ)
 outside_key context (senders.Member _) c = None
 outside_key context (senders.External k) c = external_key context.extensions k
 outside_key context senders.NewMemberProposal c = joiner_key c
-outside_key context senders.NewMemberCommit c = None
+outside_key context senders.NewMemberCommit c = committer_key c
 
 -- `leaf_key o` is the signature key of a leaf node, if it is non-blank.
 abbrev pub leaf_key : Option LeafNode → Option (List ℕ)
@@ -69,7 +80,7 @@ abbrev pub signing_key : GroupContext → Tree → Sender → Content → Option
 signing_key context t (senders.Member i) c = leaf_key (leaf_at 0 t i)
 signing_key context t (senders.External k) c = outside_key context (senders.External k) c
 signing_key context t senders.NewMemberProposal c = outside_key context senders.NewMemberProposal c
-signing_key context t senders.NewMemberCommit c = None
+signing_key context t senders.NewMemberCommit c = outside_key context senders.NewMemberCommit c
 
 -- `is_external_proposal p`: an external sender may send the proposal (12.1.8).
 abbrev pub is_external_proposal : Proposal → Bool
@@ -81,8 +92,8 @@ is_external_proposal (proposals.PreSharedKey _) = true
 is_external_proposal (proposals.ReInit _) = true
 is_external_proposal (proposals.ExternalInit _) = false
 
--- `may_propose sender p`: the sender may send the proposal. A member may send any, and a client that proposes to join only
--- an Add (6.1, 12.1.8).
+-- `may_propose sender p`: the sender may send the proposal. A member may send any, a client that proposes to join only an
+-- Add, and a client that joins with a commit none (6.1, 12.1.8).
 abbrev pub may_propose : Sender → Proposal → Bool
 may_propose (senders.Member _) p = true
 may_propose (senders.External _) p = is_external_proposal p

@@ -8,6 +8,7 @@
 
 mod commit_signatures;
 mod duplicates;
+mod external_commit_signatures;
 pub mod laws;
 mod resumption;
 mod signature_list;

@@ -3,11 +3,12 @@
 ghost use Rattle.std.specs.Prelude.{◌≡◌, ◌++◌, IfOk, OnOk};
 ghost use Rattle.mls_tree.specs.Tree.{leaf_at};
 ghost use Rattle.mls_apply.specs.Staged.{IsSettled};
-ghost use Rattle.mls_signatures.specs.SignaturesToVerify.{all_message_signatures, authenticated_signatures, info_signatures, member_signatures, message_signatures, non_blank_leaf_signatures, outside_content_signatures, outside_proposal_signatures, outside_signatures, sender_signatures, start_signatures};
+ghost use Rattle.mls_signatures.specs.SignaturesToVerify.{all_message_signatures, authenticated_signatures, info_signatures, join_content_signatures, member_signatures, message_signatures, non_blank_leaf_signatures, outside_content_signatures, outside_proposal_signatures, outside_signatures, sender_signatures, start_signatures};
 ghost use Rattle.mls_signatures.specs.SigningKeys.{outside_key};
 
 use crate::commit_signatures::{MemberCommit, push_commit_signatures};
 use crate::duplicates::deduplicated;
+use crate::external_commit_signatures::{ExternalCommit, push_external_commit_signature};
 use crate::signature_list::{
     push_framed_content_signature, push_info_signature, push_non_blank_leaf_signature,
     push_proposal_signatures, push_start_signatures,
@@ -224,6 +225,38 @@ fn push_outside_signatures(
     answer
 }
 
+/// Appends the signatures of what a client that joins with a commit has sent, if it is a commit with a path.
+fn push_join_signatures(
+    alloc: Global,
+    context: &GroupContext,
+    tree: &mut StagedTree,
+    auth: &Authenticated,
+    list: &mut Vec<SignatureToVerify>,
+) -> Result<(), OutOfMemory>
+    requires { IsSettled tree.old }
+    ensures signatures { OnOk result (list.new.items ≡ list.old.items
+        ++ join_content_signatures context.now tree.old.tree auth.now auth.now.content.content) }
+    ensures base { tree.new.base ≡ tree.old.base }
+    ensures tree { tree.new.tree ≡ tree.old.tree }
+    ensures settled { IsSettled tree.new }
+{
+    let commit = match &auth.content().content {
+        Content::Application(_) => return Ok(()),
+        Content::Proposal(_) => return Ok(()),
+        Content::Commit(commit) => commit,
+    };
+    let Some(path) = &commit.path else {
+        return Ok(());
+    };
+    push_framed_content_signature(alloc, context, &path.leaf_node.signature_key, auth, list)?;
+    let external = ExternalCommit {
+        context,
+        commit,
+        path,
+    };
+    push_external_commit_signature(alloc, &external, tree, list)
+}
+
 /// Appends the signatures of what a sender has sent. In the members' profile there are none of a sender outside the group.
 fn push_sender_signatures(
     alloc: Global,
@@ -250,6 +283,9 @@ fn push_sender_signatures(
         }
         (Sender::NewMemberProposal, Profile::Full) => {
             push_outside_signatures(alloc, epoch.context, auth, list)
+        }
+        (Sender::NewMemberCommit, Profile::Full) => {
+            push_join_signatures(alloc, epoch.context, tree, auth, list)
         }
         _ => Ok(()),
     }
@@ -310,8 +346,9 @@ fn push_message_signatures(
 /// an Update the leaf's; of a commit those of its proposals by value, and of the leaves that it adds or replaces.
 ///
 /// In the members' profile only messages of members have signatures. In the full profile also the proposals that external
-/// senders and new members may send do, if the sender has a key (12.1.8). Some signatures may be returned that no rule
-/// checks, as if another rule refuses the message before.
+/// senders and new members may send do, if the sender has a key (12.1.8). An external commit with a path has its own, and that
+/// of the path's leaf, if its list is one of an external commit and can be applied (12.4.3.2). Some signatures may be returned
+/// that no rule checks, as if another rule refuses the message before.
 ///
 /// The list of a commit is applied to the tree and taken back, so the tree must be settled. Its changes are taken back
 /// whatever is returned.

@@ -3,10 +3,10 @@
 
 ghost use Rattle.std.specs.Prelude.{◌≡◌, IfOk, IfSome, None, OnErr, option_map};
 ghost use Rattle.mls_nodes.specs.ExternalSenders.{senders_by};
-ghost use Rattle.mls_signatures.specs.SigningKeys.{added_key, external_key, is_external_proposal, joiner_key, key_at, may_propose, outside_key, signed_context};
+ghost use Rattle.mls_signatures.specs.SigningKeys.{added_key, committer_key, external_key, is_external_proposal, joiner_key, key_at, may_propose, outside_key, path_key, signed_context};
 
 use mls_check::OutOfMemory;
-use mls_msgs::{Content, Proposal, Sender};
+use mls_msgs::{Content, Proposal, Sender, UpdatePath};
 use mls_nodes::{Extensions, ExternalSender, ExternalSenders, GroupContext, external_senders};
 use mls_wire::{CodecFault, Opaque, copy_of};
 use std::alloc::Global;
@@ -110,9 +110,41 @@ fn joiner_key_copy(alloc: Global, content: &Content) -> Result<Option<Opaque>, O
     }
 }
 
-/// Returns the key under which the signature of a content of a sender outside the group is verified (RFC 9420, 6.1 and
-/// 12.1.8), if there is one: that of the external sender in the group's context, or that of the client that proposes its
-/// own Add. There is none for a client that joins with a commit.
+/// The signature key of the leaf node of a path, if there is one.
+fn path_key(path: &Option<UpdatePath>) -> Option<&Opaque>
+    ensures { option_map (λ key. key.now) result ≡ path_key path.now }
+{
+    match path {
+        Some(path) => Some(&path.leaf_node.signature_key),
+        None => None,
+    }
+}
+
+/// The signature key of a client that joins with a commit: that of its path's leaf node.
+fn committer_key(content: &Content) -> Option<&Opaque>
+    ensures { option_map (λ key. key.now) result ≡ committer_key content.now }
+{
+    match content {
+        Content::Application(_) => None,
+        Content::Proposal(_) => None,
+        Content::Commit(commit) => path_key(&commit.path),
+    }
+}
+
+/// Returns a copy of the signature key of a client that joins with a commit (RFC 9420, 12.4.3.2), if the content is one
+/// with a path.
+fn committer_key_copy(alloc: Global, content: &Content) -> Result<Option<Opaque>, OutOfMemory>
+    ensures { IfOk result (λ key. key ≡ committer_key content.now) }
+{
+    match committer_key(content) {
+        Some(key) => Ok(Some(copy_of(alloc, key)?)),
+        None => Ok(None),
+    }
+}
+
+/// Returns the key under which the signature of a content of a sender outside the group is verified (RFC 9420, 6.1, 12.1.8
+/// and 12.4.3.2), if there is one. It is that of the external sender in the group's context, of the client that proposes its
+/// own Add, or of the path's leaf node of a client that joins with a commit.
 ///
 /// # Errors
 ///
@@ -129,7 +161,7 @@ pub fn outside_key(
         Sender::Member(_) => Ok(None),
         Sender::External(index) => external_key(alloc, &context.extensions, index),
         Sender::NewMemberProposal => joiner_key_copy(alloc, content),
-        Sender::NewMemberCommit => Ok(None),
+        Sender::NewMemberCommit => committer_key_copy(alloc, content),
     }
 }
 

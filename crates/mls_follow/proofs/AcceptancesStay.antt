@@ -1,6 +1,6 @@
 -- A message that keeps each rule keeps it where more signatures are good: no rule asks that a signature is bad.
 use Rattle.std.proofs.Common.{◌≡◌, ◌∙◌, ℕ, List, [], ◌∷◌, ◌++◌, Bool, true, false, Option, Some, None, refl, sym, subst}
-use Rattle.std.specs.Prelude.{◌&&◌, is_some}
+use Rattle.std.specs.Prelude.{◌&&◌, is_some, option_and_then}
 use Rattle.std.specs.List.{list_all}
 use Rattle.mls_nodes.specs.declared.context.GroupContext.{GroupContext}
 use Rattle.mls_nodes.specs.declared.leaf.LeafNode.{LeafNode}
@@ -37,10 +37,11 @@ use Rattle.mls_apply.specs.ListRules.{list_rules}
 use Rattle.mls_apply.specs.AppliedList.{Grown, outcome}
 use Rattle.mls_apply.specs.ContextExtensions as extensions
 use Rattle.mls_apply.specs.ProposalRules.{fits_group, is_package_signed, is_valid_add, fits_leaf, is_valid_update, is_valid_update_by, valid_if_add, valid_if_update, holds_if_by_value, all_inline}
+use Rattle.mls_apply.specs.JoinRules.{path_of_join, join_items}
 use Rattle.mls_apply.specs.RuleLists.{Rule, rule, first_failing, renamed}
 use Rattle.mls_apply.proofs.RuleLists.{AreKept, first_failing-right, passed, passed_both, refused}
 use Rattle.mls_follow.specs.State.{State}
-use Rattle.mls_follow.specs.MessageRules.{refusal_of, is_frame_signed, proposal_message_rules, member_rules, tree_rules, resulting, path_rules_of, outcome_rules, required_after, rules_under, inline_rules, items_rules, commit_rules, content_rules, leaf_rules, signed_proposal_rules, outside_content_rules, outside_rules, if_full, sender_rules, frame_rules, message_rules}
+use Rattle.mls_follow.specs.MessageRules.{refusal_of, is_frame_signed, proposal_message_rules, member_rules, tree_rules, Placed, placed, resulting, path_rules_of, placed_rules, required_after, rules_under, inline_rules, items_rules, commit_rules, content_rules, leaf_rules, signed_proposal_rules, outside_content_rules, outside_rules, external_commit_rules, signed_commit_rules, joiner_rules, if_full, sender_rules, frame_rules, message_rules}
 use Rattle.mls_follow.specs.Start.{is_info_signed}
 use Rattle.mls_follow.specs.RisingRuns.{AcceptancesStay, StartsStay}
 use Rattle.mls_follow.proofs.SignatureAgreement.{text_stays, leaf_stays, members_stay}
@@ -167,18 +168,18 @@ module _ (G K : VerifyFn) (more : Extends G K) (s : State) where
       first_stays (λ e. e)
       (faultless_stays (member_fault G suite group_id required t) (member_fault K suite group_id required t) faultless) h
 
-  outcomes_stay : (required : RequiredCapabilities) (i : ℕ) (path : Option UpdatePath) (o : Option Grown)
-      → AreKept (outcome_rules G s required i path o) → AreKept (outcome_rules K s required i path o)
-  outcomes_stay required i path None h = h
-  outcomes_stay required i path (Some g) h =
-      let of_path = path_rules_of (hash_of s.context.cipher_suite) g i path in
-      let t = resulting (hash_of s.context.cipher_suite) g i path in
+  places_stay : (required : RequiredCapabilities) (path : Option UpdatePath) (o : Option Placed)
+      → AreKept (placed_rules G s required path o) → AreKept (placed_rules K s required path o)
+  places_stay required path None h = h
+  places_stay required path (Some q) h =
+      let of_path = path_rules_of (hash_of s.context.cipher_suite) q.grown q.leaf path in
+      let t = resulting (hash_of s.context.cipher_suite) q.grown q.leaf path in
       lists_stay of_path (tree_rules G s required t) of_path (tree_rules K s required t) (λ e. e) (trees_stay required t) h
 
-  unders_stay : (i : ℕ) (path : Option UpdatePath) (o : Option Grown) (required : Option RequiredCapabilities)
-      → AreKept (rules_under G s i path o required) → AreKept (rules_under K s i path o required)
-  unders_stay i path o None h = h
-  unders_stay i path o (Some required) h = outcomes_stay required i path o h
+  unders_stay : (committer : Sender) (path : Option UpdatePath) (o : Option Grown) (required : Option RequiredCapabilities)
+      → AreKept (rules_under G s committer path o required) → AreKept (rules_under K s committer path o required)
+  unders_stay committer path o None h = h
+  unders_stay committer path o (Some required) h = places_stay required path (option_and_then (placed committer) o) h
 
   inlines_stay : (i : ℕ) (c : Commit) → AreKept (inline_rules G s i c) → AreKept (inline_rules K s i c)
   inlines_stay i c =
@@ -193,15 +194,39 @@ module _ (G K : VerifyFn) (more : Extends G K) (s : State) where
     items_stay i c (Some items) h =
         let of_list = renamed refusal_of (list_rules (senders.Member i) items (is_some c.path)) in
         let after = required_after required (extensions.brought items) in
-        let under_G = rules_under G s i c.path (outcome items s.tree) after in
-        let under_K = rules_under K s i c.path (outcome items s.tree) after in
+        let under_G = rules_under G s (senders.Member i) c.path (outcome items s.tree) after in
+        let under_K = rules_under K s (senders.Member i) c.path (outcome items s.tree) after in
         lists_stay (inline_rules G s i c) (of_list ++ under_G) (inline_rules K s i c) (of_list ++ under_K) (inlines_stay i c)
-        (lists_stay of_list under_G of_list under_K (λ e. e) (unders_stay i c.path (outcome items s.tree) after)) h
+        (lists_stay of_list under_G of_list under_K (λ e. e) (unders_stay (senders.Member i) c.path (outcome items s.tree) after)) h
 
     commits_stay : (i : ℕ) (c : Commit) → AreKept (commit_rules G s required i c) → AreKept (commit_rules K s required i c)
     commits_stay i c = first_stays (λ e. e) (items_stay i c (resolved (senders.Member i) s.known c.proposals))
 
+    externals_stay : (c : Commit) → AreKept (external_commit_rules G s required c) → AreKept (external_commit_rules K s required c)
+    externals_stay c =
+        let items = join_items c.proposals in
+        let of_list = renamed refusal_of (path_of_join s.context s.tree c.proposals c.path) in
+        let after = required_after required (extensions.brought items) in
+        let under_G = rules_under G s senders.NewMemberCommit c.path (outcome items s.tree) after in
+        let under_K = rules_under K s senders.NewMemberCommit c.path (outcome items s.tree) after in
+        first_stays (λ e. e)
+        (lists_stay of_list under_G of_list under_K (λ e. e) (unders_stay senders.NewMemberCommit c.path (outcome items s.tree) after))
+
     module _ (a : AuthenticatedParts) where
+      signed_commits_stay : (c : Commit) (o : Option UpdatePath) → AreKept (signed_commit_rules G s required a c o) → AreKept (signed_commit_rules K s required a c o)
+      signed_commits_stay c None h = h
+      signed_commits_stay c (Some path) h = first_stays (frame_stays G K more s.context path.leaf_node.signature_key a) (externals_stay c) h
+
+      joins_stay : (content : Content) → AreKept (joiner_rules G s required a content) → AreKept (joiner_rules K s required a content)
+      joins_stay (contents.Application sent) h = h
+      joins_stay (contents.Proposal p) h = h
+      joins_stay (contents.Commit c) h = signed_commits_stay c c.path h
+
+      joiners_stay : (profile : Profile) → AreKept (if_full profile (joiner_rules G s required a a.content.content))
+          → AreKept (if_full profile (joiner_rules K s required a a.content.content))
+      joiners_stay Members h = h
+      joiners_stay Full h = joins_stay a.content.content h
+
       contents_stay : (i : ℕ) (x : LeafNode) (content : Content) → AreKept (content_rules G s required a i x content) → AreKept (content_rules K s required a i x content)
       contents_stay i x (contents.Application sent) h = h
       contents_stay i x (contents.Proposal p) h = first_stays (frame_stays G K more s.context x.signature_key a) (offers_stay a (senders.Member i) p) h
@@ -232,7 +257,7 @@ module _ (G K : VerifyFn) (more : Extends G K) (s : State) where
       senders_stay (senders.Member i) h = leaves_stay i (leaf_at 0 s.tree i) h
       senders_stay (senders.External j) h = outsides_stay s.profile (senders.External j) h
       senders_stay senders.NewMemberProposal h = outsides_stay s.profile senders.NewMemberProposal h
-      senders_stay senders.NewMemberCommit h = h
+      senders_stay senders.NewMemberCommit h = joiners_stay s.profile h
 
       frames_stay : AreKept (frame_rules G s required a) → AreKept (frame_rules K s required a)
       frames_stay = first_stays (λ e. e) (first_stays (λ e. e) (first_stays (λ e. e) (senders_stay a.content.sender)))

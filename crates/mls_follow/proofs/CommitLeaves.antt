@@ -1,5 +1,5 @@
 -- A set leaf of the tree after a commit is that of its path, one that its list brings, or the same as before.
-use Rattle.std.proofs.Common.{◌≡◌, ◌≢◌, ◌∙◌, ℕ, ◌+◌, ◌<◌, ◌≤◌, List, [], ◌∷◌, Option, Some, None, IsSome, refl, sym, ap, subst, inl, inr, arith}
+use Rattle.std.proofs.Common.{◌≡◌, ◌≢◌, ◌∙◌, ℕ, ◌+◌, ◌<◌, ◌≤◌, List, [], ◌∷◌, Option, Some, None, refl, sym, ap, subst, inl, inr, arith}
 use Rattle.std.specs.Prelude.{MatchOption, ◌⊎◌, is_some, reverse, length, nat_le, option_map, option_and_then}
 use Rattle.std.specs.List.{Contains}
 use Rattle.std.proofs.lemmas.Bool.{cases_lt, cases_eq}
@@ -28,7 +28,7 @@ use Rattle.mls_apply.specs.ListRules.{replaced_leaf}
 use Rattle.mls_apply.specs.MergePath.{Handed, handed, merged_from}
 use Rattle.mls_apply.specs.AppliedList.{Grown, grown, outcome, with_members, new_members, without_adds, after_leaf, after_adds, updated_at, after_update, after_updates, after_remove, after_removes}
 use Rattle.mls_apply.specs.PathRules.{node_keys}
-use Rattle.mls_apply.proofs.Leaves.{leaf_inside, kept_beside, put_there}
+use Rattle.mls_apply.proofs.Leaves.{kept_beside, put_there}
 use Rattle.mls_apply.proofs.Merging.{came_from}
 use Rattle.mls_apply.proofs.SoundOutcomes.{unless, where_so}
 use Rattle.mls_follow.specs.MessageRules.{resulting}
@@ -214,14 +214,14 @@ module _ (j : ℕ) where
                 (pathed_right i y first l r w.0 n h.parent (pathed (first + leaf_count l) r w.0 h.hash h.keys more (omega arith) w.1)))
           ]
 
-    -- the leaf of a path of member i
+    -- the leaf of a path of the client at leaf i
     abbrev pub IsPathLeaf : ℕ → Option UpdatePath → Type 0
     IsPathLeaf i None = ⊥
     IsPathLeaf i (Some path) = (i ≡ j) × (path.leaf_node ≡ x)
 
-    -- after the path of a commit of member i, whose leaf is in the tree after the list
+    -- after the path of a commit of the client at leaf i, which is one of the tree after the list
     pub brought : (H : List ℕ → List ℕ) (g : Grown) (i : ℕ) (path : Option UpdatePath) (u : Tree)
-        → IsSome (leaf_at 0 g.tree i) → resulting H g i path ≡ Some u → Stood u → IsPathLeaf i path ⊎ Stood g.tree
-    brought H g i None u there e set = inr (same_tree g.tree u (same_Some g.tree u e) set)
-    brought H g i (Some path) u there e set =
-        (pathed H (leaf_count g.tree) i path.leaf_node 0 g.tree u [] (reverse (node_keys path)) (omega arith) (omega (arith, leaf_inside g.tree i there)) e).stood set
+        → i < leaf_count g.tree → resulting H g i path ≡ Some u → Stood u → IsPathLeaf i path ⊎ Stood g.tree
+    brought H g i None u inside e set = inr (same_tree g.tree u (same_Some g.tree u e) set)
+    brought H g i (Some path) u inside e set =
+        (pathed H (leaf_count g.tree) i path.leaf_node 0 g.tree u [] (reverse (node_keys path)) (omega arith) (omega (arith, inside)) e).stood set

@@ -1,9 +1,13 @@
 -- What the parts of the rules for a commit say of the whole commit.
-use Rattle.std.proofs.Common.{◌≡◌, ◌≢◌, ◌∙◌, ◌++◌, ℕ, List, true, Option, Some, None, IsSome, refl, ap}
+use Rattle.std.proofs.Common.{◌≡◌, ◌≢◌, ◌∙◌, ◌<◌, ◌≤◌, ◌∷◌, ◌++◌, [], ℕ, List, true, false, Option, Some, None, IsSome, refl, sym, ap}
 use Rattle.std.specs.Prelude.{option_map, option_and_then, is_some, nat_lt}
+use Rattle.std.proofs.lemmas.Bool.{false≢true}
 use Rattle.std.proofs.lemmas.Option.{none-some}
 use Rattle.mls_nodes.specs.declared.required_capabilities.RequiredCapabilities.{RequiredCapabilities}
-use Rattle.mls_tree.specs.Tree.{Tree, leaf_at}
+use Rattle.mls_nodes.specs.Limits.{leaf_limit}
+use Rattle.mls_tree.specs.Tree.{Tree, leaf_count, member_count}
+use Rattle.mls_tree.specs.TreeOperations.{seat}
+use Rattle.mls_tree.proofs.Choices.{is_less, not_less}
 use Rattle.mls_hash.specs.SuiteHash.{hash_of}
 use Rattle.mls_check.specs.DistinctKeys.{has_distinct_keys}
 use Rattle.mls_check.specs.LeafValidation.{LeavesAreValid, IsMemberFault, member_fault}
@@ -16,22 +20,28 @@ use Rattle.mls_msgs.specs.declared.commit.Commit.{Commit}
 use Rattle.mls_msgs.specs.declared.commit.UpdatePath.{UpdatePath}
 use Rattle.mls_msgs.specs.declared.framed_content.Content.TheVariants as contents
 use Rattle.mls_msgs.specs.declared.framed_content.Sender.{Sender}
-use Rattle.mls_msgs.specs.declared.framed_content.Sender.TheVariants.{Member}
+use Rattle.mls_msgs.specs.declared.framed_content.Sender.TheVariants.{Member, NewMemberCommit}
 use Rattle.mls_msgs.specs.declared.proposal.Proposal.{Proposal}
+use Rattle.mls_msgs.specs.declared.proposal.ProposalOrRef.{ProposalOrRef}
+use Rattle.mls_nodes.specs.declared.context.GroupContext.{GroupContext}
+use Rattle.mls_apply.specs.AddedKeys.{have_distinct_added_keys}
 use Rattle.mls_apply.specs.Senders.{is_present}
 use Rattle.mls_apply.specs.declared.fault.ApplyFault.{ApplyFault}
+use Rattle.mls_apply.specs.declared.fault.ApplyFault.TheVariants.{PathMissing}
 use Rattle.mls_apply.specs.declared.list_item.ListItem.{ListItem}
 use Rattle.mls_apply.specs.ContextExtensions.{brought}
 use Rattle.mls_apply.specs.ResolvedList.{resolved}
+use Rattle.mls_apply.specs.JoinRules.{path_of_join, join_items, join_refusal}
 use Rattle.mls_apply.specs.ListRules.{list_rules, list_refusal}
-use Rattle.mls_apply.specs.AppliedList.{Grown, outcome, without_adds, with_members, new_members}
+use Rattle.mls_apply.specs.AppliedList.{Grown, grown, outcome, without_adds, with_members, new_members}
 use Rattle.mls_apply.specs.PathRules.{path_rules, path_refusal}
 use Rattle.mls_apply.specs.ProposalRules.{proposal_rules, checked_refusal}
-use Rattle.mls_apply.specs.RuleLists.{Rule, first_failing, renamed}
+use Rattle.mls_apply.specs.RuleLists.{Rule, rule, first_failing, renamed}
+use Rattle.mls_apply.proofs.RepeatedAdds.{repeated_adds_repeat_keys}
 use Rattle.mls_apply.proofs.RuleLists.{first_failing-left, first_failing-right, first_failing-renamed}
 use Rattle.mls_follow.specs.State.{State, last_epoch}
-use Rattle.mls_follow.specs.MessageRules.{refusal_of, is_new_proposal, proposal_message_rules, commit_refusal, handshake_refusal, items_rules, inline_rules, outcome_rules, required_after, rules_under, path_rules_of, member_refusal, member_rules, tree_rules, resulting}
-use Rattle.mls_follow.specs.CommitTree.{change_rules, changed_tree}
+use Rattle.mls_follow.specs.MessageRules.{refusal_of, is_new_proposal, proposal_message_rules, commit_refusal, handshake_refusal, items_rules, inline_rules, outcome_rules, required_after, rules_under, path_rules_of, Placed, seated, placed, placed_rules, external_commit_refusal, member_refusal, member_rules, tree_rules, resulting, changed_tree}
+use Rattle.mls_follow.specs.CommitTree.{place_rules, change_rules}
 use Rattle.mls_follow.specs.Acceptance.{Refuses}
 use Rattle.mls_follow.specs.declared.refusal.Refusal.{Refusal}
 use Rattle.mls_follow.specs.declared.refusal.Refusal.TheVariants as refusals
@@ -49,7 +59,7 @@ module _ (G : VerifyFn) (s : State) (required : RequiredCapabilities) (i : ℕ) 
   of_list = renamed refusal_of (list_rules (Member i) items (is_some c.path))
 
   of_outcome : List (Rule Refusal)
-  of_outcome = rules_under G s i c.path (outcome items s.tree) (required_after required (brought items))
+  of_outcome = rules_under G s (Member i) c.path (outcome items s.tree) (required_after required (brought items))
 
   -- its rules are those for its list
   whole : commit_refusal G s required i c ≡ first_failing (items_rules G s required i c (Some items))
@@ -75,28 +85,102 @@ module _ (G : VerifyFn) (s : State) (required : RequiredCapabilities) (i : ℕ) 
 
     module _ (kept : list_refusal (Member i) items (is_some c.path) ≡ None) where
       -- what is left is what follows the list
-      pub past_list : commit_refusal G s required i c ≡ first_failing (rules_under G s i c.path (outcome items s.tree) (required_after required (brought items)))
+      pub past_list : commit_refusal G s required i c ≡ first_failing (rules_under G s (Member i) c.path (outcome items s.tree) (required_after required (brought items)))
       unfolding of_list of_outcome list_refusal
       past_list =
           past_inline
           ∙ first_failing-right of_list of_outcome (first_failing-renamed refusal_of (list_rules (Member i) items (is_some c.path)) ∙ ap (option_map refusal_of) kept)
 
+-- an external commit with a path is judged by the rules for its list, and what follows them
+module _ (context : GroupContext) (t : Tree) (es : List ProposalOrRef) where
+  by_path : (o : Option UpdatePath) → IsSome o
+      → first_failing (rule PathMissing (is_some o) ∷ path_of_join context t es o) ≡ first_failing (path_of_join context t es o)
+  by_path None h = absurd (false≢true h)
+  by_path (Some path) h = refl
+
+-- in an epoch that has a next one
+module _ (G : VerifyFn) (s : State) (required : RequiredCapabilities) (c : Commit) (has : IsSome c.path) (later : nat_lt s.context.epoch last_epoch ≡ true) where
+  -- the rules for its list, and for what follows it
+  of_join : List (Rule Refusal)
+  of_join = renamed refusal_of (path_of_join s.context s.tree c.proposals c.path)
+
+  of_joined : List (Rule Refusal)
+  of_joined =
+      rules_under G s NewMemberCommit c.path (outcome (join_items c.proposals) s.tree) (required_after required (brought (join_items c.proposals)))
+
+  past_epoch : external_commit_refusal G s required c ≡ first_failing (of_join ++ of_joined)
+  unfolding external_commit_refusal of_join of_joined
+  past_epoch = rw later refl
+
+  join_word : join_refusal s.context s.tree c ≡ first_failing (path_of_join s.context s.tree c.proposals c.path)
+  unfolding join_refusal
+  join_word = by_path s.context s.tree c.proposals c.path has
+
+  -- its list fails a rule
+  pub join_failed : (e : ApplyFault) → join_refusal s.context s.tree c ≡ Some e → external_commit_refusal G s required c ≡ Some (refusal_of e)
+  unfolding of_join
+  join_failed e f =
+      past_epoch
+      ∙ first_failing-left of_join of_joined (refusal_of e)
+      (first_failing-renamed refusal_of (path_of_join s.context s.tree c.proposals c.path) ∙ ap (option_map refusal_of) (sym join_word ∙ f))
+
+  -- what is left is what follows the list
+  pub past_join : join_refusal s.context s.tree c ≡ None → external_commit_refusal G s required c
+      ≡ first_failing (rules_under G s NewMemberCommit c.path (outcome (join_items c.proposals) s.tree) (required_after required (brought (join_items c.proposals))))
+  unfolding of_join of_joined
+  past_join kept =
+      past_epoch
+      ∙ first_failing-right of_join of_joined
+      (first_failing-renamed refusal_of (path_of_join s.context s.tree c.proposals c.path) ∙ ap (option_map refusal_of) (sym join_word ∙ kept))
+
 -- what follows the list of a commit
-module _ (G : VerifyFn) (s : State) (required : RequiredCapabilities) (i : ℕ) (path : Option UpdatePath) where
-  -- the list has no outcome, or the path fails a rule
-  pub change_failed : (o : Option Grown) (e : Refusal) → first_failing (change_rules (hash_of s.context.cipher_suite) i path o) ≡ Some e
-      → first_failing (outcome_rules G s required i path o) ≡ Some e
-  change_failed None e f = f
-  change_failed (Some g) e f =
-      first_failing-left (path_rules_of (hash_of s.context.cipher_suite) g i path) (tree_rules G s required (resulting (hash_of s.context.cipher_suite) g i path)) e f
+module _ (G : VerifyFn) (s : State) (required : RequiredCapabilities) (committer : Sender) (path : Option UpdatePath) where
+  place_failed : (q : Option Placed) (e : Refusal) → first_failing (place_rules (hash_of s.context.cipher_suite) path q) ≡ Some e
+      → first_failing (placed_rules G s required path q) ≡ Some e
+  place_failed None e f = f
+  place_failed (Some q) e f =
+      first_failing-left (path_rules_of (hash_of s.context.cipher_suite) q.grown q.leaf path) (tree_rules G s required (resulting (hash_of s.context.cipher_suite) q.grown q.leaf path)) e f
+
+  place_kept : (q : Option Placed) (t : Tree) → first_failing (place_rules (hash_of s.context.cipher_suite) path q) ≡ None
+      → option_and_then (λ q. resulting (hash_of s.context.cipher_suite) q.grown q.leaf path) q ≡ Some t
+      → first_failing (placed_rules G s required path q) ≡ first_failing (tree_rules G s required (Some t))
+  place_kept None t f e = absurd (none-some t e)
+  place_kept (Some q) t f e =
+      first_failing-right (path_rules_of (hash_of s.context.cipher_suite) q.grown q.leaf path) (tree_rules G s required (resulting (hash_of s.context.cipher_suite) q.grown q.leaf path)) f
+      ∙ ap (λ (x : Option Tree). first_failing (tree_rules G s required x)) e
+
+  -- the list has no outcome, the committer no leaf, or the path fails a rule
+  pub change_failed : (o : Option Grown) (e : Refusal) → first_failing (change_rules (hash_of s.context.cipher_suite) committer path o) ≡ Some e
+      → first_failing (outcome_rules G s required committer path o) ≡ Some e
+  change_failed o e f = place_failed (option_and_then (placed committer) o) e f
 
   -- what is left is to judge the tree
-  pub change_kept : (o : Option Grown) (t : Tree) → first_failing (change_rules (hash_of s.context.cipher_suite) i path o) ≡ None
-      → changed_tree (hash_of s.context.cipher_suite) i path o ≡ Some t → first_failing (outcome_rules G s required i path o) ≡ first_failing (tree_rules G s required (Some t))
-  change_kept None t f e = absurd (none-some t e)
-  change_kept (Some g) t f e =
-      first_failing-right (path_rules_of (hash_of s.context.cipher_suite) g i path) (tree_rules G s required (resulting (hash_of s.context.cipher_suite) g i path)) f
-      ∙ ap (λ (x : Option Tree). first_failing (tree_rules G s required x)) e
+  pub change_kept : (o : Option Grown) (t : Tree) → first_failing (change_rules (hash_of s.context.cipher_suite) committer path o) ≡ None
+      → changed_tree (hash_of s.context.cipher_suite) committer path o ≡ Some t → first_failing (outcome_rules G s required committer path o) ≡ first_failing (tree_rules G s required (Some t))
+  change_kept o t f e = place_kept (option_and_then (placed committer) o) t f e
+
+-- a client that joins takes the leaf of the next new member, or there is none
+pub placed_there : (g : Grown) (t : Tree) (j : ℕ) (js : List ℕ) → member_count g.tree < leaf_limit → t ≡ (seat g.tree).tree → j ≡ (seat g.tree).leaf → js ≡ []
+    → placed NewMemberCommit g ≡ Some (record { grown = grown t js; leaf = j })
+placed_there g t j js room tree leaf none =
+    let some : placed NewMemberCommit g ≡ Some (seated g) = rw (is_less (member_count g.tree) leaf_limit room) refl in
+    some ∙ (λ i. Some (record { grown = grown (sym tree i) (sym none i); leaf = sym leaf i }))
+
+pub placed_nowhere : (g : Grown) → leaf_limit ≤ member_count g.tree → placed NewMemberCommit g ≡ None
+placed_nowhere g full = rw (not_less (member_count g.tree) leaf_limit full) refl
+
+-- the committer has a leaf in the tree after its list
+module _ (H : List ℕ → List ℕ) (committer : Sender) (path : Option UpdatePath) (o : Option Grown) (g : Grown) (q : Placed)
+    (made : o ≡ Some g) (at : placed committer g ≡ Some q) where
+  pub change_placed : first_failing (change_rules H committer path o) ≡ first_failing (path_rules_of H q.grown q.leaf path)
+  change_placed =
+      ap (λ (p : Option Grown). first_failing (change_rules H committer path p)) made
+      ∙ ap (λ (p : Option Placed). first_failing (place_rules H path p)) at
+
+  pub changed_placed : changed_tree H committer path o ≡ resulting H q.grown q.leaf path
+  changed_placed =
+      ap (λ (p : Option Grown). changed_tree H committer path p) made
+      ∙ ap (λ (p : Option Placed). option_and_then (λ (r : Placed). resulting H r.grown r.leaf path) p) at
 
 -- a commit is judged by the rules for commits
 pub of_commit : (G : VerifyFn) (s : State) (required : RequiredCapabilities) (a : AuthenticatedParts) (i : ℕ) (c : Commit)
@@ -110,11 +194,11 @@ pub offer_word : (G : VerifyFn) (s : State) (a : AuthenticatedParts) (sender : S
 unfolding checked_refusal
 offer_word G s a sender p new set = rw new (first_failing-renamed refusal_of (proposal_rules G s.context s.tree sender p) ∙ rw set refl)
 
--- a path of a member is judged by its rules alone
-pub path_word : (H : List ℕ → List ℕ) (g : Grown) (i : ℕ) (path : UpdatePath) → IsSome (leaf_at 0 g.tree i)
+-- a path of a leaf of the tree is judged by its rules alone
+pub path_word : (H : List ℕ → List ℕ) (g : Grown) (i : ℕ) (path : UpdatePath) → nat_lt i (leaf_count g.tree) ≡ true
     → first_failing (path_rules_of H g i (Some path)) ≡ option_map refusal_of (path_refusal H g i path)
 unfolding path_refusal
-path_word H g i path set = first_failing-renamed refusal_of (path_rules H g i path) ∙ rw set refl
+path_word H g i path inside = first_failing-renamed refusal_of (path_rules H g i path) ∙ rw inside refl
 
 -- the tree after a commit, whose keys are distinct
 module _ (G : VerifyFn) (s : State) (required : RequiredCapabilities) (t : Tree) (distinct : has_distinct_keys t ≡ true) where
@@ -140,3 +224,23 @@ module _ (G : VerifyFn) (s : State) (required : RequiredCapabilities) (t : Tree)
   tree_failed (members.SignatureKeyRepeated i) h = λ _. stranger (members.SignatureKeyRepeated i) (λ e. cc) h
   tree_failed (members.LeafSignature i) h = λ _. stranger (members.LeafSignature i) (λ e. cc) h
   tree_failed members.OutOfMemory h = λ own. absurd (own refl)
+
+-- ---- a commit without a path, two of whose Adds have one encryption key
+
+module _ (items : List ListItem) (t : Tree) (repeated : have_distinct_added_keys items ≡ false)
+    (G : VerifyFn) (s : State) (required : RequiredCapabilities) (i : ℕ) where
+  key_repeated : (g : Grown) → outcome items t ≡ Some g → first_failing (outcome_rules G s required (Member i) None (Some g)) ≡ Some refusals.KeyRepeated
+  key_repeated g e = rw (repeated_adds_repeat_keys items t g e repeated) refl
+
+  by_outcome : (o : Option Grown) → outcome items t ≡ o → IsSome o → first_failing (outcome_rules G s required (Member i) None o) ≡ Some refusals.KeyRepeated
+  by_outcome None e set = absurd (false≢true set)
+  by_outcome (Some g) e set = key_repeated g e
+
+  -- its list can be applied
+  pub repeated_refused : IsSome (outcome items t) → first_failing (outcome_rules G s required (Member i) None (outcome items t)) ≡ Some refusals.KeyRepeated
+  repeated_refused set = by_outcome (outcome items t) refl set
+
+-- its list cannot be applied
+pub unfit_refused : (items : List ListItem) (t : Tree) (G : VerifyFn) (s : State) (required : RequiredCapabilities) (i : ℕ) → outcome items t ≡ None
+    → first_failing (outcome_rules G s required (Member i) None (outcome items t)) ≡ Some refusals.TooManyLeaves
+unfit_refused items t G s required i none = ap (λ (o : Option Grown). first_failing (outcome_rules G s required (Member i) None o)) none

@@ -27,6 +27,7 @@ use Rattle.mls_msgs.specs.declared.proposal.ProposalOrRef.TheVariants as entries
 use Rattle.mls_apply.specs.declared.list_item.ListItem.{ListItem}
 use Rattle.mls_apply.specs.declared.list_item.KnownProposal.{KnownProposal}
 use Rattle.mls_apply.specs.ContextExtensions.{brought, brought_before, extensions_of}
+use Rattle.mls_apply.specs.JoinRules.{join_items}
 use Rattle.mls_apply.specs.ResolvedList.{find_known, item_of, entry_item, with_first, resolved}
 use Rattle.mls_apply.specs.ProposalRules.{all_inline, holds_if_by_value, valid_if_extensions, are_valid_extensions}
 use Rattle.mls_apply.specs.RuleLists.{first_failing}
@@ -35,7 +36,7 @@ use Rattle.mls_apply.proofs.RuleLists.{AreKept, passed, refused}
 use Rattle.mls_follow.specs.State.{State}
 use Rattle.mls_follow.specs.ReadableExtensions.{AreReadable, FollowersKnowReadable, CommitsAreReadable}
 use Rattle.mls_follow.specs.MessageRules.{required_after, proposal_message_rules, content_rules, leaf_rules, signed_proposal_rules, outside_content_rules, outside_rules, if_full, sender_rules, frame_rules, message_rules, reference_of}
-use Rattle.mls_follow.specs.NextState.{Step, after_proposal, committed, after_tree, commit_tree, with_list, after_commit, after_content, after_outside, after_sender, next}
+use Rattle.mls_follow.specs.NextState.{Step, after_proposal, committed, after_tree, commit_tree, with_list, after_commit, after_content, after_join, after_outside, after_sender, next}
 use Rattle.mls_follow.specs.Transcript.{confirmed_hash, interim_hash}
 use Rattle.mls_tree.specs.TreeHash.{tree_hash}
 use Rattle.mls_hash.specs.SuiteHash.{hash_of}
@@ -118,10 +119,16 @@ tree-forgets u a t step e =
     (let w = came_from (committed u t hash confirmed) (interim_hash (hash_of u.context.cipher_suite) confirmed a.confirmation_tag) step l in
     sym (ap (λ (v : Step). v.state.known) w.2))))
 
-pub commit-forgets : (s : State) (a : AuthenticatedParts) (i : ℕ) (c : Commit) (step : Step) → after_commit s a i c ≡ Some step → step.state.known ≡ []
-commit-forgets s a i c step e =
-    option_and_then_some (after_tree (with_list s (resolved (senders.Member i) s.known c.proposals)) a) (commit_tree s i c) step e
-    (λ t f g. tree-forgets (with_list s (resolved (senders.Member i) s.known c.proposals)) a t step g)
+pub commit-forgets : (s : State) (a : AuthenticatedParts) (committer : Sender) (c : Commit) (items : Option (List ListItem)) (step : Step)
+    → after_commit s a committer c items ≡ Some step → step.state.known ≡ []
+commit-forgets s a committer c items step e =
+    option_and_then_some (after_tree (with_list s items) a) (commit_tree s committer c items) step e
+    (λ t f g. tree-forgets (with_list s items) a t step g)
+
+pub join-forgets : (s : State) (a : AuthenticatedParts) (content : Content) (step : Step) → after_join s a content ≡ Some step → step.state.known ≡ []
+join-forgets s a (contents.Application sent) step e = absurd (none-some step e)
+join-forgets s a (contents.Proposal p) step e = absurd (none-some step e)
+join-forgets s a (contents.Commit c) step e = commit-forgets s a senders.NewMemberCommit c (Some (join_items c.proposals)) step e
 
 knows_none : (known : List KnownProposal) → known ≡ [] → AreReadable known
 knows_none known none = subst AreReadable (sym none) (All-nil (λ k. valid_if_extensions k.proposal ≡ true))
@@ -148,7 +155,8 @@ module _ (G : VerifyFn) (s : State) (all : AreReadable s.known) (required : Requ
         → AreReadable step.state.known
     content-readable i x (contents.Application sent) kept e = absurd (refused kept)
     content-readable i x (contents.Proposal p) kept e = proposal-readable (senders.Member i) p (reference_of s.context a) step (offer-readable a (senders.Member i) p (passed kept).1) e
-    content-readable i x (contents.Commit c) kept e = knows_none step.state.known (commit-forgets s a i c step e)
+    content-readable i x (contents.Commit c) kept e = knows_none step.state.known
+        (commit-forgets s a (senders.Member i) c (resolved (senders.Member i) s.known c.proposals) step e)
 
     leaf-readable : (i : ℕ) (o : Option LeafNode) → AreKept (leaf_rules G s required a i o) → after_content s a i a.content.content ≡ Some step → AreReadable step.state.known
     leaf-readable i None kept e = absurd (refused kept)
@@ -175,7 +183,7 @@ module _ (G : VerifyFn) (s : State) (all : AreReadable s.known) (required : Requ
     sender-readable (senders.Member i) kept e = leaf-readable i (leaf_at 0 s.tree i) kept e
     sender-readable (senders.External j) kept e = outside-readable s.profile (senders.External j) kept e
     sender-readable senders.NewMemberProposal kept e = outside-readable s.profile senders.NewMemberProposal kept e
-    sender-readable senders.NewMemberCommit kept e = absurd (none-some step e)
+    sender-readable senders.NewMemberCommit kept e = knows_none step.state.known (join-forgets s a a.content.content step e)
 
   step-readable : (m : Message) (step : Step) → first_failing (message_rules G s required m) ≡ None → next s m ≡ Some step → AreReadable step.state.known
   step-readable (messages.Public p) step kept e =

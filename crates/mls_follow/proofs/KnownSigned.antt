@@ -19,6 +19,7 @@ use Rattle.mls_msgs.specs.declared.profile.Profile.TheVariants.{Members, Full}
 use Rattle.mls_msgs.specs.declared.proposal.Proposal.{Proposal}
 use Rattle.mls_signatures.specs.SigningKeys.{leaf_key, signing_key, outside_key, may_propose}
 use Rattle.mls_apply.specs.declared.list_item.KnownProposal.{KnownProposal}
+use Rattle.mls_apply.specs.ResolvedList.{resolved}
 use Rattle.mls_apply.specs.RuleLists.{first_failing}
 use Rattle.mls_apply.proofs.Merging.{came_from}
 use Rattle.mls_apply.proofs.RuleLists.{AreKept, passed, refused}
@@ -31,7 +32,7 @@ use Rattle.mls_follow.specs.Runs.{Takes, Call, IsRun}
 use Rattle.mls_follow.specs.declared.refusal.Refusal.{Refusal}
 use Rattle.mls_follow.specs.declared.taken.Taken.{Taken}
 use Rattle.mls_follow.proofs.Answering.{one_message}
-use Rattle.mls_follow.proofs.KnownReadable.{commit-forgets}
+use Rattle.mls_follow.proofs.KnownReadable.{commit-forgets, join-forgets}
 
 -- a state that knows none
 knows_none : (G : VerifyFn) (s : State) → s.known ≡ [] → AreKnownSigned G s
@@ -66,7 +67,8 @@ module _ (G : VerifyFn) (s : State) (all : AreKnownSigned G s) (required : Requi
           reference = told;
           signed = (passed kept).0;
         }) e
-    content-signed i x (contents.Commit c) sender set is kept e = knows_none G step.state (commit-forgets s a i c step e)
+    content-signed i x (contents.Commit c) sender set is kept e = knows_none G step.state
+        (commit-forgets s a (senders.Member i) c (resolved (senders.Member i) s.known c.proposals) step e)
 
     leaf-signed : (i : ℕ) (o : Option LeafNode) → a.content.sender ≡ senders.Member i → leaf_at 0 s.tree i ≡ o
         → AreKept (leaf_rules G s required a i o) → after_content s a i a.content.content ≡ Some step → AreKnownSigned G step.state
@@ -111,7 +113,7 @@ module _ (G : VerifyFn) (s : State) (all : AreKnownSigned G s) (required : Requi
     sender-signed (senders.Member i) is kept e = leaf-signed i (leaf_at 0 s.tree i) is refl kept e
     sender-signed (senders.External j) is kept e = outside-signed s.profile (senders.External j) is refl kept e
     sender-signed senders.NewMemberProposal is kept e = outside-signed s.profile senders.NewMemberProposal is refl kept e
-    sender-signed senders.NewMemberCommit is kept e = absurd (none-some step e)
+    sender-signed senders.NewMemberCommit is kept e = knows_none G step.state (join-forgets s a a.content.content step e)
 
   step-signed : (m : Message) (step : Step) → first_failing (message_rules G s required m) ≡ None → next s m ≡ Some step
       → AreKnownSigned G step.state

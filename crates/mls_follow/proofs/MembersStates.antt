@@ -49,8 +49,8 @@ use Rattle.mls_apply.proofs.RuleLists.{AreKept, passed, refused}
 use Rattle.mls_signatures.specs.SigningKeys.{may_propose}
 use Rattle.mls_follow.specs.State.{State}
 use Rattle.mls_follow.specs.MembersProfile.{IsOfMember, IsMembersState, is_members_rule, MembersRulesDecide, MembersStatesStay, MembersStart, MembersResume}
-use Rattle.mls_follow.specs.MessageRules.{reference_of, proposal_message_rules, member_rules, tree_rules, resulting, path_rules_of, outcome_rules, required_after, rules_under, items_rules, commit_rules, content_rules, leaf_rules, is_followed, is_known_external, if_full, sender_rules, frame_rules, message_rules}
-use Rattle.mls_follow.specs.NextState.{Step, after_proposal, committed, after_tree, commit_tree, with_list, is_over_after, after_commit, after_content, after_sender, next}
+use Rattle.mls_follow.specs.MessageRules.{reference_of, proposal_message_rules, member_rules, tree_rules, Placed, placed, resulting, path_rules_of, placed_rules, required_after, rules_under, items_rules, commit_rules, content_rules, leaf_rules, is_followed, is_known_external, if_full, sender_rules, frame_rules, message_rules}
+use Rattle.mls_follow.specs.NextState.{Step, after_proposal, committed, after_tree, commit_tree, with_list, is_over_after, after_content, after_sender, next}
 use Rattle.mls_follow.specs.RefusalNumbers.{number_of}
 use Rattle.mls_follow.specs.Resumption.{Holds, can_hold, is_receivable, with_pending, base_state, is_over, profile_of}
 use Rattle.mls_follow.specs.Transcript.{confirmed_hash, interim_hash}
@@ -220,15 +220,16 @@ module _ (G : VerifyFn) (s : State) (h : IsMembersState s) (required : RequiredC
   of_path_then H g i None rs k = k
   of_path_then H g i (Some path) rs k = pass_kept refl (pass_kept refl (pass_kept refl (pass_kept refl (pass_kept refl k))))
 
-  of_outcome : (needed : RequiredCapabilities) (i : ℕ) (path : Option UpdatePath) (o : Option Grown) → Passes (outcome_rules G s needed i path o)
-  of_outcome needed i path None = pass_kept refl pass_none
-  of_outcome needed i path (Some g) =
-      of_path_then (hash_of s.context.cipher_suite) g i path (tree_rules G s needed (resulting (hash_of s.context.cipher_suite) g i path))
-      (of_tree needed (resulting (hash_of s.context.cipher_suite) g i path))
+  of_placed : (needed : RequiredCapabilities) (path : Option UpdatePath) (o : Option Placed) → Passes (placed_rules G s needed path o)
+  of_placed needed path None = pass_kept refl pass_none
+  of_placed needed path (Some q) =
+      of_path_then (hash_of s.context.cipher_suite) q.grown q.leaf path (tree_rules G s needed (resulting (hash_of s.context.cipher_suite) q.grown q.leaf path))
+      (of_tree needed (resulting (hash_of s.context.cipher_suite) q.grown q.leaf path))
 
-  of_under : (i : ℕ) (path : Option UpdatePath) (o : Option Grown) (needed : Option RequiredCapabilities) → Passes (rules_under G s i path o needed)
-  of_under i path o None = pass_kept refl pass_none
-  of_under i path o (Some needed) = of_outcome needed i path o
+  of_under : (committer : Sender) (path : Option UpdatePath) (o : Option Grown) (needed : Option RequiredCapabilities)
+      → Passes (rules_under G s committer path o needed)
+  of_under committer path o None = pass_kept refl pass_none
+  of_under committer path o (Some needed) = of_placed needed path (option_and_then (placed committer) o)
 
   of_items : (i : ℕ) (c : Commit) → are_members_entries c.proposals ≡ true → (o : Option (List ListItem)) → resolved (senders.Member i) s.known c.proposals ≡ o
       → Passes (items_rules G s required i c o)
@@ -241,7 +242,7 @@ module _ (G : VerifyFn) (s : State) (h : IsMembersState s) (required : RequiredC
       (pass_full refl (inline_holds is_no_external_init external_holds c.proposals members)
       (pass_kept refl (pass_kept refl (pass_kept refl (pass_kept refl
       (pass_full refl (psks_hold items all) (pass_full refl (alone_holds items all)
-      (pass_kept refl (of_under i c.path (outcome items s.tree) (required_after required (brought items))))))))))))))))
+      (pass_kept refl (of_under (senders.Member i) c.path (outcome items s.tree) (required_after required (brought items))))))))))))))))
 
   of_offer : (a : AuthenticatedParts) (sender : Sender) (p : Proposal) → IsMembers p → Passes (proposal_message_rules G s a sender p)
   of_offer a sender p members =
@@ -269,7 +270,7 @@ module _ (G : VerifyFn) (s : State) (h : IsMembersState s) (required : RequiredC
     of_sender (senders.Member i) members = of_leaf i (leaf_at 0 s.tree i) members
     of_sender (senders.External k) members = of_full s.profile h.profile _
     of_sender senders.NewMemberProposal members = of_full s.profile h.profile _
-    of_sender senders.NewMemberCommit members = pass_kept refl pass_none
+    of_sender senders.NewMemberCommit members = of_full s.profile h.profile _
 
     of_frame : is_members_content a.content.content ≡ true → Passes (frame_rules G s required a)
     of_frame members = pass_kept refl (pass_kept refl (pass_full refl (ap not h.going) (of_sender a.content.sender members)))
@@ -317,11 +318,11 @@ module _ (G : VerifyFn) (s : State) (h : IsMembersState s) (required : RequiredC
     known = subst (All IsOfMember) (sym c.known) (All-nil IsOfMember);
   }
 
-  commit-members : (a : AuthenticatedParts) (i : ℕ) (c : Commit) (step : Step) → are_members_entries c.proposals ≡ true → after_commit s a i c ≡ Some step
+  commit-members : (a : AuthenticatedParts) (i : ℕ) (c : Commit) (step : Step) → are_members_entries c.proposals ≡ true → after_content s a i (contents.Commit c) ≡ Some step
       → IsMembersState step.state
   commit-members a i c step members e =
       let o = resolved (senders.Member i) s.known c.proposals in
-      option_and_then_some (after_tree (with_list s o) a) (commit_tree s i c) step e
+      option_and_then_some (after_tree (with_list s o) a) (commit_tree s (senders.Member i) c o) step e
       (λ t f g. cleared o step.state (over_after o (λ items is. resolved_members (senders.Member i) s.known c.proposals items h.known members is))
       (tree-clears (with_list s o) a t step g))
 
@@ -351,7 +352,7 @@ module _ (G : VerifyFn) (s : State) (h : IsMembersState s) (required : RequiredC
     sender-members (senders.Member i) members kept e = content-members i a.content.content members e
     sender-members (senders.External k) members kept e = absurd (no_full s.profile h.profile _ kept)
     sender-members senders.NewMemberProposal members kept e = absurd (no_full s.profile h.profile _ kept)
-    sender-members senders.NewMemberCommit members kept e = absurd (none-some step e)
+    sender-members senders.NewMemberCommit members kept e = absurd (no_full s.profile h.profile _ kept)
 
   step-members : (m : Message) (step : Step) → is_members_message m ≡ true → first_failing (message_rules G s required m) ≡ None → next s m ≡ Some step
       → IsMembersState step.state

@@ -1,5 +1,5 @@
 -- Two meanings that answer the wanted signatures of a message alike, and those of the state's tree, refuse it alike.
-use Rattle.std.proofs.Common.{◌≡◌, ◌∙◌, ℕ, List, [], ◌∷◌, ◌++◌, Bool, true, false, Option, Some, None, IsSome, refl, sym, ap, subst, inl, inr}
+use Rattle.std.proofs.Common.{◌≡◌, ◌∙◌, ◌<◌, ℕ, List, [], ◌∷◌, ◌++◌, Bool, true, false, Option, Some, None, IsSome, refl, sym, ap, subst, inl, inr}
 use Rattle.std.specs.Prelude.{◌==◌, ◌&&◌, not, is_some, nat_lt, if◌then◌else◌, option_map}
 use Rattle.std.specs.List.{list_all}
 use Rattle.std.specs.Str.{bytes_eq}
@@ -7,7 +7,10 @@ use Rattle.std.proofs.lemmas.Option.{none-some}
 use Rattle.mls_nodes.specs.declared.context.GroupContext.{GroupContext}
 use Rattle.mls_nodes.specs.declared.leaf.LeafNode.{LeafNode}
 use Rattle.mls_nodes.specs.declared.required_capabilities.RequiredCapabilities.{RequiredCapabilities}
-use Rattle.mls_tree.specs.Tree.{Tree, leaf_at}
+use Rattle.mls_nodes.specs.Limits.{leaf_limit}
+use Rattle.mls_tree.specs.Tree.{Tree, leaf_at, leaf_count, member_count}
+use Rattle.mls_tree.specs.BlankLeaves.{first_blank_leaf}
+use Rattle.mls_tree.specs.TreeOperations.{seat}
 use Rattle.mls_hash.specs.SuiteHash.{hash_of}
 use Rattle.mls_check.specs.DistinctKeys.{has_distinct_keys}
 use Rattle.mls_check.specs.LeafValidation.{is_leaf_signed}
@@ -34,16 +37,18 @@ use Rattle.mls_msgs.specs.declared.proposal.ProposalOrRef.TheVariants as entries
 use Rattle.mls_apply.specs.declared.fault.ApplyFault.TheVariants as faults
 use Rattle.mls_apply.specs.declared.list_item.ListItem.{ListItem}
 use Rattle.mls_apply.specs.ResolvedList.{resolved}
+use Rattle.mls_apply.specs.JoinRules.{path_of_join, is_join_list, join_items, join_item_rules}
 use Rattle.mls_apply.specs.ListRules.{list_rules, list_refusal}
 use Rattle.mls_apply.specs.AppliedList.{Grown, outcome}
 use Rattle.mls_apply.specs.ContextExtensions as extensions
 use Rattle.mls_apply.specs.ProposalRules.{fits_group, is_valid_add, fits_leaf, is_valid_update, is_valid_update_by, valid_if_add, valid_if_update, valid_if_remove, valid_if_extensions, valid_if_psk, valid_if_reinit, is_no_external_init, holds_if_by_value, all_inline}
 use Rattle.mls_apply.specs.RuleLists.{Rule, rule, first_failing, renamed}
-use Rattle.mls_apply.proofs.RuleLists.{first_failing-renamed}
+use Rattle.mls_apply.proofs.Leaves.{leaf_inside}
+use Rattle.mls_apply.proofs.RuleLists.{AreKept, first_failing-renamed, passed}
 use Rattle.mls_follow.specs.State.{State, last_epoch}
-use Rattle.mls_follow.specs.MessageRules.{refusal_of, is_new_proposal, is_frame_signed, proposal_message_rules, member_rules, tree_rules, resulting, path_rules_of, outcome_rules, required_after, rules_under, inline_rules, items_rules, commit_rules, content_rules, leaf_rules, is_known_external, signed_proposal_rules, outside_content_rules, outside_rules, if_full, sender_rules, frame_rules, message_rules}
+use Rattle.mls_follow.specs.MessageRules.{refusal_of, is_new_proposal, is_frame_signed, proposal_message_rules, member_rules, tree_rules, Placed, seated, resulting, path_rules_of, placed_rules, outcome_rules, required_after, rules_under, inline_rules, items_rules, commit_rules, content_rules, leaf_rules, is_known_external, signed_proposal_rules, outside_content_rules, outside_rules, external_commit_rules, signed_commit_rules, joiner_rules, if_full, sender_rules, frame_rules, message_rules}
 use Rattle.mls_signatures.specs.Agreement.{AgreeOn}
-use Rattle.mls_signatures.specs.SignaturesToVerify.{leaf_signatures, package_signatures, framed_content_signatures, tree_signatures, signatures_at, proposal_signatures, entries_signatures, new_leaves, path_signatures, applied_list_signatures, commit_signatures, update_signatures, content_signatures, member_signatures, outside_content_signatures, outside_signatures, in_full, sender_signatures, all_message_signatures, message_signatures}
+use Rattle.mls_signatures.specs.SignaturesToVerify.{leaf_signatures, package_signatures, framed_content_signatures, tree_signatures, signatures_at, proposal_signatures, entries_signatures, new_leaves, path_signatures, applied_list_signatures, commit_signatures, update_signatures, content_signatures, member_signatures, outside_content_signatures, outside_signatures, seated_signatures, join_list_signatures, join_signatures, join_content_signatures, in_full, sender_signatures, all_message_signatures, message_signatures}
 use Rattle.mls_follow.specs.MessageSignatures.{SignaturesDetermineRefusal}
 use Rattle.mls_follow.specs.declared.refusal.Refusal.{Refusal}
 use Rattle.mls_follow.specs.declared.refusal.Refusal.TheVariants.{WrongGroup, WrongEpoch, BadSignature, KnownProposal, AddInvalid, UpdateInvalid, RemoveInvalid, ContextExtensionsInvalid, PskInvalid, ReInitInvalid, ExternalInitMisplaced, GroupOver, UnknownExternal, SenderContent, LastEpoch, KeyRepeated}
@@ -52,6 +57,8 @@ use Rattle.mls_follow.proofs.Staying.{committer_stays}
 use Rattle.mls_signatures.proofs.Agreement.{front, back, from_deduplicated}
 use Rattle.mls_follow.proofs.SignatureAgreement.{leaf_alike, package_alike, frame_alike, tree_leaf, listed_leaf, fault_alike}
 use Rattle.mls_follow.proofs.CommitLeaves.{IsPathLeaf, brought, listed}
+use Rattle.mls_follow.proofs.JoinedLeaves.{join_stood, seat_leaves}
+use Rattle.mls_follow.proofs.SpelledCommits.{added_inside}
 
 -- ---- rules in a list
 
@@ -77,6 +84,10 @@ list_kept : (committer : Sender) (items : List ListItem) (has_path : Bool) → f
 unfolding list_refusal
 list_kept committer items has_path e =
     no_image refusal_of (first_failing (list_rules committer items has_path)) (sym (first_failing-renamed refusal_of (list_rules committer items has_path)) ∙ e)
+
+-- the first of some rules that hold
+first_kept : (e : Refusal) (b : Bool) (rs : List (Rule Refusal)) → first_failing (rule e b ∷ rs) ≡ None → b ≡ true
+first_kept e b rs kept = let a : AreKept (rule e b ∷ rs) = record { none = kept } in (passed a).0
 
 -- a rule that holds, before others
 passing : (e : Refusal) (b : Bool) (o p : Option Refusal) → (b ≡ true → o ≡ p) → (if b then o else Some e) ≡ (if b then p else Some e)
@@ -183,8 +194,34 @@ module _ (G K : VerifyFn) where
         subst (λ k. AgreeOn G K (leaf_signatures s.context.cipher_suite s.context.group_id k path.leaf_node)) c.0 h in
         subst (λ (y : LeafNode). AgreeOn G K (leaf_signatures s.context.cipher_suite s.context.group_id j y)) c.1 moved
 
-    -- the leaves that a commit brings into the tree, and the others
-    module _ (i : ℕ) (path : Option UpdatePath) (items : List ListItem) (g : Grown) (made : outcome items s.tree ≡ Some g) (there : IsSome (leaf_at 0 g.tree i))
+    -- the leaves of the tree after a commit: that of its path, and the others of the tree in which the committer has its leaf
+    module _ (q : Placed) (path : Option UpdatePath) (inside : q.leaf < leaf_count q.grown.tree)
+        (said : (j : ℕ) (x : LeafNode) → leaf_at 0 q.grown.tree j ≡ Some x → AgreeOn G K (leaf_signatures s.context.cipher_suite s.context.group_id j x))
+        (asked : AgreeOn G K (path_signatures s.context q.leaf path)) where
+      leaves_say : (t : Tree) → resulting (hash_of s.context.cipher_suite) q.grown q.leaf path ≡ Some t → (j : ℕ) (x : LeafNode) → leaf_at 0 t j ≡ Some x
+          → is_leaf_signed G s.context.cipher_suite s.context.group_id j x ≡ is_leaf_signed K s.context.cipher_suite s.context.group_id j x
+      leaves_say t e j x set =
+          leaf_alike G K s.context.cipher_suite s.context.group_id j x
+          (elim (brought j x (hash_of s.context.cipher_suite) q.grown q.leaf path t inside e set) [
+            | inl c ↦ path_leaf q.leaf path j x c asked
+            | inr at ↦ said j x at
+          ])
+
+      trees_alike : (o : Option Tree) → resulting (hash_of s.context.cipher_suite) q.grown q.leaf path ≡ o
+          → first_failing (tree_rules G s required o) ≡ first_failing (tree_rules K s required o)
+      trees_alike None e = refl
+      trees_alike (Some t) e =
+          ap (λ (f : Option MemberFault). first_failing (rule KeyRepeated (has_distinct_keys t) ∷ member_rules f))
+          (fault_alike G K s.context.cipher_suite s.context.group_id required t (leaves_say t e))
+
+      places_alike : first_failing (placed_rules G s required path (Some q)) ≡ first_failing (placed_rules K s required path (Some q))
+      places_alike =
+          let H = hash_of s.context.cipher_suite in
+          behind_alike (path_rules_of H q.grown q.leaf path) (tree_rules G s required (resulting H q.grown q.leaf path)) (tree_rules K s required (resulting H q.grown q.leaf path))
+          (λ _. trees_alike (resulting H q.grown q.leaf path) refl)
+
+    -- the leaves that the list of a member's commit brings into the tree, and the others
+    module _ (i : ℕ) (path : Option UpdatePath) (items : List ListItem) (g : Grown) (made : outcome items s.tree ≡ Some g)
         (h : AgreeOn G K (applied_list_signatures s.context i path items (Some g))) where
       listed_asked : AgreeOn G K (signatures_at s.context.cipher_suite s.context.group_id g.tree (new_leaves items g))
       listed_asked = front G K (signatures_at s.context.cipher_suite s.context.group_id g.tree (new_leaves items g)) (path_signatures s.context i path) h
@@ -192,42 +229,48 @@ module _ (G K : VerifyFn) where
       path_asked : AgreeOn G K (path_signatures s.context i path)
       path_asked = back G K (signatures_at s.context.cipher_suite s.context.group_id g.tree (new_leaves items g)) (path_signatures s.context i path) h
 
-      leaves_say : (t : Tree) → resulting (hash_of s.context.cipher_suite) g i path ≡ Some t → (j : ℕ) (x : LeafNode) → leaf_at 0 t j ≡ Some x
-          → is_leaf_signed G s.context.cipher_suite s.context.group_id j x ≡ is_leaf_signed K s.context.cipher_suite s.context.group_id j x
-      leaves_say t e j x set =
-          leaf_alike G K s.context.cipher_suite s.context.group_id j x
-          (elim (brought j x (hash_of s.context.cipher_suite) g i path t there e set) [
-            | inl c ↦ path_leaf i path j x c path_asked
-            | inr at ↦ elim (listed j x items s.tree g made at) [
-              | inl c ↦ listed_leaf G K s.context.cipher_suite s.context.group_id g.tree (new_leaves items g) listed_asked j x c at
-              | inr stood ↦ tree_leaf G K s.context.cipher_suite s.context.group_id 0 s.tree old j x stood
-            ]
-          ])
-
-      trees_alike : (o : Option Tree) → resulting (hash_of s.context.cipher_suite) g i path ≡ o
-          → first_failing (tree_rules G s required o) ≡ first_failing (tree_rules K s required o)
-      trees_alike None e = refl
-      trees_alike (Some t) e =
-          ap (λ (f : Option MemberFault). first_failing (rule KeyRepeated (has_distinct_keys t) ∷ member_rules f))
-          (fault_alike G K s.context.cipher_suite s.context.group_id required t (leaves_say t e))
+      listed_say : (j : ℕ) (x : LeafNode) → leaf_at 0 g.tree j ≡ Some x → AgreeOn G K (leaf_signatures s.context.cipher_suite s.context.group_id j x)
+      listed_say j x at =
+          elim (listed j x items s.tree g made at) [
+            | inl c ↦ listed_leaf G K s.context.cipher_suite s.context.group_id g.tree (new_leaves items g) listed_asked j x c at
+            | inr stood ↦ tree_leaf G K s.context.cipher_suite s.context.group_id 0 s.tree old j x stood
+          ]
 
     outcomes_alike : (i : ℕ) (path : Option UpdatePath) (items : List ListItem) (o : Option Grown) → outcome items s.tree ≡ o
         → list_refusal (senders.Member i) items (is_some path) ≡ None → IsSome (leaf_at 0 s.tree i)
         → AgreeOn G K (applied_list_signatures s.context i path items o)
-        → first_failing (outcome_rules G s required i path o) ≡ first_failing (outcome_rules K s required i path o)
+        → first_failing (outcome_rules G s required (senders.Member i) path o) ≡ first_failing (outcome_rules K s required (senders.Member i) path o)
     outcomes_alike i path items None e kept set h = refl
     outcomes_alike i path items (Some g) e kept set h =
-        let H = hash_of s.context.cipher_suite in
         let there = committer_stays i items (is_some path) s.tree g kept e set in
-        behind_alike (path_rules_of H g i path) (tree_rules G s required (resulting H g i path)) (tree_rules K s required (resulting H g i path))
-        (λ _. trees_alike i path items g e there h (resulting H g i path) refl)
+        places_alike (record { grown = g; leaf = i }) path (leaf_inside g.tree i there) (listed_say i path items g e h) (path_asked i path items g e h)
+
+    -- the leaves of the tree in which a client that joins has its leaf
+    module _ (es : List ProposalOrRef) (list : is_join_list es ≡ true) (path : UpdatePath) where
+      joined_say : (g : Grown) → outcome (join_items es) s.tree ≡ Some g → (j : ℕ) (x : LeafNode) → leaf_at 0 (seat g.tree).tree j ≡ Some x
+          → AgreeOn G K (leaf_signatures s.context.cipher_suite s.context.group_id j x)
+      joined_say g made j x at =
+          tree_leaf G K s.context.cipher_suite s.context.group_id 0 s.tree old j x
+          (join_stood es s.tree g j x list made (sym (seat_leaves g.tree j) ∙ at))
+
+      joins_alike : (o : Option Grown) → outcome (join_items es) s.tree ≡ o → AgreeOn G K (seated_signatures s.context path o)
+          → first_failing (outcome_rules G s required senders.NewMemberCommit (Some path) o)
+          ≡ first_failing (outcome_rules K s required senders.NewMemberCommit (Some path) o)
+      joins_alike None made h = refl
+      joins_alike (Some g) made h = if_room (nat_lt (member_count g.tree) leaf_limit)
+        where
+          if_room : (b : Bool) → first_failing (placed_rules G s required (Some path) (if b then Some (seated g) else None))
+              ≡ first_failing (placed_rules K s required (Some path) (if b then Some (seated g) else None))
+          if_room false = refl
+          if_room true =
+              places_alike (seated g) (Some path) (added_inside g.tree (first_blank_leaf 0 g.tree) refl) (joined_say g made) h
 
   -- the rest of the rules, in a state with what it requires
   module _ (s : State) (required : RequiredCapabilities) (old : AgreeOn G K (tree_signatures s.context.cipher_suite s.context.group_id 0 s.tree)) where
     unders_alike : (i : ℕ) (path : Option UpdatePath) (items : List ListItem) (o : Option Grown) → outcome items s.tree ≡ o
         → list_refusal (senders.Member i) items (is_some path) ≡ None → IsSome (leaf_at 0 s.tree i)
         → AgreeOn G K (applied_list_signatures s.context i path items o) → (after : Option RequiredCapabilities)
-        → first_failing (rules_under G s i path o after) ≡ first_failing (rules_under K s i path o after)
+        → first_failing (rules_under G s (senders.Member i) path o after) ≡ first_failing (rules_under K s (senders.Member i) path o after)
     unders_alike i path items o e kept set h None = refl
     unders_alike i path items o e kept set h (Some r) = outcomes_alike s r old i path items o e kept set h
 
@@ -245,8 +288,8 @@ module _ (G K : VerifyFn) where
         rule ContextExtensionsInvalid (all_inline valid_if_extensions c.proposals) ∷ rule PskInvalid (all_inline (valid_if_psk s.context (senders.Member i)) c.proposals) ∷
         rule ReInitInvalid (all_inline (valid_if_reinit s.context) c.proposals) ∷ rule ExternalInitMisplaced (all_inline is_no_external_init c.proposals) ∷ [] in
         let of_list = renamed refusal_of (list_rules (senders.Member i) items (is_some c.path)) in
-        let under_G = rules_under G s i c.path (outcome items s.tree) (required_after required (extensions.brought items)) in
-        let under_K = rules_under K s i c.path (outcome items s.tree) (required_after required (extensions.brought items)) in
+        let under_G = rules_under G s (senders.Member i) c.path (outcome items s.tree) (required_after required (extensions.brought items)) in
+        let under_K = rules_under K s (senders.Member i) c.path (outcome items s.tree) (required_after required (extensions.brought items)) in
         let rest_G = of_list ++ under_G in
         let rest_K = of_list ++ under_K in
         ap (λ (rs : List (Rule Refusal)). first_failing (rs ++ rest_G)) own
@@ -259,6 +302,38 @@ module _ (G K : VerifyFn) where
     commits_alike i c set h =
         ap (λ (o : Option Refusal). if nat_lt s.context.epoch last_epoch then o else Some LastEpoch)
         (lists_alike i c (resolved (senders.Member i) s.known c.proposals) set h)
+
+    -- an external commit with a path
+    module _ (c : Commit) (path : UpdatePath) where
+      joins_under_alike : (p : Option UpdatePath) → p ≡ Some path → is_join_list c.proposals ≡ true
+          → AgreeOn G K (seated_signatures s.context path (outcome (join_items c.proposals) s.tree)) → (after : Option RequiredCapabilities)
+          → first_failing (rules_under G s senders.NewMemberCommit p (outcome (join_items c.proposals) s.tree) after)
+          ≡ first_failing (rules_under K s senders.NewMemberCommit p (outcome (join_items c.proposals) s.tree) after)
+      joins_under_alike p e list h None = refl
+      joins_under_alike p e list h (Some r) =
+          subst (λ (v : Option UpdatePath). first_failing (outcome_rules G s r senders.NewMemberCommit v (outcome (join_items c.proposals) s.tree))
+          ≡ first_failing (outcome_rules K s r senders.NewMemberCommit v (outcome (join_items c.proposals) s.tree))) (sym e)
+          (joins_alike s r old c.proposals list path (outcome (join_items c.proposals) s.tree) refl h)
+
+      -- its list satisfies its rules
+      join_kept : (p : Option UpdatePath) → p ≡ Some path → first_failing (renamed refusal_of (path_of_join s.context s.tree c.proposals p)) ≡ None
+          → is_join_list c.proposals ≡ true
+      join_kept None e kept = absurd (none-some path e)
+      join_kept (Some other) e kept =
+          first_kept (refusal_of faults.JoinList) (is_join_list c.proposals) (renamed refusal_of (join_item_rules s.context s.tree other.leaf_node (join_items c.proposals))) kept
+
+      externals_alike : c.path ≡ Some path → AgreeOn G K (join_list_signatures s.context s.tree c path)
+          → first_failing (external_commit_rules G s required c) ≡ first_failing (external_commit_rules K s required c)
+      externals_alike e h =
+          let items = join_items c.proposals in
+          let after = required_after required (extensions.brought items) in
+          let of_list = renamed refusal_of (path_of_join s.context s.tree c.proposals c.path) in
+          let under_G = rules_under G s senders.NewMemberCommit c.path (outcome items s.tree) after in
+          let under_K = rules_under K s senders.NewMemberCommit c.path (outcome items s.tree) after in
+          passing LastEpoch (nat_lt s.context.epoch last_epoch) (first_failing (of_list ++ under_G)) (first_failing (of_list ++ under_K))
+          (λ _. behind_alike of_list under_G under_K
+          (λ kept. let list = join_kept c.path e kept in
+          joins_under_alike c.path e list (all_asked (is_join_list c.proposals) (seated_signatures s.context path (outcome items s.tree)) list h) after))
 
     module _ (a : AuthenticatedParts) where
       signed_alike : (key : List ℕ) (o p : Option Refusal) → AgreeOn G K (framed_content_signatures s.context key a) → o ≡ p
@@ -322,12 +397,33 @@ module _ (G K : VerifyFn) where
           (first_failing (outside_content_rules K s a sender (outside_key s.context sender a.content.content) a.content.content))
           (λ _. outside_contents_alike sender (outside_key s.context sender a.content.content) a.content.content (under_key sender (outside_key s.context sender a.content.content) h))
 
+      -- a client that joins with a commit
+      signed_commits_alike : (c : Commit) (o : Option UpdatePath) → c.path ≡ o → AgreeOn G K (join_signatures s.context s.tree a c o)
+          → first_failing (signed_commit_rules G s required a c o) ≡ first_failing (signed_commit_rules K s required a c o)
+      signed_commits_alike c None e h = refl
+      signed_commits_alike c (Some path) e h =
+          let frame = framed_content_signatures s.context path.leaf_node.signature_key a in
+          let rest = join_list_signatures s.context s.tree c path in
+          signed_alike path.leaf_node.signature_key (first_failing (external_commit_rules G s required c)) (first_failing (external_commit_rules K s required c))
+          (front G K frame rest h) (externals_alike c path e (back G K frame rest h))
+
+      join_contents_alike : (content : Content) → AgreeOn G K (join_content_signatures s.context s.tree a content)
+          → first_failing (joiner_rules G s required a content) ≡ first_failing (joiner_rules K s required a content)
+      join_contents_alike (contents.Application sent) h = refl
+      join_contents_alike (contents.Proposal p) h = refl
+      join_contents_alike (contents.Commit c) h = signed_commits_alike c c.path refl h
+
+      joiners_alike : (profile : Profile) → AgreeOn G K (in_full profile (join_content_signatures s.context s.tree a a.content.content))
+          → first_failing (if_full profile (joiner_rules G s required a a.content.content)) ≡ first_failing (if_full profile (joiner_rules K s required a a.content.content))
+      joiners_alike Members h = refl
+      joiners_alike Full h = join_contents_alike a.content.content h
+
       senders_alike : (sender : Sender) → AgreeOn G K (sender_signatures s.profile s.context s.known s.tree a sender)
           → first_failing (sender_rules G s required a sender) ≡ first_failing (sender_rules K s required a sender)
       senders_alike (senders.Member i) h = leaves_alike i (leaf_at 0 s.tree i) refl h
       senders_alike (senders.External j) h = outsides_alike s.profile (senders.External j) h
       senders_alike senders.NewMemberProposal h = outsides_alike s.profile senders.NewMemberProposal h
-      senders_alike senders.NewMemberCommit h = refl
+      senders_alike senders.NewMemberCommit h = joiners_alike s.profile h
 
       frames_alike : (not s.ended ≡ true → AgreeOn G K (if bytes_eq a.content.group_id s.context.group_id && a.content.epoch == s.context.epoch
           then sender_signatures s.profile s.context s.known s.tree a a.content.sender else []))

@@ -1,5 +1,5 @@
 -- The rules for a message of a sender outside the group, by its profile.
-use Rattle.std.proofs.Common.{◌≡◌, ◌∙◌, ℕ, Option, Some, None, Result, OnOk, IfErr, refl, sym, subst}
+use Rattle.std.proofs.Common.{◌≡◌, ◌∙◌, ℕ, Option, None, Result, OnOk, IfErr, refl, sym, subst}
 use Rattle.mls_nodes.specs.declared.required_capabilities.RequiredCapabilities.{RequiredCapabilities}
 use Rattle.mls_check.specs.Signatures.{VerifyFn}
 use Rattle.mls_msgs.specs.declared.authenticated.AuthenticatedParts.{AuthenticatedParts}
@@ -8,9 +8,8 @@ use Rattle.mls_msgs.specs.declared.framed_content.Sender.TheVariants as senders
 use Rattle.mls_apply.specs.RuleLists.{first_failing}
 use Rattle.mls_follow.specs.Acceptance.{Refuses}
 use Rattle.mls_follow.specs.State.{State}
-use Rattle.mls_follow.specs.MessageRules.{if_full, outside_rules, sender_refusal}
+use Rattle.mls_follow.specs.MessageRules.{if_full, joiner_rules, outside_rules, sender_refusal}
 use Rattle.mls_follow.specs.declared.refusal.Refusal.{Refusal}
-use Rattle.mls_follow.specs.declared.refusal.Refusal.TheVariants.{SenderNotMember}
 use Rattle.mls_follow.specs.declared.taken.Taken.{Taken}
 
 module _ (G : VerifyFn) (s : State) (required : RequiredCapabilities) (a : AuthenticatedParts) (sender : Sender) where
@@ -35,12 +34,15 @@ module _ (G : VerifyFn) (s : State) (required : RequiredCapabilities) (a : Authe
       subst (λ (x : Sender). sender_refusal G s required a x ≡ first_failing (if_full s.profile (outside_rules G s a x))) (sym is) of_joiner
 
   -- a client that joins with a commit
-  of_committer : sender_refusal G s required a senders.NewMemberCommit ≡ Some SenderNotMember
+  abbrev Joiner : Option Refusal
+  Joiner = first_failing (if_full s.profile (joiner_rules G s required a a.content.content))
+
+  of_committer : sender_refusal G s required a senders.NewMemberCommit ≡ Joiner
   unfolding sender_refusal
   of_committer = refl
 
-  pub by_committer : sender ≡ senders.NewMemberCommit → sender_refusal G s required a sender ≡ Some SenderNotMember
-  by_committer is = subst (λ (x : Sender). sender_refusal G s required a x ≡ Some SenderNotMember) (sym is) of_committer
+  pub by_committer : sender ≡ senders.NewMemberCommit → sender_refusal G s required a sender ≡ Joiner
+  by_committer is = subst (λ (x : Sender). sender_refusal G s required a x ≡ Joiner) (sym is) of_committer
 
   -- what is found by these rules is found of the message
   module _ (whole : Option Refusal) (header : whole ≡ sender_refusal G s required a sender) (own : sender_refusal G s required a sender ≡ Outside) (r : Result Taken Refusal) where
@@ -49,3 +51,11 @@ module _ (G : VerifyFn) (s : State) (required : RequiredCapabilities) (a : Authe
 
     pub outside_refused : IfErr r (Refuses Outside) → IfErr r (Refuses whole)
     outside_refused h = subst (λ (o : Option Refusal). IfErr r (Refuses o)) (sym (header ∙ own)) h
+
+  -- and what is found by the rules for a client that joins with a commit
+  module _ (whole : Option Refusal) (header : whole ≡ sender_refusal G s required a sender) (own : sender_refusal G s required a sender ≡ Joiner) (r : Result Taken Refusal) where
+    pub joiner_kept : OnOk r (Joiner ≡ None) → OnOk r (whole ≡ None)
+    joiner_kept h = subst (λ (o : Option Refusal). OnOk r (o ≡ None)) (sym (header ∙ own)) h
+
+    pub joiner_refused : IfErr r (Refuses Joiner) → IfErr r (Refuses whole)
+    joiner_refused h = subst (λ (o : Option Refusal). IfErr r (Refuses o)) (sym (header ∙ own)) h

@@ -1,5 +1,6 @@
 -- No rule for a message is named want of memory.
 use Rattle.std.proofs.Common.{ℕ, List, Option, Some, None}
+use Rattle.std.specs.Prelude.{option_and_then}
 use Rattle.mls_nodes.specs.declared.leaf.LeafNode.{LeafNode}
 use Rattle.mls_nodes.specs.declared.required_capabilities.RequiredCapabilities.{RequiredCapabilities}
 use Rattle.mls_tree.specs.Tree.{Tree, leaf_at}
@@ -18,15 +19,17 @@ use Rattle.mls_msgs.specs.declared.message.Message.TheVariants as messages
 use Rattle.mls_msgs.specs.declared.profile.Profile.{Profile}
 use Rattle.mls_msgs.specs.declared.profile.Profile.TheVariants.{Members, Full}
 use Rattle.mls_msgs.specs.declared.proposal.Proposal.{Proposal}
+use Rattle.mls_msgs.specs.declared.proposal.ProposalOrRef.{ProposalOrRef}
 use Rattle.mls_signatures.specs.SigningKeys.{outside_key}
 use Rattle.mls_apply.specs.declared.list_item.ListItem.{ListItem}
 use Rattle.mls_apply.specs.ContextExtensions.{brought}
 use Rattle.mls_apply.specs.ResolvedList.{resolved}
 use Rattle.mls_apply.specs.AppliedList.{Grown, outcome}
-use Rattle.mls_apply.specs.RuleLists.{Rule}
+use Rattle.mls_apply.specs.JoinRules.{path_of_join, join_items}
+use Rattle.mls_apply.specs.RuleLists.{Rule, renamed}
 use Rattle.mls_apply.proofs.RuleLists.{AreOthers, no_rules, one_more, others_both}
 use Rattle.mls_follow.specs.State.{State}
-use Rattle.mls_follow.specs.MessageRules.{proposal_message_rules, member_rules, tree_rules, resulting, path_rules_of, outcome_rules, required_after, rules_under, items_rules, commit_rules, content_rules, leaf_rules, signed_proposal_rules, outside_content_rules, outside_rules, if_full, sender_rules, frame_rules, message_rules}
+use Rattle.mls_follow.specs.MessageRules.{refusal_of, proposal_message_rules, member_rules, tree_rules, Placed, placed, resulting, path_rules_of, placed_rules, outcome_rules, required_after, rules_under, items_rules, commit_rules, content_rules, leaf_rules, signed_proposal_rules, outside_content_rules, outside_rules, external_commit_rules, signed_commit_rules, joiner_rules, if_full, sender_rules, frame_rules, message_rules}
 use Rattle.mls_follow.specs.declared.refusal.Refusal.{Refusal}
 use Rattle.mls_follow.specs.declared.refusal.Refusal.TheVariants.{OutOfMemory}
 
@@ -48,15 +51,19 @@ module _ (G : VerifyFn) (s : State) (required : RequiredCapabilities) where
   of_path H g i (Some path) =
       one_more (λ e. cc) (one_more (λ e. cc) (one_more (λ e. cc) (one_more (λ e. cc) (one_more (λ e. cc) no_rules))))
 
-  of_outcome : (i : ℕ) (path : Option UpdatePath) (o : Option Grown) → AreOwn (outcome_rules G s required i path o)
-  of_outcome i path None = one_more (λ e. cc) no_rules
-  of_outcome i path (Some g) =
-      others_both (path_rules_of (hash_of s.context.cipher_suite) g i path) (tree_rules G s required (resulting (hash_of s.context.cipher_suite) g i path))
-      (of_path (hash_of s.context.cipher_suite) g i path) (of_tree (resulting (hash_of s.context.cipher_suite) g i path))
+  of_placed : (path : Option UpdatePath) (q : Option Placed) → AreOwn (placed_rules G s required path q)
+  of_placed path None = one_more (λ e. cc) no_rules
+  of_placed path (Some q) =
+      others_both (path_rules_of (hash_of s.context.cipher_suite) q.grown q.leaf path) (tree_rules G s required (resulting (hash_of s.context.cipher_suite) q.grown q.leaf path))
+      (of_path (hash_of s.context.cipher_suite) q.grown q.leaf path) (of_tree (resulting (hash_of s.context.cipher_suite) q.grown q.leaf path))
 
-of_under : (G : VerifyFn) (s : State) (i : ℕ) (path : Option UpdatePath) (o : Option Grown) (required : Option RequiredCapabilities) → AreOwn (rules_under G s i path o required)
-of_under G s i path o None = one_more (λ e. cc) no_rules
-of_under G s i path o (Some required) = of_outcome G s required i path o
+  of_outcome : (committer : Sender) (path : Option UpdatePath) (o : Option Grown) → AreOwn (outcome_rules G s required committer path o)
+  of_outcome committer path o = of_placed path (option_and_then (placed committer) o)
+
+of_under : (G : VerifyFn) (s : State) (committer : Sender) (path : Option UpdatePath) (o : Option Grown) (required : Option RequiredCapabilities)
+    → AreOwn (rules_under G s committer path o required)
+of_under G s committer path o None = one_more (λ e. cc) no_rules
+of_under G s committer path o (Some required) = of_outcome G s required committer path o
 
 module _ (G : VerifyFn) (s : State) (required : RequiredCapabilities) where
   of_items : (i : ℕ) (c : Commit) (o : Option (List ListItem)) → AreOwn (items_rules G s required i c o)
@@ -64,7 +71,7 @@ module _ (G : VerifyFn) (s : State) (required : RequiredCapabilities) where
   of_items i c (Some items) =
       one_more (λ e. cc) (one_more (λ e. cc) (one_more (λ e. cc) (one_more (λ e. cc) (one_more (λ e. cc) (one_more (λ e. cc) (one_more (λ e. cc)
       (one_more (λ e. cc) (one_more (λ e. cc) (one_more (λ e. cc) (one_more (λ e. cc) (one_more (λ e. cc) (one_more (λ e. cc) (one_more (λ e. cc)
-      (of_under G s i c.path (outcome items s.tree) (required_after required (brought items))))))))))))))))
+      (of_under G s (senders.Member i) c.path (outcome items s.tree) (required_after required (brought items))))))))))))))))
 
   of_offer : (a : AuthenticatedParts) (sender : Sender) (p : Proposal) → AreOwn (proposal_message_rules G s a sender p)
   of_offer a sender p =
@@ -74,7 +81,29 @@ module _ (G : VerifyFn) (s : State) (required : RequiredCapabilities) where
   of_commit : (i : ℕ) (c : Commit) → AreOwn (commit_rules G s required i c)
   of_commit i c = one_more (λ e. cc) (of_items i c (resolved (senders.Member i) s.known c.proposals))
 
+  of_join_list : (es : List ProposalOrRef) (o : Option UpdatePath) → AreOwn (renamed refusal_of (path_of_join s.context s.tree es o))
+  of_join_list es None = no_rules
+  of_join_list es (Some path) =
+      one_more (λ e. cc) (one_more (λ e. cc) (one_more (λ e. cc) (one_more (λ e. cc) (one_more (λ e. cc) no_rules))))
+
+  of_external_commit : (c : Commit) → AreOwn (external_commit_rules G s required c)
+  of_external_commit c =
+      let under =
+      rules_under G s senders.NewMemberCommit c.path (outcome (join_items c.proposals) s.tree) (required_after required (brought (join_items c.proposals))) in
+      one_more (λ e. cc)
+      (others_both (renamed refusal_of (path_of_join s.context s.tree c.proposals c.path)) under (of_join_list c.proposals c.path)
+      (of_under G s senders.NewMemberCommit c.path (outcome (join_items c.proposals) s.tree) (required_after required (brought (join_items c.proposals)))))
+
   module _ (a : AuthenticatedParts) where
+    of_signed_commit : (c : Commit) (o : Option UpdatePath) → AreOwn (signed_commit_rules G s required a c o)
+    of_signed_commit c None = one_more (λ e. cc) no_rules
+    of_signed_commit c (Some path) = one_more (λ e. cc) (of_external_commit c)
+
+    of_joiner : (c : Content) → AreOwn (joiner_rules G s required a c)
+    of_joiner (contents.Application _) = one_more (λ e. cc) no_rules
+    of_joiner (contents.Proposal _) = one_more (λ e. cc) no_rules
+    of_joiner (contents.Commit c) = of_signed_commit c c.path
+
     of_content : (i : ℕ) (x : LeafNode) (c : Content) → AreOwn (content_rules G s required a i x c)
     of_content i x (contents.Application _) = one_more (λ e. cc) no_rules
     of_content i x (contents.Proposal p) = one_more (λ e. cc) (of_offer a (senders.Member i) p)
@@ -104,7 +133,7 @@ module _ (G : VerifyFn) (s : State) (required : RequiredCapabilities) where
     of_sender (senders.Member i) = of_leaf i (leaf_at 0 s.tree i)
     of_sender (senders.External k) = of_full s.profile (outside_rules G s a (senders.External k)) (of_outside (senders.External k))
     of_sender senders.NewMemberProposal = of_full s.profile (outside_rules G s a senders.NewMemberProposal) (of_outside senders.NewMemberProposal)
-    of_sender senders.NewMemberCommit = one_more (λ e. cc) no_rules
+    of_sender senders.NewMemberCommit = of_full s.profile (joiner_rules G s required a a.content.content) (of_joiner a.content.content)
 
     of_frame : AreOwn (frame_rules G s required a)
     of_frame = one_more (λ e. cc) (one_more (λ e. cc) (one_more (λ e. cc) (of_sender a.content.sender)))

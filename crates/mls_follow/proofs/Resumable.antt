@@ -32,6 +32,7 @@ use Rattle.mls_msgs.specs.declared.proposal.Proposal.{Proposal}
 use Rattle.mls_state.specs.declared.known_entry.KnownEntry.{KnownEntry}
 use Rattle.mls_state.specs.declared.state.FollowerState.{FollowerState}
 use Rattle.mls_apply.specs.ProposalRules.{checked_refusal, proposal_rules}
+use Rattle.mls_apply.specs.JoinRules.{join_items}
 use Rattle.mls_apply.specs.ResolvedList.{find_known, resolved}
 use Rattle.mls_apply.specs.Senders.{is_present}
 use Rattle.mls_apply.specs.declared.list_item.ListItem.{ListItem}
@@ -43,7 +44,7 @@ use Rattle.mls_apply.proofs.Merging.{came_from}
 use Rattle.mls_apply.proofs.RuleLists.{AreKept, passed, refused, first_failing-renamed}
 use Rattle.mls_follow.specs.State.{State}
 use Rattle.mls_follow.specs.MessageRules.{refusal_of, reference_of, is_known_reference, is_new_proposal, proposal_message_rules, content_rules, leaf_rules, is_followed, is_known_external, signed_proposal_rules, outside_content_rules, outside_rules, if_full, sender_rules, frame_rules, message_rules}
-use Rattle.mls_follow.specs.NextState.{Step, after_proposal, committed, after_tree, commit_tree, with_list, after_commit, after_content, after_outside, after_sender, next}
+use Rattle.mls_follow.specs.NextState.{Step, after_proposal, committed, after_tree, commit_tree, with_list, after_commit, after_content, after_join, after_outside, after_sender, next}
 use Rattle.mls_follow.specs.Transcript.{confirmed_hash, interim_hash}
 use Rattle.mls_follow.specs.Acceptance.{IsAcceptable, IsNext}
 use Rattle.mls_follow.specs.Runs.{Takes, Call, IsRun}
@@ -153,10 +154,15 @@ tree-renews s items a t step e =
     } in
     subst (λ (v : Step). Renews s v.state) w.2 renewed)))
 
-commit-renews : (s : State) (a : AuthenticatedParts) (i : ℕ) (c : Commit) (step : Step) → after_commit s a i c ≡ Some step → Renews s step.state
-commit-renews s a i c step e =
-    let items = resolved (senders.Member i) s.known c.proposals in
-    option_and_then_some (after_tree (with_list s items) a) (commit_tree s i c) step e (λ t f g. tree-renews s items a t step g)
+commit-renews : (s : State) (a : AuthenticatedParts) (committer : Sender) (c : Commit) (items : Option (List ListItem)) (step : Step)
+    → after_commit s a committer c items ≡ Some step → Renews s step.state
+commit-renews s a committer c items step e =
+    option_and_then_some (after_tree (with_list s items) a) (commit_tree s committer c items) step e (λ t f g. tree-renews s items a t step g)
+
+join-renews : (s : State) (a : AuthenticatedParts) (content : Content) (step : Step) → after_join s a content ≡ Some step → Renews s step.state
+join-renews s a (contents.Application sent) step e = absurd (none-some step e)
+join-renews s a (contents.Proposal p) step e = absurd (none-some step e)
+join-renews s a (contents.Commit c) step e = commit-renews s a senders.NewMemberCommit c (Some (join_items c.proposals)) step e
 
 renewed_rests : (G : VerifyFn) (s t : State) → Rests G s → Renews s t → Rests G t
 renewed_rests G s t r h = record {
@@ -197,7 +203,7 @@ module _ (G : VerifyFn) (s : State) (rests : Rests G s) (required : RequiredCapa
         proposal-rests (senders.Member i) p (reference_of s.context a) step
         (λ reference is. holds_offer G s a (senders.Member i) p reference (received s (senders.Member i) p reference going allowed refl refl refl) (ap is_some set) (passed kept).1 is) e
     content-rests i x (contents.Commit c) set allowed kept e =
-        renewed_rests G s step.state rests (commit-renews s a i c step e)
+        renewed_rests G s step.state rests (commit-renews s a (senders.Member i) c (resolved (senders.Member i) s.known c.proposals) step e)
 
     leaf-rests : (i : ℕ) (o : Option LeafNode) → leaf_at 0 s.tree i ≡ o → is_in s.profile (is_members_content a.content.content) ≡ true
         → AreKept (leaf_rules G s required a i o) → after_content s a i a.content.content ≡ Some step → Rests G step.state
@@ -239,7 +245,7 @@ module _ (G : VerifyFn) (s : State) (rests : Rests G s) (required : RequiredCapa
     sender-rests senders.NewMemberProposal allowed kept e =
         let k = full_followed s.profile (outside_rules G s a senders.NewMemberProposal) kept in
         outside-rests senders.NewMemberProposal k.0 refl allowed k.1 e
-    sender-rests senders.NewMemberCommit allowed kept e = absurd (none-some step e)
+    sender-rests senders.NewMemberCommit allowed kept e = renewed_rests G s step.state rests (join-renews s a a.content.content step e)
 
   step-rests : (m : Message) (step : Step) → is_in s.profile (is_members_message m) ≡ true → first_failing (message_rules G s required m) ≡ None → next s m ≡ Some step
       → Rests G step.state

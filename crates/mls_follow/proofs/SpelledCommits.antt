@@ -1,6 +1,6 @@
 -- What of a message has a spelling where the message has one, and what follows for a commit.
 use Rattle.std.proofs.Common.{◌≡◌, ℕ, ◌+◌, ◌<◌, ◌≤◌, List, [], ◌∷◌, length, map, Bool, true, false, Option, Some, None, IsSome, refl, subst, inl, inr, arith}
-use Rattle.std.specs.Prelude.{if◌then◌else◌, nat_le, is_some, All, option_map, option_and_then}
+use Rattle.std.specs.Prelude.{if◌then◌else◌, nat_le, nat_lt, is_some, All, option_map, option_and_then}
 use Rattle.std.specs.Int.{w8, w16, w32}
 use Rattle.std.specs.Str.{bytes_eq}
 use Rattle.std.proofs.lemmas.Bool.{cases_lt}
@@ -17,6 +17,7 @@ use Rattle.mls_msgs.specs.declared.commit.PathNode.{PathNode}
 use Rattle.mls_msgs.specs.declared.commit.UpdatePath.{UpdatePath}
 use Rattle.mls_msgs.specs.declared.key_package.KeyPackage.{KeyPackage}
 use Rattle.mls_msgs.specs.declared.framed_content.Sender.{Sender}
+use Rattle.mls_msgs.specs.declared.framed_content.Sender.TheVariants.{Member, External, NewMemberProposal, NewMemberCommit}
 use Rattle.mls_msgs.specs.declared.proposal.Proposal.{Proposal}
 use Rattle.mls_msgs.specs.declared.proposal.Proposal.TheVariants.{Add, Update, Remove, ContextExtensions, PreSharedKey, ReInit, ExternalInit}
 use Rattle.mls_msgs.specs.declared.proposal.ProposalOrRef.{ProposalOrRef}
@@ -24,7 +25,7 @@ use Rattle.mls_msgs.specs.declared.proposal.ProposalOrRef.TheVariants as entries
 use Rattle.mls_tree.specs.Tree.{Tree, height, leaf_count, member_count, leaf_at}
 use Rattle.mls_tree.specs.RatchetTree.{HasShape}
 use Rattle.mls_tree.specs.BlankLeaves.{first_blank_leaf}
-use Rattle.mls_tree.specs.TreeOperations.{put_leaf, clear_path, update, remove, with_unmerged, is_overfilled_above, enter_unmerged, add_at, add, added_leaf, grown_for, number_or, blank_tree}
+use Rattle.mls_tree.specs.TreeOperations.{put_leaf, clear_path, update, remove, with_unmerged, is_overfilled_above, enter_unmerged, add_at, add, added_leaf, grown_for, number_or, blank_tree, seat}
 use Rattle.mls_tree.proofs.Kept.{height-change_above, IsPerfect-change_above, height-put_leaf, IsPerfect-put_leaf, HasShape-grow, HasShape-shrink}
 use Rattle.mls_tree.proofs.Numbers.{leaves_at-pow, leaves_at-le, leaves_at-low}
 use Rattle.mls_tree.proofs.Trees.{leaf_count-perfect, leaf_count-positive}
@@ -33,14 +34,16 @@ use Rattle.mls_apply.specs.declared.list_item.KnownProposal.{KnownProposal}
 use Rattle.mls_apply.specs.ResolvedList.{find_known, item_of, entry_item, with_first, resolved}
 use Rattle.mls_nodes.specs.Limits.{leaf_limit}
 use Rattle.mls_apply.specs.Senders.{member_index}
+use Rattle.mls_apply.specs.JoinRules.{joiner_item, join_items}
 use Rattle.mls_apply.specs.AppliedList.{Grown, updated_at, after_update, after_updates, after_remove, after_removes, added_to, new_members, after_leaf, after_adds, with_members, outcome}
 use Rattle.mls_apply.specs.PathRules.{node_keys}
 use Rattle.mls_apply.proofs.Adding.{blank_inside, member_count-add}
 use Rattle.mls_apply.proofs.LeavesAreValid.{member_count-full}
 use Rattle.mls_apply.proofs.Expected.{AreKeys}
 use Rattle.mls_apply.proofs.Spellings.{left_spelled, right_spelled}
+use Rattle.mls_follow.specs.MessageRules.{Placed, seated, placed}
 use Rattle.mls_follow.proofs.Spellings.{number_spelled, list_each}
-use Rattle.mls_follow.proofs.SpelledTrees.{IsSpelled, IsSpelled-update, IsSpelled-remove, IsSpelled-add}
+use Rattle.mls_follow.proofs.SpelledTrees.{IsSpelled, IsSpelled-update, IsSpelled-remove, IsSpelled-grown, IsSpelled-add}
 
 -- ---- a proposal
 
@@ -112,6 +115,15 @@ resolved_spelled committer known (entry ∷ es) items all each e =
     go (Some x) None one all e = absurd (none-some items e)
     go (Some x) (Some xs) one all e =
         subst AreSpelled (same_Some (x ∷ xs) items e) (All-cons (λ x. IsSome (proposal x.proposal)) x xs (one x refl) (all xs refl))
+
+pub join_spelled : (es : List ProposalOrRef) → All (λ e. IsSome (proposal_or_ref e)) es → AreSpelled (join_items es)
+join_spelled [] each = All-nil (λ x. IsSome (proposal x.proposal))
+join_spelled (entries.Proposal p ∷ es) each =
+    All-cons (λ x. IsSome (proposal x.proposal)) (joiner_item p) (join_items es)
+    (entry_proposal p (All-head (λ e. IsSome (proposal_or_ref e)) (entries.Proposal p) es each))
+    (join_spelled es (All-tail (λ e. IsSome (proposal_or_ref e)) (entries.Proposal p) es each))
+join_spelled (entries.Reference reference ∷ es) each =
+    join_spelled es (All-tail (λ e. IsSome (proposal_or_ref e)) (entries.Reference reference) es each)
 
 -- ---- the tree after a list
 
@@ -196,7 +208,7 @@ low_enough t s full room =
     ]
 
 -- an added member's leaf is one of the tree's
-added_inside : (t : Tree) (o : Option ℕ) → first_blank_leaf 0 t ≡ o → number_or (leaf_count t) o < leaf_count (grown_for o t)
+pub added_inside : (t : Tree) (o : Option ℕ) → first_blank_leaf 0 t ≡ o → number_or (leaf_count t) o < leaf_count (grown_for o t)
 added_inside t None e = omega (arith, leaf_count-positive (blank_tree (height t)))
 added_inside t (Some j) e = blank_inside t j e
 
@@ -256,6 +268,23 @@ outcome_fit items t g all h e =
     let room = within (nat_le (member_count w + length (new_members items)) leaf_limit) (after_adds (new_members items) w) g b in
     let few : member_count w + length (new_members items) ≤ leaf_limit = grind (arith, nat_tests) in
     adds_fit (new_members items) w g (members_spelled items all) few (removes_fit items v w (updates_fit items t v all h c) d) room.1))
+
+-- the tree in which a committer has its leaf is fit
+seat_fit : (t : Tree) → member_count t < leaf_limit → IsFit t → IsFit (seat t).tree
+seat_fit t room h = record {
+  shape = grown_shape t (first_blank_leaf 0 t) refl h.shape (omega (arith, room));
+  spelled = IsSpelled-grown t (first_blank_leaf 0 t) h.spelled;
+}
+
+pub placed_fit : (committer : Sender) (g : Grown) (q : Placed) → placed committer g ≡ Some q → IsFit g.tree → IsFit q.grown.tree
+placed_fit (Member i) g q e h = subst (λ (p : Placed). IsFit p.grown.tree) (same_Some (record { grown = g; leaf = i }) q e) h
+placed_fit (External k) g q e h = absurd (none-some q e)
+placed_fit NewMemberProposal g q e h = absurd (none-some q e)
+placed_fit NewMemberCommit g q e h =
+    let parts = cond_some (nat_lt (member_count g.tree) leaf_limit) (seated g) q e in
+    let few = parts.0 in
+    let room : member_count g.tree < leaf_limit = grind (arith, nat_tests) in
+    subst (λ (p : Placed). IsFit p.grown.tree) parts.1 (seat_fit g.tree room h)
 
 -- ---- a commit
 

@@ -122,7 +122,7 @@ pub IsSpelled-remove : (t : Tree) (i : ℕ) → IsSpelled t → IsSpelled (remov
 IsSpelled-remove t i h =
     IsSpelled-shrink (clear_path (put_leaf 0 t i None) i) (IsSpelled-clear 0 (put_leaf 0 t i None) i (IsSpelled-put_leaf 0 t i None blank_leaf_spelled h))
 
-IsSpelled-grown : (t : Tree) (o : Option ℕ) → IsSpelled t → IsSpelled (grown_for o t)
+pub IsSpelled-grown : (t : Tree) (o : Option ℕ) → IsSpelled t → IsSpelled (grown_for o t)
 IsSpelled-grown t None h = IsSpelled-grow t h
 IsSpelled-grown t (Some j) h = h
 

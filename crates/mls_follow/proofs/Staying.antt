@@ -7,7 +7,8 @@ use Rattle.std.proofs.lemmas.Bool.Decides.{nat_tests}
 use Rattle.std.proofs.lemmas.Option.{none-some, same_Some, option_and_then_some, cond_some}
 use Rattle.mls_nodes.specs.declared.leaf.LeafNode.{LeafNode}
 use Rattle.mls_msgs.specs.declared.framed_content.Sender.{Sender}
-use Rattle.mls_msgs.specs.declared.framed_content.Sender.TheVariants.{Member}
+use Rattle.mls_msgs.specs.declared.framed_content.Sender.TheVariants.{Member, External, NewMemberProposal, NewMemberCommit}
+use Rattle.mls_msgs.specs.declared.commit.UpdatePath.{UpdatePath}
 use Rattle.mls_msgs.specs.declared.proposal.Proposal.{Proposal}
 use Rattle.mls_msgs.specs.declared.proposal.Proposal.TheVariants.{Add, Update, Remove, ContextExtensions, PreSharedKey, ReInit, ExternalInit}
 use Rattle.mls_tree.specs.Tree.{Tree, height, leaf_at, leaf_count, member_count}
@@ -25,8 +26,10 @@ use Rattle.mls_apply.specs.ListRules.{list_refusal, is_leaf_number, removed_leaf
 use Rattle.mls_apply.specs.PskProposals.{have_distinct_psks}
 use Rattle.mls_apply.proofs.LackingRoom.{updates_keep}
 use Rattle.mls_nodes.specs.Limits.{leaf_limit}
+use Rattle.mls_apply.specs.Senders.{is_present}
 use Rattle.mls_apply.specs.AppliedList.{Grown, outcome, with_members, new_members, after_leaf, after_adds, after_updates, after_remove, after_removes}
 use Rattle.mls_apply.specs.RuleLists.{Rule, rule, first_failing}
+use Rattle.mls_follow.specs.CommitTree.{IsListed}
 use Rattle.mls_apply.specs.declared.fault.ApplyFault.{ApplyFault}
 use Rattle.mls_apply.specs.declared.fault.ApplyFault.TheVariants.{UpdateByCommitter, RemovesCommitter, SameLeafTwice, TwoContextExtensions, PskTwice, ReInitNotAlone, PathMissing}
 
@@ -113,3 +116,11 @@ committer_stays i items has_path t g kept made set =
     (λ v c d. adds_stay i (new_members items) w g
     (where_so (nat_le (member_count w + length (new_members items)) leaf_limit) (after_adds (new_members items) w) g b)
     (removes_stay i items v w (kept_parts (Member i) items has_path kept) d ((updates_keep items t v c).alike i ∙ set))))
+
+-- so a committer that is a member is still one after its list; others need no leaf
+pub committer_present : (committer : Sender) (items : List ListItem) (path : Option UpdatePath) (t : Tree) (g : Grown)
+    → IsListed committer items path → outcome items t ≡ Some g → is_present t committer ≡ true → is_present g.tree committer ≡ true
+committer_present (Member i) items path t g listed made set = committer_stays i items (is_some path) t g listed made set
+committer_present (External k) items path t g listed made set = refl
+committer_present NewMemberProposal items path t g listed made set = refl
+committer_present NewMemberCommit items path t g listed made set = refl

@@ -23,10 +23,13 @@ use Rattle.mls_msgs.specs.declared.framed_content.Sender.{Sender}
 use Rattle.mls_msgs.specs.declared.framed_content.Sender.TheVariants as senders
 use Rattle.mls_msgs.specs.declared.message.Message.{Message}
 use Rattle.mls_msgs.specs.declared.message.Message.TheVariants as messages
+use Rattle.mls_msgs.specs.declared.profile.Profile.{Profile}
+use Rattle.mls_msgs.specs.declared.profile.Profile.TheVariants.{Members, Full}
 use Rattle.mls_msgs.specs.declared.proposal.Proposal.{Proposal}
 use Rattle.mls_apply.specs.declared.list_item.ListItem.{ListItem}
 use Rattle.mls_apply.specs.ContextExtensions.{brought, new_extensions}
 use Rattle.mls_apply.specs.ResolvedList.{resolved}
+use Rattle.mls_apply.specs.JoinRules.{path_of_join, join_items}
 use Rattle.mls_apply.specs.ListRules.{list_rules, has_reinit}
 use Rattle.mls_apply.specs.AppliedList.{Grown, outcome}
 use Rattle.mls_apply.specs.RuleLists.{first_failing, renamed}
@@ -34,8 +37,8 @@ use Rattle.mls_apply.proofs.Merging.{came_from}
 use Rattle.mls_apply.proofs.RuleLists.{AreKept, passed, passed_both, refused}
 use Rattle.mls_follow.specs.State.{State}
 use Rattle.mls_follow.specs.Transcript.{confirmed_hash, interim_hash}
-use Rattle.mls_follow.specs.MessageRules.{refusal_of, reference_of, inline_rules, member_rules, tree_rules, resulting, path_rules_of, outcome_rules, required_after, rules_under, items_rules, commit_rules, content_rules, leaf_rules, sender_rules, frame_rules, message_rules}
-use Rattle.mls_follow.specs.NextState.{Step, after_proposal, committed, after_tree, commit_tree, with_extensions, with_list, after_commit, after_content, after_outside, after_sender, next}
+use Rattle.mls_follow.specs.MessageRules.{refusal_of, reference_of, inline_rules, member_rules, tree_rules, Placed, placed, resulting, changed_tree, path_rules_of, placed_rules, outcome_rules, required_after, rules_under, items_rules, commit_rules, content_rules, leaf_rules, external_commit_rules, signed_commit_rules, joiner_rules, if_full, sender_rules, frame_rules, message_rules}
+use Rattle.mls_follow.specs.NextState.{Step, after_proposal, committed, after_tree, commit_tree, with_extensions, with_list, after_content, after_join, after_outside, after_sender, next}
 use Rattle.mls_follow.specs.Acceptance.{IsAcceptable, IsNext}
 use Rattle.mls_follow.specs.Runs.{Takes}
 use Rattle.mls_follow.specs.declared.refusal.Refusal.{Refusal}
@@ -59,25 +62,28 @@ pub record Moves (G : VerifyFn) (s t : State) : Type 0 where
   pub items : List ListItem
   pub grown : Grown
   pub made : outcome items s.tree ≡ Some grown
-  pub committer : ℕ
+  pub committer : Sender
+  pub place : Placed
+  pub placed_at : placed committer grown ≡ Some place
   pub path : Option UpdatePath
-  pub path_kept : AreKept (path_rules_of (hash_of s.context.cipher_suite) grown committer path)
-  pub merged : resulting (hash_of s.context.cipher_suite) grown committer path ≡ Some t.tree
+  pub path_kept : AreKept (path_rules_of (hash_of s.context.cipher_suite) place.grown place.leaf path)
+  pub merged : resulting (hash_of s.context.cipher_suite) place.grown place.leaf path ≡ Some t.tree
 
 module _ (G : VerifyFn) (s : State) (required : RequiredCapabilities) (requires : Requires s.context required) where
   -- either of these
   abbrev Leads : State → Type 0
   Leads t = Stays s t ⊎ Moves G s t
 
-  module _ (a : AuthenticatedParts) (i : ℕ) (c : Commit) (step : Step) where
-    -- after a commit with a list that has an outcome, under what the next context requires
+  module _ (a : AuthenticatedParts) (committer : Sender) (c : Commit) (step : Step) where
+    -- after a commit with a list that has an outcome, whose committer has a leaf, under what the next context requires
     module _ (es : List Extension) (ended : Bool) (new : RequiredCapabilities) (by : RequiresBy es new) (items : List ListItem)
-        (g : Grown) (made : outcome items s.tree ≡ Some g) (kept : AreKept (outcome_rules G s new i c.path (Some g)))
-        (t : Tree) (merged : resulting (hash_of s.context.cipher_suite) g i c.path ≡ Some t) where
+        (g : Grown) (made : outcome items s.tree ≡ Some g) (q : Placed) (at : placed committer g ≡ Some q)
+        (kept : AreKept (placed_rules G s new c.path (Some q)))
+        (t : Tree) (merged : resulting (hash_of s.context.cipher_suite) q.grown q.leaf c.path ≡ Some t) where
       moved : (hash confirmed interim : List ℕ) → tree_hash (hash_of s.context.cipher_suite) 0 t ≡ Some hash
           → Moves G s (committed (with_extensions s es ended) t hash confirmed interim).state
       moved hash confirmed interim hashed =
-          let k = passed_both (path_rules_of (hash_of s.context.cipher_suite) g i c.path) (tree_rules G s new (resulting (hash_of s.context.cipher_suite) g i c.path)) kept in
+          let k = passed_both (path_rules_of (hash_of s.context.cipher_suite) q.grown q.leaf c.path) (tree_rules G s new (resulting (hash_of s.context.cipher_suite) q.grown q.leaf c.path)) kept in
           record {
             suite = refl;
             group_id = refl;
@@ -88,7 +94,9 @@ module _ (G : VerifyFn) (s : State) (required : RequiredCapabilities) (requires 
             items = items;
             grown = g;
             made = made;
-            committer = i;
+            committer = committer;
+            place = q;
+            placed_at = at;
             path = c.path;
             path_kept = k.0;
             merged = merged;
@@ -107,34 +115,59 @@ module _ (G : VerifyFn) (s : State) (required : RequiredCapabilities) (requires 
           (let w = came_from (committed (with_extensions s es ended) t hash confirmed) (interim_hash (hash_of s.context.cipher_suite) confirmed a.confirmation_tag) step l in
           subst (λ (u : Step). Leads u.state) w.2 (inr (moved hash confirmed w.0 f)))))
 
+    by_place : (es : List Extension) (ended : Bool) (new : RequiredCapabilities) → RequiresBy es new → (items : List ListItem)
+        → (g : Grown) → outcome items s.tree ≡ Some g → (p : Option Placed) → placed committer g ≡ p → AreKept (placed_rules G s new c.path p) → (t : Tree)
+        → option_and_then (λ q. resulting (hash_of s.context.cipher_suite) q.grown q.leaf c.path) p ≡ Some t
+        → after_tree (with_extensions s es ended) a t ≡ Some step → Leads step.state
+    by_place es ended new by items g made None at kept t e f = absurd (refused kept)
+    by_place es ended new by items g made (Some q) at kept t e f = by_tree es ended new by items g made q at kept t e f
+
     by_outcome : (es : List Extension) (ended : Bool) (new : RequiredCapabilities) → RequiresBy es new → (items : List ListItem)
-        → (o : Option Grown) → outcome items s.tree ≡ o → AreKept (outcome_rules G s new i c.path o) → (t : Tree)
-        → option_and_then (λ g. resulting (hash_of s.context.cipher_suite) g i c.path) o ≡ Some t
+        → (o : Option Grown) → outcome items s.tree ≡ o → AreKept (outcome_rules G s new committer c.path o) → (t : Tree)
+        → changed_tree (hash_of s.context.cipher_suite) committer c.path o ≡ Some t
         → after_tree (with_extensions s es ended) a t ≡ Some step → Leads step.state
     by_outcome es ended new by items None is kept t e f = absurd (refused kept)
-    by_outcome es ended new by items (Some g) is kept t e f = by_tree es ended new by items g is kept t e f
+    by_outcome es ended new by items (Some g) is kept t e f = by_place es ended new by items g is (placed committer g) refl kept t e f
 
     by_terms : (items : List ListItem) (o : Option RequiredCapabilities) → required_after required (brought items) ≡ o
-        → AreKept (rules_under G s i c.path (outcome items s.tree) o) → (t : Tree)
-        → option_and_then (λ g. resulting (hash_of s.context.cipher_suite) g i c.path) (outcome items s.tree) ≡ Some t
+        → AreKept (rules_under G s committer c.path (outcome items s.tree) o) → (t : Tree)
+        → changed_tree (hash_of s.context.cipher_suite) committer c.path (outcome items s.tree) ≡ Some t
         → after_tree (with_list s (Some items)) a t ≡ Some step → Leads step.state
     by_terms items None is kept t e f = absurd (refused kept)
     by_terms items (Some new) is kept t e f =
         by_outcome (new_extensions s.context.extensions items) (has_reinit items) new (required_after-requires s.context required items requires new is) items (outcome items s.tree) refl kept t e f
 
+  -- after a member's commit
+  module _ (a : AuthenticatedParts) (i : ℕ) (c : Commit) (step : Step) where
     by_items : (o : Option (List ListItem)) → AreKept (items_rules G s required i c o) → (t : Tree)
-        → option_and_then (λ items. option_and_then (λ g. resulting (hash_of s.context.cipher_suite) g i c.path) (outcome items s.tree)) o ≡ Some t
+        → commit_tree s (senders.Member i) c o ≡ Some t
         → after_tree (with_list s o) a t ≡ Some step → Leads step.state
     by_items None kept t e f = absurd (refused kept)
     by_items (Some items) kept t e f =
         let of_list = renamed refusal_of (list_rules (senders.Member i) items (is_some c.path)) in
-        let under = rules_under G s i c.path (outcome items s.tree) (required_after required (brought items)) in
-        by_terms items (required_after required (brought items)) refl (passed_both of_list under (passed_both (inline_rules G s i c) (of_list ++ under) kept).1).1 t e f
+        let under = rules_under G s (senders.Member i) c.path (outcome items s.tree) (required_after required (brought items)) in
+        by_terms a (senders.Member i) c step items (required_after required (brought items)) refl (passed_both of_list under (passed_both (inline_rules G s i c) (of_list ++ under) kept).1).1 t e f
 
-    by_commit : AreKept (commit_rules G s required i c) → after_commit s a i c ≡ Some step → Leads step.state
+    by_commit : AreKept (commit_rules G s required i c) → after_content s a i (contents.Commit c) ≡ Some step → Leads step.state
     by_commit kept e =
-        option_and_then_some (after_tree (with_list s (resolved (senders.Member i) s.known c.proposals)) a) (commit_tree s i c) step e
+        option_and_then_some (after_tree (with_list s (resolved (senders.Member i) s.known c.proposals)) a)
+        (commit_tree s (senders.Member i) c (resolved (senders.Member i) s.known c.proposals)) step e
         (λ t f g. by_items (resolved (senders.Member i) s.known c.proposals) (passed kept).1 t f g)
+
+  -- after an external commit
+  module _ (a : AuthenticatedParts) (c : Commit) (step : Step) where
+    by_external : AreKept (external_commit_rules G s required c) → after_join s a (contents.Commit c) ≡ Some step → Leads step.state
+    by_external kept e =
+        let items = join_items c.proposals in
+        let of_list = renamed refusal_of (path_of_join s.context s.tree c.proposals c.path) in
+        let under = rules_under G s senders.NewMemberCommit c.path (outcome items s.tree) (required_after required (brought items)) in
+        option_and_then_some (after_tree (with_list s (Some items)) a) (commit_tree s senders.NewMemberCommit c (Some items)) step e
+        (λ t f g.
+        by_terms a senders.NewMemberCommit c step items (required_after required (brought items)) refl (passed_both of_list under (passed kept).1).1 t f g)
+
+    by_path : (o : Option UpdatePath) → AreKept (signed_commit_rules G s required a c o) → after_join s a (contents.Commit c) ≡ Some step → Leads step.state
+    by_path None kept e = absurd (refused kept)
+    by_path (Some path) kept e = by_external (passed kept).1 e
 
   by_proposal : (sender : Sender) (p : Proposal) (o : Option (List ℕ)) (step : Step) → option_map (after_proposal s sender p) o ≡ Some step → Leads step.state
   by_proposal sender p o step e =
@@ -158,11 +191,22 @@ module _ (G : VerifyFn) (s : State) (required : RequiredCapabilities) (requires 
     by_outside sender (contents.Proposal p) e = by_proposal sender p (reference_of s.context a) step e
     by_outside sender (contents.Commit c) e = absurd (none-some step e)
 
+    -- a client that joins commits only
+    by_join : (content : Content) → AreKept (joiner_rules G s required a content) → after_join s a content ≡ Some step → Leads step.state
+    by_join (contents.Application sent) kept e = absurd (refused kept)
+    by_join (contents.Proposal p) kept e = absurd (refused kept)
+    by_join (contents.Commit c) kept e = by_path a c step c.path kept e
+
+    by_joiner : (profile : Profile) → AreKept (if_full profile (joiner_rules G s required a a.content.content)) → after_join s a a.content.content ≡ Some step
+        → Leads step.state
+    by_joiner Members kept e = absurd (refused kept)
+    by_joiner Full kept e = by_join a.content.content kept e
+
     by_sender : (sender : Sender) → AreKept (sender_rules G s required a sender) → after_sender s a sender ≡ Some step → Leads step.state
     by_sender (senders.Member i) kept e = by_leaf i (leaf_at 0 s.tree i) kept e
     by_sender (senders.External j) kept e = by_outside (senders.External j) a.content.content e
     by_sender senders.NewMemberProposal kept e = by_outside senders.NewMemberProposal a.content.content e
-    by_sender senders.NewMemberCommit kept e = absurd (none-some step e)
+    by_sender senders.NewMemberCommit kept e = by_joiner s.profile kept e
 
     by_frame : AreKept (frame_rules G s required a) → after_sender s a a.content.sender ≡ Some step → Leads step.state
     by_frame kept e = by_sender a.content.sender (passed (passed (passed kept).1).1).1 e

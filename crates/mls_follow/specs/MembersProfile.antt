@@ -34,7 +34,7 @@ pub record IsMembersState (s : State) : Type 0 where
   pub known : All IsOfMember s.known
 
 -- `is_members_rule r`: the number of the rule is at most 27. Greater numbers are those of rules for a group that is over,
--- for senders outside the group, and for PreSharedKey, ReInit and ExternalInit.
+-- for senders outside the group, for PreSharedKey, ReInit and ExternalInit, and for external commits.
 abbrev pub is_members_rule : Rule Refusal → Bool
 is_members_rule r = nat_le (number_of r.refusal) 27
 

@@ -2,14 +2,16 @@
 -- fails. `s` is the state, G the verification function of the checker, H the hash function of the cipher suite, `a` the
 -- AuthenticatedContent, `i` the leaf index of a sender that is a member, `required` what the group requires. Used by
 -- contracts.
-use Rattle.std.specs.Prelude.{ℕ, ◌==◌, nat_lt, is_some, not, List, [], ◌∷◌, ◌++◌, Bool, true, false, Option, Some, None, option_map, option_and_then}
+use Rattle.std.specs.Prelude.{ℕ, ◌==◌, nat_lt, is_some, not, if◌then◌else◌, List, [], ◌∷◌, ◌++◌, Bool, true, false, Option, Some, None, option_map, option_and_then}
 use Rattle.std.specs.Str.{bytes_eq}
 use Rattle.mls_nodes.specs.declared.context.GroupContext.{GroupContext}
 use Rattle.mls_nodes.specs.declared.extension.Extension.{Extension}
 use Rattle.mls_nodes.specs.declared.leaf.LeafNode.{LeafNode}
 use Rattle.mls_nodes.specs.declared.required_capabilities.RequiredCapabilities.{RequiredCapabilities}
+use Rattle.mls_nodes.specs.Limits.{leaf_limit}
 use Rattle.mls_nodes.specs.Requirements.{required_by}
-use Rattle.mls_tree.specs.Tree.{Tree, leaf_at}
+use Rattle.mls_tree.specs.Tree.{Tree, leaf_at, member_count}
+use Rattle.mls_tree.specs.TreeOperations.{seat}
 use Rattle.mls_hash.specs.SuiteHash.{hash_of, ref_hash_input}
 use Rattle.mls_check.specs.DistinctKeys.{has_distinct_keys}
 use Rattle.mls_check.specs.LeafValidation.{member_fault}
@@ -40,14 +42,15 @@ use Rattle.mls_apply.specs.ResolvedList.{find_known, resolved}
 use Rattle.mls_apply.specs.ContextExtensions.{brought}
 use Rattle.mls_apply.specs.ProposalRules.{proposal_rules, valid_if_add, valid_if_update, valid_if_remove, valid_if_extensions, valid_if_psk, valid_if_reinit, is_no_external_init, all_inline}
 use Rattle.mls_apply.specs.ListRules.{list_rules}
-use Rattle.mls_apply.specs.AppliedList.{Grown, outcome}
+use Rattle.mls_apply.specs.JoinRules.{path_of_join, join_items}
+use Rattle.mls_apply.specs.AppliedList.{Grown, grown, outcome}
 use Rattle.mls_apply.specs.MergePath.{merged}
 use Rattle.mls_apply.specs.PathRules.{path_rules, node_keys}
 use Rattle.mls_signatures.specs.SigningKeys.{signed_context, external_key, outside_key, may_propose}
 use Rattle.mls_follow.specs.State.{State, last_epoch}
 use Rattle.mls_follow.specs.declared.refusal.Refusal.{Refusal}
 use Rattle.mls_follow.specs.declared.refusal.Refusal.TheVariants as refusals
-use Rattle.mls_follow.specs.declared.refusal.Refusal.TheVariants.{NotPublic, WrongGroup, WrongEpoch, SenderNotMember, NotHandshake, BadSignature, AddInvalid, UpdateInvalid, RemoveInvalid, LastEpoch, UnknownReference, UpdateByCommitter, RemovesCommitter, SameLeafTwice, PathMissing, TooManyLeaves, PathLength, PathSource, PathKeyUsed, CiphertextCount, PathParentHash, KeyRepeated, Member, TwoContextExtensions, ContextExtensionsInvalid, GroupOver, UnknownExternal, SenderContent, PskInvalid, ReInitInvalid, ExternalInitMisplaced, PskTwice, ReInitNotAlone, OutOfMemory}
+use Rattle.mls_follow.specs.declared.refusal.Refusal.TheVariants.{NotPublic, WrongGroup, WrongEpoch, SenderNotMember, NotHandshake, BadSignature, AddInvalid, UpdateInvalid, RemoveInvalid, LastEpoch, UnknownReference, UpdateByCommitter, RemovesCommitter, SameLeafTwice, PathMissing, TooManyLeaves, PathLength, PathSource, PathKeyUsed, CiphertextCount, PathParentHash, KeyRepeated, Member, TwoContextExtensions, ContextExtensionsInvalid, GroupOver, UnknownExternal, SenderContent, PskInvalid, ReInitInvalid, ExternalInitMisplaced, PskTwice, ReInitNotAlone, JoinList, ResyncInvalid, OutOfMemory}
 
 -- `refuse e` is a rule that fails.
 abbrev pub refuse : Refusal → List (Rule Refusal)
@@ -77,6 +80,8 @@ refusal_of faults.ReInitInvalid = ReInitInvalid
 refusal_of faults.ExternalInitMisplaced = ExternalInitMisplaced
 refusal_of faults.PskTwice = PskTwice
 refusal_of faults.ReInitNotAlone = ReInitNotAlone
+refusal_of faults.JoinList = JoinList
+refusal_of faults.ResyncInvalid = ResyncInvalid
 refusal_of faults.NoSuchLeaf = TooManyLeaves
 refusal_of faults.OutOfMemory = OutOfMemory
 
@@ -132,25 +137,55 @@ tree_rules G s required (Some t) =
     rule KeyRepeated (has_distinct_keys t) ∷
     member_rules (member_fault G s.context.cipher_suite s.context.group_id required t)
 
--- `resulting H g i path` is the tree after a commit of member i, from the tree after its proposals (RFC 9420, 7.5 and
--- 12.4.2).
+-- A tree after a commit's proposals, with the indices of the leaves that they have added, and the committer's leaf in it.
+pub record Placed : Type 0 where
+  pub grown : Grown
+  pub leaf : ℕ
+
+-- `seated g` is the tree `g`, extended if it has no blank leaf, and the leaf that a client takes that joins with a commit. No
+-- leaf of it is counted as added (RFC 9420, 12.4.3.2).
+abbrev pub seated : Grown → Placed
+seated g = record { grown = grown (seat g.tree).tree []; leaf = (seat g.tree).leaf }
+
+-- `placed committer g` is the tree in which the path of a committer is checked, from the tree after its proposals: a client
+-- that joins takes the leaf of the next new member, if the group has fewer than 1,048,576 members (RFC 9420, 12.4.2 and
+-- 12.4.3.2). No other senders commit.
+abbrev pub placed : Sender → Grown → Option Placed
+placed (senders.Member i) g = Some (record { grown = g; leaf = i })
+placed (senders.External _) g = None
+placed senders.NewMemberProposal g = None
+placed senders.NewMemberCommit g = if nat_lt (member_count g.tree) leaf_limit then Some (seated g) else None
+
+-- `resulting H g i path` is the tree after a commit of the client at leaf i, from the tree after its proposals (RFC 9420, 7.5
+-- and 12.4.2).
 abbrev pub resulting : (List ℕ → List ℕ) → Grown → ℕ → Option UpdatePath → Option Tree
 resulting H g i None = Some g.tree
 resulting H g i (Some path) = merged H g.tree i path.leaf_node (node_keys path)
 
--- `path_rules_of H g i path` is the rules for a path, if there is one (RFC 9420, 7.6, 7.9.2 and 12.4.2).
+-- `changed_tree H committer path o` is the tree after a commit, from the tree after its proposals, if there is one.
+abbrev pub changed_tree : (List ℕ → List ℕ) → Sender → Option UpdatePath → Option Grown → Option Tree
+changed_tree H committer path o =
+    option_and_then (λ q. resulting H q.grown q.leaf path) (option_and_then (placed committer) o)
+
+-- `path_rules_of H g i path` is the rules for a path of leaf i, if there is one (RFC 9420, 7.6, 7.9.2 and 12.4.2).
 abbrev pub path_rules_of : (List ℕ → List ℕ) → Grown → ℕ → Option UpdatePath → List (Rule Refusal)
 path_rules_of H g i None = []
 path_rules_of H g i (Some path) = renamed refusal_of (path_rules H g i path)
 
--- `outcome_rules G s required i path g` is the rules after those for the proposal list: the tree after it, the path,
--- the tree after both (RFC 9420, 12.4.2).
-abbrev pub outcome_rules : VerifyFn → State → RequiredCapabilities → ℕ → Option UpdatePath
+-- `placed_rules G s required path q` is the rules for the path, and for the tree after it, once the committer has a leaf.
+abbrev pub placed_rules : VerifyFn → State → RequiredCapabilities → Option UpdatePath → Option Placed
+    → List (Rule Refusal)
+placed_rules G s required path None = refuse TooManyLeaves
+placed_rules G s required path (Some q) =
+    path_rules_of (hash_of s.context.cipher_suite) q.grown q.leaf path ++
+    tree_rules G s required (resulting (hash_of s.context.cipher_suite) q.grown q.leaf path)
+
+-- `outcome_rules G s required committer path o` is the rules after those for the proposal list: the tree after it, the
+-- committer's leaf, the path, the tree after both (RFC 9420, 12.4.2 and 12.4.3.2).
+abbrev pub outcome_rules : VerifyFn → State → RequiredCapabilities → Sender → Option UpdatePath
     → Option Grown → List (Rule Refusal)
-outcome_rules G s required i path None = refuse TooManyLeaves
-outcome_rules G s required i path (Some g) =
-    path_rules_of (hash_of s.context.cipher_suite) g i path ++
-    tree_rules G s required (resulting (hash_of s.context.cipher_suite) g i path)
+outcome_rules G s required committer path o =
+    placed_rules G s required path (option_and_then (placed committer) o)
 
 -- `required_after required extensions` is what is required after a commit: by the extensions that its list proposes,
 -- else what is required before it (RFC 9420, 11.1 and 12.1.7). `None` if it cannot be read.
@@ -158,12 +193,12 @@ abbrev pub required_after : RequiredCapabilities → Option (List Extension) →
 required_after required None = Some required
 required_after required (Some extensions) = required_by extensions
 
--- `rules_under G s i path g required` is the rules after those for the proposal list, under what is then required. That
--- this can be read was checked for each proposal. The rule here matters only in states that no follower comes to.
-abbrev pub rules_under : VerifyFn → State → ℕ → Option UpdatePath → Option Grown
+-- `rules_under G s committer path o required` is the rules after those for the proposal list, under what is then required.
+-- That this can be read was checked for each proposal. The rule here matters only in states that no follower comes to.
+abbrev pub rules_under : VerifyFn → State → Sender → Option UpdatePath → Option Grown
     → Option RequiredCapabilities → List (Rule Refusal)
-rules_under G s i path o None = refuse ContextExtensionsInvalid
-rules_under G s i path o (Some required) = outcome_rules G s required i path o
+rules_under G s committer path o None = refuse ContextExtensionsInvalid
+rules_under G s committer path o (Some required) = outcome_rules G s required committer path o
 
 -- `inline_rules G s i c` is the rules for the proposals that a commit includes by value (RFC 9420, 12.1 and 12.4).
 abbrev pub inline_rules : VerifyFn → State → ℕ → Commit → List (Rule Refusal)
@@ -184,7 +219,7 @@ items_rules G s required i c None = refuse UnknownReference
 items_rules G s required i c (Some items) =
     inline_rules G s i c ++
     (renamed refusal_of (list_rules (senders.Member i) items (is_some c.path)) ++
-    rules_under G s i c.path (outcome items s.tree) (required_after required (brought items)))
+    rules_under G s (senders.Member i) c.path (outcome items s.tree) (required_after required (brought items)))
 
 -- `commit_rules G s required i c` is the rules for a commit of member i (RFC 9420, 12.4.2).
 abbrev pub commit_rules : VerifyFn → State → RequiredCapabilities → ℕ → Commit → List (Rule Refusal)
@@ -266,28 +301,54 @@ outside_rules G s a sender =
     rule UnknownExternal (is_known_external s.context.extensions sender) ∷
     outside_content_rules G s a sender (outside_key s.context sender a.content.content) a.content.content
 
+-- `external_commit_rules G s required c` is the rules for a commit of a client that joins with it, after those that it has a
+-- path and is signed (RFC 9420, 12.2 and 12.4.3.2).
+abbrev pub external_commit_rules : VerifyFn → State → RequiredCapabilities → Commit → List (Rule Refusal)
+external_commit_rules G s required c =
+    rule LastEpoch (nat_lt s.context.epoch last_epoch) ∷
+    (renamed refusal_of (path_of_join s.context s.tree c.proposals c.path) ++
+    rules_under G s senders.NewMemberCommit c.path (outcome (join_items c.proposals) s.tree)
+    (required_after required (brought (join_items c.proposals))))
+
+-- `signed_commit_rules G s required a c path` is the rules for a commit of a client that joins with it, by its path. Without
+-- one there is no key under which it is signed.
+abbrev pub signed_commit_rules : VerifyFn → State → RequiredCapabilities → AuthenticatedParts → Commit
+    → Option UpdatePath → List (Rule Refusal)
+signed_commit_rules G s required a c None = refuse PathMissing
+signed_commit_rules G s required a c (Some path) =
+    rule BadSignature (is_frame_signed G s.context path.leaf_node.signature_key a) ∷
+    external_commit_rules G s required c
+
+-- `joiner_rules G s required a c` is the rules for the content of a message of a client that joins with a commit (RFC 9420,
+-- 6.1, 6.2 and 12.4.3.2).
+abbrev pub joiner_rules : VerifyFn → State → RequiredCapabilities → AuthenticatedParts → Content
+    → List (Rule Refusal)
+joiner_rules G s required a (contents.Application _) = refuse NotHandshake
+joiner_rules G s required a (contents.Proposal _) = refuse SenderContent
+joiner_rules G s required a (contents.Commit c) = signed_commit_rules G s required a c c.path
+
 -- `is_followed profile sender`: messages of the sender are processed. In the members' profile only those of members are
--- (own rule). Those of a client that joins with a commit (RFC 9420, 12.4.3.2) are not processed yet.
+-- (own rule).
 abbrev pub is_followed : Profile → Sender → Bool
 is_followed profile (senders.Member _) = true
 is_followed profile (senders.External _) = is_in profile false
 is_followed profile senders.NewMemberProposal = is_in profile false
-is_followed profile senders.NewMemberCommit = false
+is_followed profile senders.NewMemberCommit = is_in profile false
 
 -- `if_full profile rules` is the rules for senders outside the group, whom the members' profile refuses (own rule).
 abbrev pub if_full : Profile → List (Rule Refusal) → List (Rule Refusal)
 if_full Members rules = refuse SenderNotMember
 if_full Full rules = rules
 
--- `sender_rules G s required a sender` is the rules for a message of a sender (RFC 9420, 6.1). A client that joins with a
--- commit is refused in both profiles: external commits (12.4.3.2) are not processed yet.
+-- `sender_rules G s required a sender` is the rules for a message of a sender (RFC 9420, 6.1).
 abbrev pub sender_rules : VerifyFn → State → RequiredCapabilities → AuthenticatedParts → Sender
     → List (Rule Refusal)
 sender_rules G s required a (senders.Member i) = leaf_rules G s required a i (leaf_at 0 s.tree i)
 sender_rules G s required a (senders.External k) = if_full s.profile (outside_rules G s a (senders.External k))
 sender_rules G s required a senders.NewMemberProposal =
     if_full s.profile (outside_rules G s a senders.NewMemberProposal)
-sender_rules G s required a senders.NewMemberCommit = refuse SenderNotMember
+sender_rules G s required a senders.NewMemberCommit =
+    if_full s.profile (joiner_rules G s required a a.content.content)
 
 -- `frame_rules G s required a` is the rules for an AuthenticatedContent: the group, the epoch (RFC 9420, 6.1), that the
 -- group is not over (11.2), the sender (6.1).
@@ -306,8 +367,8 @@ message_rules G s required (messages.Unread _ _) = refuse NotPublic
 message_rules G s required (messages.GroupInfo _) = refuse NotPublic
 message_rules G s required (messages.KeyPackage _) = refuse NotPublic
 
--- The first rule that fails, for an AuthenticatedContent, for a sender, for the content of a member, for a proposal and for
--- a commit. Proofs about callers need not unfold these.
+-- The first rule that fails, for an AuthenticatedContent, for a sender, for the content of a member, for a proposal, for a
+-- commit and for an external commit. Proofs about callers need not unfold these.
 
 -- `frame_refusal G s required a` is the refusal of the first rule for an AuthenticatedContent that fails.
 unfoldable pub frame_refusal : VerifyFn → State → RequiredCapabilities → AuthenticatedParts
@@ -336,3 +397,13 @@ handshake_refusal G s required a i content =
 -- `commit_refusal G s required i c` is the refusal of the first rule for a commit of member i that fails.
 unfoldable pub commit_refusal : VerifyFn → State → RequiredCapabilities → ℕ → Commit → Option Refusal
 commit_refusal G s required i c = first_failing (commit_rules G s required i c)
+
+-- `joiner_refusal G s required a c` is the refusal of the first rule for the content of a client that joins with a commit that
+-- fails.
+unfoldable pub joiner_refusal : VerifyFn → State → RequiredCapabilities → AuthenticatedParts → Content
+    → Option Refusal
+joiner_refusal G s required a content = first_failing (joiner_rules G s required a content)
+
+-- `external_commit_refusal G s required c` is the refusal of the first rule for an external commit that fails.
+unfoldable pub external_commit_refusal : VerifyFn → State → RequiredCapabilities → Commit → Option Refusal
+external_commit_refusal G s required c = first_failing (external_commit_rules G s required c)

@@ -17,10 +17,11 @@ use Rattle.mls_msgs.specs.declared.proposal.Proposal.{Proposal}
 use Rattle.mls_apply.specs.declared.list_item.ListItem.{ListItem}
 use Rattle.mls_apply.specs.ContextExtensions.{new_extensions}
 use Rattle.mls_apply.specs.ListRules.{has_reinit}
+use Rattle.mls_apply.specs.JoinRules.{join_items}
 use Rattle.mls_apply.specs.ResolvedList.{resolved}
 use Rattle.mls_apply.specs.AppliedList.{outcome}
 use Rattle.mls_follow.specs.State.{State}
-use Rattle.mls_follow.specs.MessageRules.{reference_of, resulting}
+use Rattle.mls_follow.specs.MessageRules.{reference_of, changed_tree}
 use Rattle.mls_follow.specs.Transcript.{confirmed_hash, interim_hash}
 use Rattle.mls_follow.specs.declared.taken.Taken.{Taken}
 use Rattle.mls_follow.specs.declared.taken.Taken.TheVariants as takens
@@ -68,13 +69,10 @@ after_tree s a t =
     (confirmed_hash (hash_of s.context.cipher_suite) s.interim a))
     (tree_hash (hash_of s.context.cipher_suite) 0 t)
 
--- `commit_tree s i c` is the tree after a commit of member i (RFC 9420, 12.4.2).
-abbrev pub commit_tree : State → ℕ → Commit → Option Tree
-commit_tree s i c =
-    option_and_then (λ items.
-    option_and_then (λ g. resulting (hash_of s.context.cipher_suite) g i c.path)
-    (outcome items s.tree))
-    (resolved (senders.Member i) s.known c.proposals)
+-- `commit_tree s committer c items` is the tree after a commit with this proposal list (RFC 9420, 12.4.2 and 12.4.3.2).
+abbrev pub commit_tree : State → Sender → Commit → Option (List ListItem) → Option Tree
+commit_tree s committer c items =
+    option_and_then (λ xs. changed_tree (hash_of s.context.cipher_suite) committer c.path (outcome xs s.tree)) items
 
 -- `extensions_after present items` is the extensions of the next GroupContext, by the proposal list (RFC 9420, 12.1.7).
 abbrev pub extensions_after : List Extension → Option (List ListItem) → List Extension
@@ -96,18 +94,24 @@ with_extensions s extensions ended =
 abbrev pub with_list : State → Option (List ListItem) → State
 with_list s items = with_extensions s (extensions_after s.context.extensions items) (is_over_after items)
 
--- `after_commit s a i c` is the step after a commit of member i (RFC 9420, 12.4.2).
-abbrev pub after_commit : State → AuthenticatedParts → ℕ → Commit → Option Step
-after_commit s a i c =
-    option_and_then (after_tree (with_list s (resolved (senders.Member i) s.known c.proposals)) a)
-    (commit_tree s i c)
+-- `after_commit s a committer c items` is the step after a commit with this proposal list (RFC 9420, 12.4.2).
+abbrev pub after_commit : State → AuthenticatedParts → Sender → Commit → Option (List ListItem) → Option Step
+after_commit s a committer c items =
+    option_and_then (after_tree (with_list s items) a) (commit_tree s committer c items)
 
 -- `after_content s a i c` is the step after the content of a message of member i.
 abbrev pub after_content : State → AuthenticatedParts → ℕ → Content → Option Step
 after_content s a i (contents.Application _) = None
 after_content s a i (contents.Proposal p) =
     option_map (after_proposal s (senders.Member i) p) (reference_of s.context a)
-after_content s a i (contents.Commit c) = after_commit s a i c
+after_content s a i (contents.Commit c) =
+    after_commit s a (senders.Member i) c (resolved (senders.Member i) s.known c.proposals)
+
+-- `after_join s a c` is the step after the content of a message of a client that joins with a commit (RFC 9420, 12.4.3.2).
+abbrev pub after_join : State → AuthenticatedParts → Content → Option Step
+after_join s a (contents.Application _) = None
+after_join s a (contents.Proposal _) = None
+after_join s a (contents.Commit c) = after_commit s a senders.NewMemberCommit c (Some (join_items c.proposals))
 
 -- `after_outside s a sender c` is the step after the content of a message of a sender outside the group, which is a
 -- proposal (RFC 9420, 12.1.8).
@@ -122,7 +126,7 @@ abbrev pub after_sender : State → AuthenticatedParts → Sender → Option Ste
 after_sender s a (senders.Member i) = after_content s a i a.content.content
 after_sender s a (senders.External k) = after_outside s a (senders.External k) a.content.content
 after_sender s a senders.NewMemberProposal = after_outside s a senders.NewMemberProposal a.content.content
-after_sender s a senders.NewMemberCommit = None
+after_sender s a senders.NewMemberCommit = after_join s a a.content.content
 
 -- `next s m` is the step after a message that satisfies the rules, which is a PublicMessage (RFC 9420, 6.2).
 abbrev pub next : State → Message → Option Step

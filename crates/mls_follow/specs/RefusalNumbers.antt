@@ -43,6 +43,8 @@ number_of refusals.ReInitInvalid = 32
 number_of refusals.ExternalInitMisplaced = 33
 number_of refusals.PskTwice = 34
 number_of refusals.ReInitNotAlone = 35
+number_of refusals.JoinList = 36
+number_of refusals.ResyncInvalid = 37
 
 -- `start_number_of fault` is the number of a refused start.
 abbrev pub start_number_of : StartFault → ℕ

@@ -1,30 +1,38 @@
 //! The rules for a commit (RFC 9420, 12.4.2), and how it changes the group's tree, in place.
 
-ghost use Rattle.std.specs.Prelude.{◌≡◌, ◌<◌, Some, None, IsSome, IfOk, IfErr, OnOk, is_some, true};
+ghost use Rattle.std.specs.Prelude.{◌≡◌, ◌≢◌, ◌<◌, ℕ, Some, None, IsSome, IsTrue, IfOk, IfErr, OnOk, is_some, true, false};
 ghost use Rattle.mls_hash.specs.SuiteHash.{hash_of};
-ghost use Rattle.mls_tree.specs.Tree.{leaf_at};
+ghost use Rattle.mls_nodes.specs.declared.required_capabilities.RequiredCapabilities.{RequiredCapabilities};
+ghost use Rattle.mls_check.specs.Signatures.{VerifyFn};
+ghost use Rattle.mls_tree.specs.Tree.{leaf_at, leaf_count};
 ghost use Rattle.mls_tree.specs.TreeHash.{tree_hash};
 ghost use Rattle.mls_msgs.specs.declared.framed_content.Sender.TheVariants.{Member};
 ghost use Rattle.mls_apply.specs.ResolvedList.{resolved};
+ghost use Rattle.mls_apply.specs.JoinRules.{join_items, join_refusal};
 ghost use Rattle.mls_apply.specs.ListRules.{list_refusal};
+ghost use Rattle.mls_apply.specs.Senders.{is_present};
 ghost use Rattle.mls_apply.specs.RuleLists.{first_failing};
+ghost use Rattle.mls_apply.specs.AddedKeys.{have_distinct_added_keys};
 ghost use Rattle.mls_apply.specs.AppliedList.{grown, outcome};
 ghost use Rattle.mls_apply.specs.Staged.{SatisfiesTreeRules};
-ghost use Rattle.mls_follow.specs.State.{last_epoch};
+ghost use Rattle.mls_follow.specs.State.{State, last_epoch};
 ghost use Rattle.mls_follow.specs.Acceptance.{Refuses};
 ghost use Rattle.mls_follow.specs.GroupModel.{group_state, with_known};
-ghost use Rattle.mls_follow.specs.MessageRules.{commit_refusal, inline_rules, outcome_rules, path_rules_of, resulting};
-ghost use Rattle.mls_follow.specs.CommitTree.{change_rules, changed_tree, in_context};
+ghost use Rattle.mls_follow.specs.MessageRules.{changed_tree, commit_refusal, external_commit_refusal, inline_rules, outcome_rules, path_rules_of, placed, resulting};
+ghost use Rattle.mls_follow.specs.CommitTree.{change_rules, in_context};
 
 use crate::changed_tree_check::{TreeRules, check_changed_tree};
 use crate::group::Group;
 use crate::proposals_by_value::check_inline;
 use crate::refusal::Refusal;
 use crate::resolved::{ReceivedCommit, ResolvedCommit};
-use mls_apply::{CommitterPath, Leaves, ListItem, StagedTree, check_list, resolve_list};
+use mls_apply::{
+    CommitterPath, EpochState, Leaves, ListItem, StagedTree, check_join, check_list,
+    have_distinct_added_keys, join_items, resolve_list,
+};
 use mls_check::SignatureCheck;
 use mls_hash::Suite;
-use mls_msgs::Sender;
+use mls_msgs::{Commit, Sender, UpdatePath};
 use mls_wire::Opaque;
 use std::alloc::Global;
 
@@ -65,32 +73,92 @@ pub(crate) fn check_items<'a, C: SignatureCheck>(
     Ok(items)
 }
 
+/// Returns the proposal list of an external commit, if the commit satisfies the rules that are checked before the tree is
+/// changed. Its epoch is not the last one, and its list satisfies its rules (RFC 9420, 12.4.3.2). It must have a path.
+#[tactic(auto, unfolding(crate::specs::MessageRules::external_commit_refusal))]
+pub(crate) fn check_join_items<'a>(
+    alloc: Global,
+    group: &Group,
+    commit: &'a Commit,
+) -> Result<Vec<ListItem<'a>>, Refusal>
+    requires { IsSome commit.now.path }
+    ensures later { OnOk result (group.now.context.epoch < last_epoch) }
+    ensures items { IfOk result (λ items. items.items ≡ join_items commit.now.proposals) }
+    ensures list { OnOk result (join_refusal group.now.context group.now.tree.tree commit.now ≡ None) }
+    ensures refused { IfErr result (λ e. e ≢ Refusal.OutOfMemory → (G : VerifyFn)
+        → external_commit_refusal G (group_state group.now) group.now.required commit.now ≡ Some e) }
+{
+    if group.context.epoch == u64::MAX {
+        return Err(Refusal::LastEpoch);
+    }
+    let epoch = EpochState {
+        context: &group.context,
+        tree: group.tree.tree(),
+    };
+    check_join(alloc, &epoch, commit)?;
+    Ok(join_items(alloc, commit.proposals.as_slice())?)
+}
+
+/// The leaf of a committer in the tree after its proposals, and the leaves that these added.
+#[derive(Drop)]
+struct PlacedCommitter {
+    leaf: u32,
+    added: Leaves,
+}
+
+/// Returns the committer's leaf in the tree after its proposals, of which `added` are the added leaves. A client that joins
+/// takes the leaf of the next new member, for which the tree may be extended. No leaf counts as added then.
+fn place_committer(
+    alloc: Global,
+    tree: &mut StagedTree,
+    committer: Sender,
+    added: Leaves,
+) -> Result<PlacedCommitter, Refusal>
+    requires { IsTrue (is_present tree.old.tree committer) }
+    ensures placed { IfOk result (λ q. placed committer (grown tree.old.tree added)
+        ≡ Some (record { grown = grown tree.new.tree q.added; leaf = q.leaf })) }
+    ensures inside { IfOk result (λ q. q.leaf < leaf_count tree.new.tree) }
+    ensures refused { IfErr result (λ e. e ≢ Refusal.OutOfMemory
+        → (placed committer (grown tree.old.tree added) ≡ None) × (e ≡ Refusal.TooManyLeaves)) }
+    ensures base { tree.new.base ≡ tree.old.base }
+{
+    match committer {
+        Sender::Member(leaf) => Ok(PlacedCommitter { leaf, added }),
+        Sender::External(_) => Err(Refusal::TooManyLeaves),
+        Sender::NewMemberProposal => Err(Refusal::TooManyLeaves),
+        Sender::NewMemberCommit => {
+            let leaf = tree.seat()?;
+            let none = Vec::new(alloc);
+            let added = Leaves::new(none);
+            Ok(PlacedCommitter { leaf, added })
+        }
+    }
+}
+
 /// Merges the path of a commit, if it has one, into the tree after its proposals, if it satisfies the rules for paths.
 fn merge(
     alloc: Global,
     suite: Suite,
     tree: &mut StagedTree,
-    added: &Leaves,
-    commit: &ResolvedCommit<'_>,
+    committer: &PlacedCommitter,
+    path: &Option<UpdatePath>,
 ) -> Result<(), Refusal>
-    requires { IsSome (leaf_at 0 tree.old.tree commit.now.committer) }
-    ensures kept { let g = grown tree.old.tree added.now in
-        OnOk result (first_failing (path_rules_of (hash_of suite) g
-        commit.now.committer commit.now.path.now) ≡ None) }
-    ensures tree { let g = grown tree.old.tree added.now in
-        OnOk result (resulting (hash_of suite) g commit.now.committer commit.now.path.now
-        ≡ Some tree.new.tree) }
-    ensures refused { let g = grown tree.old.tree added.now in
+    requires { committer.now.leaf < leaf_count tree.old.tree }
+    ensures kept { let g = grown tree.old.tree committer.now.added in
+        OnOk result (first_failing (path_rules_of (hash_of suite) g committer.now.leaf path.now) ≡ None) }
+    ensures tree { let g = grown tree.old.tree committer.now.added in
+        OnOk result (resulting (hash_of suite) g committer.now.leaf path.now ≡ Some tree.new.tree) }
+    ensures refused { let g = grown tree.old.tree committer.now.added in
         IfErr result (Refuses (first_failing (path_rules_of (hash_of suite) g
-        commit.now.committer commit.now.path.now))) }
+        committer.now.leaf path.now))) }
     ensures base { tree.new.base ≡ tree.old.base }
 {
-    let Some(path) = commit.path else {
+    let Some(path) = path else {
         return Ok(());
     };
     let path = CommitterPath {
-        leaf: commit.committer,
-        added,
+        leaf: committer.leaf,
+        added: &committer.added,
         path,
     };
     Ok(tree.merge_path(alloc, suite, &path)?)
@@ -103,7 +171,7 @@ fn change_tree(
     tree: &mut StagedTree,
     commit: &ResolvedCommit<'_>,
 ) -> Result<(), Refusal>
-    requires { IsSome (leaf_at 0 tree.old.tree commit.now.committer) }
+    requires { IsTrue (is_present tree.old.tree commit.now.committer) }
     ensures kept { let o = outcome commit.now.items.items tree.old.tree in
         OnOk result (first_failing (change_rules (hash_of suite)
         commit.now.committer commit.now.path.now o) ≡ None) }
@@ -116,7 +184,46 @@ fn change_tree(
     ensures base { tree.new.base ≡ tree.old.base }
 {
     let added = tree.apply_list(alloc, commit.items.as_slice())?;
-    merge(alloc, suite, tree, &added, commit)
+    let committer = place_committer(alloc, tree, commit.committer, added)?;
+    merge(alloc, suite, tree, &committer, commit.path)
+}
+
+/// Returns why a member's commit without a path is refused, two of whose Adds have one encryption key: `TooManyLeaves` if its
+/// list cannot be applied, else `KeyRepeated`. No leaf node is copied, so many references to one large Add cost no more than
+/// their own bytes. A part of the list may have been applied, in another form.
+fn repeated_key_refusal(alloc: Global, tree: &mut StagedTree, items: &[ListItem<'_>]) -> Refusal
+    requires { have_distinct_added_keys items.now ≡ false }
+    ensures refused { let o = outcome items.now tree.old.tree in
+        result ≢ Refusal.OutOfMemory → (G : VerifyFn) → (s : State) → (required : RequiredCapabilities) → (i : ℕ)
+        → first_failing (outcome_rules G s required (Member i) None o) ≡ Some result }
+    ensures base { tree.new.base ≡ tree.old.base }
+{
+    match tree.check_list_fits(alloc, items) {
+        Ok(()) => Refusal::KeyRepeated,
+        Err(fault) => Refusal::from(fault),
+    }
+}
+
+/// Checks that no two Adds of a member's commit without a path have one encryption key, which is decided by the list alone.
+/// With a path, other rules come first. On error a part of the commit may have been applied in another form.
+fn check_added_keys(
+    alloc: Global,
+    tree: &mut StagedTree,
+    commit: &ResolvedCommit<'_>,
+) -> Result<(), Refusal>
+    ensures refused { let o = outcome commit.now.items.items tree.old.tree in
+        IfErr result (λ e. e ≢ Refusal.OutOfMemory → (G : VerifyFn) → (s : State) → (required : RequiredCapabilities)
+        → first_failing (outcome_rules G s required commit.now.committer commit.now.path.now o) ≡ Some e) }
+    ensures tree { OnOk result (tree.new.tree ≡ tree.old.tree) }
+    ensures base { tree.new.base ≡ tree.old.base }
+{
+    let Sender::Member(_) = commit.committer else {
+        return Ok(());
+    };
+    if commit.path.is_some() || have_distinct_added_keys(alloc, commit.items.as_slice())? {
+        return Ok(());
+    }
+    Err(repeated_key_refusal(alloc, tree, commit.items.as_slice()))
 }
 
 /// Stages a commit, and returns the tree hash after it, if the tree after the list and the path satisfies its rules.
@@ -128,7 +235,7 @@ pub(crate) fn stage_commit<C: SignatureCheck>(
     tree: &mut StagedTree,
     commit: &ResolvedCommit<'_>,
 ) -> Result<Opaque, Refusal>
-    requires member { IsSome (leaf_at 0 tree.old.tree commit.now.committer) }
+    requires present { IsTrue (is_present tree.old.tree commit.now.committer) }
     requires kept { SatisfiesTreeRules (C.meaning checker.now) rules.now.context.now rules.now.former.now
         tree.old.base }
     ensures kept { let o = outcome commit.now.items.items tree.old.tree in
@@ -148,6 +255,7 @@ pub(crate) fn stage_commit<C: SignatureCheck>(
     ensures base { tree.new.base ≡ tree.old.base }
     ensures indexed { OnOk result (tree.new.indexed ≡ true) }
 {
+    check_added_keys(alloc, tree, commit)?;
     change_tree(alloc, rules.suite, tree, commit)?;
     check_changed_tree(alloc, rules, checker, tree)
 }

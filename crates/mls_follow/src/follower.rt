@@ -103,7 +103,7 @@ impl<C: SignatureCheck> Follower<C> {
     /// Starts a follower from a GroupInfo (RFC 9420, 12.4.3), with the tree that is passed, or else with the one in the
     /// GroupInfo. In the members' profile it processes the proposals Add, Update, Remove and GroupContextExtensions of
     /// members. In the full profile it processes also PreSharedKey and ReInit (12.1.4, 12.1.5), and the proposals of external
-    /// senders and of clients that propose to join (12.1.8).
+    /// senders and of clients that propose to join (12.1.8), and external commits (12.4.3.2).
     ///
     /// Whether the group is over, no GroupInfo says: the follower takes it that it goes on (11.2).
     ///

@@ -12,7 +12,7 @@ ghost use Rattle.mls_apply.specs.Senders.{is_present};
 ghost use Rattle.mls_signatures.specs.SigningKeys.{outside_key};
 ghost use Rattle.mls_follow.specs.State.{EncodesMessage};
 ghost use Rattle.mls_follow.specs.GroupModel.{group_state};
-ghost use Rattle.mls_follow.specs.MessageRules.{frame_refusal, handshake_refusal, is_frame_signed, is_handshake, lacks_key, outside_content_rules, outside_refusal, proposal_refusal, sender_refusal};
+ghost use Rattle.mls_follow.specs.MessageRules.{external_commit_refusal, frame_refusal, handshake_refusal, is_frame_signed, is_handshake, joiner_refusal, lacks_key, outside_content_rules, outside_refusal, proposal_refusal, sender_refusal};
 ghost use Rattle.mls_follow.specs.Acceptance.{Refuses, EncodesNoMessage};
 ghost use Rattle.mls_follow.specs.MessageHeader.{HasNoHeader, IsUnreadMessage};
 
@@ -21,7 +21,7 @@ use crate::message_header::{is_unread, wire_format_of};
 use crate::refusal::Refusal;
 use mls_check::{OutOfMemory, SignatureCheck, signed};
 use mls_msgs::{
-    Authenticated, CONTENT_LABEL, Content, Message, Profile, Proposal, Sender, content_tbs,
+    Authenticated, CONTENT_LABEL, Commit, Content, Message, Profile, Proposal, Sender, content_tbs,
     decode_message_in,
 };
 use mls_nodes::GroupContext;
@@ -232,4 +232,36 @@ pub(crate) fn check_outside_frame<'a, C: SignatureCheck>(
     let answer = check_outside_content(alloc, group, checker, auth, &key);
     drop(key);
     answer
+}
+
+/// Returns the commit of a message of a client that joins with it, if it has a path, and is signed under the key of the path's
+/// leaf node (RFC 9420, 6.1 and 12.4.3.2).
+#[tactic(auto, unfolding(crate::specs::MessageRules::joiner_refusal, crate::specs::MessageRules::external_commit_refusal))]
+pub(crate) fn check_joiner_frame<'a, C: SignatureCheck>(
+    alloc: Global,
+    group: &Group,
+    checker: &C,
+    auth: &'a Authenticated,
+) -> Result<&'a Commit, Refusal>
+    ensures commit { IfOk result (λ c. auth.now.content.content ≡ contents.Commit c.now) }
+    ensures path { IfOk result (λ c. IsSome c.now.path) }
+    ensures kept { IfOk result (λ c. joiner_refusal (C.meaning checker.now) (group_state group.now)
+        group.now.required auth.now auth.now.content.content
+        ≡ external_commit_refusal (C.meaning checker.now) (group_state group.now) group.now.required c.now) }
+    ensures refused { IfErr result (Refuses (joiner_refusal (C.meaning checker.now) (group_state group.now)
+        group.now.required auth.now auth.now.content.content)) }
+{
+    let commit = match &auth.content().content {
+        Content::Application(_) => return Err(Refusal::NotHandshake),
+        Content::Proposal(_) => return Err(Refusal::SenderContent),
+        Content::Commit(commit) => commit,
+    };
+    let Some(path) = &commit.path else {
+        return Err(Refusal::PathMissing);
+    };
+    let key = &path.leaf_node.signature_key;
+    if !is_frame_signed(alloc, &group.context, key, auth, checker)? {
+        return Err(Refusal::BadSignature);
+    }
+    Ok(commit)
 }

@@ -47,6 +47,7 @@ fn is_followed(profile: Profile, sender: Sender) -> bool
         (Sender::Member(_), _) => true,
         (Sender::External(_), Profile::Full) => true,
         (Sender::NewMemberProposal, Profile::Full) => true,
+        (Sender::NewMemberCommit, Profile::Full) => true,
         _ => false,
     }
 }

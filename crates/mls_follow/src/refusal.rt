@@ -21,15 +21,16 @@ pub enum Refusal {
     /// The message's epoch is not the current one (RFC 9420, 6.1).
     #[error("the message is of another epoch")]
     WrongEpoch,
-    /// The leaf of a member that sends is blank (RFC 9420, 6.1). In the members' profile also: the sender is no member. In both
-    /// profiles: the sender joins with a commit (12.4.3.2), which is not processed yet (own rule).
+    /// The leaf of a member that sends is blank (RFC 9420, 6.1). In the members' profile also: the sender is no member (own
+    /// rule).
     #[error("the sender is no member")]
     SenderNotMember,
     /// The content is application data, which is never sent as a PublicMessage (RFC 9420, 6.2).
     #[error("the message is no proposal and no commit")]
     NotHandshake,
-    /// The signature of the message is not good under the sender's key: that of a member's leaf, of the external sender in the
-    /// GroupContext, or of the leaf node in the Add of a client that proposes to join (RFC 9420, 6.1 and 12.1.8).
+    /// The signature of the message is not good under the sender's key (RFC 9420, 6.1, 12.1.8 and 12.4.3.2). It is that of a
+    /// member's leaf, of the external sender in the GroupContext, of the leaf node in the Add of a client that proposes to join,
+    /// or of the path's leaf node of a client that joins with a commit.
     #[error("the message's signature is not good")]
     BadSignature,
     /// A proposal that is pending already, by its reference (RFC 9420, 5.2; own rule).
@@ -64,7 +65,7 @@ pub enum Refusal {
     #[error("two proposals concern one leaf")]
     SameLeafTwice,
     /// A commit has no path, and its list is empty or has an Update, a Remove or a GroupContextExtensions (RFC 9420,
-    /// 12.4).
+    /// 12.4). Or an external commit has no path (12.4.3.2).
     #[error("a path is missing")]
     PathMissing,
     /// The group would have more than 1,048,576 members, or an unmerged list more than 1,048,576 entries (own limits).
@@ -106,8 +107,8 @@ pub enum Refusal {
     /// 12.1.8).
     #[error("the external sender is not known")]
     UnknownExternal,
-    /// The sender may not send the content (RFC 9420, 6.1 and 12.1.8): an external sender an Update, an ExternalInit or a
-    /// commit; a client that proposes to join anything but an Add.
+    /// The sender may not send the content (RFC 9420, 6.1, 12.1.8 and 12.4.3.2): an external sender an Update, an ExternalInit
+    /// or a commit; a client that proposes to join anything but an Add; one that joins with a commit a proposal.
     #[error("the sender may not send this")]
     SenderContent,
     /// The nonce of a PreSharedKey has not the length of the suite's hash; or its usage is reinit or branch, and the epoch is
@@ -126,6 +127,14 @@ pub enum Refusal {
     /// A proposal list has a ReInit and another proposal (RFC 9420, 12.2).
     #[error("a reinitialization is not alone")]
     ReInitNotAlone,
+    /// The list of an external commit has not one ExternalInit, or two Removes, or a proposal of another type than
+    /// ExternalInit, Remove and PreSharedKey, or a reference (RFC 9420, 12.2 and 12.4.3.2).
+    #[error("the list of an external commit is not one")]
+    JoinList,
+    /// The leaf that an external commit removes has the encryption key of the path's leaf, or neither its credential nor its
+    /// signature key (RFC 9420, 12.4.3.2).
+    #[error("an external commit removes another client than its own")]
+    ResyncInvalid,
     /// An allocation failed. It says nothing of the message.
     #[error("out of memory")]
     OutOfMemory,
@@ -177,6 +186,8 @@ impl Refusal {
             Refusal::ExternalInitMisplaced => 33,
             Refusal::PskTwice => 34,
             Refusal::ReInitNotAlone => 35,
+            Refusal::JoinList => 36,
+            Refusal::ResyncInvalid => 37,
         }
     }
 }
@@ -257,6 +268,8 @@ impl From<ApplyFault> for Refusal {
             ApplyFault::ExternalInitMisplaced => Refusal::ExternalInitMisplaced,
             ApplyFault::PskTwice => Refusal::PskTwice,
             ApplyFault::ReInitNotAlone => Refusal::ReInitNotAlone,
+            ApplyFault::JoinList => Refusal::JoinList,
+            ApplyFault::ResyncInvalid => Refusal::ResyncInvalid,
             ApplyFault::NoSuchLeaf => Refusal::TooManyLeaves,
             ApplyFault::OutOfMemory => Refusal::OutOfMemory,
         }

@@ -31,12 +31,12 @@ pub(crate) struct ReceivedCommit<'a> {
     pub(crate) known: &'a PendingProposals,
 }
 
-/// A member's commit whose proposal list is resolved and satisfies its rules: its AuthenticatedContent, the member, the
-/// list, and its path.
+/// A commit whose proposal list is resolved and satisfies its rules: its AuthenticatedContent, the committer, the list, and its
+/// path. The committer is a member, or a client that joins (RFC 9420, 12.4.3.2).
 #[derive(Drop)]
 pub(crate) struct ResolvedCommit<'a> {
     pub(crate) auth: &'a Authenticated,
-    pub(crate) committer: u32,
+    pub(crate) committer: Sender,
     pub(crate) items: Vec<ListItem<'a>>,
     pub(crate) path: &'a Option<UpdatePath>,
     ghost commit: { IsTrue (is_commit auth.now.content.content) },

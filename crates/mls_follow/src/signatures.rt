@@ -59,7 +59,8 @@ impl<C: SignatureCheck> Follower<C> {
     /// another rule refuses the message before.
     ///
     /// In the members' profile only messages of members have signatures. In the full profile also the proposals that external
-    /// senders and new members may send do, if the sender has a key (12.1.8). If the group is over, there are none.
+    /// senders and new members may send do, if the sender has a key (12.1.8). An external commit with a path has its own, and that
+    /// of the path's leaf (12.4.3.2). If the group is over, there are none.
     ///
     /// The list of a commit is applied to the tree in place and taken back: the group and the checker are unchanged, whatever
     /// is returned.

@@ -1,4 +1,4 @@
-//! How a group processes what one of its members has sent.
+//! How a group processes what its members, external senders and new members have sent.
 
 ghost use Rattle.std.specs.Prelude.{◌≡◌, ◌<◌, ℕ, List, Some, None, IsSome, IsTrue, IfOk, IfErr, OnOk, OnErr, option_and_then, option_map};
 ghost use Rattle.mls_nodes.specs.Requirements.{RequiresBy};
@@ -7,23 +7,25 @@ ghost use Rattle.mls_msgs.specs.Layout.{is_commit};
 ghost use Rattle.mls_msgs.specs.Tbs.{confirmed_input};
 ghost use Rattle.mls_msgs.specs.declared.framed_content.Content.TheVariants as contents;
 ghost use Rattle.mls_hash.specs.SuiteHash.{hash_of};
-ghost use Rattle.mls_msgs.specs.declared.framed_content.Sender.TheVariants.{Member};
+ghost use Rattle.mls_msgs.specs.declared.framed_content.Sender.TheVariants.{Member, NewMemberCommit};
 ghost use Rattle.mls_apply.specs.ContextExtensions.{brought};
 ghost use Rattle.mls_apply.specs.Senders.{is_present};
 ghost use Rattle.mls_apply.specs.AppliedList.{outcome};
+ghost use Rattle.mls_apply.specs.JoinRules.{join_items};
 ghost use Rattle.mls_apply.specs.RuleLists.{first_failing};
-ghost use Rattle.mls_follow.specs.CommitTree.{changed_tree};
 ghost use Rattle.mls_follow.specs.GroupModel.{group_state, with_known};
 ghost use Rattle.mls_follow.specs.FollowerInvariant.{IsJudged};
-ghost use Rattle.mls_follow.specs.MessageRules.{frame_refusal, handshake_refusal, if_full, outcome_rules, outside_refusal, outside_rules, proposal_refusal, required_after, rules_under, reference_of, sender_refusal};
-ghost use Rattle.mls_follow.specs.NextState.{after_content, after_outside, after_proposal, after_sender, after_tree, with_extensions, with_list};
+ghost use Rattle.mls_follow.specs.MessageRules.{changed_tree, external_commit_refusal, frame_refusal, handshake_refusal, if_full, joiner_refusal, joiner_rules, outcome_rules, outside_refusal, outside_rules, proposal_refusal, required_after, rules_under, reference_of, sender_refusal};
+ghost use Rattle.mls_follow.specs.NextState.{after_commit, after_content, after_join, after_outside, after_proposal, after_sender, after_tree, with_extensions, with_list};
 ghost use Rattle.mls_follow.specs.State.{HasEncoding, EncodesMessage, last_epoch};
 ghost use Rattle.mls_follow.specs.Acceptance.{Refuses};
 ghost use Rattle.mls_follow.specs.Runs.{Takes};
 
 use crate::changed_tree_check::TreeRules;
-use crate::commit_changes::{check_items, stage_commit};
-use crate::framed_content_rules::{check_header, check_member_frame, check_outside_frame};
+use crate::commit_changes::{check_items, check_join_items, stage_commit};
+use crate::framed_content_rules::{
+    check_header, check_joiner_frame, check_member_frame, check_outside_frame,
+};
 use crate::group::Group;
 use crate::next_extensions::{NextExtensions, next_extensions_after};
 use crate::proposal_message::check_proposal_message;
@@ -100,7 +102,7 @@ impl Group {
         commit: &ResolvedCommit<'_>,
         terms: NextExtensions,
     ) -> Result<Taken, Refusal>
-        requires member { IsSome (leaf_at 0 self.old.tree.tree commit.now.committer) }
+        requires present { IsTrue (is_present self.old.tree.tree commit.now.committer) }
         requires later { self.old.context.epoch < last_epoch }
         requires terms { RequiresBy terms.extensions terms.required }
         requires judged { IsJudged (C.meaning checker.now) (group_state self.old) }
@@ -151,7 +153,7 @@ impl Group {
         checker: &C,
         commit: &ResolvedCommit<'_>,
     ) -> Result<Taken, Refusal>
-        requires member { IsSome (leaf_at 0 self.old.tree.tree commit.now.committer) }
+        requires present { IsTrue (is_present self.old.tree.tree commit.now.committer) }
         requires later { self.old.context.epoch < last_epoch }
         requires judged { IsJudged (C.meaning checker.now) (group_state self.old) }
         ensures kept { let o = outcome commit.now.items.items self.old.tree.tree in
@@ -202,7 +204,7 @@ impl Group {
         let items = check_items(alloc, self, checker, received)?;
         let resolved = ResolvedCommit {
             auth,
-            committer: received.committer,
+            committer: Sender::Member(received.committer),
             items,
             path: &received.commit.path,
         };
@@ -333,6 +335,85 @@ impl Group {
         }
     }
 
+    /// Processes a commit of a client that joins with it, which has a path and is signed.
+    #[tactic(auto, unfolding(crate::specs::MessageRules::external_commit_refusal))]
+    fn take_external_commit<C: SignatureCheck>(
+        &mut self,
+        alloc: Global,
+        checker: &C,
+        auth: &Authenticated,
+        commit: &Commit,
+    ) -> Result<Taken, Refusal>
+        requires path { IsSome commit.now.path }
+        requires hashed { IsSome (confirmed_input auth.now) }
+        requires commit { IsTrue (is_commit auth.now.content.content) }
+        requires judged { IsJudged (C.meaning checker.now) (group_state self.old) }
+        ensures kept { OnOk result (external_commit_refusal (C.meaning checker.now) (group_state self.old)
+            self.old.required commit.now ≡ None) }
+        ensures next { IfOk result (λ taken. after_commit (group_state self.old) auth.now NewMemberCommit commit.now
+            (Some (join_items commit.now.proposals))
+            ≡ Some (record { taken = taken; state = group_state self.new })) }
+        ensures refused { IfErr result (Refuses (external_commit_refusal (C.meaning checker.now)
+            (group_state self.old) self.old.required commit.now)) }
+        ensures stays { OnErr result (group_state self.new ≡ group_state self.old) }
+    {
+        let items = check_join_items(alloc, self, commit)?;
+        let resolved = ResolvedCommit {
+            auth,
+            committer: Sender::NewMemberCommit,
+            items,
+            path: &commit.path,
+        };
+        let answer = self.take_resolved(alloc, checker, &resolved);
+        drop(resolved);
+        answer
+    }
+
+    /// Processes an AuthenticatedContent of a client that joins with a commit, which is for the group and its epoch.
+    fn take_joiner_frame<C: SignatureCheck>(
+        &mut self,
+        alloc: Global,
+        checker: &C,
+        auth: &Authenticated,
+    ) -> Result<Taken, Refusal>
+        requires hashed { IsSome (confirmed_input auth.now) }
+        requires judged { IsJudged (C.meaning checker.now) (group_state self.old) }
+        ensures kept { OnOk result (joiner_refusal (C.meaning checker.now) (group_state self.old)
+            self.old.required auth.now auth.now.content.content ≡ None) }
+        ensures next { IfOk result (λ taken. after_join (group_state self.old) auth.now auth.now.content.content
+            ≡ Some (record { taken = taken; state = group_state self.new })) }
+        ensures refused { IfErr result (Refuses (joiner_refusal (C.meaning checker.now) (group_state self.old)
+            self.old.required auth.now auth.now.content.content)) }
+        ensures stays { OnErr result (group_state self.new ≡ group_state self.old) }
+    {
+        let commit = check_joiner_frame(alloc, self, checker, auth)?;
+        self.take_external_commit(alloc, checker, auth, commit)
+    }
+
+    /// Processes an AuthenticatedContent of such a client in the full profile. The members' profile refuses it.
+    #[tactic(auto, unfolding(crate::specs::MessageRules::joiner_refusal))]
+    fn take_joiner<C: SignatureCheck>(
+        &mut self,
+        alloc: Global,
+        checker: &C,
+        auth: &Authenticated,
+    ) -> Result<Taken, Refusal>
+        requires hashed { IsSome (confirmed_input auth.now) }
+        requires judged { IsJudged (C.meaning checker.now) (group_state self.old) }
+        ensures kept { OnOk result (first_failing (if_full self.old.profile (joiner_rules
+            (C.meaning checker.now) (group_state self.old) self.old.required auth.now auth.now.content.content)) ≡ None) }
+        ensures next { IfOk result (λ taken. after_join (group_state self.old) auth.now auth.now.content.content
+            ≡ Some (record { taken = taken; state = group_state self.new })) }
+        ensures refused { IfErr result (Refuses (first_failing (if_full self.old.profile (joiner_rules
+            (C.meaning checker.now) (group_state self.old) self.old.required auth.now auth.now.content.content)))) }
+        ensures stays { OnErr result (group_state self.new ≡ group_state self.old) }
+    {
+        match self.profile {
+            Profile::Members => Err(Refusal::SenderNotMember),
+            Profile::Full => self.take_joiner_frame(alloc, checker, auth),
+        }
+    }
+
     /// Processes an AuthenticatedContent: accepts it if it satisfies every rule. On error the state is unchanged: only
     /// the tree is changed in place, and this is undone.
     fn take_frame<C: SignatureCheck>(
@@ -363,7 +444,7 @@ impl Group {
             }
             Sender::External(_) => self.take_outside(alloc, checker, auth),
             Sender::NewMemberProposal => self.take_outside(alloc, checker, auth),
-            Sender::NewMemberCommit => Err(Refusal::SenderNotMember),
+            Sender::NewMemberCommit => self.take_joiner(alloc, checker, auth),
         }
     }
 

@@ -1,12 +1,12 @@
 use Rattle.std.proofs.Common.{ap, inl, inr, sym, Option, Some, Err, ◌∙◌}
 use Rattle.std.proofs.lemmas.Result.{err_from_is_err_and}
 use Rattle.mls_hash.specs.SuiteHash.{hash_of}
-use Rattle.mls_apply.specs.AppliedList.{Grown}
+use Rattle.mls_apply.specs.AppliedList.{Grown, outcome}
 use Rattle.mls_apply.specs.RuleLists.{first_failing}
-use Rattle.mls_follow.specs.CommitTree.{change_rules}
-use Rattle.mls_follow.specs.MessageRules.{refusal_of}
-use Rattle.mls_follow.proofs.Committing.{no_outcome}
-use Rattle.mls_follow.proofs.Staying.{committer_stays}
+use Rattle.mls_follow.specs.CommitTree.{place_rules, change_rules}
+use Rattle.mls_follow.specs.MessageRules.{Placed, refusal_of}
+use Rattle.mls_follow.proofs.Committing.{no_outcome, change_placed, changed_placed}
+use Rattle.mls_follow.proofs.Staying.{committer_present}
 use Rattle.mls_follow.proofs.commit_changes.change_tree.Goals as goal
 
 -- the list has no outcome
@@ -24,8 +24,42 @@ returns-in_err-added-clause-refused c =
     ])
 
 -- the committer's leaf stays
-pub merge-requires : goal.merge-requires
-merge-requires c =
+pub place_committer-requires : goal.place_committer-requires
+place_committer-requires c =
     let commit = c.args.commit.now in
     let applied = rw c.as_slice.ensures.value at c.in_ok-added.ensures.applied in
-    committer_stays commit.committer commit.items.items _ c.args.tree.now.tree _ commit.listed applied c.requires
+    committer_present commit.committer commit.items.items commit.path.now c.args.tree.now.tree _ commit.listed applied c.requires
+
+-- the committer has no leaf
+pub returns-in_err-committer-clause-refused : goal.returns-in_err-committer-clause-refused
+returns-in_err-committer-clause-refused c =
+    let p = err_from_is_err_and c.from_residual-in_err-committer.result c.from_residual-in_err-committer.ensures.1 in
+    let commit = c.args.commit.now in
+    let applied = rw c.as_slice.ensures.value at c.in_ok-added.ensures.applied in
+    rw (p.1, p.2) (λ not_memory.
+    let none = c.in_err-committer.ensures.refused not_memory in
+    ap (λ (o : Option Grown). first_failing (change_rules (hash_of c.args.suite) commit.committer commit.path.now o)) applied
+    ∙ ap (λ (q : Option Placed). first_failing (place_rules (hash_of c.args.suite) commit.path.now q)) none.0
+    ∙ ap Some (sym none.1))
+
+-- the path, in the tree in which the committer has its leaf
+pub returns-clause-kept : goal.returns-clause-kept
+returns-clause-kept c =
+    let commit = c.args.commit.now in
+    let applied = rw c.as_slice.ensures.value at c.in_ok-added.ensures.applied in
+    rw (change_placed (hash_of c.args.suite) commit.committer commit.path.now (outcome commit.items.items c.args.tree.now.tree) _ _ applied c.in_ok-committer.ensures.placed)
+    c.merge.ensures.kept
+
+pub returns-clause-tree : goal.returns-clause-tree
+returns-clause-tree c =
+    let commit = c.args.commit.now in
+    let applied = rw c.as_slice.ensures.value at c.in_ok-added.ensures.applied in
+    rw (changed_placed (hash_of c.args.suite) commit.committer commit.path.now (outcome commit.items.items c.args.tree.now.tree) _ _ applied c.in_ok-committer.ensures.placed)
+    c.merge.ensures.tree
+
+pub returns-clause-refused : goal.returns-clause-refused
+returns-clause-refused c =
+    let commit = c.args.commit.now in
+    let applied = rw c.as_slice.ensures.value at c.in_ok-added.ensures.applied in
+    rw (change_placed (hash_of c.args.suite) commit.committer commit.path.now (outcome commit.items.items c.args.tree.now.tree) _ _ applied c.in_ok-committer.ensures.placed)
+    c.merge.ensures.refused

@@ -1,7 +1,7 @@
-use Rattle.std.proofs.Common.{rules, ◌∙◌}
+use Rattle.std.proofs.Common.{rules}
 use Rattle.mls_follow.specs.GroupModel.{group_state}
 use Rattle.mls_follow.specs.MessageRules.{frame_refusal}
-use Rattle.mls_follow.proofs.Outside.{by_committer, by_external, by_joiner, outside_kept, outside_refused}
+use Rattle.mls_follow.proofs.Outside.{by_committer, by_external, by_joiner, joiner_kept, joiner_refused, outside_kept, outside_refused}
 use Rattle.mls_follow.proofs.group.Group.take_frame.Goals as goal
 
 pub returns-in-External-clause-kept : goal.returns-in-External-clause-kept
@@ -44,10 +44,22 @@ returns-in-NewMemberProposal-clause-refused g c =
     let header = c.in_ok-check_header.ensures.kept G required in
     outside_refused G s required a sender (frame_refusal G s required a) header (by_joiner G s required a sender (search rules)) c.take_outside-in-NewMemberProposal.result c.take_outside-in-NewMemberProposal.ensures.refused
 
-pub returns-in-NewMemberCommit-clause-refused : goal.returns-in-NewMemberCommit-clause-refused
-returns-in-NewMemberCommit-clause-refused g c _ =
+pub returns-in-NewMemberCommit-clause-kept : goal.returns-in-NewMemberCommit-clause-kept
+returns-in-NewMemberCommit-clause-kept g c =
     let G = g.C.SignatureCheck.meaning c.args.checker.now in
     let s = group_state c.args.self.now in
     let required = c.args.self.now.required in
     let a = c.args.auth.now in
-    c.in_ok-check_header.ensures.kept G required ∙ by_committer G s required a a.content.sender (search rules)
+    let sender = a.content.sender in
+    let header = c.in_ok-check_header.ensures.kept G required in
+    joiner_kept G s required a sender (frame_refusal G s required a) header (by_committer G s required a sender (search rules)) c.take_joiner.result c.take_joiner.ensures.kept
+
+pub returns-in-NewMemberCommit-clause-refused : goal.returns-in-NewMemberCommit-clause-refused
+returns-in-NewMemberCommit-clause-refused g c =
+    let G = g.C.SignatureCheck.meaning c.args.checker.now in
+    let s = group_state c.args.self.now in
+    let required = c.args.self.now.required in
+    let a = c.args.auth.now in
+    let sender = a.content.sender in
+    let header = c.in_ok-check_header.ensures.kept G required in
+    joiner_refused G s required a sender (frame_refusal G s required a) header (by_committer G s required a sender (search rules)) c.take_joiner.result c.take_joiner.ensures.refused

@@ -1,6 +1,7 @@
 use Rattle.std.proofs.Common.{◌≡◌, ◌∙◌}
 use Rattle.mls_tree.proofs.Choices.{is_less}
 use Rattle.mls_msgs.specs.declared.framed_content.Content.TheVariants as contents
+use Rattle.mls_msgs.specs.declared.framed_content.Sender.TheVariants.{Member}
 use Rattle.mls_apply.specs.ContextExtensions.{brought}
 use Rattle.mls_apply.specs.AppliedList.{outcome}
 use Rattle.mls_apply.specs.RuleLists.{first_failing}
@@ -18,7 +19,7 @@ returns-clause-kept g c =
     let commit = c.args.received.now.commit.now in
     let items = c.in_ok-items.items.items in
     let whole : handshake_refusal G s group.required c.args.auth.now c.args.received.now.committer (contents.Commit commit)
-    ≡ first_failing (rules_under G s c.args.received.now.committer commit.path (outcome items group.tree.tree) (required_after group.required (brought items)))
+    ≡ first_failing (rules_under G s (Member c.args.received.now.committer) commit.path (outcome items group.tree.tree) (required_after group.required (brought items)))
     = of_commit G s group.required c.args.auth.now c.args.received.now.committer commit
     ∙ past_list G s group.required c.args.received.now.committer commit (is_less group.context.epoch last_epoch c.in_ok-items.ensures.later) items c.in_ok-items.ensures.items c.in_ok-items.ensures.inline c.in_ok-items.ensures.list in
     rw whole c.take_resolved-answer.ensures.kept
@@ -31,7 +32,7 @@ returns-clause-refused g c =
     let commit = c.args.received.now.commit.now in
     let items = c.in_ok-items.items.items in
     let whole : handshake_refusal G s group.required c.args.auth.now c.args.received.now.committer (contents.Commit commit)
-    ≡ first_failing (rules_under G s c.args.received.now.committer commit.path (outcome items group.tree.tree) (required_after group.required (brought items)))
+    ≡ first_failing (rules_under G s (Member c.args.received.now.committer) commit.path (outcome items group.tree.tree) (required_after group.required (brought items)))
     = of_commit G s group.required c.args.auth.now c.args.received.now.committer commit
     ∙ past_list G s group.required c.args.received.now.committer commit (is_less group.context.epoch last_epoch c.in_ok-items.ensures.later) items c.in_ok-items.ensures.items c.in_ok-items.ensures.inline c.in_ok-items.ensures.list in
     rw whole c.take_resolved-answer.ensures.refused

@@ -65,10 +65,11 @@ enum mls_number {
     MLS_OTHER_PROFILE = 110         /* the state is of another profile */
 };
 
-/* Profiles: in which handshakes a group is followed. External commits are refused in both. */
+/* Profiles: in which handshakes a group is followed. */
 enum mls_profile {
     MLS_PROFILE_MEMBERS = 1,        /* handshakes of members: Add, Update, Remove, GroupContextExtensions, Commit */
-    MLS_PROFILE_FULL = 2            /* also PreSharedKey and ReInit, and proposals from outside (RFC 9420, 12.1.8) */
+    MLS_PROFILE_FULL = 2            /* also PreSharedKey and ReInit, proposals from outside and external commits (RFC 9420,
+                                       12.1.8, 12.4.3.2) */
 };
 
 /* Why bytes cannot be decoded (RFC 9420, 2.1; from 9 on 12.4.3.3). */
@@ -166,7 +167,9 @@ enum mls_refusal {
     MLS_REFUSED_REINIT_INVALID = 32,
     MLS_REFUSED_EXTERNAL_INIT_MISPLACED = 33,
     MLS_REFUSED_PSK_TWICE = 34,
-    MLS_REFUSED_REINIT_NOT_ALONE = 35
+    MLS_REFUSED_REINIT_NOT_ALONE = 35,
+    MLS_REFUSED_JOIN_LIST = 36,
+    MLS_REFUSED_RESYNC_INVALID = 37
 };
 
 /* What an accepted message is. */
@@ -192,7 +195,7 @@ typedef struct {
 
 /* What came of a message. */
 typedef struct {
-    uint32_t number; /* 0: accepted. 1 to 35, an mls_refusal: refused. From 100 on: not processed. */
+    uint32_t number; /* 0: accepted. 1 to 37, an mls_refusal: refused. From 100 on: not processed. */
     uint32_t kind;   /* if accepted, an mls_kind, otherwise 0 */
     uint32_t inner;  /* if number is 25, an mls_member_fault, otherwise 0 */
     uint32_t leaf;   /* if number is 25, the leaf index, otherwise 0 */
@@ -333,7 +336,8 @@ static inline const char *mls_refusal_name(uint32_t number) {
         "UpdateByCommitter", "RemovesCommitter", "SameLeafTwice", "PathMissing", "TooManyLeaves", "PathLength",
         "PathSource", "PathKeyUsed", "CiphertextCount", "PathParentHash", "KeyRepeated", "Member",
         "TwoContextExtensions", "ContextExtensionsInvalid", "GroupOver", "UnknownExternal", "SenderContent",
-        "PskInvalid", "ReInitInvalid", "ExternalInitMisplaced", "PskTwice", "ReInitNotAlone"};
+        "PskInvalid", "ReInitInvalid", "ExternalInitMisplaced", "PskTwice", "ReInitNotAlone", "JoinList",
+        "ResyncInvalid"};
     return number < sizeof names / sizeof names[0] ? names[number] : "";
 }
 

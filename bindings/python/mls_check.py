@@ -24,7 +24,7 @@ NAMES = (
     "RemovesCommitter", "SameLeafTwice", "PathMissing", "TooManyLeaves", "PathLength", "PathSource", "PathKeyUsed",
     "CiphertextCount", "PathParentHash", "KeyRepeated", "Member", "TwoContextExtensions", "ContextExtensionsInvalid",
     "GroupOver", "UnknownExternal", "SenderContent", "PskInvalid", "ReInitInvalid", "ExternalInitMisplaced", "PskTwice",
-    "ReInitNotAlone",
+    "ReInitNotAlone", "JoinList", "ResyncInvalid",
 )
 
 # A signature that has to be verified: whether it is good for `content` under `key` in the cipher suite `suite` (5.1.2).

@@ -107,6 +107,8 @@ refusal_name refusals.ReInitInvalid = codes "ReInitInvalid"
 refusal_name refusals.ExternalInitMisplaced = codes "ExternalInitMisplaced"
 refusal_name refusals.PskTwice = codes "PskTwice"
 refusal_name refusals.ReInitNotAlone = codes "ReInitNotAlone"
+refusal_name refusals.JoinList = codes "JoinList"
+refusal_name refusals.ResyncInvalid = codes "ResyncInvalid"
 refusal_name refusals.OutOfMemory = codes "OutOfMemory"
 
 -- `judged_line answer s` is the line of a processed message: the reference of a proposal (RFC 9420, 5.2); of a

@@ -163,6 +163,8 @@ fn refusal_name(alloc: Global, refusal: &Refusal) -> Result<String, AllocError>
         Refusal::ExternalInitMisplaced => String::from_str(alloc, "ExternalInitMisplaced"),
         Refusal::PskTwice => String::from_str(alloc, "PskTwice"),
         Refusal::ReInitNotAlone => String::from_str(alloc, "ReInitNotAlone"),
+        Refusal::JoinList => String::from_str(alloc, "JoinList"),
+        Refusal::ResyncInvalid => String::from_str(alloc, "ResyncInvalid"),
         Refusal::OutOfMemory => String::from_str(alloc, "OutOfMemory"),
     }
 }

@@ -5,15 +5,21 @@ use mls_apply::{Applied, Leaves, PendingProposals, apply_list, resolve_list};
 use mls_check::Trusting;
 use mls_follow::{Follower, Refusal};
 use mls_hash::tree_hash;
-use mls_msgs::{Commit, GroupInfo, Message, Sender, decode_message};
+use mls_msgs::{Commit, GroupInfo, Message, Profile, Sender, decode_message};
 use mls_nodes::decode_leaf;
-use mls_tree::PublicTree;
+use mls_tree::{PublicTree, TreeError};
 use mls_wire::read_all_of;
 use std::alloc::Global;
 use std::test::Fail;
 
 /// The most members of a group.
 const MOST: u32 = 1_048_576;
+
+/// An external commit in epoch 0, without a Remove, with a path of one node.
+const JOINING_MESSAGE: &str =
+    "00010001014700000000000000000400030501000601aa01018101b1000101410200010200\
+    01000002000103202c8eee82830dd44bbbffaeffae38f629547698198b39cd9280b00999cee948770001c10701d10401aa01bb01c6\
+    01e1";
 
 /// A tree with the most leaves, all of them set but for the last ones. A leaf has no keys here, which no list asks
 /// for.
@@ -155,11 +161,11 @@ fn info_of(alloc: Global, tree: &PublicTree) -> Result<GroupInfo, Fail> {
     info_with(alloc, text(alloc, hash.as_slice())?.as_str())
 }
 
-/// A follower of the largest group.
+/// A follower of the largest group, in the full profile.
 fn full_follower(alloc: Global) -> Result<Follower<Trusting>, Fail> {
     let tree = full_tree(alloc)?;
     match info_of(alloc, &tree) {
-        Ok(info) => match Follower::start(alloc, info, Some(tree), Trusting) {
+        Ok(info) => match Follower::start_in(alloc, Profile::Full, info, Some(tree), Trusting) {
             Ok(follower) => Ok(follower),
             Err(refused) => {
                 drop(refused);
@@ -173,13 +179,16 @@ fn full_follower(alloc: Global) -> Result<Follower<Trusting>, Fail> {
     }
 }
 
-/// A follower of the largest group refuses an Add for want of leaves (own limit), and is as it was: it refuses it again.
+/// A follower of the largest group refuses an Add and an external commit for want of leaves (own limit), and is as it was: it
+/// refuses them again.
 #[test]
-fn a_full_group_refuses_an_add(rt: HostRuntime) -> Result<(), Fail> {
+fn a_full_group_refuses_new_members(rt: HostRuntime) -> Result<(), Fail> {
     let message = adding_message(rt.alloc())?;
+    let joining = bytes(rt.alloc(), JOINING_MESSAGE)?;
     let mut follower = full_follower(rt.alloc())?;
     for _ in 0..2 {
         assert!(rt; follower.take(message.as_slice()) == Err(Refusal::TooManyLeaves));
+        assert!(rt; follower.take(joining.as_slice()) == Err(Refusal::TooManyLeaves));
     }
     assert!(rt; follower.context().epoch == 0);
     Ok(())
@@ -192,6 +201,19 @@ fn a_group_is_filled(rt: HostRuntime) -> Result<(), Fail> {
     let too_many = "a tree has at most 1,048,576 leaves";
     let wanted = format!(in rt.alloc(); "1048576 1048576 [1048575]; {too_many}; ")?;
     expect_text(&rt, at_the_limit(rt.alloc(), 1, &rows)?, wanted.as_str());
+    Ok(())
+}
+
+/// A new member takes the last leaf of the largest tree. With that leaf set, there is none.
+#[test]
+fn the_last_leaf_is_taken(rt: HostRuntime) -> Result<(), Fail> {
+    let mut tree = tree_without(rt.alloc(), 1)?;
+    let last = MOST.saturating_sub(1);
+    assert!(rt; tree.seat() == Ok(last));
+    let leaf = bytes(rt.alloc(), "00000001000000000000020000")?;
+    let node = decode_leaf(rt.alloc(), leaf.as_slice())?;
+    tree.set_leaf(last, Some(Box::new(rt.alloc(), node)?))?;
+    assert!(rt; tree.seat() == Err(TreeError::TooManyLeaves));
     Ok(())
 }
 

@@ -116,7 +116,7 @@ fn ends_in_hash(text: &str) -> bool {
 fn is_taken(alloc: Global, before: &[&str], message: Vec<u8>) -> Result<bool, Stop> {
     let mut messages = bytes_of_all(alloc, before)?;
     have(messages.push(message))?;
-    let followed = follow(alloc, messages.as_slice())?;
+    let followed = follow(alloc, Profile::Members, messages.as_slice())?;
     if followed.was_refused {
         return Err(Stop::Memory);
     }

@@ -7,7 +7,7 @@ use mls_apply::KnownProposal;
 use mls_check::Trusting;
 use mls_follow::{Follower, Refusal, SignatureListFault, StartFault, StartRefused, Taken};
 use mls_hash::{Suite, tree_hash};
-use mls_msgs::{Sender, encode_proposal};
+use mls_msgs::{Profile, Sender, encode_proposal};
 use mls_nodes::{GroupContext, encode_context, encode_ratchet_tree};
 use mls_tree::PublicTree;
 use mls_wire::bytes_of;
@@ -147,18 +147,18 @@ fn is_handed_back(
     Ok(is_memory && refused.tree.is_none() && input.get(4..) == Some(bytes.as_slice()))
 }
 
-/// Starts a follower on the group of member 0 alone. Returns also whether it ran out of memory. If so, the start must
+/// Starts a follower of this profile on the group of member 0 alone. Returns also whether it ran out of memory. If so, the start must
 /// return what was passed, and is repeated with that.
-fn start(alloc: Global) -> Result<(TrustingFollower, bool), Stop> {
+fn start(alloc: Global, profile: Profile) -> Result<(TrustingFollower, bool), Stop> {
     let input = have(hex::decode(alloc, GROUP_INFO))?;
     let info = first_info(alloc, input.as_slice())?;
-    match Follower::start(alloc, info, None, Trusting) {
+    match Follower::start_in(alloc, profile, info, None, Trusting) {
         Ok(follower) => Ok((follower, false)),
         Err(refused) => {
             if !is_handed_back(alloc, &refused, input.as_slice())? {
                 return Err(Stop::NotStarted);
             }
-            match Follower::start(alloc, refused.info, refused.tree, refused.checker) {
+            match Follower::start_in(alloc, profile, refused.info, refused.tree, refused.checker) {
                 Ok(follower) => Ok((follower, true)),
                 Err(_) => Err(Stop::NotStarted),
             }
@@ -226,10 +226,14 @@ pub(crate) struct Followed {
     pub(crate) receipts: String,
 }
 
-/// Passes messages to a follower that starts on the group of member 0 alone and accepts every signature. Before each
+/// Passes messages to a follower of this profile that starts on the group of member 0 alone and accepts every signature. Before each
 /// message it is asked for its signatures.
-pub(crate) fn follow(alloc: Global, messages: &[Vec<u8>]) -> Result<Followed, Stop> {
-    let (mut follower, mut was_refused) = start(alloc)?;
+pub(crate) fn follow(
+    alloc: Global,
+    profile: Profile,
+    messages: &[Vec<u8>],
+) -> Result<Followed, Stop> {
+    let (mut follower, mut was_refused) = start(alloc, profile)?;
     let mut answers = String::new(alloc);
     let mut receipts = String::new(alloc);
     for message in messages {
@@ -247,9 +251,14 @@ pub(crate) fn follow(alloc: Global, messages: &[Vec<u8>]) -> Result<Followed, St
 }
 
 /// Returns the answers to messages, whose signatures must have these receipts.
-pub(crate) fn tell_answers(alloc: Global, messages: &[&str], receipts: &str) -> Result<Told, Stop> {
+pub(crate) fn tell_answers(
+    alloc: Global,
+    profile: Profile,
+    messages: &[&str],
+    receipts: &str,
+) -> Result<Told, Stop> {
     let messages = bytes_of_all(alloc, messages)?;
-    let followed = follow(alloc, messages.as_slice())?;
+    let followed = follow(alloc, profile, messages.as_slice())?;
     if followed.receipts.as_str() != receipts {
         return Err(Stop::OtherSignatures);
     }

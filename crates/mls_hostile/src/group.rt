@@ -95,6 +95,28 @@ pub(crate) const EXTENSIONS_COMMIT: &str =
     07e534e72295b2ed4520a7628873779052cbc9788fb7a2927ad4234fd783969900001c00701d10401aa01bb01c601e\
     101c5";
 
+/// An external commit, by which a client joins the group of member 0 alone.
+pub(crate) const JOIN_COMMIT: &str = "00010001014700000000000000000400030501000601aa01018101b10001\
+    0141020001020001000002000103202c8eee82830dd44bbbffaeffae38f629547698198b39cd9280b00999cee94877\
+    0001c10701d10401aa01bb01c601e1";
+
+/// The next external commit, by which this client comes back: it removes its leaf and takes it again.
+pub(crate) const RESYNC_COMMIT: &str = "00010001014700000000000000010400030c01000601aa010003000000\
+    0101018f01b10001014102000102000100000200010320364d93d2bb5f2db8d1d1ab8172f1505afd0d40ab2d4abdf7\
+    211d32a0facbd49e0001c10701d20401aa01bb01c601e1";
+
+/// The answers to these two: for each the epoch, the tree hash and the confirmed transcript hash.
+pub(crate) const JOIN_ANSWERS: &str = "commit 1 dc443255320131868d872c02b72aa671c22bac3f8d4a5df063\
+    fbd0380db0c016 58c93391432c3d856a670a783564fa951d8e86c25ab4015927ae3b01f614fa40; commit 2 00f3\
+    c456b0ed920e6b2b64ef699f25642458546ba3d89f1a0045de07427d69b8 018a1ef3f3b942299f2cae02462564fee\
+    f455b0dd71e38ce90240ef3dc80ee74";
+
+/// The receipts of these two: for each those of its content and of its path's leaf node.
+pub(crate) const JOIN_RECEIPTS: &str = "fdac1e57ad92860dc7354071ee608a7a417266da0d5dac3ba2fd8303b1\
+    ecb953 38d021e2e0530f091eb75b8c1e3bf383c0a885829f3017c83f1109e30c4ba160 032ba2cc454fcf21ee0ade\
+    015683dfa7b4f55b8b4f45e6719f47a724ed636cef 0d393757f8cbe8139b8687c0e88ef876c5ba2c6884f5836b236\
+    4ea2c046cce8c";
+
 /// A tree of four members, after a path of member 0 with the nodes 1 and 3, and after member 3 was added.
 pub(crate) const TREE: &str = "40e60101018001b0000101400200010200010000020001032093665b04245cc070b1\
     bdf028955a30b2dc700e38eb40845f274e3075f50535910001c0010201d1206a02415c428629f3da6145086a76a2675\

@@ -26,8 +26,9 @@ use crate::changed::try_input;
 use crate::followers::tell_answers;
 use crate::group::{
     ADD_ANSWERS, ADD_COMMIT, ADD_RECEIPTS, COMMIT, EXTENSIONS_ANSWERS, EXTENSIONS_COMMIT,
-    EXTENSIONS_RECEIPTS, FULL_COMMIT, GROUP_INFO, PATH_ANSWERS, PATH_COMMIT, PATH_RECEIPTS,
-    PROPOSAL, REMOVE_COMMIT, SECOND_ADD_COMMIT, START_RECEIPTS,
+    EXTENSIONS_RECEIPTS, FULL_COMMIT, GROUP_INFO, JOIN_ANSWERS, JOIN_COMMIT, JOIN_RECEIPTS,
+    PATH_ANSWERS, PATH_COMMIT, PATH_RECEIPTS, PROPOSAL, REMOVE_COMMIT, RESYNC_COMMIT,
+    SECOND_ADD_COMMIT, START_RECEIPTS,
 };
 use crate::inputs::{read_message, read_receipts};
 use crate::reports::{Report, tell_report};
@@ -49,6 +50,7 @@ enum Call {
     Validate(Validator),
     StartSignatures,
     Follow(&'static [&'static str], &'static str),
+    FollowInFull(&'static [&'static str], &'static str),
     Report(Report),
 }
 
@@ -107,6 +109,11 @@ const CALLS: &[(&str, Call, &str)] = &[
         Call::Follow(&[PROPOSAL, COMMIT, EXTENSIONS_COMMIT], EXTENSIONS_RECEIPTS),
         EXTENSIONS_ANSWERS,
     ),
+    (
+        "Follower::start_in, wanted and take, to external commits that join and come back",
+        Call::FollowInFull(&[JOIN_COMMIT, RESYNC_COMMIT], JOIN_RECEIPTS),
+        JOIN_ANSWERS,
+    ),
     ("run_replay", Call::Report(Report::Replay), "no, 294 bytes"),
     ("run_check", Call::Report(Report::Check), "yes, 35 bytes"),
     (
@@ -155,7 +162,12 @@ fn make(alloc: Global, call: Call) -> Result<Told, Stop> {
         Call::Receipts => read_receipts(alloc),
         Call::Validate(validator) => validate(alloc, validator),
         Call::StartSignatures => tell_start_signatures(alloc),
-        Call::Follow(messages, receipts) => tell_answers(alloc, messages, receipts),
+        Call::Follow(messages, receipts) => {
+            tell_answers(alloc, Profile::Members, messages, receipts)
+        }
+        Call::FollowInFull(messages, receipts) => {
+            tell_answers(alloc, Profile::Full, messages, receipts)
+        }
         Call::Report(report) => tell_report(alloc, report),
     }
 }

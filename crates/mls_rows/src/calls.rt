@@ -71,6 +71,7 @@ fn tree_call(row: &Row) -> Result<CallResult, RowFault> {
         "extended_blank" => tree_calls::extended_blank(row),
         "blank_leaf" => tree_calls::blank_leaf(row),
         "changed" => tree_calls::changed(row),
+        "seat" => tree_calls::seat(row),
         "copied" => tree_calls::copied(row),
         _ => list_call(row),
     }
@@ -83,6 +84,8 @@ fn list_call(row: &Row) -> Result<CallResult, RowFault> {
         "resolve" => proposal_calls::resolve(row),
         "pending" => proposal_calls::find(row),
         "check_list" => list_calls::checked(row),
+        "check_join" => proposal_calls::join(row),
+        "join_items" => proposal_calls::items_of_join(row),
         "apply_list" => list_calls::applied(row),
         "new_extensions" => list_calls::extensions_after(row),
         "merge_path" => list_calls::merged(row),

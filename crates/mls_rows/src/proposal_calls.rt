@@ -5,7 +5,8 @@ use crate::fault::RowFault;
 use crate::row::Row;
 use crate::state::sender_text;
 use mls_apply::{
-    ApplyFault, EpochState, KnownProposal, ListItem, PendingProposals, check_proposal, resolve_list,
+    ApplyFault, EpochState, KnownProposal, ListItem, PendingProposals, check_join, check_proposal,
+    join_items, resolve_list,
 };
 use mls_check::{SignatureCheck, Trusting};
 use mls_hash::Suite;
@@ -158,6 +159,50 @@ pub(crate) fn resolve(row: &Row) -> Result<CallResult, RowFault> {
     drop(commit);
     drop(known);
     text
+}
+
+/// Why an external commit is refused in this context and the tree of its field, before its list is applied.
+fn joined_in(
+    row: &Row,
+    context: &GroupContext,
+    commit: &Commit,
+) -> Result<Option<ApplyFault>, RowFault> {
+    let tree = row.tree(2)?;
+    let epoch = EpochState {
+        context,
+        tree: &tree,
+    };
+    let found = check_join(row.alloc, &epoch, commit);
+    drop(tree);
+    Ok(found.err())
+}
+
+/// `check_join | CONTEXT | TREE | COMMIT`: why an external commit is refused before its list is applied, or `none`.
+pub(crate) fn join(row: &Row) -> Result<CallResult, RowFault> {
+    row.has(3)?;
+    let context = row.value::<GroupContext>(1, "a context")?;
+    let fault = match row.value::<Commit>(3, "a commit") {
+        Ok(commit) => joined_in(row, &context, &commit),
+        Err(fault) => Err(fault),
+    };
+    drop(context);
+    fault_result(row.alloc, fault?)
+}
+
+/// `join_items | COMMIT`: the proposals that an external commit includes by value, each after its sender.
+pub(crate) fn items_of_join(row: &Row) -> Result<CallResult, RowFault> {
+    row.has(1)?;
+    let commit = row.value::<Commit>(1, "a commit")?;
+    let text = match join_items(row.alloc, commit.proposals.as_slice()) {
+        Ok(items) => {
+            let text = items_text(row.alloc, items.as_slice());
+            drop(items);
+            text
+        }
+        Err(_) => Err(RowFault::OutOfMemory),
+    };
+    drop(commit);
+    Ok(CallResult::text(text?))
 }
 
 /// `pending | PENDING | REFERENCE`: the sender of the first pending proposal of a reference, or `none`.

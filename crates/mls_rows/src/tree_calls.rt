@@ -335,6 +335,20 @@ pub(crate) fn changed(row: &Row) -> Result<CallResult, RowFault> {
     Ok(CallResult::text(text?))
 }
 
+/// `seat | TREE`: the leaf of a new member, how many leaves the tree has then, and its encoding.
+pub(crate) fn seat(row: &Row) -> Result<CallResult, RowFault> {
+    row.has(1)?;
+    let mut tree = row.tree(1)?;
+    let found = tree.seat();
+    let text = tree_text(row.alloc, &tree);
+    drop(tree);
+    let text = text?;
+    match found {
+        Ok(index) => Ok(CallResult::text(format!(in row.alloc; "{index} / {text}")?)),
+        Err(fault) => CallResult::fault(row.alloc, &fault),
+    }
+}
+
 /// `copied | TREE`: how many leaves the copy of a tree has, and its encoding.
 pub(crate) fn copied(row: &Row) -> Result<CallResult, RowFault> {
     row.has(1)?;

@@ -1,13 +1,15 @@
 #!/usr/bin/env python3
 """Makes a valid group to measure with, and a log of commits.
 
-    group.py FOLDER --members N [--commits C] [--unmerged U] [--log L] [--kind paths|mixed]
+    group.py FOLDER --members N [--commits C] [--unmerged U] [--log L] [--kind paths|mixed|adds|joins]
 
 writes `tree`, `valid.context`, `other-hash.context` (the same with another tree hash), `info` (a
 GroupInfo without the tree) and `log` into the folder. The tree is made by C commits of members that are
 spread evenly over it, and U members who were added since, who are unmerged. The log has L commits, each
 with a path. Those of the kind `paths` have no proposals; those of the kind `mixed` add up to two members
-and remove up to two beside their path. Keys and signatures are bytes that mean nothing.
+and remove up to two beside their path. In those of the kind `adds` the newest member adds one, and those of
+the kind `joins` are external commits, by each of which a client joins. Keys and signatures are bytes that
+mean nothing.
 """
 import argparse
 import collections
@@ -22,6 +24,7 @@ Leaf = collections.namedtuple("Leaf", "encryption signature credential capabilit
 Plan = collections.namedtuple("Plan", "committer removed joining renewed keys")
 
 BASIC = bytes.fromhex("020001 020001 00 00 020001")
+EXTERNAL_INIT = bytes.fromhex("0006 20") + bytes(32)
 
 
 def number(value, size):
@@ -144,10 +147,14 @@ class Group:
                 node[2].sort()
         self.hash_again([index])
 
-    def join(self, leaf):
+    def seat(self):
+        """The leaf of the next new member: the leftmost blank one, or the first by which the tree is extended."""
         if None not in self.leaves:
             self.double()
-        index = self.leaves.index(None)
+        return self.leaves.index(None)
+
+    def join(self, leaf):
+        index = self.seat()
         self.set_leaf(index, leaf)
         return index
 
@@ -224,6 +231,14 @@ class Group:
         self.epoch += 1
         return number(1, 2) + number(1, 2) + content + vector(bytes(64)) + vector(bytes(32)) + vector(bytes(32))
 
+    def external_commit(self, leaf):
+        """A client joins with a commit of its own, and answers the message."""
+        index = self.seat()
+        path = self.path_bytes(index, self.renew(index, leaf), set())
+        content = vector(self.NAME) + number(self.epoch, 8) + b"\x04\x00\x03" + vector(b"\x01" + EXTERNAL_INIT)
+        self.epoch += 1
+        return number(1, 2) + number(1, 2) + content + optional(path) + vector(bytes(64)) + vector(bytes(32))
+
     # ---- what is written
 
     def tree(self):
@@ -266,13 +281,19 @@ def any_member(group, chosen):
 def next_plan(group, kind, chosen):
     """What a commit of a kind of log does. In a mixed one as many members are added as are removed, over time,
     so that the group stays about as large as it is."""
-    committer = any_member(group, chosen)
-    removed, joining = [], []
+    committer = max(group.present()) if kind == "adds" else any_member(group, chosen)
+    removed, joining = [], [new_leaf("joined", group.epoch)] if kind == "adds" else []
     if kind == "mixed":
         others = {any_member(group, chosen) for _ in range(chosen.randrange(3))}
         removed = sorted(others - {committer})
         joining = [new_leaf("joined", group.epoch, at) for at in range(chosen.randrange(3))]
     return Plan(committer, removed, joining, group.renewed(committer), {})
+
+
+def next_message(group, kind, chosen):
+    if kind == "joins":
+        return group.external_commit(new_leaf("joined", group.epoch))
+    return group.commit(next_plan(group, kind, chosen))
 
 
 def main():
@@ -282,7 +303,7 @@ def main():
     parser.add_argument("--commits", type=int, default=0)
     parser.add_argument("--unmerged", type=int, default=0)
     parser.add_argument("--log", type=int, default=0)
-    parser.add_argument("--kind", choices=["paths", "mixed"], default="paths")
+    parser.add_argument("--kind", choices=["paths", "mixed", "adds", "joins"], default="paths")
     args = parser.parse_args()
     group = Group(args.members, args.commits, args.unmerged)
     files = {
@@ -293,8 +314,10 @@ def main():
     }
     print(f"{args.members} members, {group.set_parents()} set parents, {args.unmerged} unmerged leaves")
     chosen = random.Random(1)
-    messages = [group.commit(next_plan(group, args.kind, chosen)) for _ in range(args.log)]
+    messages = [next_message(group, args.kind, chosen) for _ in range(args.log)]
     files["log"] = b"".join(vector(message) for message in messages)
+    if messages:
+        print(f"{len(messages)} commits ({args.kind}), {len(files['log']) // len(messages)} bytes each")
     for name, body in files.items():
         with open(f"{args.folder}/{name}", "wb") as file:
             file.write(body)

@@ -1,7 +1,7 @@
 """Shapes for cost.py: messages to large groups."""
-from group import KEY_PACKAGE, Group, Plan, leaf_bytes, new_leaf, number, vector
-from messages import (Sparse, add, commit, commit_with_path, extensions_of, false_path, far_members, frozen, inline,
-                      inline_adds, remove)
+from group import EXTERNAL_INIT, KEY_PACKAGE, Group, Plan, leaf_bytes, new_leaf, number, vector
+from messages import (Sparse, add, commit, commit_with_path, extensions_of, external_commit, false_path, far_members,
+                      frozen, inline, inline_adds, psk, remove)
 from shape import SHAPES, shape
 
 # ---- messages that are sent again and again to a large group
@@ -72,6 +72,41 @@ def other_group(put, rule):
 for at in range(19, 26):
     SHAPES[f"refused-{at}"] = lambda put, rule=at: other_group(put, rule)
     SHAPES[f"full-group-refused-{at}"] = lambda put, rule=at: full_group(put, rule)
+
+
+def join_refused_by(put, group, rule, **touched):
+    """An external commit for which a full tree grows, again and again, and is made smaller again, since it is refused: by
+    rule 22, before the hashes of the new half are needed, or by 25, after that."""
+    leaf, index = joining_with_fault(frozen(group), rule), group.seat()
+    path = group.path_bytes(index, group.renew(index, leaf), {0} if rule == 22 else set())
+    sent = external_commit(group, [inline(EXTERNAL_INIT)], path)
+    return put.replay(group, [sent] * put.size(25), profile="full", **touched)
+
+
+@shape
+def full_group_join_refused_22(put):
+    return join_refused_by(put, Group(put.full(8_192), put.full(1_024)), 22, touches_all=True)
+
+
+@shape
+def full_group_join_refused_25(put):
+    return join_refused_by(put, Group(16_384, 2_048), 25, touches_all=True, share=0.5)
+
+
+@shape
+def join_list_refused(put):
+    """An external commit with a long list of PSKs, and two Removes at its end, by which 36 refuses it."""
+    group = Group(2)
+    items = [inline(EXTERNAL_INIT)] + [inline(psk(at)) for at in range(put.size(20_000))] + [inline(remove(0))] * 2
+    return put.replay(group, [external_commit(group, items, false_path(b"", b""))], profile="full")
+
+
+@shape
+def join_psks(put):
+    """An external commit with a long list of PSKs whose nonces have their first bytes alike, refused by 19."""
+    group = Group(2)
+    items = [inline(EXTERNAL_INIT)] + [inline(psk(at)) for at in range(put.size(20_000))]
+    return put.replay(group, [external_commit(group, items, false_path(b"", b""))], profile="full")
 
 
 def adds_one(put, make_leaf):

@@ -62,6 +62,12 @@ def commit(group, items, path=None, committer=0):
     return message(framed(group, committer, content), vector(b"") + vector(b""))
 
 
+def external_commit(group, items, path):
+    """A commit of a client that joins with it."""
+    head = vector(group.NAME) + number(group.epoch, 8) + b"\x04\x00\x03"
+    return number(1, 2) * 2 + head + vector(b"".join(items)) + optional(path) + vector(b"") * 2
+
+
 def commit_with_path(group, items):
     """A commit of member 0 that changes no members, and the group after it."""
     path = group.renew(0, group.renewed(0))
@@ -80,6 +86,11 @@ def add(leaf):
 
 def remove(index):
     return number(3, 2) + number(index, 4)
+
+
+def psk(at):
+    """A proposal of an external PSK, of its own nonce."""
+    return number(4, 2) + b"\x01" + vector(b"psk") + vector(number(at, 32))
 
 
 def extensions_of(items):

@@ -35,11 +35,12 @@ class Input:
         for name, listed in (("words", words), ("before", before)):
             self.write(name, "".join(word + "\n" for word in listed).encode())
 
-    def replay(self, group, messages, command="replay", touches_all=False, share=None):
+    def replay(self, group, messages, command="replay", touches_all=False, share=None, profile="members"):
         """A log through which the group is followed, beside the start alone. If its messages touch all of the tree, the
         tree's bytes count as bytes that came. With a share, each message may take that of the time of a start."""
         log = b"".join(vector(body) for body in messages)
         words = [command, "--info", self.write("info", group.info()), "--tree", self.write("tree", group.tree())]
+        words += ["--profile", "full"] if profile == "full" else []
         words += ["--trust", "--log"] if command == "replay" else ["--log"]
         self.lists([*words, self.write("log", log)], [*words, self.write("empty", b"")])
         told = [len(log) + (len(group.tree()) if touches_all else 0)]

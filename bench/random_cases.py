@@ -1,0 +1,216 @@
+"""Random groups and logs of messages of all senders for random_groups.py, with what the model makes of each message."""
+import collections
+import random
+
+# These two put their faults into FAULTS.
+import commit_faults
+import message_faults
+import model_tree as trees
+from faults import FAULTS
+from layouts import (ADD, BY_VALUE, EXTENSIONS_CHANGE, EXTERNAL, EXTERNAL_INIT, GroupContext, IS_COMMIT, IS_PROPOSAL,
+                     MEMBER, Message, NEW_COMMITTER, NEW_PROPOSER, PSK, PUBLIC, REINIT, REMOVE, REPLACE, Unreadable,
+                     whole)
+from model_follower import Follower, Item, Refused, line_of, reference_of, refusal_line
+from random_messages import Maker
+
+SENDERS = {MEMBER: "member", EXTERNAL: "external sender", NEW_PROPOSER: "new member", NEW_COMMITTER: "joining client"}
+KINDS = {ADD: "Add", REPLACE: "Update", REMOVE: "Remove", PSK: "PreSharedKey", REINIT: "ReInit",
+         EXTERNAL_INIT: "ExternalInit", EXTENSIONS_CHANGE: "GroupContextExtensions"}
+
+# The first rules of the faults that any message may have.
+COMMON = {1, 2, 3, 4, 5, 6, 7, 29}
+
+# What a fault may raise if it does not fit a draft that has another fault already.
+UNFIT = (AssertionError, AttributeError, IndexError, KeyError, StopIteration)
+
+# A message of a log, the state before and after it, and the answer of `gate`.
+Step = collections.namedtuple("Step", "message before after answer")
+
+# A group: its maker and follower, the state at the start, the message of its GroupInfo, its ratchet_tree if that is a file of
+# its own, and its log.
+Case = collections.namedtuple("Case", "maker follower state info tree steps")
+
+
+class Mismatch(Exception):
+    pass
+
+
+def new_group(chosen, full):
+    """A group whose members have joined and committed by the rules."""
+    suite = chosen.choice([1, 1, 1, 2, 3, 4, 5, 6, 7])
+    maker = Maker(chosen, suite, chosen.random() < 0.5)
+    follower = Follower(maker.good, full)
+    tree = (maker.leaf(),)
+    state = follower.start(context_of(maker, tree, 1, ()), tree, b"")
+    wanted = chosen.choice([1, 2, 3, 5, 9, 17, chosen.randrange(1, 41), chosen.randrange(10, 41)])
+    for _ in range(chosen.choice([0, 3, 8, 16])):
+        state = grown(maker, follower, state, wanted)
+    if chosen.random() < 0.6:
+        added = [maker.add() for _ in range(chosen.randrange(1, 4))]
+        state = follower.take(state, maker.message(state, listed_commit(maker, state, added, False)))
+    return maker, follower, state
+
+
+def grown(maker, follower, state, wanted):
+    """The state after one more commit, with a path or of Adds or Removes, towards so many members."""
+    chosen, present = maker.chosen, len(trees.members(state.tree))
+    if present < wanted and chosen.random() < 0.5:
+        most = max(1, wanted - present if present < wanted // 2 else 3)
+        added = [maker.add() for _ in range(chosen.randrange(1, most + 1))]
+        draft = listed_commit(maker, state, added, chosen.random() < 0.3)
+    elif chosen.random() < 0.2 and follower.full:
+        draft = maker.external_commit(state)
+    elif present > 3 and chosen.random() < 0.3:
+        index = maker.member(state)
+        removed = {maker.remove(state, {index}) for _ in range(chosen.randrange(1, 3))}
+        draft = listed_commit(maker, state, list(removed), True, index)
+    else:
+        draft = listed_commit(maker, state, [], True)
+    try:
+        return follower.take(state, maker.message(state, draft))
+    except Refused:
+        return state
+
+
+def listed_commit(maker, state, proposals, with_path, index=None):
+    index = maker.member(state) if index is None else index
+    items = [Item((MEMBER, index), proposal, True) for proposal in proposals]
+    return maker.committed(state, index, [(BY_VALUE, proposal) for proposal in proposals], items, with_path)
+
+
+def context_of(maker, tree, epoch, extensions):
+    return GroupContext(1, maker.suite, maker.group_id, epoch, trees.tree_hash(maker.suite, tree),
+                        maker.chosen.randbytes(maker.chosen.choice([0, 32])), extensions)
+
+
+def started(maker, follower, state):
+    """The state that a follower starts in, from a GroupInfo, and the files of the start."""
+    chosen = maker.chosen
+    epoch = chosen.choice([0, 0, 1, 300, 2**40])
+    if chosen.random() < 0.1:
+        epoch = 2**64 - 1 - chosen.randrange(4)
+    extensions = state.context.extensions
+    if not extensions and chosen.random() < 0.7:
+        extensions = maker.context_extensions(state)[1]
+    context = context_of(maker, state.tree, epoch, extensions)
+    own_tree = chosen.random() < 0.5
+    info, message = maker.signed_info(context, state.tree, own_tree)
+    tree = None if own_tree else trees.encode(state.tree)
+    return follower.start(context, state.tree, info.confirmation_tag), message, tree
+
+
+# ---- messages
+
+def next_draft(maker, state):
+    make = maker.chosen.choice([
+        maker.member_proposal, maker.member_proposal, maker.member_proposal, maker.external_proposal,
+        maker.external_proposal, maker.newcomer_proposal, maker.member_commit, maker.member_commit, maker.member_commit,
+        maker.external_commit, maker.external_commit,
+    ])
+    return make(state) or maker.member_commit(state)
+
+
+def answer(follower, state, message):
+    """The next state and the line, without its number."""
+    try:
+        after = follower.take(state, message)
+        return after, line_of(state, after)
+    except Refused as refused:
+        return state, refusal_line(refused)
+
+
+def faulty(maker, follower, state, draft):
+    """A message of the draft with a fault, or with two. A message with one fault must break one of the fault's rules."""
+    for name, rules, make, _ in faults_by_chance(maker):
+        message = make(maker, state, draft)
+        if message is None:
+            continue
+        _, line = answer(follower, state, message)
+        words = line.split()
+        if words[0] != "refused" or int(words[1]) not in rules:
+            if follower.full or words[1] not in ("1", "5"):
+                raise Mismatch(f"a message with the fault {name} is {line} by the model")
+        return twice_faulty(maker, state, draft, message) if maker.chosen.random() < 0.25 else message
+    return None
+
+
+def faults_by_chance(maker):
+    faults = [fault for fault in FAULTS if not (maker.trusting and fault[3])]
+    common = maker.chosen.random() < 0.3
+    return sorted(faults, key=lambda fault: maker.chosen.random() + ((fault[1][0] in COMMON) != common))
+
+
+def twice_faulty(maker, state, draft, message):
+    """The message with one more fault, if it can still be read and one fits."""
+    try:
+        kind, public = whole(Message, message).body
+    except Unreadable:
+        return message
+    if kind != PUBLIC or public.framed.sender != draft.sender or public.framed.content[0] != draft.content[0]:
+        return message
+    draft = draft._replace(content=public.framed.content)
+    for _, _, make, _ in faults_by_chance(maker):
+        try:
+            found = make(maker, state, draft)
+        except UNFIT:
+            continue
+        if found:
+            return found
+    return message
+
+
+def flipped(maker, message):
+    at = maker.chosen.randrange(len(message))
+    return message[:at] + bytes([message[at] ^ 1 << maker.chosen.randrange(8)]) + message[at + 1:]
+
+
+def kind_of(message):
+    """A message's sender and kind, for the summary."""
+    try:
+        public = whole(Message, message).body[1]
+        sender, _ = public.framed.sender
+    except (Unreadable, AttributeError):
+        return "other bytes"
+    kind, body = public.framed.content
+    if kind == IS_PROPOSAL:
+        return f"{SENDERS[sender]}: {KINDS[body[0]]}"
+    if kind != IS_COMMIT:
+        return f"{SENDERS[sender]}: application data"
+    if sender == NEW_COMMITTER:
+        removes = any(entry[0] == REMOVE for tag, entry in body.proposals if tag == 1)
+        return f"{SENDERS[sender]}: commit that {'comes back' if removes else 'joins'}"
+    return f"{SENDERS[sender]}: commit {'with' if body.path else 'without'} a path"
+
+
+def next_messages(maker, follower, state, former):
+    """The next messages of a log: a faulty one, then perhaps that which it was meant to be."""
+    chosen = maker.chosen
+    draft = next_draft(maker, state)
+    right = maker.message(state, draft)
+    after, _ = answer(follower, state, right)
+    if after is state or chosen.random() < 0.55:
+        return [right]
+    if former and chosen.random() < 0.05:
+        return [chosen.choice(former).message, right]
+    if chosen.random() < 0.15:
+        return [flipped(maker, right), right]
+    found = faulty(maker, follower, state, draft)
+    return [right] if found is None else [found] + [right] * (chosen.random() < 0.6)
+
+
+def make_case(seed, number, count):
+    """A group, its log, and what the model makes of it."""
+    chosen = random.Random(f"{seed} {number}")
+    maker, follower, state = new_group(chosen, chosen.random() < 7 / 8)
+    first, info, tree = started(maker, follower, state)
+    state, steps = first, []
+    while len(steps) < count:
+        for message in next_messages(maker, follower, state, steps):
+            after, line = answer(follower, state, message)
+            steps.append(Step(message, state, after, line))
+            if line.startswith("accepted proposal"):
+                maker.sent[reference_of(maker.suite, whole(Message, message).body[1])] = message
+            elif after is not state and not trees.is_valid(maker.suite, after.tree):
+                raise Mismatch("the model's tree is not valid")
+            state = after
+    return Case(maker, follower, first, info, tree, steps)

@@ -1,0 +1,230 @@
+#!/usr/bin/env python3
+"""Follows random groups by the program and by a model of the rules, and compares them line by line.
+
+    random_groups.py [PROGRAM] [--groups N] [--seed S] [--first K] [--messages M] [--jobs J] [--model-only]
+
+PROGRAM is `./mlscheck` if it isn't named, N is 1,000, S 1, M 12. The groups have the numbers K (0) to K + N - 1. S and
+its number determine a group. `--model-only` runs no program: it compares the model with the rules that the faults are
+meant to break, as every run does.
+
+A group has 1 to some 40 members, in a tree with blank nodes and unmerged leaves, that was made by commits of its own. Of
+eight groups one is followed in the members' profile, the others in the full one. Half of the groups trust each
+signature, the others have receipts of the good ones. A log has messages of members, external senders, clients that
+propose to join, and clients that join, or come back, with a commit. Many of the messages are made wrong in one
+way or in two (faults.py), or in one bit.
+
+For each group the program must print what model_follower.py and model_signatures.py give:
+
+- `replay`, also of the log in two parts, the second from the state that the first stores
+- `gate`, which is sent the receipts of the good signatures that it lists, message by message
+- `signatures`
+- `validate`, on the model's GroupInfo and tree of each epoch that a commit begins
+
+The script ends with 1 if a group differs, and keeps the folder of that group.
+"""
+import argparse
+import collections
+import concurrent.futures
+import hashlib
+import os
+import shutil
+import subprocess
+import sys
+import tempfile
+
+import model_signatures
+import model_tree as trees
+from layouts import BYTES, Message, U16, whole
+from model_follower import Follower, Refused, short
+from random_cases import Mismatch, answer, kind_of, make_case
+
+
+def write(folder, name, body):
+    path = os.path.join(folder, name)
+    with open(path, "wb") as file:
+        file.write(body)
+    return path
+
+
+def log_of(steps):
+    return b"".join(BYTES.write(step.message) for step in steps)
+
+
+def receipts_file(maker):
+    return "".join(line + "\n" for line in sorted(maker.receipts)).encode()
+
+
+class Runs:
+    """The runs of the program on a group's files."""
+
+    def __init__(self, program, folder, case):
+        self.program = program
+        self.folder = folder
+        self.case = case
+        self.profile = ["--profile", "full" if case.follower.full else "members"]
+        self.start = ["--info", write(folder, "info", case.info), *self.profile]
+        if case.tree:
+            self.start += ["--tree", write(folder, "tree", case.tree)]
+
+    def trust(self):
+        if self.case.maker.trusting:
+            return ["--trust"]
+        return ["--receipts", write(self.folder, "receipts", receipts_file(self.case.maker))]
+
+    def compare(self, wanted, *words, sent=None):
+        """Raises what differs from the lines that the program must print."""
+        told = subprocess.run([self.program, *words], input=sent, stdout=subprocess.PIPE, stderr=subprocess.STDOUT,
+                              check=False)
+        found = told.stdout.decode().splitlines()
+        if found != wanted:
+            pairs = [pair for pair in zip(wanted, found) if pair[0] != pair[1]]
+            wanted, found = pairs[0] if pairs else (f"{len(wanted)} lines", f"{len(found)} lines, {found[-1:]}")
+            raise Mismatch(f"{words[0]}: wanted {wanted[:300]}, found {found[:300]} (in {self.folder})")
+
+    def replays(self):
+        """The whole log, then its two parts."""
+        steps, trust = self.case.steps, self.trust()
+        log = write(self.folder, "log", log_of(steps))
+        self.compare(replay_lines(steps), "replay", *self.start, "--log", log, *trust)
+        cut = len(steps) // 2
+        first = write(self.folder, "first", log_of(steps[:cut]))
+        second = write(self.folder, "second", log_of(steps[cut:]))
+        state = os.path.join(self.folder, "state")
+        self.compare(replay_lines(steps[:cut]), "replay", *self.start, "--log", first, "--save", state, *trust)
+        self.compare(replay_lines(steps[cut:]), "replay", "--state", state, "--log", second, *trust)
+
+    def gate(self):
+        """A gate that learns the receipts of the good signatures that it lists."""
+        case, known, sent, lines = self.case, set(), [], []
+
+        def queried(signatures):
+            new = [each for each in signatures if receipt(case.maker.suite, each) not in known]
+            lines.extend("verify " + signature_line(case.maker.suite, each) for each in new)
+            lines.append(f"queried {len(new)}")
+            receipts = [receipt(case.maker.suite, each) for each in new]
+            learnt = [each for each in receipts if case.maker.trusting or each in case.maker.receipts]
+            known.update(learnt)
+            sent.append(b"r" + bytes.fromhex("".join(learnt)))
+
+        queried(model_signatures.of_start(whole(Message, case.info).body[1], case.state.tree))
+        context, members = case.state.context, len(trees.members(case.state.tree))
+        sent.append(b"b")
+        lines.append(f"ready epoch {context.epoch} members {members} tree {context.tree_hash.hex()}")
+        for step in case.steps:
+            sent.append(b"q" + step.message)
+            queried(signatures_of(step.before, case.follower.full, step.message) or [])
+            sent.append(b"m" + step.message)
+            lines.append(step.answer)
+        records = b"".join(BYTES.write(record) for record in sent)
+        self.compare(lines, "gate", *self.start, sent=records)
+
+    def signatures(self):
+        """Those of the start and of the log, in the states to which the messages lead if each signature is good."""
+        case, suite = self.case, self.case.maker.suite
+        start = model_signatures.of_start(whole(Message, case.info).body[1], case.state.tree)
+        lines = [signature_line(suite, each) for each in start]
+        follower, state = Follower(lambda *_: True, case.follower.full), case.state
+        for number, step in enumerate(case.steps, 1):
+            listed = signatures_of(state, follower.full, step.message)
+            lines += [f"{number} refused 1"] if listed is None else [signature_line(suite, each) for each in listed]
+            state, _ = answer(follower, state, step.message)
+        self.compare(lines, "signatures", *self.start, "--log", os.path.join(self.folder, "log"))
+
+    def epochs(self):
+        """The GroupInfo and the tree of each epoch that a commit begins."""
+        maker = self.case.maker
+        for step in self.case.steps:
+            context, tree = step.after.context, step.after.tree
+            if context == step.before.context:
+                continue
+            _, message = maker.signed_info(context, tree, False)
+            info = write(self.folder, "epoch-info", message)
+            tree_file = write(self.folder, "epoch-tree", trees.encode(tree))
+            members = len(trees.members(tree))
+            line = f"valid epoch {context.epoch} members {members} tree {context.tree_hash.hex()}"
+            self.compare([line], "validate", "--info", info, "--tree", tree_file, *self.profile, *self.trust())
+
+
+def replay_lines(steps):
+    lines = [f"{number} {short(step.answer)}" for number, step in enumerate(steps, 1)]
+    accepted = sum(step.answer.startswith("accepted") for step in steps)
+    epoch = steps[-1].after.context.epoch
+    return lines + [f"accepted {accepted} refused {len(steps) - accepted} broken 0 epoch {epoch}"]
+
+
+def signatures_of(state, full, message):
+    """Those of a message; None if it cannot be read."""
+    try:
+        return model_signatures.of_message(state, full, message)
+    except Refused as refused:
+        return None if refused.rule == 1 else []
+
+
+def receipt(suite, signature):
+    return hashlib.sha256(U16.write(suite) + b"".join(BYTES.write(part) for part in signature)).hexdigest()
+
+
+def signature_line(suite, signature):
+    columns = [part.hex() or "-" for part in signature]
+    return " ".join([receipt(suite, signature), str(suite), *columns])
+
+
+def run(program, seed, number, count):
+    """Makes a group and compares the program with the model. It answers what differs, or None, and the counts."""
+    folder = tempfile.mkdtemp(prefix=f"group-{seed}-{number}-")
+    answers = collections.Counter()
+    try:
+        case = make_case(seed, number, count)
+        for step in case.steps:
+            words = step.answer.split()
+            answers[kind_of(step.message), "accepted" if words[0] == "accepted" else int(words[1])] += 1
+            answers["epochs"] += step.answer.startswith("accepted commit")
+        if program:
+            runs = Runs(program, folder, case)
+            for each in (runs.replays, runs.gate, runs.signatures, runs.epochs):
+                each()
+    except Mismatch as differs:
+        return f"group {number}: {differs}", answers
+    shutil.rmtree(folder)
+    return None, answers
+
+
+def summary(answers):
+    """A line for each sender and kind, with how many were accepted, and refused by which rules."""
+    for kind in sorted({key[0] for key in answers if key != "epochs"}):
+        refused = {key[1]: count for key, count in answers.items() if key[0] == kind and key[1] != "accepted"}
+        told = ", ".join(f"{refused[rule]} by {rule}" for rule in sorted(refused))
+        print(f"{kind}: {answers[kind, 'accepted']} accepted" + (f"; refused {told}" if told else ""))
+
+
+def main():
+    own = os.path.join(os.path.dirname(os.path.abspath(__file__)), "..", "mlscheck")
+    parser = argparse.ArgumentParser()
+    parser.add_argument("program", nargs="?", default=own)
+    parser.add_argument("--groups", type=int, default=1_000)
+    parser.add_argument("--first", type=int, default=0)
+    parser.add_argument("--seed", type=int, default=1)
+    parser.add_argument("--messages", type=int, default=12)
+    parser.add_argument("--jobs", type=int, default=2)
+    parser.add_argument("--model-only", action="store_true")
+    args = parser.parse_args()
+    program = None if args.model_only else args.program
+    answers, differing = collections.Counter(), 0
+    with concurrent.futures.ProcessPoolExecutor(args.jobs) as pool:
+        numbers = range(args.first, args.first + args.groups)
+        runs = [pool.submit(run, program, args.seed, number, args.messages) for number in numbers]
+        for differs, counted in (each.result() for each in runs):
+            answers.update(counted)
+            differing += differs is not None
+            if differs:
+                print(differs, file=sys.stderr)
+    summary(answers)
+    epochs = answers.pop("epochs")
+    total, accepted = sum(answers.values()), sum(count for key, count in answers.items() if key[1] == "accepted")
+    print(f"{args.groups} groups, {total} messages, {accepted} accepted and {total - accepted} refused, "
+          f"{epochs} epochs: {differing} groups differ")
+    return 1 if differing else 0
+
+
+if __name__ == "__main__":
+    sys.exit(main())

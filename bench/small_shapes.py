@@ -21,6 +21,15 @@ def known_add_named_again(put):
 
 
 @shape
+def signatures_of_a_known_add_named_again(put):
+    """The same messages: the signature of the leaf is one, and so is the memory that it takes."""
+    group = Group(2)
+    leaf = new_leaf("large")._replace(credential=b"\x00\x01" + vector(bytes(put.size(32_000))))
+    sent, item = proposal(group, 0, add(leaf))
+    return put.replay(group, [sent, commit(group, [item] * put.size(960))], "signatures")
+
+
+@shape
 def adds_alike(put):
     """Adds whose keys have their first eight bytes alike."""
     group = Group(2)

@@ -1,6 +1,6 @@
--- Whether members can be added doesn't depend on the leaf nodes of the tree, but on which leaves are blank.
+-- Whether and where members can be added doesn't depend on the leaf nodes of the tree, but on which leaves are blank.
 use Rattle.std.proofs.Common.{◌≡◌, ◌∙◌, ℕ, zero, suc, ◌+◌, nat_lt, Bool, true, false, List, [], ◌∷◌, Option, Some, None, refl, sym, ap}
-use Rattle.std.specs.Prelude.{if◌then◌else◌, ◌||◌, is_some, option_map}
+use Rattle.std.specs.Prelude.{if◌then◌else◌, ◌||◌, option_map}
 use Rattle.mls_nodes.specs.declared.leaf.LeafNode.{LeafNode}
 use Rattle.mls_nodes.specs.declared.parent.ParentNode.{ParentNode}
 use Rattle.mls_tree.specs.Tree.{Tree, leaf, branch, height, leaf_count}
@@ -8,6 +8,10 @@ use Rattle.mls_tree.specs.BlankLeaves.{first_of, first_blank_leaf}
 use Rattle.mls_tree.specs.TreeOperations.{put_leaf, change_above, with_unmerged, enter_unmerged, is_overfilled, is_overfilled_above, blank_tree, add, add_at, added_leaf, grown_for, number_or}
 use Rattle.mls_apply.specs.AppliedList.{Grown, after_leaf, after_adds}
 use Rattle.mls_apply.specs.AddSteps.{is_overfull_add}
+
+-- the leaves at which members were added
+abbrev pub places : Option Grown → Option (List ℕ)
+places o = option_map (λ (g : Grown). g.added) o
 
 -- the tree with `c` in each leaf that is set
 abbrev erased : LeafNode → Tree → Tree
@@ -83,25 +87,27 @@ module _ (c : LeafNode) where
       ∙ ap (λ v. is_overfilled_above 0 v (added_leaf t)) (sym (grown_for-erased (first_blank_leaf 0 t) t))
       ∙ overfilled-erased 0 (grown_for (first_blank_leaf 0 t) t) (added_leaf t)
 
-  -- trees that are alike but for the leaf nodes can take the same members
-  same_room : (xs : List LeafNode) (t u : Tree) → erased c t ≡ erased c u → is_some (after_adds xs t) ≡ is_some (after_adds xs u)
+  -- in trees that are alike but for the leaf nodes, members are added at the same leaves
+  same_places : (xs : List LeafNode) (t u : Tree) → erased c t ≡ erased c u → places (after_adds xs t) ≡ places (after_adds xs u)
   unfolding after_adds
-  same_room [] t u e = refl
-  same_room (x ∷ xs) t u e =
+  same_places [] t u e = refl
+  same_places (x ∷ xs) t u e =
       let full : is_overfull_add t ≡ is_overfull_add u = sym (overfull-erased t) ∙ ap is_overfull_add e ∙ overfull-erased u in
+      let first : added_leaf t ≡ added_leaf u = sym (added_leaf-erased t) ∙ ap added_leaf e ∙ added_leaf-erased u in
       let next = add-erased t x ∙ ap (λ v. add v c) e ∙ sym (add-erased u x) in
-      some_if (is_overfull_add t) (added_leaf t) (after_adds xs (add t x))
-      ∙ (λ i. if full i then false else same_room xs (add t x) (add u x) next i)
-      ∙ sym (some_if (is_overfull_add u) (added_leaf u) (after_adds xs (add u x)))
+      places_if (is_overfull_add t) (added_leaf t) (after_adds xs (add t x))
+      ∙ (λ i. if full i then None else option_map (λ js. first i ∷ js) (same_places xs (add t x) (add u x) next i))
+      ∙ sym (places_if (is_overfull_add u) (added_leaf u) (after_adds xs (add u x)))
     where
-      some_map : (j : ℕ) (o : Option Grown) → is_some (option_map (after_leaf j) o) ≡ is_some o
-      some_map j None = refl
-      some_map j (Some g) = refl
+      places_map : (j : ℕ) (o : Option Grown) → places (option_map (after_leaf j) o) ≡ option_map (λ js. j ∷ js) (places o)
+      places_map j None = refl
+      places_map j (Some g) = refl
 
-      some_if : (b : Bool) (j : ℕ) (o : Option Grown) → is_some (if b then None else option_map (after_leaf j) o) ≡ (if b then false else is_some o)
-      some_if true j o = refl
-      some_if false j o = some_map j o
+      places_if : (b : Bool) (j : ℕ) (o : Option Grown)
+          → places (if b then None else option_map (after_leaf j) o) ≡ (if b then None else option_map (λ js. j ∷ js) (places o))
+      places_if true j o = refl
+      places_if false j o = places_map j o
 
-  -- after one member the same can be added as after another
-  pub same_room-added : (xs : List LeafNode) (t : Tree) (x : LeafNode) → is_some (after_adds xs (add t x)) ≡ is_some (after_adds xs (add t c))
-  same_room-added xs t x = same_room xs (add t x) (add t c) (add-erased t x ∙ sym (add-erased t c))
+  -- after one member the others are added at the same leaves as after another
+  pub same_places-added : (xs : List LeafNode) (t : Tree) (x : LeafNode) → places (after_adds xs (add t x)) ≡ places (after_adds xs (add t c))
+  same_places-added xs t x = same_places xs (add t x) (add t c) (add-erased t x ∙ sym (add-erased t c))

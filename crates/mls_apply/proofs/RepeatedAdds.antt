@@ -49,7 +49,7 @@ added_keys_are (x ∷ xs) = one_key x.proposal (new_members xs) (filter_map adde
 -- ---- where a member is added
 
 -- the leaf was blank, and is that of the member
-record AddedAt (t : Tree) (x : LeafNode) (j : ℕ) (u : Tree) : Type 0 where
+pub record AddedAt (t : Tree) (x : LeafNode) (j : ℕ) (u : Tree) : Type 0 where
   pub there : leaf_at 0 u j ≡ Some x
   pub others : (i : ℕ) → IsSome (leaf_at 0 t i) → (i ≢ j) × (leaf_at 0 u i ≡ leaf_at 0 t i)
 
@@ -70,12 +70,12 @@ added_by t x (Some j) h = record {
     away : (i : ℕ) → IsSome (leaf_at 0 t i) → i ≢ j
     away i set e = false≢true (sym (ap is_some (ap (λ k. leaf_at 0 t k) e ∙ h.blank)) ∙ set)
 
-added-at : (t : Tree) (x : LeafNode) → AddedAt t x (added_leaf t) (add t x)
+pub added-at : (t : Tree) (x : LeafNode) → AddedAt t x (added_leaf t) (add t x)
 added-at t x = added_by t x (first_blank_leaf 0 t) (first_blank_leaf-leftmost t)
 
 -- ---- the leaves of members that are added stay
 
-leaf_stays : (xs : List LeafNode) (t : Tree) (g : Grown) (j : ℕ) (y : LeafNode) → after_adds xs t ≡ Some g → leaf_at 0 t j ≡ Some y → leaf_at 0 g.tree j ≡ Some y
+pub leaf_stays : (xs : List LeafNode) (t : Tree) (g : Grown) (j : ℕ) (y : LeafNode) → after_adds xs t ≡ Some g → leaf_at 0 t j ≡ Some y → leaf_at 0 g.tree j ≡ Some y
 unfolding after_adds
 leaf_stays [] t g j y e at = subst (λ (v : Grown). leaf_at 0 v.tree j ≡ Some y) (same_Some (grown t []) g e) at
 leaf_stays (x ∷ xs) t g j y e at =

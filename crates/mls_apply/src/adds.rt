@@ -8,6 +8,7 @@ ghost use Rattle.mls_tree.specs.TreeOperations.{added_leaf, grown_for, enter_unm
 ghost use Rattle.mls_tree.specs.Journals.{before};
 ghost use Rattle.mls_apply.specs.AppliedList.{after_adds, grown, new_members};
 ghost use Rattle.mls_apply.specs.AddSteps.{is_overfull_add, Adds};
+ghost use Rattle.mls_apply.specs.Outline.{IsOutline};
 
 use crate::fault::ApplyFault;
 use crate::leaf_changes::put_copy;
@@ -121,29 +122,33 @@ pub(crate) fn apply_adds(
     Ok(Leaves::new(added))
 }
 
-/// Applies the Adds of a list as [`apply_adds`] does, but adds each member with `leaf`. So no leaf node of an Add is copied,
-/// and the call fails if and only if `apply_adds` does, except for memory.
+/// Applies the Adds of a list as [`apply_adds`] does, but adds each member with `leaf`, and returns the same leaves. So no leaf
+/// node of an Add is copied, and the call fails if and only if `apply_adds` does, except for memory.
 pub(crate) fn fit_adds(
     alloc: Global,
     tree: &mut PublicTree,
     journal: &mut Journal,
     items: &[ListItem<'_>],
     leaf: &LeafNode,
-) -> Result<(), ApplyFault>
+) -> Result<Leaves, ApplyFault>
     requires { member_count tree.old.tree + length (new_members items.now) ≤ leaf_limit }
     ensures fit { OnOk result (IsSome (after_adds (new_members items.now) tree.old.tree)) }
+    ensures outline { IfOk result (λ added.
+        IsOutline (after_adds (new_members items.now) tree.old.tree) added tree.new.tree) }
     ensures too_many_leaves { result ≡ Err ApplyFault.TooManyLeaves
         → after_adds (new_members items.now) tree.old.tree ≡ None }
     ensures else_memory { IfErr result (λ e.
         (e ≡ ApplyFault.TooManyLeaves) ⊎ (e ≡ ApplyFault.OutOfMemory)) }
     ensures before { before journal.new tree.new.tree ≡ before journal.old tree.old.tree }
 {
+    let mut added = Vec::new(alloc);
     let mut start = 0;
     for item in items {
         if let Proposal::Add(_) = item.proposal {
             let index = add_member(alloc, tree, journal, start, leaf)?;
+            added.push(index)?;
             start = index + 1;
         }
     }
-    Ok(())
+    Ok(Leaves::new(added))
 }

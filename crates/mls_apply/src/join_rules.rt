@@ -13,7 +13,7 @@ use crate::psk_list::{have_distinct_psks, is_valid_psk};
 use mls_msgs::{Commit, Proposal, ProposalOrRef, Sender};
 use mls_nodes::{Credential, GroupContext, LeafNode};
 use mls_tree::PublicTree;
-use mls_wire::Opaque;
+use mls_wire::BoxedOpaque;
 use std::alloc::{AllocError, Global};
 
 /// Checks the rules for an external commit before its list is applied: there is a path, and the proposal list satisfies its
@@ -243,7 +243,7 @@ fn are_valid_psks(context: &GroupContext, items: &[ListItem<'_>]) -> bool
 
 /// Returns whether two chains have equal certificates, in one order.
 #[tactic(auto, using(crate::proofs::Certificates::same_more, crate::proofs::Certificates::same_other, crate::proofs::Certificates::same_longer))]
-fn are_same_certificates(chain: &[Opaque], other: &[Opaque]) -> bool
+fn are_same_certificates(chain: &[BoxedOpaque], other: &[BoxedOpaque]) -> bool
     ensures { result ≡ are_same_certificates chain.now other.now }
 {
     let mut rest = chain;

@@ -1,28 +1,32 @@
-//! Whether a proposal list can be applied to a tree (RFC 9420, 12.3).
+//! Whether and where a proposal list can be applied to a tree (RFC 9420, 12.3).
 
-ghost use Rattle.std.specs.Prelude.{◌≡◌, ◌⊎◌, Err, None, IfErr, IsSome, OnOk};
+ghost use Rattle.std.specs.Prelude.{◌≡◌, ◌⊎◌, Err, None, IfErr, IfOk, IsSome, OnOk};
 ghost use Rattle.mls_tree.specs.Journals.{before};
 ghost use Rattle.mls_apply.specs.AppliedList.{outcome, without_adds, ExceedsCapacity};
+ghost use Rattle.mls_apply.specs.Outline.{IsOutline};
 
 use crate::adds::fit_adds;
 use crate::capacity::exceeds_capacity;
 use crate::empty_leaf::empty_leaf;
 use crate::fault::ApplyFault;
+use crate::list_application::Leaves;
 use crate::list_item::ListItem;
 use crate::removes::apply_removes;
 use crate::updates::apply_updates;
 use mls_tree::{Journal, PublicTree};
 use std::alloc::Global;
 
-/// Applies the items of a list, for whose Adds the tree has capacity, with an empty leaf node for each Add.
+/// Applies the items of a list, for whose Adds the tree has capacity, with an empty leaf node for each Add. Returns the added leaves.
 fn fit_items(
     alloc: Global,
     tree: &mut PublicTree,
     journal: &mut Journal,
     items: &[ListItem<'_>],
-) -> Result<(), ApplyFault>
+) -> Result<Leaves, ApplyFault>
     requires { ExceedsCapacity items.now tree.old.tree → ⊥ }
     ensures fit { OnOk result (IsSome (outcome items.now tree.old.tree)) }
+    ensures outline { IfOk result (λ added.
+        IsOutline (outcome items.now tree.old.tree) added tree.new.tree) }
     ensures no_such_leaf { result ≡ Err ApplyFault.NoSuchLeaf
         → without_adds items.now tree.old.tree ≡ None }
     ensures too_many_leaves { result ≡ Err ApplyFault.TooManyLeaves
@@ -41,15 +45,17 @@ fn fit_items(
 }
 
 /// Checks whether a proposal list can be applied. No leaf node of an Add is copied: the list is applied to the tree in place,
-/// with an empty leaf node for each Add. The journal logs what is changed. Whatever is returned, the tree is not the one after
-/// the list, and has to be taken back.
+/// with an empty leaf node for each Add. Returns the added leaves. The journal logs what is changed. Whatever is returned, the
+/// tree is not the one after the list, and has to be taken back.
 pub(crate) fn check_list_fits(
     alloc: Global,
     tree: &mut PublicTree,
     journal: &mut Journal,
     items: &[ListItem<'_>],
-) -> Result<(), ApplyFault>
+) -> Result<Leaves, ApplyFault>
     ensures fit { OnOk result (IsSome (outcome items.now tree.old.tree)) }
+    ensures outline { IfOk result (λ added.
+        IsOutline (outcome items.now tree.old.tree) added tree.new.tree) }
     ensures no_such_leaf { result ≡ Err ApplyFault.NoSuchLeaf
         → without_adds items.now tree.old.tree ≡ None }
     ensures too_many_leaves { result ≡ Err ApplyFault.TooManyLeaves

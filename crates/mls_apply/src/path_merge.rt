@@ -68,7 +68,7 @@ fn node_keys(alloc: Global, nodes: &[PathNode]) -> Result<Vec<Opaque>, AllocErro
 {
     let mut keys = Vec::new(alloc);
     for node in nodes {
-        keys.push(copy_of(alloc, &node.encryption_key)?)?;
+        keys.push(node.encryption_key.to_opaque(alloc)?)?;
     }
     Ok(keys)
 }

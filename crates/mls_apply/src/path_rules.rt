@@ -14,7 +14,6 @@ use crate::new_parents::{PathPlaces, copath_child};
 use mls_index::{KeyKind, TreeIndex};
 use mls_msgs::{PathNode, UpdatePath};
 use mls_tree::PublicTree;
-use mls_wire::Opaque;
 use std::alloc::{AllocError, Global};
 use std::collections::BTreeSet;
 
@@ -33,11 +32,11 @@ fn has_distinct_keys(alloc: Global, path: &UpdatePath) -> Result<bool, AllocErro
 }
 
 /// Returns whether a node of a tree whose keys the index contains has this key.
-fn uses_key(tree: &PublicTree, index: &TreeIndex, key: &Opaque) -> bool
+fn uses_key(tree: &PublicTree, index: &TreeIndex, key: &[u8]) -> bool
     requires { ContainsKeysOf tree.now.tree index.now }
     ensures { result ≡ has_key (tree_keys tree.now.tree) key.now }
 {
-    index.has_key(tree, KeyKind::Encryption, key.as_slice())
+    index.has_key(tree, KeyKind::Encryption, key)
 }
 
 /// Returns whether a node of the tree has one of the keys of a path.
@@ -46,11 +45,11 @@ fn uses_keys(tree: &PublicTree, index: &TreeIndex, path: &UpdatePath) -> bool
     ensures { result ≡ list_any (has_key (tree_keys tree.now.tree)) (path_keys path.now) }
 {
     let nodes = path.nodes.as_slice();
-    if uses_key(tree, index, &path.leaf_node.encryption_key) {
+    if uses_key(tree, index, path.leaf_node.encryption_key.as_slice()) {
         return true;
     }
     for node in nodes {
-        if uses_key(tree, index, &node.encryption_key) {
+        if uses_key(tree, index, node.encryption_key.as_slice()) {
             return true;
         }
     }

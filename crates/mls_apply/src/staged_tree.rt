@@ -13,6 +13,7 @@ ghost use Rattle.mls_tree.specs.TreeOperations.{seat};
 ghost use Rattle.mls_tree.specs.TreeHash.{tree_hash};
 ghost use Rattle.mls_index.specs.TreeIndex.{ContainsKeysOf, HasBase};
 ghost use Rattle.mls_apply.specs.AppliedList.{grown, outcome, without_adds, ExceedsCapacity};
+ghost use Rattle.mls_apply.specs.Outline.{IsOutline};
 ghost use Rattle.mls_apply.specs.CommitterPath.{merged_by, refusal_of};
 ghost use Rattle.mls_check.specs.DistinctKeys.{has_distinct_keys};
 ghost use Rattle.mls_check.specs.LeafValidation.{FindsFailing, IsMemberFault, LeavesAreValid, all_leaves, has_own_signature_key, supports_required, supports_used_credentials};
@@ -136,8 +137,9 @@ impl StagedTree {
         apply_list_in_place(alloc, &mut self.tree, &mut self.journal, items)
     }
 
-    /// Checks whether a list of proposals can be applied (RFC 9420, 12.3): whether [`StagedTree::apply_list`] would succeed. No
-    /// leaf node of an Add is copied. Whatever is returned, the tree is not the one after the list: it has to be taken back.
+    /// Checks whether a list of proposals can be applied (RFC 9420, 12.3): whether [`StagedTree::apply_list`] would succeed.
+    /// Returns the leaves that it would add. No leaf node of an Add is copied: the added leaves are empty leaf nodes, and the
+    /// others are those after the list. Whatever is returned, the tree has to be taken back.
     ///
     /// # Errors
     ///
@@ -146,8 +148,9 @@ impl StagedTree {
         &mut self,
         alloc: Global,
         items: &[ListItem<'_>],
-    ) -> Result<(), ApplyFault>
+    ) -> Result<Leaves, ApplyFault>
         ensures fit { OnOk result (IsSome (outcome items.now self.old.tree)) }
+        ensures outline { IfOk result (λ added. IsOutline (outcome items.now self.old.tree) added self.new.tree) }
         ensures no_such_leaf { result ≡ Err ApplyFault.NoSuchLeaf
             → without_adds items.now self.old.tree ≡ None }
         ensures too_many_leaves { result ≡ Err ApplyFault.TooManyLeaves

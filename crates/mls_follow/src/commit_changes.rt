@@ -199,7 +199,7 @@ fn repeated_key_refusal(alloc: Global, tree: &mut StagedTree, items: &[ListItem<
     ensures base { tree.new.base ≡ tree.old.base }
 {
     match tree.check_list_fits(alloc, items) {
-        Ok(()) => Refusal::KeyRepeated,
+        Ok(_) => Refusal::KeyRepeated,
         Err(fault) => Refusal::from(fault),
     }
 }

@@ -2,16 +2,16 @@
 
 use crate::proposal::ProposalOrRef;
 use mls_nodes::LeafNode;
-use mls_wire::{CodecFault, Decode, Draft, Encode, Opaque, Reader, Sequence, add_sizes};
+use mls_wire::{BoxedOpaque, CodecFault, Decode, Draft, Encode, Reader, Sequence, add_sizes};
 use std::alloc::Global;
 
 /// An HPKECiphertext: a path secret encrypted to one node of a resolution (RFC 9420, 7.6).
 #[derive(Debug, Drop)]
 pub struct Ciphertext {
     /// The KEM output.
-    pub kem_output: Opaque,
+    pub kem_output: BoxedOpaque,
     /// The encrypted path secret.
-    pub ciphertext: Opaque,
+    pub ciphertext: BoxedOpaque,
 }
 
 /// One ciphertext per node of a resolution.
@@ -21,7 +21,7 @@ pub type Ciphertexts = Sequence<Ciphertext>;
 #[derive(Debug, Drop)]
 pub struct PathNode {
     /// The node's new public key.
-    pub encryption_key: Opaque,
+    pub encryption_key: BoxedOpaque,
     /// The node's path secret, encrypted to each node of the resolution of the copath child, in its order.
     pub ciphertexts: Ciphertexts,
 }
@@ -62,8 +62,8 @@ impl Decode for Ciphertext {
     #[tactic(auto, unfolding(crate::specs::Parsing::ciphertext_at))]
     fn read(alloc: Global, reader: &mut Reader<'_>) -> Result<Ciphertext, CodecFault> {
         let mut ahead = reader.fork();
-        let kem_output = Opaque::read(alloc, &mut ahead)?;
-        let ciphertext = Opaque::read(alloc, &mut ahead)?;
+        let kem_output = BoxedOpaque::read(alloc, &mut ahead)?;
+        let ciphertext = BoxedOpaque::read(alloc, &mut ahead)?;
         *reader = ahead;
         Ok(Ciphertext {
             kem_output,
@@ -101,7 +101,7 @@ impl Decode for PathNode {
     #[tactic(auto, unfolding(crate::specs::Parsing::path_node_at))]
     fn read(alloc: Global, reader: &mut Reader<'_>) -> Result<PathNode, CodecFault> {
         let mut ahead = reader.fork();
-        let encryption_key = Opaque::read(alloc, &mut ahead)?;
+        let encryption_key = BoxedOpaque::read(alloc, &mut ahead)?;
         let ciphertexts = Ciphertexts::read(alloc, &mut ahead)?;
         *reader = ahead;
         Ok(PathNode {

@@ -15,7 +15,8 @@ use crate::profile::{Profile, fault_found, judge_proposal};
 use crate::reinit::ReInit;
 use mls_nodes::{Extensions, LeafNode};
 use mls_wire::{
-    CodecFault, Decode, Draft, Encode, Opaque, Reader, TryClone, add_sizes, bytes_of, read_all_of,
+    BoxedOpaque, CodecFault, Decode, Draft, Encode, Opaque, Reader, TryClone, add_sizes, bytes_of,
+    read_all_of,
 };
 use std::alloc::Global;
 
@@ -45,7 +46,7 @@ pub enum ProposalOrRef {
     /// Type 1: a proposal of the committer.
     Proposal(Proposal),
     /// Type 2: the ProposalRef of a proposal that was sent before (RFC 9420, 5.2).
-    Reference(Opaque),
+    Reference(BoxedOpaque),
 }
 
 impl Decode for Proposal {
@@ -142,7 +143,7 @@ impl Decode for ProposalOrRef {
         let mut ahead = reader.fork();
         let entry = match u8::read(alloc, &mut ahead)? {
             1 => ProposalOrRef::Proposal(Proposal::read(alloc, &mut ahead)?),
-            2 => ProposalOrRef::Reference(Opaque::read(alloc, &mut ahead)?),
+            2 => ProposalOrRef::Reference(BoxedOpaque::read(alloc, &mut ahead)?),
             kind => return Err(bad_tag(u16::from(kind), reader.place())),
         };
         *reader = ahead;

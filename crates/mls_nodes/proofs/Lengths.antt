@@ -4,10 +4,11 @@ use Rattle.std.proofs.lemmas.Bool.{cases_lt, le-leb}
 use Rattle.std.specs.Prelude.{option_map, IsSome}
 use Rattle.std.specs.Int.{w8, w16, w32, w64}
 use Rattle.mls_wire.specs.Encoding.{◌⊕◌, number, length_form, vector, sized, items, list}
+use Rattle.mls_wire.specs.OptionBind.{some_is}
 use Rattle.mls_wire.specs.IntegersExact.{wide8, wide16, wide32, wide64}
 use Rattle.mls_wire.specs.LengthsExact.{form_1, form_2, form_4}
 use Rattle.mls_wire.specs.SaturatingSizes.{size}
-use Rattle.mls_wire.specs.EncodedSizes.{some_size, number_size, size_push, fits_not, fits_none, sized_text, sized_none_text}
+use Rattle.mls_wire.specs.EncodedSizes.{list_some, some_size, number_size, size_push, fits_not, fits_none, sized_text, sized_none_text}
 use Rattle.mls_wire.specs.WriteSequences.{size_then, sized_makes}
 use Rattle.mls_nodes.specs.declared.credential.Credential.TheVariants.{Basic, X509}
 use Rattle.mls_nodes.specs.declared.leaf_source.LeafSource.TheVariants.{KeyPackage, Update, Commit}
@@ -53,6 +54,22 @@ sized_has text body k n e f s =
 pub list_has : {A : Type 0} (s : A → Option (List ℕ)) (xs : List A) (body k n : ℕ) → HasLength (items s xs) body → HasLength (length_form body) k → n ≡ k + body → HasLength (list s xs) n
 unfolding list
 list_has s xs body k n e f g = sized_has (items s xs) body k n e f g
+
+-- numbers of two bytes each
+pub numbers16_have : (xs : List ℕ) → ((i : ℕ) → get_or xs i 0 < 2 ^ 16) → HasLength (items (number w16) xs) (2 * length xs)
+unfolding items
+numbers16_have [] h = refl
+numbers16_have (x ∷ xs) h = after_each (number w16 x) (items (number w16) xs) 2 (2 * length xs) _ (number_w16 x (h 0)) (numbers16_have xs (λ i. h (suc i))) (omega arith)
+
+pub codes_within : (xs : List ℕ) → ((i : ℕ) → get_or xs i 0 < 2 ^ 16) → IsSome (list (number w16) xs) → 2 * length xs ≤ 1073741823
+codes_within xs h some =
+    let a = list_some (number w16) xs some in
+    let t = some_size (items (number w16) xs) (2 * length xs) (numbers16_have xs h) in
+    let same = some_is _ _ (sym a.1 ∙ t.1) in
+    omega (arith, a.2, t.2, ap length same)
+
+pub codes_have : (xs : List ℕ) (k n : ℕ) → ((i : ℕ) → get_or xs i 0 < 2 ^ 16) → HasLength (length_form (2 * length xs)) k → n ≡ k + 2 * length xs → HasLength (list (number w16) xs) n
+codes_have xs k n h e s = list_has (number w16) xs (2 * length xs) k n (numbers16_have xs h) e s
 
 -- numbers of four bytes each
 pub numbers_have : (xs : List ℕ) → ((i : ℕ) → get_or xs i 0 < 2 ^ 32) → HasLength (items (number w32) xs) (4 * length xs)

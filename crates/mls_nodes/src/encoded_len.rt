@@ -1,9 +1,10 @@
 //! The lengths of the encodings of nodes and GroupContext. Each has an encoding, since its fields are within their
 //! limits.
 
-ghost use Rattle.std.specs.Prelude.{◌≡◌, ◌≤◌, ◌+◌, ◌*◌, ◌^◌, Some, length, option_map};
+ghost use Rattle.std.specs.Prelude.{◌≡◌, ◌≤◌, ◌+◌, ◌*◌, ◌^◌, IsSome, Some, length, option_map};
+ghost use Rattle.std.specs.Int.{w16};
 ghost use Rattle.mls_wire.specs.Limits.{vector_limit};
-ghost use Rattle.mls_wire.specs.Encoding.{length_form, items, list, vector};
+ghost use Rattle.mls_wire.specs.Encoding.{length_form, items, list, number, vector};
 ghost use Rattle.mls_nodes.specs.Limits.{leaf_limit};
 ghost use Rattle.mls_nodes.specs.Layout.{capabilities, credential, group_context, leaf, parent, source, unmerged};
 ghost use Rattle.mls_nodes.specs.LeafNodeTBS.{leaf_place, leaf_tbs};
@@ -13,6 +14,7 @@ use crate::context::GroupContext;
 use crate::credential::Credential;
 use crate::leaf::LeafNode;
 use crate::leaf_source::LeafSource;
+use crate::lists::Codes;
 use crate::parent::ParentNode;
 use mls_wire::{Encode, Items, Opaque};
 
@@ -61,6 +63,24 @@ fn length_of_list<T: Encode>(values: &Items<T>) -> u64
     length_of_prefix(body) + body
 }
 
+/// Returns the length of the encoding of a list of numbers of two bytes.
+fn length_of_numbers(numbers: &[u16]) -> u64
+    requires { IsSome (list (number w16) numbers.now) }
+    ensures length { option_map length (list (number w16) numbers.now) ≡ Some result }
+    ensures small { result ≤ vector_limit + 4 }
+{
+    let body = 2 * numbers.len() as u64;
+    length_of_prefix(body) + body
+}
+
+/// Returns the length of the encoding of a list of codes.
+fn length_of_codes(codes: &Codes) -> u64
+    ensures length { option_map length (list (number w16) codes.now) ≡ Some result }
+    ensures small { result ≤ vector_limit + 4 }
+{
+    length_of_numbers(codes.as_slice())
+}
+
 /// Returns the length of the encoding of a list of unmerged leaves.
 fn length_of_unmerged(leaves: &[u32]) -> u64
     requires { length leaves.now ≤ leaf_limit }
@@ -87,11 +107,11 @@ fn length_of_capabilities(value: &Capabilities) -> u64
     ensures length { option_map length (capabilities value.now) ≡ Some result }
     ensures small { result ≤ 5 * (vector_limit + 4) }
 {
-    let versions = length_of_list(&value.versions);
-    let cipher_suites = length_of_list(&value.cipher_suites);
-    let extensions = length_of_list(&value.extensions);
-    let proposals = length_of_list(&value.proposals);
-    let credentials = length_of_list(&value.credentials);
+    let versions = length_of_codes(&value.versions);
+    let cipher_suites = length_of_codes(&value.cipher_suites);
+    let extensions = length_of_codes(&value.extensions);
+    let proposals = length_of_codes(&value.proposals);
+    let credentials = length_of_codes(&value.credentials);
     versions + cipher_suites + extensions + proposals + credentials
 }
 

@@ -3,14 +3,14 @@
 
 use crate::extension::Extension;
 use crate::senders::ExternalSender;
-use mls_wire::{Items, Opaque};
+use mls_wire::{BoxedOpaque, Items};
 
 /// Protocol versions, cipher suites, or types of extensions, proposals and credentials. Any `u16` is stored, known or
-/// not.
-pub type Codes = Items<u16>;
+/// not. A list of at most 14 codes is stored in place.
+pub type Codes = mls_wire::Codes;
 
 /// A chain of certificates, the member's own first (RFC 9420, 5.3).
-pub type CertChain = Items<Opaque>;
+pub type CertChain = Items<BoxedOpaque>;
 
 /// Extensions of a leaf node or a group, in their order.
 pub type Extensions = Items<Extension>;

@@ -3,3 +3,4 @@ pub mod SignaturesToVerify
 pub mod Agreement
 pub mod DistinctStarts
 pub mod Marks
+pub mod AddedLeaves

@@ -2,17 +2,21 @@
 
 ghost use Rattle.std.specs.Prelude.{◌≡◌, ◌++◌, ◌∷◌, [], Some, IfOk, OnOk, option_map};
 ghost use Rattle.mls_msgs.specs.declared.framed_content.Sender.TheVariants.{Member};
+ghost use Rattle.mls_tree.specs.Tree.{Tree};
 ghost use Rattle.mls_apply.specs.Senders.{member_index};
 ghost use Rattle.mls_apply.specs.ResolvedList.{resolved};
-ghost use Rattle.mls_apply.specs.AppliedList.{grown, outcome};
+ghost use Rattle.mls_apply.specs.AppliedList.{outcome};
 ghost use Rattle.mls_apply.specs.Staged.{IsSettled};
+ghost use Rattle.mls_signatures.specs.AddedLeaves.{AreNamedAlike, Extends, HasNames, IsAfter, indices};
 ghost use Rattle.mls_signatures.specs.SignaturesToVerify.{signatures_at, entry_signatures, entries_signatures, index_before, replaced_leaves, path_signatures, applied_list_signatures, commit_signatures};
 
-use crate::signature_list::{
-    push_leaf_signature, push_non_blank_leaf_signature, push_proposal_signatures,
+use crate::added_leaves::{AddedLeaf, added_leaves, leaves_by_index};
+use crate::new_leaf_signatures::{
+    TreeAfter, push_added_leaf_signatures, push_replaced_leaf_signatures,
 };
+use crate::signature_list::{push_leaf_signature, push_proposal_signatures};
 use crate::signature_to_verify::SignatureToVerify;
-use mls_apply::{ApplyFault, Leaves, ListItem, PendingProposals, StagedTree, resolve_list};
+use mls_apply::{ApplyFault, ListItem, PendingProposals, StagedTree, resolve_list};
 use mls_check::OutOfMemory;
 use mls_msgs::{Commit, Proposal, ProposalOrRef, Sender, UpdatePath};
 use mls_nodes::GroupContext;
@@ -103,24 +107,6 @@ fn push_replaced_leaves(items: &[ListItem], leaves: &mut Vec<u32>) -> Result<(),
     Ok(())
 }
 
-/// Appends the signatures of the leaves of a tree at these leaf indices, in their order.
-fn push_signatures_at(
-    alloc: Global,
-    context: &GroupContext,
-    tree: &PublicTree,
-    indices: &[u32],
-    list: &mut Vec<SignatureToVerify>,
-) -> Result<(), OutOfMemory>
-    ensures { let suite = context.now.cipher_suite in
-        OnOk result (list.new.items ≡ list.old.items
-        ++ signatures_at suite context.now.group_id tree.now.tree indices.now) }
-{
-    for index in indices {
-        push_non_blank_leaf_signature(alloc, context, tree, *index, list)?;
-    }
-    Ok(())
-}
-
 /// Appends the signature of the leaf of a member's UpdatePath, if there is a path.
 fn push_path_signature(
     alloc: Global,
@@ -138,30 +124,53 @@ fn push_path_signature(
     push_leaf_signature(alloc, context, committer, &path.leaf_node, list)
 }
 
-/// Returns the leaves that a list adds or replaces: the replaced ones, then these added ones.
-fn new_leaves(alloc: Global, items: &[ListItem], added: &Leaves) -> Result<Vec<u32>, OutOfMemory>
-    ensures { IfOk result (λ leaves. leaves.items ≡ replaced_leaves items.now ++ added.now) }
-{
-    let mut leaves = Vec::new(alloc);
-    push_replaced_leaves(items, &mut leaves)?;
-    leaves.extend_from_slice(added.as_slice())?;
-    Ok(leaves)
+/// A tree that lacks the leaf nodes of the leaves that a list adds, and these leaves.
+#[derive(Clone, Copy)]
+struct Outline<'a> {
+    tree: &'a PublicTree,
+    leaves: &'a [AddedLeaf<'a>],
 }
 
-/// Appends the signatures of these leaves of the tree after a proposal list, then that of the leaf of its path.
+/// Appends the signatures of the leaves that the Updates of a list replace, in the tree after it.
+fn push_update_leaf_signatures(
+    alloc: Global,
+    context: &GroupContext,
+    items: &[ListItem],
+    outline: &Outline<'_>,
+    list: &mut Vec<SignatureToVerify>,
+) -> Result<(), OutOfMemory>
+    ensures { let suite = context.now.cipher_suite in
+        (t : Tree) → IsAfter t outline.now.tree.now.tree outline.now.leaves.now
+        → OnOk result (Extends list.old.items
+        (signatures_at suite context.now.group_id t (replaced_leaves items.now)) list.new.items) }
+{
+    let mut replaced = Vec::new(alloc);
+    push_replaced_leaves(items, &mut replaced)?;
+    let added = leaves_by_index(alloc, outline.leaves)?;
+    let after = TreeAfter {
+        tree: outline.tree,
+        added: &added,
+    };
+    push_replaced_leaf_signatures(alloc, context, &after, replaced.as_slice(), list)
+}
+
+/// Appends the signatures of the leaves that a list replaces or adds, in the tree after it, then that of the leaf of the path.
 fn push_new_leaf_signatures(
     alloc: Global,
     commit: &MemberCommit<'_>,
-    tree: &PublicTree,
-    leaves: &[u32],
+    items: &[ListItem],
+    outline: &Outline<'_>,
     list: &mut Vec<SignatureToVerify>,
 ) -> Result<(), OutOfMemory>
+    requires { AreNamedAlike outline.now.leaves.now }
     ensures { let context = commit.now.context.now in
-        OnOk result (list.new.items ≡ list.old.items
-        ++ (signatures_at context.cipher_suite context.group_id tree.now.tree leaves.now
-        ++ path_signatures context commit.now.committer commit.now.commit.now.path)) }
+        (t : Tree) → IsAfter t outline.now.tree.now.tree outline.now.leaves.now
+        → OnOk result (Extends list.old.items
+        (signatures_at context.cipher_suite context.group_id t (replaced_leaves items.now ++ indices outline.now.leaves.now)
+        ++ path_signatures context commit.now.committer commit.now.commit.now.path) list.new.items) }
 {
-    push_signatures_at(alloc, commit.context, tree, leaves, list)?;
+    push_update_leaf_signatures(alloc, commit.context, items, outline, list)?;
+    push_added_leaf_signatures(alloc, commit.context, outline.leaves, list)?;
     push_path_signature(
         alloc,
         commit.context,
@@ -171,8 +180,8 @@ fn push_new_leaf_signatures(
     )
 }
 
-/// Applies a list to the tree, and appends the signatures of the leaves that it adds or replaces, and of the path's leaf, if
-/// the list can be applied. A part of the list may have been applied, whatever is returned.
+/// Applies a list to the tree, except for the leaf nodes of its Adds, and appends the signatures of the leaves that it adds or
+/// replaces, and of the path's leaf, if the list can be applied. A part of the list may have been applied, whatever is returned.
 fn apply_and_push_signatures(
     alloc: Global,
     commit: &MemberCommit<'_>,
@@ -180,22 +189,29 @@ fn apply_and_push_signatures(
     tree: &mut StagedTree,
     list: &mut Vec<SignatureToVerify>,
 ) -> Result<(), OutOfMemory>
+    requires named { HasNames commit.now.commit.now.proposals items.now }
     ensures signatures { let context = commit.now.context.now in
-        OnOk result (list.new.items ≡ list.old.items
-        ++ applied_list_signatures context commit.now.committer commit.now.commit.now.path items.now
-        (outcome items.now tree.old.tree)) }
+        OnOk result (Extends list.old.items
+        (applied_list_signatures context commit.now.committer commit.now.commit.now.path items.now
+        (outcome items.now tree.old.tree)) list.new.items) }
     ensures base { tree.new.base ≡ tree.old.base }
 {
-    let added = match tree.apply_list(alloc, items) {
+    let added = match tree.check_list_fits(alloc, items) {
         Ok(added) => added,
         Err(ApplyFault::NoSuchLeaf) => return Ok(()),
         Err(ApplyFault::TooManyLeaves) => return Ok(()),
         Err(ApplyFault::OutOfMemory) => return Err(OutOfMemory),
         Err(_) => unreachable!(),
     };
-    let leaves = new_leaves(alloc, items, &added);
+    let entries = commit.commit.proposals.as_slice();
+    let leaves = added_leaves(alloc, entries, items, added.as_slice());
     drop(added);
-    push_new_leaf_signatures(alloc, commit, tree.tree(), leaves?.as_slice(), list)
+    let leaves = leaves?;
+    let outline = Outline {
+        tree: tree.tree(),
+        leaves: leaves.as_slice(),
+    };
+    push_new_leaf_signatures(alloc, commit, items, &outline, list)
 }
 
 /// Appends the signatures of the leaves that a proposal list adds or replaces, and of the path's leaf, if the list can be
@@ -207,11 +223,12 @@ fn push_applied_list_signatures(
     tree: &mut StagedTree,
     list: &mut Vec<SignatureToVerify>,
 ) -> Result<(), OutOfMemory>
-    requires { IsSettled tree.old }
+    requires named { HasNames commit.now.commit.now.proposals items.now }
+    requires settled { IsSettled tree.old }
     ensures signatures { let context = commit.now.context.now in
-        OnOk result (list.new.items ≡ list.old.items
-        ++ applied_list_signatures context commit.now.committer commit.now.commit.now.path items.now
-        (outcome items.now tree.old.tree)) }
+        OnOk result (Extends list.old.items
+        (applied_list_signatures context commit.now.committer commit.now.commit.now.path items.now
+        (outcome items.now tree.old.tree)) list.new.items) }
     ensures base { tree.new.base ≡ tree.old.base }
     ensures tree { tree.new.tree ≡ tree.old.tree }
     ensures settled { IsSettled tree.new }
@@ -229,10 +246,11 @@ fn push_list_signatures(
     tree: &mut StagedTree,
     list: &mut Vec<SignatureToVerify>,
 ) -> Result<(), OutOfMemory>
-    requires { IsSettled tree.old }
-    ensures signatures { OnOk result (list.new.items ≡ list.old.items
-        ++ commit_signatures commit.now.context.now tree.old.tree commit.now.committer
-        commit.now.commit.now (Some items.now)) }
+    requires named { HasNames commit.now.commit.now.proposals items.now }
+    requires settled { IsSettled tree.old }
+    ensures signatures { OnOk result (Extends list.old.items
+        (commit_signatures commit.now.context.now tree.old.tree commit.now.committer
+        commit.now.commit.now (Some items.now)) list.new.items) }
     ensures base { tree.new.base ≡ tree.old.base }
     ensures tree { tree.new.tree ≡ tree.old.tree }
     ensures settled { IsSettled tree.new }
@@ -261,7 +279,8 @@ fn resolved_items<'a>(
     }
 }
 
-/// Appends the signatures of a member's commit after the message's own, if each reference is known.
+/// Appends the signatures of a member's commit after the message's own, if each reference is known. Some that are equal to an
+/// earlier one are left out.
 pub(crate) fn push_commit_signatures(
     alloc: Global,
     commit: &MemberCommit<'_>,
@@ -270,10 +289,10 @@ pub(crate) fn push_commit_signatures(
     list: &mut Vec<SignatureToVerify>,
 ) -> Result<(), OutOfMemory>
     requires { IsSettled tree.old }
-    ensures signatures { OnOk result (list.new.items ≡ list.old.items
-        ++ commit_signatures commit.now.context.now tree.old.tree commit.now.committer
+    ensures signatures { OnOk result (Extends list.old.items
+        (commit_signatures commit.now.context.now tree.old.tree commit.now.committer
         commit.now.commit.now
-        (resolved (Member commit.now.committer) known.now commit.now.commit.now.proposals)) }
+        (resolved (Member commit.now.committer) known.now commit.now.commit.now.proposals)) list.new.items) }
     ensures base { tree.new.base ≡ tree.old.base }
     ensures tree { tree.new.tree ≡ tree.old.tree }
     ensures settled { IsSettled tree.new }

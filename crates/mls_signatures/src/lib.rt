@@ -6,10 +6,12 @@
 //! returns those of a resumption. None verifies a signature.
 #![tactic(auto)]
 
+mod added_leaves;
 mod commit_signatures;
 mod duplicates;
 mod external_commit_signatures;
 pub mod laws;
+mod new_leaf_signatures;
 mod resumption;
 mod signature_list;
 mod signature_to_verify;

@@ -6,3 +6,4 @@ pub mod LogLaws
 pub mod WriteLaws
 pub mod Sized
 mod Edited
+mod ShortLists

@@ -2,6 +2,9 @@ pub mod Limits
 pub mod Input
 pub mod Faults
 pub mod Encoding
+pub mod Codes
+pub mod OpaqueBytes
+pub mod BoxedBytes
 pub mod ReadContracts
 pub mod WriteContracts
 pub mod Devices

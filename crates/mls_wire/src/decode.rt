@@ -48,7 +48,7 @@ pub trait Decode: Drop {
 }
 
 /// Returns the values whose encodings are all of the body, one after the other.
-fn items_of<T: Decode>(alloc: Global, mut body: Reader<'_>) -> Result<Vec<T>, CodecFault>
+pub(crate) fn items_of<T: Decode>(alloc: Global, mut body: Reader<'_>) -> Result<Vec<T>, CodecFault>
     ensures { Finds
         (items_at T.reading (length body.entry.left) body.entry)
         (seen (λ v. v.items) result) }

@@ -4,7 +4,8 @@
 //! - A [`Reader`] reads bytes from left to right, and a [`Writer`] appends to its own.
 //! - A type that implements [`Decode`] and [`Encode`] states its encoding. It is then decoded by [`read_value`],
 //!   [`read_all_of`] and [`read_input`], and encoded by [`bytes_of`] and [`Writer::write`].
-//! - [`Opaque`] is the body of a vector, [`Items`] a list that fits into one, [`Sequence`] a list of any length.
+//! - [`Opaque`] is the body of a vector, [`BoxedOpaque`] a smaller form for long lists, [`Items`] a list that fits into one, [`Codes`] such a list of `uint16`,
+//!   [`Sequence`] a list of any length.
 //! - A [`Source`] gives bytes and a [`Sink`] takes them, in pieces of any size; each over std or over memory.
 //! - A [`RecordReader`] reads the records of a log from its source. [`Records`] takes the source in each call.
 //!
@@ -13,6 +14,8 @@
 //! implementors, also names the reading function.
 #![tactic(auto)]
 
+mod boxed_opaque;
+mod codes;
 mod decode;
 mod draft;
 mod encode;
@@ -27,12 +30,16 @@ mod optional;
 mod reader;
 mod record_reader;
 mod sequence;
+mod short_bytes;
+mod short_codes;
 mod sink;
 mod size;
 mod source;
 mod try_clone;
 mod writer;
 
+pub use boxed_opaque::BoxedOpaque;
+pub use codes::Codes;
 pub use decode::{Decode, MAX_INPUT, read_all_of, read_input, read_value};
 pub use draft::Draft;
 pub use encode::{Encode, bytes_of, put_list};

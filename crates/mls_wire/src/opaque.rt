@@ -1,9 +1,10 @@
 //! The body of a vector.
 
-ghost use Rattle.std.specs.Prelude.{◌≡◌, ℕ, ◌≤◌, ◌<◌, List, Option, Err, length, MatchResult};
+ghost use Rattle.std.specs.Prelude.{◌≡◌, ℕ, ◌≤◌, ◌<◌, List, Option, Err, IfOk, length, MatchResult};
 ghost use Rattle.mls_wire.specs.Faults.{too_long_at};
 ghost use Rattle.mls_wire.specs.Input.{Input};
 ghost use Rattle.mls_wire.specs.Limits.{vector_limit};
+ghost use Rattle.mls_wire.specs.OpaqueBytes.{bytes_in};
 ghost use Rattle.mls_wire.specs.Encoding.{vector};
 ghost use Rattle.mls_wire.specs.Parsing.{GivesOrFull, vector_at};
 ghost use Rattle.mls_wire.specs.VectorsExact.{vector_exact, vector_long};
@@ -13,35 +14,91 @@ use crate::draft::Draft;
 use crate::encode::Encode;
 use crate::fault::{CodecFault, WireFault, WireFaultKind};
 use crate::reader::Reader;
+use crate::short_bytes::{MAX_SHORT, ShortBytes};
 use crate::size::size_of_vector;
-use std::alloc::Global;
+use std::alloc::{AllocError, Global};
 use std::marker::Model;
 
 /// The most bytes of the body of a vector (RFC 9420, 2.1.2).
 pub const MAX_BODY: usize = 1073741823;
 
-/// The body of a vector, `opaque x<V>` (RFC 9420, 2.1.2): bytes, at most [`MAX_BODY`] of them.
+/// Where the bytes of a body are.
+#[derive(Debug)]
+enum Stored {
+    /// In place.
+    InPlace(ShortBytes),
+    /// On the heap.
+    OnHeap(Vec<u8>),
+}
+
+// Written out, so that a drop is one call in the proofs of its owners.
+impl Drop for Stored {
+    fn drop(self) {
+        match self {
+            Stored::InPlace(_) => {}
+            Stored::OnHeap(_) => {}
+        }
+    }
+}
+
+impl Stored {
+    /// Stores these bytes. Does not allocate.
+    fn of(bytes: Vec<u8>) -> Stored
+        ensures { bytes_in result ≡ bytes.items }
+    {
+        if bytes.len() <= MAX_SHORT {
+            Stored::InPlace(ShortBytes::of(bytes.as_slice()))
+        } else {
+            Stored::OnHeap(bytes)
+        }
+    }
+
+    /// Stores a copy of these bytes. Allocates only if there are more than [`MAX_SHORT`].
+    fn copy(alloc: Global, bytes: &[u8]) -> Result<Stored, AllocError>
+        ensures { IfOk result (λ stored. bytes_in stored ≡ bytes.now) }
+    {
+        if bytes.len() <= MAX_SHORT {
+            Ok(Stored::InPlace(ShortBytes::of(bytes)))
+        } else {
+            Ok(Stored::OnHeap(Vec::from_slice(alloc, bytes)?))
+        }
+    }
+
+    /// Returns the bytes.
+    fn as_slice(&self) -> &[u8]
+        ensures { result.now ≡ bytes_in self.now }
+    {
+        match self {
+            Stored::InPlace(bytes) => bytes.as_slice(),
+            Stored::OnHeap(bytes) => bytes.as_slice(),
+        }
+    }
+}
+
+/// The body of a vector, `opaque x<V>` (RFC 9420, 2.1.2): bytes, at most [`MAX_BODY`] of them. At most 38 bytes are
+/// stored in place.
 #[derive(Debug)]
 pub struct Opaque {
-    bytes: Vec<u8>,
+    stored: Stored,
 }
 
 // Written out, so that a drop is one call in the proofs of its owners.
 impl Drop for Opaque {
     fn drop(self) {
-        let Opaque { bytes: _ } = self;
+        let Opaque { stored: _ } = self;
     }
 }
 
 impl Model for Opaque {
     ghost use Rattle.std.specs.Prelude.{ℕ, ◌≤◌, List, length};
     ghost use Rattle.mls_wire.specs.Limits.{vector_limit};
+    ghost use Rattle.mls_wire.specs.OpaqueBytes.{bytes_in};
 
     ghost Value = { List ℕ };
 
-    ghost view = { λ a. a.bytes.items };
+    ghost view = { λ a. bytes_in a.stored };
 
-    ghost invariant = { λ a. length a.bytes.items ≤ vector_limit };
+    ghost invariant = { λ a. length (bytes_in a.stored) ≤ vector_limit };
 }
 
 impl Opaque {
@@ -54,7 +111,9 @@ impl Opaque {
         if bytes.len() > MAX_BODY {
             return Err(bytes);
         }
-        Ok(Opaque { bytes })
+        Ok(Opaque {
+            stored: Stored::of(bytes),
+        })
     }
 
     /// Returns a copy of the bytes.
@@ -74,8 +133,8 @@ impl Opaque {
                 at: 0,
             }));
         }
-        let bytes = Vec::from_slice(alloc, bytes)?;
-        Ok(Opaque { bytes })
+        let stored = Stored::copy(alloc, bytes)?;
+        Ok(Opaque { stored })
     }
 
     /// Returns the bytes.
@@ -83,7 +142,7 @@ impl Opaque {
         ensures bytes { result.now ≡ self.now }
         ensures limit { length self.now ≤ vector_limit }
     {
-        self.bytes.as_slice()
+        self.stored.as_slice()
     }
 }
 
@@ -95,9 +154,9 @@ impl Decode for Opaque {
     fn read(alloc: Global, reader: &mut Reader<'_>) -> Result<Opaque, CodecFault> {
         let mut ahead = reader.fork();
         let bytes = ahead.next_vec()?;
-        let bytes = Vec::from_slice(alloc, bytes)?;
+        let stored = Stored::copy(alloc, bytes)?;
         *reader = ahead;
-        Ok(Opaque { bytes })
+        Ok(Opaque { stored })
     }
 
     ghost exact = { vector_exact };
@@ -107,10 +166,10 @@ impl Decode for Opaque {
 
 impl Encode for Opaque {
     fn size(&self) -> Option<usize> {
-        size_of_vector(self.bytes.len())
+        size_of_vector(self.stored.as_slice().len())
     }
 
     fn put(&self, _alloc: Global, draft: &mut Draft) -> Result<(), CodecFault> {
-        draft.put_vec(self.bytes.as_slice())
+        draft.put_vec(self.stored.as_slice())
     }
 }

@@ -2,6 +2,8 @@
 
 ghost use Rattle.std.specs.Prelude.{◌≡◌, IfOk, IfErr};
 
+use crate::boxed_opaque::BoxedOpaque;
+use crate::codes::Codes;
 use crate::decode::Decode;
 use crate::encode::Encode;
 use crate::fault::CodecFault;
@@ -33,6 +35,18 @@ impl TryClone for u32 {
 impl TryClone for Opaque {
     fn try_clone(&self, alloc: Global) -> Result<Opaque, CodecFault> {
         Opaque::copy(alloc, self.as_slice())
+    }
+}
+
+impl TryClone for BoxedOpaque {
+    fn try_clone(&self, alloc: Global) -> Result<BoxedOpaque, CodecFault> {
+        BoxedOpaque::copy(alloc, self.as_slice())
+    }
+}
+
+impl TryClone for Codes {
+    fn try_clone(&self, alloc: Global) -> Result<Codes, CodecFault> {
+        self.copied(alloc)
     }
 }
 

@@ -2,11 +2,12 @@ use Rattle.std.proofs.Common.{◌≡◌, Err, ◌∙◌, ◌+◌, drop, ap, sym,
 use Rattle.std.proofs.lemmas.Result.{err_from_is_err_and}
 use Rattle.mls_tree.specs.Journals.{before}
 use Rattle.mls_apply.specs.AppliedList.{after_adds, new_members}
+use Rattle.mls_apply.specs.Outline.{IsOutline}
 use Rattle.mls_apply.specs.declared.fault.ApplyFault.TheVariants.{TooManyLeaves}
 use Rattle.mls_apply.specs.declared.list_item.ListItem.{ListItem}
 use Rattle.mls_apply.proofs.Updating.{next_item}
-use Rattle.mls_apply.proofs.Fitting.{Fitting, fitting-other, fitting-room, fitting-member, fitting-refused, fitting-all}
-use Rattle.mls_apply.proofs.adds.fit_adds.Goals.{in-Add+in_ok-index, in_default}
+use Rattle.mls_apply.proofs.Fitting.{Fitting, fitting-other, fitting-room, fitting-member, fitting-refused, fitting-all, placed, outlined}
+use Rattle.mls_apply.proofs.adds.fit_adds.Goals.{in-Add+in_ok-index+in_ok-push, in_default}
 use Rattle.mls_apply.proofs.adds.fit_adds.Goals as goal
 
 pub add_member-requires-clause-room : goal.add_member-requires-clause-room
@@ -14,24 +15,28 @@ add_member-requires-clause-room c =
     let items = c.args.items.now in
     let i = c.loop-item.item-index in
     let x = c.item-item.result in
+    let first = c.args.tree.now.tree in
     let t = c.loop-item.tree.tree in
-    let whole = after_adds (new_members items) c.args.tree.now.tree in
-    let here = subst (λ xs. Fitting whole xs t c.loop-item.start) (next_item items i x c.loop-item-test.true c.item-item.is) c.loop-item.invariant.fitting in
-    fitting-room whole x (drop (i + 1) items) t c.loop-item.start here c.in-Add.field-0 (ap (λ (y : ListItem). y.proposal) (sym c.item.view_is) ∙ c.in-Add.is)
+    let added = c.loop-item.added.items in
+    let whole = after_adds (new_members items) first in
+    let here = subst (λ xs. Fitting whole xs first t added c.loop-item.start) (next_item items i x c.loop-item-test.true c.item-item.is) c.loop-item.invariant.fitting in
+    fitting-room whole x (drop (i + 1) items) first t added c.loop-item.start here c.in-Add.field-0 (ap (λ (y : ListItem). y.proposal) (sym c.item.view_is) ∙ c.in-Add.is)
 
 pub returns-in_err-index-clause-too_many_leaves : goal.returns-in_err-index-clause-too_many_leaves
 returns-in_err-index-clause-too_many_leaves c =
     let items = c.args.items.now in
     let i = c.loop-item.item-index in
     let x = c.item-item.result in
+    let first = c.args.tree.now.tree in
     let t = c.loop-item.tree.tree in
-    let whole = after_adds (new_members items) c.args.tree.now.tree in
-    let here = subst (λ xs. Fitting whole xs t c.loop-item.start) (next_item items i x c.loop-item-test.true c.item-item.is) c.loop-item.invariant.fitting in
+    let added = c.loop-item.added.items in
+    let whole = after_adds (new_members items) first in
+    let here = subst (λ xs. Fitting whole xs first t added c.loop-item.start) (next_item items i x c.loop-item-test.true c.item-item.is) c.loop-item.invariant.fitting in
     let p = err_from_is_err_and c.from_residual.result c.from_residual.ensures.1 in
     λ told.
     let joined = sym p.1 ∙ told in
     let fault : p.0 ≡ TooManyLeaves = cc in
-    fitting-refused whole x (drop (i + 1) items) t c.loop-item.start here c.in-Add.field-0 (ap (λ (y : ListItem). y.proposal) (sym c.item.view_is) ∙ c.in-Add.is)
+    fitting-refused whole x (drop (i + 1) items) first t added c.loop-item.start here c.in-Add.field-0 (ap (λ (y : ListItem). y.proposal) (sym c.item.view_is) ∙ c.in-Add.is)
     (c.in_err-index.ensures.too_many_leaves (ap Err (sym p.2 ∙ fault)))
 
 pub loop-item-preserved : goal.loop-item-preserved
@@ -39,28 +44,43 @@ loop-item-preserved c =
     let items = c.args.items.now in
     let i = c.loop-item.item-index in
     let x = c.item-item.result in
+    let first = c.args.tree.now.tree in
     let t = c.loop-item.tree.tree in
+    let added = c.loop-item.added.items in
     let rest = drop (i + 1) items in
-    let whole = after_adds (new_members items) c.args.tree.now.tree in
-    let here = subst (λ xs. Fitting whole xs t c.loop-item.start) (next_item items i x c.loop-item-test.true c.item-item.is) c.loop-item.invariant.fitting in
+    let whole = after_adds (new_members items) first in
+    let here = subst (λ xs. Fitting whole xs first t added c.loop-item.start) (next_item items i x c.loop-item-test.true c.item-item.is) c.loop-item.invariant.fitting in
     elim c.match-item.branch [
-      | in-Add+in_ok-index w ↦
+      | in-Add+in_ok-index+in_ok-push w ↦
           record {
             fitting =
-                rw (w.tree-is, w.start-is)
-                (fitting-member whole x rest t c.loop-item.start here w.in-Add.field-0 (ap (λ (y : ListItem). y.proposal) (sym c.item.view_is) ∙ w.in-Add.is) c.args.leaf.now w.in_ok-index.index w.add_member.new.tree.tree w.in_ok-index.ensures.added);
+                rw (w.tree-is, w.added-is, w.start-is, w.in_ok-push.ensures.items)
+                (fitting-member whole x rest first t added c.loop-item.start here w.in-Add.field-0 (ap (λ (y : ListItem). y.proposal) (sym c.item.view_is) ∙ w.in-Add.is) c.args.leaf.now w.in_ok-index.index w.add_member.new.tree.tree w.in_ok-index.ensures.added);
             same_before = (λ k. before (w.journal-is k) (w.tree-is k).tree) ∙ w.add_member.ensures.before ∙ c.loop-item.invariant.same_before;
           }
       | in_default w ↦
           record {
             fitting =
-                rw (w.tree-is, w.start-is)
-                (fitting-other whole x rest t c.loop-item.start here (λ k e. w.in_default.not-Add k (ap (λ (y : ListItem). y.proposal) c.item.view_is ∙ e)));
+                rw (w.tree-is, w.added-is, w.start-is)
+                (fitting-other whole x rest first t added c.loop-item.start here (λ k e. w.in_default.not-Add k (ap (λ (y : ListItem). y.proposal) c.item.view_is ∙ e)));
             same_before = (λ k. before (w.journal-is k) (w.tree-is k).tree) ∙ c.loop-item.invariant.same_before;
           }
     ]
 
 pub returns-clause-fit : goal.returns-clause-fit
 returns-clause-fit c =
-    fitting-all (after_adds (new_members c.args.items.now) c.args.tree.now.tree) c.args.items.now c.loop-item.item-index c.loop-item.tree.tree
-    c.loop-item.start c.loop-item-test.false c.loop-item.invariant.fitting
+    let items = c.args.items.now in
+    let first = c.args.tree.now.tree in
+    placed (after_adds (new_members items) first) c.loop-item.added.items
+    (fitting-all (after_adds (new_members items) first) items c.loop-item.item-index first c.loop-item.tree.tree c.loop-item.added.items c.loop-item.start c.loop-item-test.false
+    c.loop-item.invariant.fitting)
+
+pub returns-clause-outline : goal.returns-clause-outline
+returns-clause-outline c =
+    let items = c.args.items.now in
+    let first = c.args.tree.now.tree in
+    let walked = c.loop-item.invariant.fitting in
+    subst (λ js. IsOutline (after_adds (new_members items) first) js c.loop-item.tree.tree) (sym c.new.ensures)
+    (outlined (new_members items) first c.loop-item.tree.tree c.loop-item.added.items
+    (fitting-all (after_adds (new_members items) first) items c.loop-item.item-index first c.loop-item.tree.tree c.loop-item.added.items c.loop-item.start c.loop-item-test.false walked)
+    walked.others)

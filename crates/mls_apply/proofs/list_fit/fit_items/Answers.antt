@@ -14,6 +14,13 @@ returns-clause-fit c =
     c.in_ok-apply_updates.ensures.updated c.in_ok-apply_removes.ensures.removed c.requires)
     c.fit_adds-answer.ensures.fit
 
+pub returns-clause-outline : goal.returns-clause-outline
+returns-clause-outline c =
+    rw
+    (outcome-room c.args.items.now c.args.tree.now.tree c.apply_updates.new.tree.tree c.apply_removes.new.tree.tree
+    c.in_ok-apply_updates.ensures.updated c.in_ok-apply_removes.ensures.removed c.requires)
+    c.fit_adds-answer.ensures.outline
+
 pub returns-clause-too_many_leaves : goal.returns-clause-too_many_leaves
 returns-clause-too_many_leaves c =
     let items = c.args.items.now in

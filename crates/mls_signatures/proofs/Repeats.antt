@@ -1,0 +1,107 @@
+-- Signatures that are left out of a list, since an equal one is in it.
+use Rattle.std.proofs.Common.{◌≡◌, ◌∙◌, ℕ, List, [], ◌∷◌, ◌++◌, Bool, true, false, cond, not, refl, sym, ap, append_assoc, append-nil}
+use Rattle.std.specs.Prelude.{◌==◌, ◌&&◌, ◌||◌, ⊤}
+use Rattle.std.specs.List.{list_any}
+use Rattle.std.proofs.lemmas.Bool.{eq-eqb}
+use Rattle.std.proofs.lemmas.List.Folds.{list_any-append}
+use Rattle.std.proofs.lemmas.Slice.Eq.{bytes_eq-Decides}
+use Rattle.mls_signatures.specs.AddedLeaves.{Extends}
+use Rattle.mls_signatures.specs.SignaturesToVerify.{is_same, without, deduplicated}
+use Rattle.mls_signatures.specs.declared.signature_to_verify.SignatureToVerify.{SignatureToVerify}
+use Rattle.mls_signatures.proofs.Agreement.{same_is}
+use Rattle.mls_signatures.proofs.DuplicateMarks.{is_met, deduplicated-more}
+
+-- each of these is in a list
+abbrev pub AllMet : List SignatureToVerify → List SignatureToVerify → Type 0
+AllMet ws [] = ⊤
+AllMet ws (q ∷ qs) = (is_met ws q ≡ true) × AllMet ws qs
+
+number_itself : (n : ℕ) → (n == n) ≡ true
+number_itself n = eq-eqb n n refl
+
+-- each is the same as itself
+same_itself : (q : SignatureToVerify) → is_same q q ≡ true
+same_itself q =
+    (λ i. (number_itself q.suite i) && (bytes_eq-Decides q.key q.key).1 refl i && (bytes_eq-Decides q.content q.content).1 refl i && (bytes_eq-Decides q.signature q.signature).1 refl i)
+
+or_true : (b : Bool) → (b || true) ≡ true
+or_true true = refl
+or_true false = refl
+
+met_front : (ws rest : List SignatureToVerify) (q : SignatureToVerify) → is_met ws q ≡ true → is_met (ws ++ rest) q ≡ true
+met_front ws rest q e = list_any-append (λ r. is_same r q) ws rest ∙ ap (λ b. b || is_met rest q) e
+
+met_behind : (ws rest : List SignatureToVerify) (q : SignatureToVerify) → is_met rest q ≡ true → is_met (ws ++ rest) q ≡ true
+met_behind ws rest q e = list_any-append (λ r. is_same r q) ws rest ∙ ap (λ b. is_met ws q || b) e ∙ or_true (is_met ws q)
+
+pub all_front : (ws rest qs : List SignatureToVerify) → AllMet ws qs → AllMet (ws ++ rest) qs
+all_front ws rest [] m = tt
+all_front ws rest (q ∷ qs) m = (met_front ws rest q m.0, all_front ws rest qs m.1)
+
+pub all_behind : (ws rest qs : List SignatureToVerify) → AllMet rest qs → AllMet (ws ++ rest) qs
+all_behind ws rest [] m = tt
+all_behind ws rest (q ∷ qs) m = (met_behind ws rest q m.0, all_behind ws rest qs m.1)
+
+pub all_itself : (qs : List SignatureToVerify) → AllMet qs qs
+all_itself [] = tt
+all_itself (q ∷ qs) = (ap (λ b. b || is_met qs q) (same_itself q), all_behind (q ∷ []) qs qs (all_itself qs))
+
+-- ---- without duplicates
+
+kept_met : (r q : SignatureToVerify) → is_same r q ≡ false → (ws : List SignatureToVerify) → is_met (without r ws) q ≡ is_met ws q
+kept_met r q apart [] = refl
+kept_met r q apart (w ∷ ws) = go (is_same r w) refl
+  where
+    go : (b : Bool) → is_same r w ≡ b → is_met (cond (not b) (w ∷ without r ws) (without r ws)) q ≡ (is_same w q || is_met ws q)
+    go true e =
+        kept_met r q apart ws
+        ∙ ap (λ b. b || is_met ws q) (sym (ap (λ v. is_same v q) (sym (same_is r w e)) ∙ apart))
+    go false e = ap (λ b. is_same w q || b) (kept_met r q apart ws)
+
+-- what is in a list is in it without its duplicates
+met_deduplicated : (ws : List SignatureToVerify) (q : SignatureToVerify) → is_met (deduplicated ws) q ≡ is_met ws q
+met_deduplicated [] q = refl
+met_deduplicated (r ∷ rs) q = go (is_same r q) refl
+  where
+    go : (b : Bool) → is_same r q ≡ b → (b || is_met (without r (deduplicated rs)) q) ≡ (b || is_met rs q)
+    go true e = refl
+    go false e = kept_met r q e (deduplicated rs) ∙ met_deduplicated rs q
+
+-- what is appended to lists that are alike
+pub deduplicated-behind : (xs ys qs : List SignatureToVerify) → deduplicated xs ≡ deduplicated ys → deduplicated (xs ++ qs) ≡ deduplicated (ys ++ qs)
+deduplicated-behind xs ys [] e = ap deduplicated (append-nil xs) ∙ e ∙ sym (ap deduplicated (append-nil ys))
+deduplicated-behind xs ys (q ∷ qs) e =
+    let met : is_met xs q ≡ is_met ys q = sym (met_deduplicated xs q) ∙ ap (λ ws. is_met ws q) e ∙ met_deduplicated ys q in
+    let one : deduplicated (xs ++ q ∷ []) ≡ deduplicated (ys ++ q ∷ []) =
+    deduplicated-more xs q ∙ (λ i. e i ++ cond (met i) [] (q ∷ [])) ∙ sym (deduplicated-more ys q) in
+    ap deduplicated (sym (append_assoc xs (q ∷ []) qs))
+    ∙ deduplicated-behind (xs ++ q ∷ []) (ys ++ q ∷ []) qs one
+    ∙ ap deduplicated (append_assoc ys (q ∷ []) qs)
+
+-- what is in a list already
+pub deduplicated-met : (ws qs : List SignatureToVerify) → AllMet ws qs → deduplicated (ws ++ qs) ≡ deduplicated ws
+deduplicated-met ws [] m = ap deduplicated (append-nil ws)
+deduplicated-met ws (q ∷ qs) m =
+    let one : deduplicated (ws ++ q ∷ []) ≡ deduplicated ws =
+    deduplicated-more ws q ∙ ap (λ (b : Bool). deduplicated ws ++ cond b [] (q ∷ [])) m.0 ∙ append-nil (deduplicated ws) in
+    ap deduplicated (sym (append_assoc ws (q ∷ []) qs))
+    ∙ deduplicated-met (ws ++ q ∷ []) qs (all_front ws (q ∷ []) qs m.1)
+    ∙ one
+
+-- ---- a list that gets longer
+
+pub extends-none : (old : List SignatureToVerify) → Extends old [] old
+extends-none old = ap deduplicated (sym (append-nil old))
+
+pub extends-by : (old qs new : List SignatureToVerify) → new ≡ old ++ qs → Extends old qs new
+extends-by old qs new e = ap deduplicated e
+
+module _ (old ws now : List SignatureToVerify) (known : Extends old ws now) where
+  pub extends-more : (qs new : List SignatureToVerify) → Extends now qs new → Extends old (ws ++ qs) new
+  extends-more qs new e = e ∙ deduplicated-behind now (old ++ ws) qs known ∙ ap deduplicated (append_assoc old ws qs)
+
+  pub extends-push : (qs new : List SignatureToVerify) → new ≡ now ++ qs → Extends old (ws ++ qs) new
+  extends-push qs new e = extends-more qs new (extends-by now qs new e)
+
+  pub extends-skip : (qs : List SignatureToVerify) → AllMet (old ++ ws) qs → Extends old (ws ++ qs) now
+  extends-skip qs m = known ∙ sym (deduplicated-met (old ++ ws) qs m) ∙ ap deduplicated (append_assoc old ws qs)

@@ -1,0 +1,133 @@
+-- The leaves that the Adds of a commit's list add, as the implementation holds them. Internal: no public contract uses this.
+use Rattle.std.specs.Prelude.{◌≡◌, ℕ, zero, suc, ⊤, Bool, true, false, List, [], ◌∷◌, ◌++◌, map, Option, Some, None, IfSome, option_map, slice_get, ◌<◌}
+use Rattle.std.specs.Borrow.{Bor}
+use Rattle.std.specs.BTreeMap.{BTreeMap, get}
+use Rattle.std.specs.Ordering.{nat_cmp}
+use Rattle.mls_nodes.specs.declared.leaf.LeafNode.{LeafNode}
+use Rattle.mls_nodes.specs.declared.leaf_source.LeafSource.{LeafSource}
+use Rattle.mls_nodes.specs.declared.leaf_source.LeafSource.TheVariants as sources
+use Rattle.mls_tree.specs.Tree.{Tree, leaf_at}
+use Rattle.mls_msgs.specs.declared.proposal.Proposal.{Proposal}
+use Rattle.mls_msgs.specs.declared.proposal.Proposal.TheVariants as proposals
+use Rattle.mls_msgs.specs.declared.proposal.ProposalOrRef.{ProposalOrRef}
+use Rattle.mls_msgs.specs.declared.proposal.ProposalOrRef.TheVariants as entries
+use Rattle.mls_apply.specs.declared.list_item.ListItem.{ListItem}
+use Rattle.mls_apply.specs.Outline.{IsApart}
+use Rattle.mls_signatures.specs.SignaturesToVerify.{leaf_signatures, deduplicated}
+use Rattle.mls_signatures.specs.declared.added_leaves.AddedLeaf.{AddedLeaf}
+use Rattle.mls_signatures.specs.declared.signature_to_verify.SignatureToVerify.{SignatureToVerify}
+
+-- ---- the references of a list
+
+-- `reference_of e` is the reference in an entry, if the entry is one.
+abbrev pub reference_of : ProposalOrRef → Option (List ℕ)
+reference_of (entries.Proposal _) = None
+reference_of (entries.Reference r) = Some r
+
+-- `reference_at es i` is the reference in the entry at position `i`, if there is one.
+abbrev pub reference_at : List ProposalOrRef → ℕ → Option (List ℕ)
+reference_at [] i = None
+reference_at (e ∷ es) zero = reference_of e
+reference_at (e ∷ es) (suc i) = reference_at es i
+
+-- `leaf_of p` is the leaf node of a proposal, if it is an Add.
+abbrev pub leaf_of : Proposal → Option LeafNode
+leaf_of (proposals.Add k) = Some k.leaf_node
+leaf_of (proposals.Update _) = None
+leaf_of (proposals.Remove _) = None
+leaf_of (proposals.ContextExtensions _) = None
+leaf_of (proposals.PreSharedKey _) = None
+leaf_of (proposals.ReInit _) = None
+leaf_of (proposals.ExternalInit _) = None
+
+-- `leaf_in items i` is the leaf node of the item at position `i`, if there is one and it is an Add.
+abbrev pub leaf_in : List ListItem → ℕ → Option LeafNode
+leaf_in [] i = None
+leaf_in (x ∷ xs) zero = leaf_of x.proposal
+leaf_in (x ∷ xs) (suc i) = leaf_in xs i
+
+-- `NamesAre F es items`: where an entry is a reference, `F` of it is the leaf node of the item in its place.
+abbrev pub NamesAre : (List ℕ → Option LeafNode) → List ProposalOrRef → List ListItem → Type 0
+NamesAre F es items = (i : ℕ) (r : List ℕ) → reference_at es i ≡ Some r → F r ≡ leaf_in items i
+
+-- `HasNames es items`: in a list with these entries, one reference stands for one leaf node.
+pub record HasNames (es : List ProposalOrRef) (items : List ListItem) : Type 0 where
+  pub leaf_named : List ℕ → Option LeafNode
+  pub are : NamesAre leaf_named es items
+
+-- ---- the added leaves
+
+-- `indices xs` is the leaf indices of added leaves.
+abbrev pub indices : List AddedLeaf → List ℕ
+indices xs = map (λ (x : AddedLeaf). x.index) xs
+
+-- `leaf_nodes xs` is the leaf nodes of added leaves.
+abbrev pub leaf_nodes : List AddedLeaf → List LeafNode
+leaf_nodes xs = map (λ (x : AddedLeaf). x.leaf.now) xs
+
+-- `name_of x` is the reference by which the list names an Add, if it does.
+abbrev pub name_of : AddedLeaf → Option (List ℕ)
+name_of x = option_map (λ r. r.now) x.reference
+
+-- `AreAdded t xs`: these are leaves of the tree.
+abbrev pub AreAdded : Tree → List AddedLeaf → Type 0
+AreAdded t [] = ⊤
+AreAdded t (x ∷ xs) = (leaf_at 0 t x.index ≡ Some x.leaf.now) × AreAdded t xs
+
+-- `IsNamedBy F x`: `F` of the leaf's reference, if it has one, is its leaf node.
+abbrev pub IsNamedBy : (List ℕ → Option LeafNode) → AddedLeaf → Type 0
+IsNamedBy F x = (r : List ℕ) → name_of x ≡ Some r → F r ≡ Some x.leaf.now
+
+-- `AreNamedBy F xs`: so it is of each of the leaves.
+abbrev pub AreNamedBy : (List ℕ → Option LeafNode) → List AddedLeaf → Type 0
+AreNamedBy F [] = ⊤
+AreNamedBy F (x ∷ xs) = IsNamedBy F x × AreNamedBy F xs
+
+-- `AreNamedAlike xs`: leaves with one reference have one leaf node.
+pub record AreNamedAlike (xs : List AddedLeaf) : Type 0 where
+  pub leaf_named : List ℕ → Option LeafNode
+  pub are : AreNamedBy leaf_named xs
+
+-- `IsAfter t u xs`: `t` has the added leaves `xs`, and each other leaf is that of `u`.
+pub record IsAfter (t u : Tree) (xs : List AddedLeaf) : Type 0 where
+  pub added : AreAdded t xs
+  pub others : (j : ℕ) → IsApart (indices xs) j → leaf_at 0 u j ≡ leaf_at 0 t j
+
+-- `IsMapOf t u m`: a leaf of `t` is the one in the map, and that of `u` if the map has none.
+pub record IsMapOf (t u : Tree) (m : BTreeMap ℕ (Bor LeafNode)) : Type 0 where
+  pub found : (j : ℕ) → IfSome (get nat_cmp m j) (λ x. leaf_at 0 t j ≡ Some x.now)
+  pub others : (j : ℕ) → get nat_cmp m j ≡ None → leaf_at 0 u j ≡ leaf_at 0 t j
+
+-- `added_signatures suite group_id xs` is the signatures of added leaves, in their order.
+abbrev pub added_signatures : ℕ → List ℕ → List AddedLeaf → List SignatureToVerify
+added_signatures suite group_id [] = []
+added_signatures suite group_id (x ∷ xs) = leaf_signatures suite group_id x.index x.leaf.now ++ added_signatures suite group_id xs
+
+-- ---- repeats
+
+-- `is_from_key_package s`: the source is key_package. The signature of such a leaf node depends on no leaf index (7.2).
+abbrev pub is_from_key_package : LeafSource → Bool
+is_from_key_package (sources.KeyPackage _) = true
+is_from_key_package sources.Update = false
+is_from_key_package (sources.Commit _) = false
+
+-- `HaveOneName x y`: both leaves have a reference, and it is the same.
+pub record HaveOneName (x y : AddedLeaf) : Type 0 where
+  pub name : List ℕ
+  pub first : name_of x ≡ Some name
+  pub second : name_of y ≡ Some name
+
+-- `IsRepeat xs i`: an earlier leaf has the reference of the leaf at position `i`, whose leaf node is from a KeyPackage.
+pub record IsRepeat (xs : List AddedLeaf) (i : ℕ) : Type 0 where
+  pub at : ℕ
+  pub before : at < i
+  pub here : AddedLeaf
+  pub there : AddedLeaf
+  pub is_here : slice_get xs i ≡ Some here
+  pub is_there : slice_get xs at ≡ Some there
+  pub named : HaveOneName there here
+  pub source : is_from_key_package here.leaf.now.source ≡ true
+
+-- `Extends old qs new`: without duplicates, `new` is `old` with `qs` behind it.
+abbrev pub Extends : List SignatureToVerify → List SignatureToVerify → List SignatureToVerify → Type 0
+Extends old qs new = deduplicated new ≡ deduplicated (old ++ qs)

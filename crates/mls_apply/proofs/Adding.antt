@@ -10,17 +10,17 @@ use Rattle.mls_msgs.specs.declared.proposal.Proposal.TheVariants.{Add, Update, R
 use Rattle.mls_nodes.specs.Limits.{leaf_limit}
 use Rattle.mls_tree.specs.Tree.{Tree, height, leaf_count, member_count, leaf_at}
 use Rattle.mls_tree.specs.BlankLeaves.{first_blank_leaf, IsFirstBlank, AllLeavesSet, AreSetBelow}
-use Rattle.mls_tree.specs.TreeOperations.{grow, add, add_at, added_leaf, grown_for, number_or, blank_tree, enter_unmerged, with_unmerged}
+use Rattle.mls_tree.specs.TreeOperations.{extend, add, add_at, added_leaf, grown_for, number_or, blank_tree, add_unmerged, with_unmerged}
 use Rattle.mls_tree.proofs.Trees.{leaf_count-positive}
-use Rattle.mls_tree.proofs.Kept.{leaf_at-change_above, leaf_count-change_above, leaf_at-grow}
+use Rattle.mls_tree.proofs.Kept.{leaf_at-change_above, leaf_count-change_above, leaf_at-extend}
 use Rattle.mls_tree.proofs.Added.{add-set_below}
 use Rattle.mls_tree.proofs.FirstBlanks.{first_blank_leaf-leftmost}
 use Rattle.mls_tree.proofs.Lookups.{leaf_at-past}
-use Rattle.mls_apply.specs.AppliedList.{Grown, grown, after_leaf, after_adds, added_to, new_members}
+use Rattle.mls_apply.specs.AppliedList.{AppliedTree, applied_tree, after_leaf, after_adds, added_to, new_members}
 use Rattle.mls_apply.specs.AddSteps.{is_add, is_overfull_add, Adds}
 use Rattle.mls_apply.specs.declared.list_item.ListItem.{ListItem}
 use Rattle.mls_apply.proofs.Updating.{next_item}
-use Rattle.mls_apply.proofs.LeavesAreValid.{member_count-change_above, member_count-put_leaf, member_count-grow, member_count-full}
+use Rattle.mls_apply.proofs.LeavesAreValid.{member_count-change_above, member_count-put_leaf, member_count-extend, member_count-full}
 
 -- ---- how many members are added
 
@@ -78,16 +78,16 @@ module _ (u : Tree) (j : ℕ) (x : LeafNode) (inside : j < leaf_count u) (blank 
   member_count-add_at : member_count (add_at u j x) ≡ member_count u + 1
   member_count-add_at =
       let count = leaf_count-change_above (with_unmerged j) 0 u j in
-      member_count-put_leaf 0 (enter_unmerged u j) j x (omega arith) (omega arith) (leaf_at-change_above (with_unmerged j) 0 u j j ∙ blank)
+      member_count-put_leaf 0 (add_unmerged u j) j x (omega arith) (omega arith) (leaf_at-change_above (with_unmerged j) 0 u j j ∙ blank)
       ∙ ap (λ n. n + 1) (member_count-change_above (with_unmerged j) 0 u j)
 
 -- with a new member there is one more, by the leftmost blank leaf
 one_member : (t : Tree) (x : LeafNode) (o : Option ℕ) → MatchOption o (AllLeavesSet t) (λ j. IsFirstBlank t j)
     → member_count (add_at (grown_for o t) (number_or (leaf_count t) o) x) ≡ member_count t + 1
 one_member t x None all =
-    member_count-add_at (grow t) (leaf_count t) x (omega (arith, leaf_count-positive (blank_tree (height t))))
-    (leaf_at-grow t (leaf_count t) ∙ leaf_at-past 0 t (leaf_count t) (omega arith))
-    ∙ ap (λ n. n + 1) (member_count-grow t)
+    member_count-add_at (extend t) (leaf_count t) x (omega (arith, leaf_count-positive (blank_tree (height t))))
+    (leaf_at-extend t (leaf_count t) ∙ leaf_at-past 0 t (leaf_count t) (omega arith))
+    ∙ ap (λ n. n + 1) (member_count-extend t)
 one_member t x (Some j) first = member_count-add_at t j x first.inside first.blank
 
 pub blank_inside : (t : Tree) (j : ℕ) → first_blank_leaf 0 t ≡ Some j → j < leaf_count t
@@ -100,38 +100,38 @@ member_count-add t x = one_member t x (first_blank_leaf 0 t) (first_blank_leaf-l
 
 -- a tree grows only where it has fewer leaves than a group has members
 pub room_to_grow : (t : Tree) → first_blank_leaf 0 t ≡ None → member_count t < leaf_limit → leaf_count t ≡ 1048576 → ⊥
-room_to_grow t e room full = let all = member_count-full 0 t e in omega arith
+room_to_grow t e capacity full = let all = member_count-full 0 t e in omega arith
 
 -- ---- a walk along the list
 
 -- what is added behind these leaves
-abbrev pub behind : List ℕ → Grown → Grown
-behind added g = grown g.tree (added ++ g.added)
+abbrev pub append_parent_hash : List ℕ → AppliedTree → AppliedTree
+append_parent_hash added g = applied_tree g.tree (added ++ g.added)
 
 -- where a walk stands, before the rest of the list
-pub record Adding (whole : Option Grown) (rest : List ListItem) (t : Tree) (added : List ℕ) (start : ℕ) : Type 0 where
-  pub so_far : whole ≡ option_map (behind added) (after_adds (new_members rest) t)
+pub record Adding (whole : Option AppliedTree) (rest : List ListItem) (t : Tree) (added : List ℕ) (start : ℕ) : Type 0 where
+  pub so_far : whole ≡ option_map (append_parent_hash added) (after_adds (new_members rest) t)
   pub set : AreSetBelow t start
-  pub room : member_count t + length (new_members rest) ≤ leaf_limit
+  pub capacity : member_count t + length (new_members rest) ≤ leaf_limit
 
-none_before : (o : Option Grown) → o ≡ option_map (behind []) o
+none_before : (o : Option AppliedTree) → o ≡ option_map (append_parent_hash []) o
 none_before None = refl
 none_before (Some g) = refl
 
 pub adding-start : (items : List ListItem) (t : Tree) → member_count t + length (new_members items) ≤ leaf_limit
     → Adding (after_adds (new_members items) t) items t [] 0
-adding-start items t room = record {
+adding-start items t capacity = record {
   so_far = none_before (after_adds (new_members items) t);
   set = λ i lt. absurd (omega arith);
-  room = room;
+  capacity = capacity;
 }
 
-adding-end : (whole : Option Grown) (t : Tree) (added : List ℕ) (start : ℕ) → Adding whole [] t added start → whole ≡ Some (grown t added)
+adding-end : (whole : Option AppliedTree) (t : Tree) (added : List ℕ) (start : ℕ) → Adding whole [] t added start → whole ≡ Some (applied_tree t added)
 unfolding new_members after_adds
-adding-end whole t added start a = a.so_far ∙ ap (λ js. Some (grown t js)) (append-nil added)
+adding-end whole t added start a = a.so_far ∙ ap (λ js. Some (applied_tree t js)) (append-nil added)
 
-pub adding-all : (whole : Option Grown) (items : List ListItem) (i : ℕ) (t : Tree) (added : List ℕ) (start : ℕ) → length items ≤ i
-    → Adding whole (drop i items) t added start → whole ≡ Some (grown t added)
+pub adding-all : (whole : Option AppliedTree) (items : List ListItem) (i : ℕ) (t : Tree) (added : List ℕ) (start : ℕ) → length items ≤ i
+    → Adding whole (drop i items) t added start → whole ≡ Some (applied_tree t added)
 adding-all whole items i t added start past a =
     adding-end whole t added start (subst (λ xs. Adding whole xs t added start) (drop_all i items past) a)
 
@@ -145,35 +145,35 @@ no_add (PreSharedKey es) none = refl
 no_add (ReInit es) none = refl
 no_add (ExternalInit es) none = refl
 
-one_more : (added : List ℕ) (j : ℕ) (o : Option Grown)
-    → option_map (behind added) (option_map (after_leaf j) o) ≡ option_map (behind (added ++ j ∷ [])) o
+one_more : (added : List ℕ) (j : ℕ) (o : Option AppliedTree)
+    → option_map (append_parent_hash added) (option_map (after_leaf j) o) ≡ option_map (append_parent_hash (added ++ j ∷ [])) o
 one_more added j None = refl
-one_more added j (Some g) = ap (λ js. Some (grown g.tree js)) (sym (append_assoc added (j ∷ []) g.added))
+one_more added j (Some g) = ap (λ js. Some (applied_tree g.tree js)) (sym (append_assoc added (j ∷ []) g.added))
 
-module _ (whole : Option Grown) (x : ListItem) (xs : List ListItem) (t : Tree) (added : List ℕ) (start : ℕ)
+module _ (whole : Option AppliedTree) (x : ListItem) (xs : List ListItem) (t : Tree) (added : List ℕ) (start : ℕ)
     (a : Adding whole (x ∷ xs) t added start) where
   pub adding-other : ((k : KeyPackage) → x.proposal ≡ Add k → ⊥) → Adding whole xs t added start
   unfolding new_members
   adding-other none =
       let same = same_members x.proposal (new_members xs) (no_add x.proposal none) in
       record {
-        so_far = a.so_far ∙ ap (λ ms. option_map (behind added) (after_adds ms t)) same;
+        so_far = a.so_far ∙ ap (λ ms. option_map (append_parent_hash added) (after_adds ms t)) same;
         set = a.set;
-        room = subst (λ ms. member_count t + length ms ≤ leaf_limit) same a.room;
+        capacity = subst (λ ms. member_count t + length ms ≤ leaf_limit) same a.capacity;
       }
 
   module _ (k : KeyPackage) (e : x.proposal ≡ Add k) where
-    so_far_member : whole ≡ option_map (behind added) (after_adds (k.leaf_node ∷ new_members xs) t)
+    so_far_member : whole ≡ option_map (append_parent_hash added) (after_adds (k.leaf_node ∷ new_members xs) t)
     unfolding new_members
-    so_far_member = a.so_far ∙ ap (λ p. option_map (behind added) (after_adds (added_to p (new_members xs)) t)) e
+    so_far_member = a.so_far ∙ ap (λ p. option_map (append_parent_hash added) (after_adds (added_to p (new_members xs)) t)) e
 
     room_member : member_count t + length (k.leaf_node ∷ new_members xs) ≤ leaf_limit
     unfolding new_members
-    room_member = subst (λ p. member_count t + length (added_to p (new_members xs)) ≤ leaf_limit) e a.room
+    room_member = subst (λ p. member_count t + length (added_to p (new_members xs)) ≤ leaf_limit) e a.capacity
 
-    -- there is room for it
-    pub adding-room : member_count t < leaf_limit
-    adding-room = let r = room_member in omega arith
+    -- the tree has capacity for it
+    pub adding-capacity : member_count t < leaf_limit
+    adding-capacity = let r = room_member in omega arith
 
     -- it was added
     pub adding-member : (j : ℕ) (u : Tree) → Adds t k.leaf_node j u → Adding whole xs u (added ++ j ∷ []) (j + 1)
@@ -184,11 +184,11 @@ module _ (whole : Option Grown) (x : ListItem) (xs : List ListItem) (t : Tree) (
         record {
           so_far =
               so_far_member
-              ∙ ap (λ b. option_map (behind added) (if b then None else option_map (after_leaf (added_leaf t)) (after_adds (new_members xs) (add t k.leaf_node)))) d.fits
+              ∙ ap (λ b. option_map (append_parent_hash added) (if b then None else option_map (after_leaf (added_leaf t)) (after_adds (new_members xs) (add t k.leaf_node)))) d.fits
               ∙ one_more added (added_leaf t) (after_adds (new_members xs) (add t k.leaf_node))
-              ∙ sym (λ i. option_map (behind (added ++ d.index i ∷ [])) (after_adds (new_members xs) (d.tree i)));
+              ∙ sym (λ i. option_map (append_parent_hash (added ++ d.index i ∷ [])) (after_adds (new_members xs) (d.tree i)));
           set = λ i lt. (let low : i < added_leaf t + 1 = omega (arith, d.index) in ap (λ v. is_some (leaf_at 0 v i)) d.tree ∙ add-set_below t k.leaf_node i low);
-          room = omega arith;
+          capacity = omega arith;
         }
 
     -- a list gets too long
@@ -196,4 +196,4 @@ module _ (whole : Option Grown) (x : ListItem) (xs : List ListItem) (t : Tree) (
     unfolding after_adds
     adding-refused o =
         so_far_member
-        ∙ ap (λ b. option_map (behind added) (if b then None else option_map (after_leaf (added_leaf t)) (after_adds (new_members xs) (add t k.leaf_node)))) o
+        ∙ ap (λ b. option_map (append_parent_hash added) (if b then None else option_map (after_leaf (added_leaf t)) (after_adds (new_members xs) (add t k.leaf_node)))) o

@@ -8,7 +8,7 @@ use Rattle.mls_tree.specs.Tree.{Tree, leaf, branch, leaf_count, Subtree, subtree
 use Rattle.mls_tree.proofs.Choices.{below as if_less, from as if_not_less, same, other}
 use Rattle.mls_tree.proofs.Trees.{subtree_at-here, subtree_at-in_left, subtree_at-in_right}
 use Rattle.mls_hash.specs.SubtreeHashes.{IsLeafOf, AgreeOutside}
-use Rattle.mls_apply.specs.MergePath.{Handed, handed, merged_from, merged}
+use Rattle.mls_apply.specs.MergePath.{PathStep, path_step_at, merged_from, merged}
 
 -- the subtree at place p of a tree whose first leaf has the index `first` has leaf i
 abbrev IsUnder : ℕ → Tree → ℕ → ℕ → Type 0
@@ -57,8 +57,8 @@ OfTree P (Some t) = P t
 
 module _ (H : List ℕ → List ℕ) (leaves i : ℕ) (x : LeafNode) where
   -- a half is merged, and its parent made anew
-  handed_on : (P Q : Tree → Type 0) (f : Option ParentNode → Tree → Tree) (rest : Handed → Option Tree) → ((m : Option ParentNode) (v : Tree) → P v → Q (f m v))
-      → ((h : Handed) → OfTree P (rest h)) → (o : Option Handed) → OfTree Q (option_and_then (λ h. option_map (f h.parent) (rest h)) o)
+  handed_on : (P Q : Tree → Type 0) (f : Option ParentNode → Tree → Tree) (rest : PathStep → Option Tree) → ((m : Option ParentNode) (v : Tree) → P v → Q (f m v))
+      → ((h : PathStep) → OfTree P (rest h)) → (o : Option PathStep) → OfTree Q (option_and_then (λ h. option_map (f h.parent) (rest h)) o)
   handed_on P Q f rest step all None = tt
   handed_on P Q f rest step all (Some h) = go (rest h) (all h)
     where
@@ -86,17 +86,17 @@ module _ (H : List ℕ → List ℕ) (leaves i : ℕ) (x : LeafNode) where
         | inl lt ↦
             subst (OfTree (IsLike first i (branch l n r)))
             (sym (if_less i (first + leaf_count l)
-            (option_and_then (λ (h : Handed). option_map (λ u. branch u h.parent r) (merged_from H leaves first l i x h.hash h.keys)) (handed H leaves (first + leaf_count l) r hash keys))
-            (option_and_then (λ (h : Handed). option_map (λ u. branch l h.parent u) (merged_from H leaves (first + leaf_count l) r i x h.hash h.keys)) (handed H leaves first l hash keys)) lt))
+            (option_and_then (λ (h : PathStep). option_map (λ u. branch u h.parent r) (merged_from H leaves first l i x h.hash h.keys)) (path_step_at H leaves (first + leaf_count l) r hash keys))
+            (option_and_then (λ (h : PathStep). option_map (λ u. branch l h.parent u) (merged_from H leaves (first + leaf_count l) r i x h.hash h.keys)) (path_step_at H leaves first l hash keys)) lt))
             (handed_on (IsLike first i l) (IsLike first i (branch l n r)) (λ m v. branch v m r) (λ h. merged_from H leaves first l i x h.hash h.keys)
-            (λ m v. like-left first i l n m r v from lt) (λ h. like-merged first l h.hash h.keys from lt) (handed H leaves (first + leaf_count l) r hash keys))
+            (λ m v. like-left first i l n m r v from lt) (λ h. like-merged first l h.hash h.keys from lt) (path_step_at H leaves (first + leaf_count l) r hash keys))
         | inr ge ↦
             subst (OfTree (IsLike first i (branch l n r)))
             (sym (if_not_less i (first + leaf_count l)
-            (option_and_then (λ (h : Handed). option_map (λ u. branch u h.parent r) (merged_from H leaves first l i x h.hash h.keys)) (handed H leaves (first + leaf_count l) r hash keys))
-            (option_and_then (λ (h : Handed). option_map (λ u. branch l h.parent u) (merged_from H leaves (first + leaf_count l) r i x h.hash h.keys)) (handed H leaves first l hash keys)) ge))
+            (option_and_then (λ (h : PathStep). option_map (λ u. branch u h.parent r) (merged_from H leaves first l i x h.hash h.keys)) (path_step_at H leaves (first + leaf_count l) r hash keys))
+            (option_and_then (λ (h : PathStep). option_map (λ u. branch l h.parent u) (merged_from H leaves (first + leaf_count l) r i x h.hash h.keys)) (path_step_at H leaves first l hash keys)) ge))
             (handed_on (IsLike (first + leaf_count l) i r) (IsLike first i (branch l n r)) (λ m v. branch l m v) (λ h. merged_from H leaves (first + leaf_count l) r i x h.hash h.keys)
-            (λ m v. like-right first i l n m r v ge (omega (arith, to))) (λ h. like-merged (first + leaf_count l) r h.hash h.keys ge (omega (arith, to))) (handed H leaves first l hash keys))
+            (λ m v. like-right first i l n m r v ge (omega (arith, to))) (λ h. like-merged (first + leaf_count l) r h.hash h.keys ge (omega (arith, to))) (path_step_at H leaves first l hash keys))
       ]
 
 module _ (H : List ℕ → List ℕ) (t u : Tree) (i : ℕ) (x : LeafNode) (keys : List (List ℕ)) (inside : i < leaf_count t) (e : merged H t i x keys ≡ Some u) where

@@ -8,17 +8,17 @@ use Rattle.std.proofs.lemmas.Bool.{false≢true}
 use Rattle.std.proofs.lemmas.List.{drop_all}
 use Rattle.std.proofs.lemmas.Bool.Decides.{nat_tests}
 use Rattle.mls_apply.specs.declared.list_item.ListItem.{ListItem}
-use Rattle.mls_apply.specs.ListRules.{is_leaf_number, tells, tells_once}
+use Rattle.mls_apply.specs.ListRules.{is_leaf_number, maps_to, maps_once}
 
 -- whether a leaf is one of those of g
-abbrev pub is_told : (ℕ → Bool) → Option ℕ → Bool
-is_told g None = false
-is_told g (Some i) = g i
+abbrev pub is_mapped : (ℕ → Bool) → Option ℕ → Bool
+is_mapped g None = false
+is_mapped g (Some i) = g i
 
 -- f tells none of these leaves
 abbrev pub are_apart : (ListItem → Option ℕ) → (ℕ → Bool) → List ListItem → Bool
 are_apart f g [] = true
-are_apart f g (x ∷ xs) = not (is_told g (f x)) && are_apart f g xs
+are_apart f g (x ∷ xs) = not (is_mapped g (f x)) && are_apart f g xs
 
 -- a leaf is told besides
 regrouped : (p q a c : Bool) → (not (p || q) && (a && not c)) ≡ ((not q && a) && not (p || c))
@@ -39,53 +39,53 @@ module _ (f : ListItem → Option ℕ) where
   are_apart-none g h [] = refl
   are_apart-none g h (x ∷ xs) = go (f x) (are_apart-none g h xs)
     where
-      go : (c : Option ℕ) → are_apart f g xs ≡ true → (not (is_told g c) && are_apart f g xs) ≡ true
+      go : (c : Option ℕ) → are_apart f g xs ≡ true → (not (is_mapped g c) && are_apart f g xs) ≡ true
       go None e = e
       go (Some i) e = ap (λ b. not b && are_apart f g xs) (h i) ∙ e
 
   are_apart-more : (g k : ℕ → Bool) (i : ℕ) → ((j : ℕ) → k j ≡ ((j == i) || g j)) → (xs : List ListItem)
-      → are_apart f k xs ≡ (are_apart f g xs && not (tells f xs (Some i)))
+      → are_apart f k xs ≡ (are_apart f g xs && not (maps_to f xs (Some i)))
   are_apart-more g k i h [] = refl
   are_apart-more g k i h (x ∷ xs) = go (f x) (are_apart-more g k i h xs)
     where
-      go : (c : Option ℕ) → are_apart f k xs ≡ (are_apart f g xs && not (tells f xs (Some i)))
-          → (not (is_told k c) && are_apart f k xs) ≡ ((not (is_told g c) && are_apart f g xs) && not (is_leaf_number c i || tells f xs (Some i)))
+      go : (c : Option ℕ) → are_apart f k xs ≡ (are_apart f g xs && not (maps_to f xs (Some i)))
+          → (not (is_mapped k c) && are_apart f k xs) ≡ ((not (is_mapped g c) && are_apart f g xs) && not (is_leaf_number c i || maps_to f xs (Some i)))
       go None e = e
       go (Some j) e =
           ap (λ b. not b && are_apart f k xs) (h j) ∙ ap (λ b. not ((j == i) || g j) && b) e
-          ∙ regrouped (j == i) (g j) (are_apart f g xs) (tells f xs (Some i))
+          ∙ regrouped (j == i) (g j) (are_apart f g xs) (maps_to f xs (Some i))
 
   -- ---- a walk along the list, with the leaves that were told before
 
-  pub once-start : (g : ℕ → Bool) → ((i : ℕ) → g i ≡ false) → (xs : List ListItem) → tells_once f xs ≡ (are_apart f g xs && tells_once f xs)
-  once-start g none xs = sym (ap (λ b. b && tells_once f xs) (are_apart-none g none xs))
+  pub once-start : (g : ℕ → Bool) → ((i : ℕ) → g i ≡ false) → (xs : List ListItem) → maps_once f xs ≡ (are_apart f g xs && maps_once f xs)
+  once-start g none xs = sym (ap (λ b. b && maps_once f xs) (are_apart-none g none xs))
 
   module _ (whole : Bool) (g : ℕ → Bool) (x : ListItem) (xs : List ListItem)
-      (known : whole ≡ (are_apart f g (x ∷ xs) && tells_once f (x ∷ xs))) where
+      (known : whole ≡ (are_apart f g (x ∷ xs) && maps_once f (x ∷ xs))) where
     -- no leaf is told
-    pub once-none : f x ≡ None → whole ≡ (are_apart f g xs && tells_once f xs)
-    once-none e = known ∙ ap (λ c. (not (is_told g c) && are_apart f g xs) && (not (tells f xs c) && tells_once f xs)) e
+    pub once-none : f x ≡ None → whole ≡ (are_apart f g xs && maps_once f xs)
+    once-none e = known ∙ ap (λ c. (not (is_mapped g c) && are_apart f g xs) && (not (maps_to f xs c) && maps_once f xs)) e
 
     -- a leaf that was told before
     pub once-met : (i : ℕ) → f x ≡ Some i → g i ≡ true → whole ≡ false
     once-met i e m =
         known
-        ∙ ap (λ c. (not (is_told g c) && are_apart f g xs) && (not (tells f xs c) && tells_once f xs)) e
-        ∙ ap (λ b. (not b && are_apart f g xs) && (not (tells f xs (Some i)) && tells_once f xs)) m
+        ∙ ap (λ c. (not (is_mapped g c) && are_apart f g xs) && (not (maps_to f xs c) && maps_once f xs)) e
+        ∙ ap (λ b. (not b && are_apart f g xs) && (not (maps_to f xs (Some i)) && maps_once f xs)) m
 
     -- another leaf
-    pub once-new : (k : ℕ → Bool) (i : ℕ) → f x ≡ Some i → g i ≡ false → ((j : ℕ) → k j ≡ ((j == i) || g j)) → whole ≡ (are_apart f k xs && tells_once f xs)
+    pub once-new : (k : ℕ → Bool) (i : ℕ) → f x ≡ Some i → g i ≡ false → ((j : ℕ) → k j ≡ ((j == i) || g j)) → whole ≡ (are_apart f k xs && maps_once f xs)
     once-new k i e m h =
         known
-        ∙ ap (λ c. (not (is_told g c) && are_apart f g xs) && (not (tells f xs c) && tells_once f xs)) e
-        ∙ ap (λ b. (not b && are_apart f g xs) && (not (tells f xs (Some i)) && tells_once f xs)) m
-        ∙ joined (are_apart f g xs) (not (tells f xs (Some i))) (tells_once f xs)
-        ∙ ap (λ b. b && tells_once f xs) (sym (are_apart-more g k i h xs))
+        ∙ ap (λ c. (not (is_mapped g c) && are_apart f g xs) && (not (maps_to f xs c) && maps_once f xs)) e
+        ∙ ap (λ b. (not b && are_apart f g xs) && (not (maps_to f xs (Some i)) && maps_once f xs)) m
+        ∙ joined (are_apart f g xs) (not (maps_to f xs (Some i))) (maps_once f xs)
+        ∙ ap (λ b. b && maps_once f xs) (sym (are_apart-more g k i h xs))
 
   -- at the end of the list
-  pub once-all : (xs : List ListItem) (i : ℕ) (g : ℕ → Bool) → tells_once f xs ≡ (are_apart f g (drop i xs) && tells_once f (drop i xs))
-      → length xs ≤ i → true ≡ tells_once f xs
-  once-all xs i g known past = sym (known ∙ ap (λ ys. are_apart f g ys && tells_once f ys) (drop_all i xs past))
+  pub once-all : (xs : List ListItem) (i : ℕ) (g : ℕ → Bool) → maps_once f xs ≡ (are_apart f g (drop i xs) && maps_once f (drop i xs))
+      → length xs ≤ i → true ≡ maps_once f xs
+  once-all xs i g known past = sym (known ∙ ap (λ ys. are_apart f g ys && maps_once f ys) (drop_all i xs past))
 
 -- ---- the leaves of a set
 

@@ -8,28 +8,28 @@ use Rattle.mls_tree.proofs.Trees.{subtree_at-root}
 use Rattle.mls_apply.specs.KeyCounts.{MergesTakeEachKey, HashesTakeEachKey}
 use Rattle.mls_apply.specs.MergePath.{path_parent}
 use Rattle.mls_apply.specs.PathRules.{path_length}
-use Rattle.mls_apply.specs.PathParents.{Route, below, route, path_route, path_hash_at, carried}
-use Rattle.mls_apply.proofs.Routes.{OfRoute, made, merged-route, expected-route}
+use Rattle.mls_apply.specs.PathParents.{PathParents, below, path_parents, parents_of_path, path_hash_at, carried}
+use Rattle.mls_apply.proofs.Routes.{OfRoute, made, merged-path_parents, expected-path_parents}
 
 module _ (H : List ℕ → List ℕ) (t : Tree) (i : ℕ) where
-  route-counted : (ps : List ℕ) (keys : List (List ℕ)) (hash : List ℕ) → OfRoute (λ _. length keys ≡ length ps) (route H t i ps keys hash)
-  route-counted [] [] hash = refl
-  route-counted [] (_ ∷ _) hash = tt
-  route-counted (p ∷ ps) [] hash = tt
-  route-counted (p ∷ ps) (key ∷ keys) hash = go (path_hash_at H t i p (path_parent key hash)) (route-counted ps keys)
+  path_parents-counted : (ps : List ℕ) (keys : List (List ℕ)) (hash : List ℕ) → OfRoute (λ _. length keys ≡ length ps) (path_parents H t i ps keys hash)
+  path_parents-counted [] [] hash = refl
+  path_parents-counted [] (_ ∷ _) hash = tt
+  path_parents-counted (p ∷ ps) [] hash = tt
+  path_parents-counted (p ∷ ps) (key ∷ keys) hash = go (path_hash_at H t i p (path_parent key hash)) (path_parents-counted ps keys)
     where
-      lower : (o : Option Route) → OfRoute (λ _. length keys ≡ length ps) o
+      lower : (o : Option PathParents) → OfRoute (λ _. length keys ≡ length ps) o
           → OfRoute (λ _. length (key ∷ keys) ≡ length (p ∷ ps)) (option_map (below p (path_parent key hash)) o)
       lower None h = tt
       lower (Some r) h = omega (arith, h)
 
-      go : (o : Option (List ℕ)) → ((h : List ℕ) → OfRoute (λ _. length keys ≡ length ps) (route H t i ps keys h))
-          → OfRoute (λ _. length (key ∷ keys) ≡ length (p ∷ ps)) (option_and_then (λ h. option_map (below p (path_parent key hash)) (route H t i ps keys h)) o)
+      go : (o : Option (List ℕ)) → ((h : List ℕ) → OfRoute (λ _. length keys ≡ length ps) (path_parents H t i ps keys h))
+          → OfRoute (λ _. length (key ∷ keys) ≡ length (p ∷ ps)) (option_and_then (λ h. option_map (below p (path_parent key hash)) (path_parents H t i ps keys h)) o)
       go None ih = tt
-      go (Some h) ih = lower (route H t i ps keys h) (ih h)
+      go (Some h) ih = lower (path_parents H t i ps keys h) (ih h)
 
   -- where there is something of a route, there is the route
-  of_some : {X : Type 0} (f : Route → X) (P : Type 0) (o : Option Route) → IsSome (option_map f o) → OfRoute (λ _. P) o → P
+  of_some : {X : Type 0} (f : PathParents → X) (P : Type 0) (o : Option PathParents) → IsSome (option_map f o) → OfRoute (λ _. P) o → P
   of_some f P None h counted = absurd cc
   of_some f P (Some r) h counted = counted
 
@@ -37,16 +37,16 @@ module _ (H : List ℕ → List ℕ) (t : Tree) (i : ℕ) where
     turned_back : length (reverse keys) ≡ length (reverse (filtered_direct_path (leaf_count t) 0 t i)) → length keys ≡ path_length t i
     turned_back e = sym (length-reverse keys) ∙ e ∙ length-reverse (filtered_direct_path (leaf_count t) 0 t i)
 
-    path-counted : {X : Type 0} (f : Route → X) → IsSome (option_map f (path_route H t i keys)) → length keys ≡ path_length t i
+    path-counted : {X : Type 0} (f : PathParents → X) → IsSome (option_map f (parents_of_path H t i keys)) → length keys ≡ path_length t i
     path-counted f h =
-        turned_back (of_some f (length (reverse keys) ≡ length (reverse (filtered_direct_path (leaf_count t) 0 t i))) (path_route H t i keys) h
-        (route-counted (reverse (filtered_direct_path (leaf_count t) 0 t i)) (reverse keys) []))
+        turned_back (of_some f (length (reverse keys) ≡ length (reverse (filtered_direct_path (leaf_count t) 0 t i))) (parents_of_path H t i keys) h
+        (path_parents-counted (reverse (filtered_direct_path (leaf_count t) 0 t i)) (reverse keys) []))
 
 pub merges_take_each_key : MergesTakeEachKey
 merges_take_each_key H t i x keys h =
     path-counted H t i keys (made H t i x 0 t)
-    (subst (λ (o : Option Tree). IsSome o) (merged-route H t i x (leaf_count t) 0 t (subtree_at-root 0 t) [] (reverse keys)) h)
+    (subst (λ (o : Option Tree). IsSome o) (merged-path_parents H t i x (leaf_count t) 0 t (subtree_at-root 0 t) [] (reverse keys)) h)
 
 pub hashes_take_each_key : HashesTakeEachKey
 hashes_take_each_key H t i keys h =
-    path-counted H t i keys carried (subst (λ (o : Option (List (List ℕ))). IsSome o) (expected-route H t i keys) h)
+    path-counted H t i keys carried (subst (λ (o : Option (List (List ℕ))). IsSome o) (expected-path_parents H t i keys) h)

@@ -11,11 +11,11 @@ use Rattle.mls_tree.specs.TreeHash.{tree_hash}
 use Rattle.mls_apply.specs.declared.fault.ApplyFault.{ApplyFault}
 use Rattle.mls_apply.specs.declared.fault.ApplyFault.TheVariants.{UnknownReference, TooManyLeaves, NoSuchLeaf, PathLength, OutOfMemory}
 use Rattle.mls_apply.specs.declared.list_item.ListItem.{ListItem}
-use Rattle.mls_apply.specs.ResultsExist.{IsAnswered, ItemsExists, ListAnswerExists, ProposalAnswerExists, FailsList, OutcomeExists, HashesExists, MergeExists}
+use Rattle.mls_apply.specs.ResultsExist.{HasResult, ItemsExists, ListAnswerExists, ProposalAnswerExists, FailsList, OutcomeExists, HashesExists, MergeExists}
 use Rattle.mls_apply.specs.ResolvedList.{resolved}
 use Rattle.mls_apply.specs.ListRules.{list_rules, list_refusal}
 use Rattle.mls_apply.specs.MergePath.{expected_hashes, merged}
-use Rattle.mls_apply.specs.AppliedList.{Grown, without_adds, outcome}
+use Rattle.mls_apply.specs.AppliedList.{AppliedTree, without_adds, outcome}
 use Rattle.mls_apply.specs.PathRules.{keys_refusal, path_length, path_refusal, path_rules, node_keys}
 use Rattle.mls_apply.specs.ProposalRules.{checked_rules, checked_refusal}
 use Rattle.mls_apply.specs.RuleLists.{Rule, rule, first_failing}
@@ -23,14 +23,14 @@ use Rattle.mls_apply.proofs.Expected.{hashes_there, path_merged}
 use Rattle.mls_apply.proofs.Making.{All-reverse}
 use Rattle.mls_apply.proofs.Refusals.{outside, keys-no_leaf, keys-other_length, keys-kept}
 use Rattle.mls_apply.proofs.RuleLists.{AreKept, passed, AreOthers, no_rules, one_more}
-use Rattle.mls_apply.proofs.Spellings.{taken_out, put_back}
+use Rattle.mls_apply.proofs.Encodings.{taken_out, put_back}
 
 -- an answer by rules of which none is named want of memory
-judged : {A : Type 0} (Right : A → Type 0) (rs : List (Rule ApplyFault)) → AreOthers OutOfMemory rs → (first_failing rs ≡ None → (x : A) × Right x)
-    → IsAnswered Right (λ e. first_failing rs ≡ Some e)
-judged {A} Right rs others right = go (first_failing rs) refl
+checked : {A : Type 0} (Right : A → Type 0) (rs : List (Rule ApplyFault)) → AreOthers OutOfMemory rs → (first_failing rs ≡ None → (x : A) × Right x)
+    → HasResult Right (λ e. first_failing rs ≡ Some e)
+checked {A} Right rs others right = go (first_failing rs) refl
   where
-    go : (o : Option ApplyFault) → first_failing rs ≡ o → IsAnswered Right (λ e. first_failing rs ≡ Some e)
+    go : (o : Option ApplyFault) → first_failing rs ≡ o → HasResult Right (λ e. first_failing rs ≡ Some e)
     go None e = inl (right e)
     go (Some fault) e = inr (fault, λ memory. others.never (e ∙ ap Some memory), e)
 
@@ -38,28 +38,28 @@ pub some_items : ItemsExists
 some_items committer known entries = go (resolved committer known entries) refl
   where
     go : (o : Option (List ListItem)) → resolved committer known entries ≡ o
-        → IsAnswered (λ items. resolved committer known entries ≡ Some items) (λ e. (e ≡ UnknownReference) × (resolved committer known entries ≡ None))
+        → HasResult (λ items. resolved committer known entries ≡ Some items) (λ e. (e ≡ UnknownReference) × (resolved committer known entries ≡ None))
     go None e = inr (UnknownReference, λ h. absurd cc, (refl, e))
     go (Some items) e = inl (items, e)
 
 pub some_list_answer : ListAnswerExists
 unfolding list_refusal
 some_list_answer committer items has_path =
-    judged (λ _. list_refusal committer items has_path ≡ None) (list_rules committer items has_path)
+    checked (λ _. list_refusal committer items has_path ≡ None) (list_rules committer items has_path)
     (one_more (λ e. cc) (one_more (λ e. cc) (one_more (λ e. cc) (one_more (λ e. cc) (one_more (λ e. cc) (one_more (λ e. cc) (one_more (λ e. cc) no_rules)))))))
     (λ kept. (tt, kept))
 
 pub some_proposal_answer : ProposalAnswerExists
 unfolding checked_refusal
 some_proposal_answer G context t sender p =
-    judged (λ _. checked_refusal G context t sender p ≡ None) (checked_rules G context t sender p)
+    checked (λ _. checked_refusal G context t sender p ≡ None) (checked_rules G context t sender p)
     (one_more (λ e. cc) (one_more (λ e. cc) (one_more (λ e. cc) (one_more (λ e. cc) (one_more (λ e. cc) (one_more (λ e. cc) (one_more (λ e. cc)
     (one_more (λ e. cc) no_rules)))))))) (λ kept. (tt, kept))
 
 pub some_outcome : OutcomeExists
 some_outcome items t = go (without_adds items t) refl (outcome items t) refl
   where
-    go : (o : Option Tree) → without_adds items t ≡ o → (p : Option Grown) → outcome items t ≡ p → IsAnswered (λ g. outcome items t ≡ Some g) (FailsList items t)
+    go : (o : Option Tree) → without_adds items t ≡ o → (p : Option AppliedTree) → outcome items t ≡ p → HasResult (λ g. outcome items t ≡ Some g) (FailsList items t)
     go o e (Some g) f = inl (g, f)
     go None e None f = inr (NoSuchLeaf, λ h. absurd cc, inl (refl, e))
     go (Some u) e None f = inr (TooManyLeaves, λ h. absurd cc, inr (refl, put_back (without_adds items t) u e, f))
@@ -73,7 +73,7 @@ module _ (H : List ℕ → List ℕ) (t : Tree) (committer : ℕ) (keys : List (
       hashes_there H short (leaf_count t) committer 0 t [] (reverse keys) there (vector_some [] (omega arith)) (All-reverse (λ k. IsSome (vector k)) keys written) (length-reverse keys ∙ long)
 
   hashes : (b : Bool) → nat_lt committer (leaf_count t) ≡ b → (c : Bool) → (length keys == path_length t committer) ≡ c
-      → IsAnswered (λ hashes. (keys_refusal t committer keys ≡ None) × (expected_hashes H t committer keys ≡ Some hashes)) (λ e. keys_refusal t committer keys ≡ Some e)
+      → HasResult (λ hashes. (keys_refusal t committer keys ≡ None) × (expected_hashes H t committer keys ≡ Some hashes)) (λ e. keys_refusal t committer keys ≡ Some e)
   hashes false e c f = inr (NoSuchLeaf, λ h. absurd cc, keys-no_leaf t committer keys (outside committer (leaf_count t) e))
   hashes true e false f =
       inr (PathLength, λ h. absurd cc, keys-other_length t committer keys e (λ (same : length keys ≡ path_length t committer). absurd (grind (arith, nat_tests))))
@@ -86,7 +86,7 @@ pub some_hashes : HashesExists
 some_hashes H t committer keys short there written =
     hashes H t committer keys short there written (nat_lt committer (leaf_count t)) refl (length keys == path_length t committer) refl
 
-path_merge : (H : List ℕ → List ℕ) (g : Grown) (committer : ℕ) (path : UpdatePath) → path_refusal H g committer path ≡ None
+path_merge : (H : List ℕ → List ℕ) (g : AppliedTree) (committer : ℕ) (path : UpdatePath) → path_refusal H g committer path ≡ None
     → IsSome (merged H g.tree committer path.leaf_node (node_keys path))
 unfolding path_refusal
 path_merge H g committer path kept =
@@ -102,7 +102,7 @@ path_merge H g committer path kept =
 pub some_merge : MergeExists
 unfolding path_refusal
 some_merge H g committer path =
-    judged (λ new. (path_refusal H g committer path ≡ None) × (merged H g.tree committer path.leaf_node (node_keys path) ≡ Some new))
+    checked (λ new. (path_refusal H g committer path ≡ None) × (merged H g.tree committer path.leaf_node (node_keys path) ≡ Some new))
     (rule NoSuchLeaf (nat_lt committer (leaf_count g.tree)) ∷ path_rules H g committer path)
     (one_more (λ e. cc) (one_more (λ e. cc) (one_more (λ e. cc) (one_more (λ e. cc) (one_more (λ e. cc) (one_more (λ e. cc) no_rules))))))
     (λ kept. let new = taken_out (merged H g.tree committer path.leaf_node (node_keys path)) (path_merge H g committer path kept) in (new.0, (kept, new.1)))

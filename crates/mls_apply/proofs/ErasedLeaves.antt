@@ -5,13 +5,13 @@ use Rattle.mls_nodes.specs.declared.leaf.LeafNode.{LeafNode}
 use Rattle.mls_nodes.specs.declared.parent.ParentNode.{ParentNode}
 use Rattle.mls_tree.specs.Tree.{Tree, leaf, branch, height, leaf_count}
 use Rattle.mls_tree.specs.BlankLeaves.{first_of, first_blank_leaf}
-use Rattle.mls_tree.specs.TreeOperations.{put_leaf, change_above, with_unmerged, enter_unmerged, is_overfilled, is_overfilled_above, blank_tree, add, add_at, added_leaf, grown_for, number_or}
-use Rattle.mls_apply.specs.AppliedList.{Grown, after_leaf, after_adds}
+use Rattle.mls_tree.specs.TreeOperations.{put_leaf, change_above, with_unmerged, add_unmerged, is_overfilled, is_overfilled_above, blank_tree, add, add_at, added_leaf, grown_for, number_or}
+use Rattle.mls_apply.specs.AppliedList.{AppliedTree, after_leaf, after_adds}
 use Rattle.mls_apply.specs.AddSteps.{is_overfull_add}
 
 -- the leaves at which members were added
-abbrev pub places : Option Grown → Option (List ℕ)
-places o = option_map (λ (g : Grown). g.added) o
+abbrev pub node_indices : Option AppliedTree → Option (List ℕ)
+node_indices o = option_map (λ (g : AppliedTree). g.added) o
 
 -- the tree with `c` in each leaf that is set
 abbrev erased : LeafNode → Tree → Tree
@@ -73,7 +73,7 @@ module _ (c : LeafNode) where
 
   add_at-erased : (u : Tree) (j : ℕ) (x : LeafNode) → erased c (add_at u j x) ≡ add_at (erased c u) j c
   add_at-erased u j x =
-      put_leaf-erased 0 (enter_unmerged u j) j x ∙ ap (λ v. put_leaf 0 v j (Some c)) (change_above-erased (with_unmerged j) 0 u j)
+      put_leaf-erased 0 (add_unmerged u j) j x ∙ ap (λ v. put_leaf 0 v j (Some c)) (change_above-erased (with_unmerged j) 0 u j)
 
   add-erased : (t : Tree) (x : LeafNode) → erased c (add t x) ≡ add (erased c t) c
   add-erased t x =
@@ -88,7 +88,7 @@ module _ (c : LeafNode) where
       ∙ overfilled-erased 0 (grown_for (first_blank_leaf 0 t) t) (added_leaf t)
 
   -- in trees that are alike but for the leaf nodes, members are added at the same leaves
-  same_places : (xs : List LeafNode) (t u : Tree) → erased c t ≡ erased c u → places (after_adds xs t) ≡ places (after_adds xs u)
+  same_places : (xs : List LeafNode) (t u : Tree) → erased c t ≡ erased c u → node_indices (after_adds xs t) ≡ node_indices (after_adds xs u)
   unfolding after_adds
   same_places [] t u e = refl
   same_places (x ∷ xs) t u e =
@@ -99,15 +99,15 @@ module _ (c : LeafNode) where
       ∙ (λ i. if full i then None else option_map (λ js. first i ∷ js) (same_places xs (add t x) (add u x) next i))
       ∙ sym (places_if (is_overfull_add u) (added_leaf u) (after_adds xs (add u x)))
     where
-      places_map : (j : ℕ) (o : Option Grown) → places (option_map (after_leaf j) o) ≡ option_map (λ js. j ∷ js) (places o)
+      places_map : (j : ℕ) (o : Option AppliedTree) → node_indices (option_map (after_leaf j) o) ≡ option_map (λ js. j ∷ js) (node_indices o)
       places_map j None = refl
       places_map j (Some g) = refl
 
-      places_if : (b : Bool) (j : ℕ) (o : Option Grown)
-          → places (if b then None else option_map (after_leaf j) o) ≡ (if b then None else option_map (λ js. j ∷ js) (places o))
+      places_if : (b : Bool) (j : ℕ) (o : Option AppliedTree)
+          → node_indices (if b then None else option_map (after_leaf j) o) ≡ (if b then None else option_map (λ js. j ∷ js) (node_indices o))
       places_if true j o = refl
       places_if false j o = places_map j o
 
   -- after one member the others are added at the same leaves as after another
-  pub same_places-added : (xs : List LeafNode) (t : Tree) (x : LeafNode) → places (after_adds xs (add t x)) ≡ places (after_adds xs (add t c))
+  pub same_places-added : (xs : List LeafNode) (t : Tree) (x : LeafNode) → node_indices (after_adds xs (add t x)) ≡ node_indices (after_adds xs (add t c))
   same_places-added xs t x = same_places xs (add t x) (add t c) (add-erased t x ∙ sym (add-erased t c))

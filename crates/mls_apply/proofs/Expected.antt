@@ -14,9 +14,9 @@ use Rattle.mls_tree.specs.Tree.{Tree, leaf, branch, leaf_count}
 use Rattle.mls_tree.specs.TreeHash.{tree_hash, hash_of_parent, leaf_hash_input, parent_hash_input as hashed_parent}
 use Rattle.mls_tree.specs.Paths.{resolution, filtered_direct_path, where_resolved}
 use Rattle.mls_hash.specs.ParentHash.{parent_hash_input}
-use Rattle.mls_apply.specs.MergePath.{Handed, handed, handed_by, path_parent, path_hash, merged_from, merged, hashes_from, expected_hashes, behind}
+use Rattle.mls_apply.specs.MergePath.{PathStep, path_step_at, path_step, path_parent, path_hash, merged_from, merged, hashes_from, expected_hashes, append_parent_hash}
 use Rattle.mls_apply.specs.PathRules.{has_first_parent_hash, has_expected_hash, node_keys}
-use Rattle.mls_apply.proofs.Spellings.{taken_out, mapped, both_spelled, parts_some}
+use Rattle.mls_apply.proofs.Encodings.{taken_out, mapped, both_encoded, parts_some}
 
 -- ---- the hashes expected
 
@@ -50,7 +50,7 @@ module _ (H : List ℕ → List ℕ) (short : (m : List ℕ) → IsSome (vector 
   path_hash_there key hash first away k l there =
       let original = taken_out (tree_hash H first away) there in
       let input = taken_out (parent_hash_input (path_parent key hash) original.0)
-      (both_spelled (vector key) (vector hash ⊕ vector original.0) k (both_spelled (vector hash) (vector original.0) l (hash_written first away original.0 original.1))) in
+      (both_encoded (vector key) (vector hash ⊕ vector original.0) k (both_encoded (vector hash) (vector original.0) l (hash_written first away original.0 original.1))) in
       record {
         hash = H input.0;
         is =
@@ -60,19 +60,19 @@ module _ (H : List ℕ → List ℕ) (short : (m : List ℕ) → IsSome (vector 
       }
 
   -- something is handed down, with so many keys
-  record IsHandedDown (o : Option Handed) (left : ℕ) : Type 0 where
-    next : Handed
+  record IsHandedDown (o : Option PathStep) (left : ℕ) : Type 0 where
+    next : PathStep
     is : o ≡ Some next
     written : IsSome (vector next.hash)
     keys : AreKeys next.keys
     count : length next.keys ≡ left
 
-  handed_there : (res : List ℕ) (first : ℕ) (away : Tree) (hash : List ℕ) (keys : List (List ℕ)) (left place : ℕ) → IsSome (tree_hash H first away) → IsSome (vector hash)
-      → AreKeys keys → length keys ≡ left + length (where_resolved res place) → IsHandedDown (handed_by H res first away hash keys) left
-  handed_there [] first away hash keys left place there l ks long =
+  handed_there : (res : List ℕ) (first : ℕ) (away : Tree) (hash : List ℕ) (keys : List (List ℕ)) (left node_index : ℕ) → IsSome (tree_hash H first away) → IsSome (vector hash)
+      → AreKeys keys → length keys ≡ left + length (where_resolved res node_index) → IsHandedDown (path_step H res first away hash keys) left
+  handed_there [] first away hash keys left node_index there l ks long =
       record { next = record { parent = None; hash = hash; keys = keys }; is = refl; written = l; keys = ks; count = omega (arith, long) }
-  handed_there (p ∷ ps) first away hash [] left place there l ks long = absurd (omega (arith, long))
-  handed_there (p ∷ ps) first away hash (key ∷ keys) left place there l ks long =
+  handed_there (p ∷ ps) first away hash [] left node_index there l ks long = absurd (omega (arith, long))
+  handed_there (p ∷ ps) first away hash (key ∷ keys) left node_index there l ks long =
       let new = path_hash_there key hash first away (All-head (λ k. IsSome (vector k)) key keys ks) l there in
       record {
         next = record { parent = Some (path_parent key hash); hash = new.hash; keys = keys };
@@ -84,18 +84,18 @@ module _ (H : List ℕ → List ℕ) (short : (m : List ℕ) → IsSome (vector 
 
   module _ (leaves i : ℕ) where
     -- what one half gives, behind a parent above it
-    through : {X : Type 0} (make : Handed → List (List ℕ) → X) (below : Handed → Option (List (List ℕ))) (o : Option Handed) (next : Handed) → o ≡ Some next
+    through : {X : Type 0} (make : PathStep → List (List ℕ) → X) (below : PathStep → Option (List (List ℕ))) (o : Option PathStep) (next : PathStep) → o ≡ Some next
         → IsSome (below next) → IsSome (option_and_then (λ n. option_map (make n) (below n)) o)
     through {X} make below o next e h =
-        subst (λ (p : Option Handed). IsSome (option_and_then (λ n. option_map (make n) (below n)) p)) (sym e) (mapped (make next) (below next) h)
+        subst (λ (p : Option PathStep). IsSome (option_and_then (λ n. option_map (make n) (below n)) p)) (sym e) (mapped (make next) (below next) h)
 
     pub hashes_there : (first : ℕ) (t : Tree) (hash : List ℕ) (keys : List (List ℕ)) → IsSome (tree_hash H first t) → IsSome (vector hash) → AreKeys keys
         → length keys ≡ length (filtered_direct_path leaves first t i) → IsSome (hashes_from H leaves first t i hash keys)
     hashes_there first (leaf y) hash [] there l ks long = refl
     hashes_there first (leaf y) hash (_ ∷ _) there l ks long = absurd (omega (arith, long))
     hashes_there first (branch a p b) hash keys there l ks long =
-        let halves = parts_some H p (tree_hash H first a) (tree_hash H (first + leaf_count a) b) there in
-        go halves.0 halves.2 (nat_lt i (first + leaf_count a)) (λ m g. hashes_there first a m g halves.0) (λ m g. hashes_there (first + leaf_count a) b m g halves.2) long
+        let children = parts_some H p (tree_hash H first a) (tree_hash H (first + leaf_count a) b) there in
+        go children.0 children.2 (nat_lt i (first + leaf_count a)) (λ m g. hashes_there first a m g children.0) (λ m g. hashes_there (first + leaf_count a) b m g children.2) long
       where
         go : IsSome (tree_hash H first a) → IsSome (tree_hash H (first + leaf_count a) b) → (c : Bool)
             → ((m : List ℕ) (g : List (List ℕ)) → IsSome (vector m) → AreKeys g → length g ≡ length (filtered_direct_path leaves first a i) → IsSome (hashes_from H leaves first a i m g))
@@ -104,21 +104,21 @@ module _ (H : List ℕ → List ℕ) (short : (m : List ℕ) → IsSome (vector 
             then filtered_direct_path leaves first a i ++ where_resolved (resolution leaves (first + leaf_count a) b) (2 * (first + leaf_count a) - 1)
             else filtered_direct_path leaves (first + leaf_count a) b i ++ where_resolved (resolution leaves first a) (2 * (first + leaf_count a) - 1))
             → IsSome (if c
-            then option_and_then (λ n. option_map (behind n.parent hash) (hashes_from H leaves first a i n.hash n.keys)) (handed H leaves (first + leaf_count a) b hash keys)
-            else option_and_then (λ n. option_map (behind n.parent hash) (hashes_from H leaves (first + leaf_count a) b i n.hash n.keys)) (handed H leaves first a hash keys))
+            then option_and_then (λ n. option_map (append_parent_hash n.parent hash) (hashes_from H leaves first a i n.hash n.keys)) (path_step_at H leaves (first + leaf_count a) b hash keys)
+            else option_and_then (λ n. option_map (append_parent_hash n.parent hash) (hashes_from H leaves (first + leaf_count a) b i n.hash n.keys)) (path_step_at H leaves first a hash keys))
         go left right true in_left in_right long =
-            let place = 2 * (first + leaf_count a) - 1 in
+            let node_index = 2 * (first + leaf_count a) - 1 in
             let res = resolution leaves (first + leaf_count a) b in
-            let n = handed_there res (first + leaf_count a) b hash keys (length (filtered_direct_path leaves first a i)) place right l ks
-            (long ∙ length-append (filtered_direct_path leaves first a i) (where_resolved res place)) in
-            through (λ n. behind n.parent hash) (λ n. hashes_from H leaves first a i n.hash n.keys) (handed H leaves (first + leaf_count a) b hash keys) n.next n.is
+            let n = handed_there res (first + leaf_count a) b hash keys (length (filtered_direct_path leaves first a i)) node_index right l ks
+            (long ∙ length-append (filtered_direct_path leaves first a i) (where_resolved res node_index)) in
+            through (λ n. append_parent_hash n.parent hash) (λ n. hashes_from H leaves first a i n.hash n.keys) (path_step_at H leaves (first + leaf_count a) b hash keys) n.next n.is
             (in_left n.next.hash n.next.keys n.written n.keys n.count)
         go left right false in_left in_right long =
-            let place = 2 * (first + leaf_count a) - 1 in
+            let node_index = 2 * (first + leaf_count a) - 1 in
             let res = resolution leaves first a in
-            let n = handed_there res first a hash keys (length (filtered_direct_path leaves (first + leaf_count a) b i)) place left l ks
-            (long ∙ length-append (filtered_direct_path leaves (first + leaf_count a) b i) (where_resolved res place)) in
-            through (λ n. behind n.parent hash) (λ n. hashes_from H leaves (first + leaf_count a) b i n.hash n.keys) (handed H leaves first a hash keys) n.next n.is
+            let n = handed_there res first a hash keys (length (filtered_direct_path leaves (first + leaf_count a) b i)) node_index left l ks
+            (long ∙ length-append (filtered_direct_path leaves (first + leaf_count a) b i) (where_resolved res node_index)) in
+            through (λ n. append_parent_hash n.parent hash) (λ n. hashes_from H leaves (first + leaf_count a) b i n.hash n.keys) (path_step_at H leaves first a hash keys) n.next n.is
             (in_right n.next.hash n.next.keys n.written n.keys n.count)
 
 -- ---- the merged tree
@@ -145,19 +145,19 @@ module _ (H : List ℕ → List ℕ) (leaves i : ℕ) (x : LeafNode) where
       go : (c : Bool) → ((m : List ℕ) (g : List (List ℕ)) → IsSome (hashes_from H leaves first a i m g) → IsSome (merged_from H leaves first a i x m g))
           → ((m : List ℕ) (g : List (List ℕ)) → IsSome (hashes_from H leaves (first + leaf_count a) b i m g) → IsSome (merged_from H leaves (first + leaf_count a) b i x m g))
           → IsSome (if c
-          then option_and_then (λ n. option_map (behind n.parent hash) (hashes_from H leaves first a i n.hash n.keys)) (handed H leaves (first + leaf_count a) b hash keys)
-          else option_and_then (λ n. option_map (behind n.parent hash) (hashes_from H leaves (first + leaf_count a) b i n.hash n.keys)) (handed H leaves first a hash keys))
+          then option_and_then (λ n. option_map (append_parent_hash n.parent hash) (hashes_from H leaves first a i n.hash n.keys)) (path_step_at H leaves (first + leaf_count a) b hash keys)
+          else option_and_then (λ n. option_map (append_parent_hash n.parent hash) (hashes_from H leaves (first + leaf_count a) b i n.hash n.keys)) (path_step_at H leaves first a hash keys))
           → IsSome (if c
-          then option_and_then (λ n. option_map (λ t. branch t n.parent b) (merged_from H leaves first a i x n.hash n.keys)) (handed H leaves (first + leaf_count a) b hash keys)
-          else option_and_then (λ n. option_map (λ t. branch a n.parent t) (merged_from H leaves (first + leaf_count a) b i x n.hash n.keys)) (handed H leaves first a hash keys))
+          then option_and_then (λ n. option_map (λ t. branch t n.parent b) (merged_from H leaves first a i x n.hash n.keys)) (path_step_at H leaves (first + leaf_count a) b hash keys)
+          else option_and_then (λ n. option_map (λ t. branch a n.parent t) (merged_from H leaves (first + leaf_count a) b i x n.hash n.keys)) (path_step_at H leaves first a hash keys))
       go true in_left in_right h =
-          both_there (λ n. option_map (behind n.parent hash) (hashes_from H leaves first a i n.hash n.keys)) (λ n. option_map (λ t. branch t n.parent b) (merged_from H leaves first a i x n.hash n.keys))
-          (handed H leaves (first + leaf_count a) b hash keys)
-          (λ n. mapped_there (behind n.parent hash) (λ t. branch t n.parent b) (hashes_from H leaves first a i n.hash n.keys) (merged_from H leaves first a i x n.hash n.keys) (in_left n.hash n.keys)) h
+          both_there (λ n. option_map (append_parent_hash n.parent hash) (hashes_from H leaves first a i n.hash n.keys)) (λ n. option_map (λ t. branch t n.parent b) (merged_from H leaves first a i x n.hash n.keys))
+          (path_step_at H leaves (first + leaf_count a) b hash keys)
+          (λ n. mapped_there (append_parent_hash n.parent hash) (λ t. branch t n.parent b) (hashes_from H leaves first a i n.hash n.keys) (merged_from H leaves first a i x n.hash n.keys) (in_left n.hash n.keys)) h
       go false in_left in_right h =
-          both_there (λ n. option_map (behind n.parent hash) (hashes_from H leaves (first + leaf_count a) b i n.hash n.keys)) (λ n. option_map (λ t. branch a n.parent t) (merged_from H leaves (first + leaf_count a) b i x n.hash n.keys))
-          (handed H leaves first a hash keys)
-          (λ n. mapped_there (behind n.parent hash) (λ t. branch a n.parent t) (hashes_from H leaves (first + leaf_count a) b i n.hash n.keys) (merged_from H leaves (first + leaf_count a) b i x n.hash n.keys) (in_right n.hash n.keys)) h
+          both_there (λ n. option_map (append_parent_hash n.parent hash) (hashes_from H leaves (first + leaf_count a) b i n.hash n.keys)) (λ n. option_map (λ t. branch a n.parent t) (merged_from H leaves (first + leaf_count a) b i x n.hash n.keys))
+          (path_step_at H leaves first a hash keys)
+          (λ n. mapped_there (append_parent_hash n.parent hash) (λ t. branch a n.parent t) (hashes_from H leaves (first + leaf_count a) b i n.hash n.keys) (merged_from H leaves (first + leaf_count a) b i x n.hash n.keys) (in_right n.hash n.keys)) h
 
 carried_there : (source : LeafSource) (o : Option (List (List ℕ))) → has_first_parent_hash source o ≡ true → IsSome o
 carried_there source None h = absurd (false≢true h)

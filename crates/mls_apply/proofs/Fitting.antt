@@ -11,12 +11,12 @@ use Rattle.mls_tree.specs.Tree.{Tree, member_count, leaf_at}
 use Rattle.mls_tree.specs.BlankLeaves.{first_blank_leaf, AreSetBelow}
 use Rattle.mls_tree.specs.TreeOperations.{add, added_leaf, grown_for, is_overfilled_above}
 use Rattle.mls_tree.proofs.Added.{add-set_below}
-use Rattle.mls_apply.specs.AppliedList.{Grown, grown, after_leaf, after_adds, added_to, new_members}
+use Rattle.mls_apply.specs.AppliedList.{AppliedTree, applied_tree, after_leaf, after_adds, added_to, new_members}
 use Rattle.mls_apply.specs.AddSteps.{is_overfull_add, Adds}
 use Rattle.mls_apply.specs.Outline.{IsApart, IsOutline}
 use Rattle.mls_apply.specs.declared.list_item.ListItem.{ListItem}
 use Rattle.mls_apply.proofs.Adding.{member_count-add, no_add, same_members}
-use Rattle.mls_apply.proofs.ErasedLeaves.{places, same_places-added}
+use Rattle.mls_apply.proofs.ErasedLeaves.{node_indices, same_places-added}
 use Rattle.mls_apply.proofs.AddedLeaves.{apart_front, apart_last, leaf_outside, leaf_beside}
 
 -- leaves behind these
@@ -24,11 +24,11 @@ abbrev pub after_those : List ℕ → Option (List ℕ) → Option (List ℕ)
 after_those added o = option_map (λ js. added ++ js) o
 
 -- where a walk stands, before the rest of the list: `first` is the tree before the walk
-pub record Fitting (whole : Option Grown) (rest : List ListItem) (first t : Tree) (added : List ℕ) (start : ℕ) : Type 0 where
-  pub so_far : places whole ≡ after_those added (places (after_adds (new_members rest) t))
+pub record Fitting (whole : Option AppliedTree) (rest : List ListItem) (first t : Tree) (added : List ℕ) (start : ℕ) : Type 0 where
+  pub so_far : node_indices whole ≡ after_those added (node_indices (after_adds (new_members rest) t))
   pub others : (j : ℕ) → IsApart added j → leaf_at 0 t j ≡ leaf_at 0 first j
   pub set : AreSetBelow t start
-  pub room : member_count t + length (new_members rest) ≤ leaf_limit
+  pub capacity : member_count t + length (new_members rest) ≤ leaf_limit
 
 none_before : (o : Option (List ℕ)) → o ≡ after_those [] o
 none_before None = refl
@@ -36,75 +36,75 @@ none_before (Some js) = refl
 
 pub fitting-start : (items : List ListItem) (t : Tree) → member_count t + length (new_members items) ≤ leaf_limit
     → Fitting (after_adds (new_members items) t) items t t [] 0
-fitting-start items t room = record {
-  so_far = none_before (places (after_adds (new_members items) t));
+fitting-start items t capacity = record {
+  so_far = none_before (node_indices (after_adds (new_members items) t));
   others = λ j a. refl;
   set = λ i lt. absurd (omega arith);
-  room = room;
+  capacity = capacity;
 }
 
-fitting-end : (whole : Option Grown) (first t : Tree) (added : List ℕ) (start : ℕ) → Fitting whole [] first t added start → places whole ≡ Some added
+fitting-end : (whole : Option AppliedTree) (first t : Tree) (added : List ℕ) (start : ℕ) → Fitting whole [] first t added start → node_indices whole ≡ Some added
 unfolding new_members after_adds
 fitting-end whole first t added start f = f.so_far ∙ ap Some (append-nil added)
 
-pub fitting-all : (whole : Option Grown) (items : List ListItem) (i : ℕ) (first t : Tree) (added : List ℕ) (start : ℕ) → length items ≤ i
-    → Fitting whole (drop i items) first t added start → places whole ≡ Some added
+pub fitting-all : (whole : Option AppliedTree) (items : List ListItem) (i : ℕ) (first t : Tree) (added : List ℕ) (start : ℕ) → length items ≤ i
+    → Fitting whole (drop i items) first t added start → node_indices whole ≡ Some added
 fitting-all whole items i first t added start past f =
     fitting-end whole first t added start (subst (λ xs. Fitting whole xs first t added start) (drop_all i items past) f)
 
-pub placed : (o : Option Grown) (added : List ℕ) → places o ≡ Some added → IsSome o
-placed None added e = absurd (none-some added e)
-placed (Some g) added e = refl
+pub consistent : (o : Option AppliedTree) (added : List ℕ) → node_indices o ≡ Some added → IsSome o
+consistent None added e = absurd (none-some added e)
+consistent (Some g) added e = refl
 
 -- the tree after a walk
-pub outlined : (xs : List LeafNode) (first u : Tree) (added : List ℕ) → places (after_adds xs first) ≡ Some added
+pub outlined : (xs : List LeafNode) (first u : Tree) (added : List ℕ) → node_indices (after_adds xs first) ≡ Some added
     → ((j : ℕ) → IsApart added j → leaf_at 0 u j ≡ leaf_at 0 first j) → IsOutline (after_adds xs first) added u
 outlined xs first u added e others = go (after_adds xs first) refl e
   where
-    go : (o : Option Grown) → after_adds xs first ≡ o → places o ≡ Some added → IsOutline o added u
+    go : (o : Option AppliedTree) → after_adds xs first ≡ o → node_indices o ≡ Some added → IsOutline o added u
     go None is e = absurd (none-some added e)
     go (Some g) is e =
         let same = same_Some g.added added e in
         record {
           tree = g.tree;
-          is = ap (λ js. Some (grown g.tree js)) same;
+          is = ap (λ js. Some (applied_tree g.tree js)) same;
           others = λ j a. others j a ∙ sym (leaf_outside xs first g j is (subst (λ js. IsApart js j) (sym same) a));
         }
 
-unset : (o : Option Grown) → places o ≡ None → o ≡ None
+unset : (o : Option AppliedTree) → node_indices o ≡ None → o ≡ None
 unset None e = refl
 unset (Some g) e = absurd (none-some g.added (sym e))
 
-one_more : (added : List ℕ) (j : ℕ) (o : Option Grown)
-    → after_those added (places (option_map (after_leaf j) o)) ≡ after_those (added ++ j ∷ []) (places o)
+one_more : (added : List ℕ) (j : ℕ) (o : Option AppliedTree)
+    → after_those added (node_indices (option_map (after_leaf j) o)) ≡ after_those (added ++ j ∷ []) (node_indices o)
 one_more added j None = refl
 one_more added j (Some g) = ap Some (sym (append_assoc added (j ∷ []) g.added))
 
-module _ (whole : Option Grown) (x : ListItem) (xs : List ListItem) (first t : Tree) (added : List ℕ) (start : ℕ)
+module _ (whole : Option AppliedTree) (x : ListItem) (xs : List ListItem) (first t : Tree) (added : List ℕ) (start : ℕ)
     (f : Fitting whole (x ∷ xs) first t added start) where
   pub fitting-other : ((k : KeyPackage) → x.proposal ≡ Add k → ⊥) → Fitting whole xs first t added start
   unfolding new_members
   fitting-other none =
       let same = same_members x.proposal (new_members xs) (no_add x.proposal none) in
       record {
-        so_far = f.so_far ∙ ap (λ ms. after_those added (places (after_adds ms t))) same;
+        so_far = f.so_far ∙ ap (λ ms. after_those added (node_indices (after_adds ms t))) same;
         others = f.others;
         set = f.set;
-        room = subst (λ ms. member_count t + length ms ≤ leaf_limit) same f.room;
+        capacity = subst (λ ms. member_count t + length ms ≤ leaf_limit) same f.capacity;
       }
 
   module _ (k : KeyPackage) (e : x.proposal ≡ Add k) where
-    so_far_member : places whole ≡ after_those added (places (after_adds (k.leaf_node ∷ new_members xs) t))
+    so_far_member : node_indices whole ≡ after_those added (node_indices (after_adds (k.leaf_node ∷ new_members xs) t))
     unfolding new_members
-    so_far_member = f.so_far ∙ ap (λ p. after_those added (places (after_adds (added_to p (new_members xs)) t))) e
+    so_far_member = f.so_far ∙ ap (λ p. after_those added (node_indices (after_adds (added_to p (new_members xs)) t))) e
 
     room_member : member_count t + length (k.leaf_node ∷ new_members xs) ≤ leaf_limit
     unfolding new_members
-    room_member = subst (λ p. member_count t + length (added_to p (new_members xs)) ≤ leaf_limit) e f.room
+    room_member = subst (λ p. member_count t + length (added_to p (new_members xs)) ≤ leaf_limit) e f.capacity
 
-    -- there is room for it
-    pub fitting-room : member_count t < leaf_limit
-    fitting-room = let r = room_member in omega arith
+    -- the tree has capacity for it
+    pub fitting-capacity : member_count t < leaf_limit
+    fitting-capacity = let r = room_member in omega arith
 
     -- another one was added in its place
     pub fitting-member : (c : LeafNode) (j : ℕ) (u : Tree) → Adds t c j u → Fitting whole xs first u (added ++ j ∷ []) (j + 1)
@@ -115,16 +115,16 @@ module _ (whole : Option Grown) (x : ListItem) (xs : List ListItem) (first t : T
         record {
           so_far =
               so_far_member
-              ∙ ap (λ b. after_those added (places (if b then None else option_map (after_leaf (added_leaf t)) (after_adds (new_members xs) (add t k.leaf_node))))) d.fits
+              ∙ ap (λ b. after_those added (node_indices (if b then None else option_map (after_leaf (added_leaf t)) (after_adds (new_members xs) (add t k.leaf_node))))) d.fits
               ∙ one_more added (added_leaf t) (after_adds (new_members xs) (add t k.leaf_node))
               ∙ ap (λ o. after_those (added ++ added_leaf t ∷ []) o) (same_places-added c (new_members xs) t k.leaf_node)
-              ∙ sym (λ i. after_those (added ++ d.index i ∷ []) (places (after_adds (new_members xs) (d.tree i))));
+              ∙ sym (λ i. after_those (added ++ d.index i ∷ []) (node_indices (after_adds (new_members xs) (d.tree i))));
           others = λ i a.
               ap (λ v. leaf_at 0 v i) d.tree
               ∙ leaf_beside t c i (subst (λ m. i ≢ m) d.index (apart_last added j i a))
               ∙ f.others i (apart_front added (j ∷ []) i a);
           set = λ i lt. (let low : i < added_leaf t + 1 = omega (arith, d.index) in ap (λ v. is_some (leaf_at 0 v i)) d.tree ∙ add-set_below t c i low);
-          room = omega arith;
+          capacity = omega arith;
         }
 
     -- a list gets too long
@@ -133,4 +133,4 @@ module _ (whole : Option Grown) (x : ListItem) (xs : List ListItem) (first t : T
     fitting-refused o =
         unset whole
         (so_far_member
-        ∙ ap (λ b. after_those added (places (if b then None else option_map (after_leaf (added_leaf t)) (after_adds (new_members xs) (add t k.leaf_node))))) o)
+        ∙ ap (λ b. after_those added (node_indices (if b then None else option_map (after_leaf (added_leaf t)) (after_adds (new_members xs) (add t k.leaf_node))))) o)

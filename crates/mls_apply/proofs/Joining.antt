@@ -7,13 +7,13 @@ use Rattle.mls_nodes.specs.declared.parent.ParentNode.{ParentNode}
 use Rattle.mls_tree.specs.Tree.{Tree, leaf, branch, leaf_count}
 use Rattle.mls_tree.specs.BlankLeaves.{first_blank_leaf}
 use Rattle.mls_tree.specs.Paths.{resolution, filtered_direct_path, where_resolved}
-use Rattle.mls_tree.specs.TreeOperations.{put_leaf, change_above, with_unmerged, enter_unmerged, grown_for, add, seat}
+use Rattle.mls_tree.specs.TreeOperations.{put_leaf, change_above, with_unmerged, add_unmerged, grown_for, add, seat}
 use Rattle.mls_tree.proofs.Choices.{is_less, not_less}
 use Rattle.mls_tree.proofs.Kept.{leaf_count-change_above, leaf_count-put_leaf}
 use Rattle.mls_check.specs.PreservedValidity.{IsParentHashValidTree}
 use Rattle.mls_check.proofs.Remaining.{sound_grow}
-use Rattle.mls_apply.specs.MergePath.{Handed, handed, behind, merged_from, hashes_from}
-use Rattle.mls_apply.specs.PathRules.{copath_resolutions, resolved_behind}
+use Rattle.mls_apply.specs.MergePath.{PathStep, path_step_at, append_parent_hash, merged_from, hashes_from}
+use Rattle.mls_apply.specs.PathRules.{copath_resolutions, append_non_empty}
 use Rattle.mls_apply.specs.CommitsPreserveValidity.{SeatsKeepSound, JoinsMergeAsAdds, JoinsExpectAsAdds, JoinsCountAsAdds, JoinsResolveAsAdds}
 
 -- ---- the seat
@@ -67,10 +67,10 @@ module _ (i leaves : ℕ) where
   resolutions_alike first _ _ (at_leaf _ x y) = refl
   resolutions_alike first _ _ (in_left _ l k n m r lt count h) =
       rw (is_less i (first + leaf_count l) lt, is_less i (first + leaf_count k) (omega arith))
-      (λ j. resolved_behind (resolutions_alike first l k h j) (resolution leaves (first + count j) r))
+      (λ j. append_non_empty (resolutions_alike first l k h j) (resolution leaves (first + count j) r))
   resolutions_alike first _ _ (in_right _ l n m r k ge h) =
       rw (not_less i (first + leaf_count l) ge)
-      (λ j. resolved_behind (resolutions_alike (first + leaf_count l) r k h j) (resolution leaves first l))
+      (λ j. append_non_empty (resolutions_alike (first + leaf_count l) r k h j) (resolution leaves first l))
 
   module _ (H : List ℕ → List ℕ) where
     hashes_alike : (first : ℕ) (t u : Tree) (hash : List ℕ) (keys : List (List ℕ)) → AgreeBeside i first t u
@@ -79,10 +79,10 @@ module _ (i leaves : ℕ) where
     hashes_alike first _ _ hash (key ∷ keys) (at_leaf _ x y) = refl
     hashes_alike first _ _ hash keys (in_left _ l k n m r lt count h) =
         rw (is_less i (first + leaf_count l) lt, is_less i (first + leaf_count k) (omega arith))
-        (λ j. option_and_then (λ (s : Handed). option_map (behind s.parent hash) (hashes_alike first l k s.hash s.keys h j)) (handed H leaves (first + count j) r hash keys))
+        (λ j. option_and_then (λ (s : PathStep). option_map (append_parent_hash s.parent hash) (hashes_alike first l k s.hash s.keys h j)) (path_step_at H leaves (first + count j) r hash keys))
     hashes_alike first _ _ hash keys (in_right _ l n m r k ge h) =
         rw (not_less i (first + leaf_count l) ge)
-        (λ j. option_and_then (λ (s : Handed). option_map (behind s.parent hash) (hashes_alike (first + leaf_count l) r k s.hash s.keys h j)) (handed H leaves first l hash keys))
+        (λ j. option_and_then (λ (s : PathStep). option_map (append_parent_hash s.parent hash) (hashes_alike (first + leaf_count l) r k s.hash s.keys h j)) (path_step_at H leaves first l hash keys))
 
     merged_alike : (first : ℕ) (t u : Tree) (x : LeafNode) (hash : List ℕ) (keys : List (List ℕ)) → AgreeBeside i first t u
         → merged_from H leaves first t i x hash keys ≡ merged_from H leaves first u i x hash keys
@@ -90,10 +90,10 @@ module _ (i leaves : ℕ) where
     merged_alike first _ _ x hash (key ∷ keys) (at_leaf _ y z) = refl
     merged_alike first _ _ x hash keys (in_left _ l k n m r lt count h) =
         rw (is_less i (first + leaf_count l) lt, is_less i (first + leaf_count k) (omega arith))
-        (λ j. option_and_then (λ (s : Handed). option_map (λ v. branch v s.parent r) (merged_alike first l k x s.hash s.keys h j)) (handed H leaves (first + count j) r hash keys))
+        (λ j. option_and_then (λ (s : PathStep). option_map (λ v. branch v s.parent r) (merged_alike first l k x s.hash s.keys h j)) (path_step_at H leaves (first + count j) r hash keys))
     merged_alike first _ _ x hash keys (in_right _ l n m r k ge h) =
         rw (not_less i (first + leaf_count l) ge)
-        (λ j. option_and_then (λ (s : Handed). option_map (λ v. branch l s.parent v) (merged_alike (first + leaf_count l) r k x s.hash s.keys h j)) (handed H leaves first l hash keys))
+        (λ j. option_and_then (λ (s : PathStep). option_map (λ v. branch l s.parent v) (merged_alike (first + leaf_count l) r k x s.hash s.keys h j)) (path_step_at H leaves first l hash keys))
 
 -- ---- so an Add of the joiner before its path changes nothing
 
@@ -103,8 +103,8 @@ module _ (t : Tree) (y : LeafNode) where
 
   same_leaves : leaf_count (seat t).tree ≡ leaf_count (add t y)
   same_leaves =
-      let entered = enter_unmerged (seat t).tree (seat t).leaf in
-      sym (leaf_count-put_leaf 0 entered (seat t).leaf (Some y) ∙ leaf_count-change_above (with_unmerged (seat t).leaf) 0 (seat t).tree (seat t).leaf)
+      let in_lists = add_unmerged (seat t).tree (seat t).leaf in
+      sym (leaf_count-put_leaf 0 in_lists (seat t).leaf (Some y) ∙ leaf_count-change_above (with_unmerged (seat t).leaf) 0 (seat t).tree (seat t).leaf)
 
 pub joins_merge : JoinsMergeAsAdds
 joins_merge H t x y keys =

@@ -13,18 +13,18 @@ use Rattle.mls_msgs.specs.declared.proposal.Proposal.{Proposal}
 use Rattle.mls_msgs.specs.declared.proposal.Proposal.TheVariants.{Add, Update, Remove, ContextExtensions, PreSharedKey, ReInit, ExternalInit}
 use Rattle.mls_tree.specs.Tree.{Tree, member_count, leaf_at}
 use Rattle.mls_tree.specs.RatchetTree.{HasShape}
-use Rattle.mls_tree.specs.TreeOperations.{put_leaf, clear_path, update, remove}
+use Rattle.mls_tree.specs.TreeOperations.{put_leaf, blank_path, update, remove}
 use Rattle.mls_tree.proofs.Counting.{member_count-low}
 use Rattle.mls_tree.proofs.Descent.{leaf_count-limit}
-use Rattle.mls_tree.proofs.Kept.{leaf_at-shrink}
+use Rattle.mls_tree.proofs.Kept.{leaf_at-truncate}
 use Rattle.mls_apply.specs.declared.list_item.ListItem.{ListItem}
-use Rattle.mls_apply.specs.ListRules.{removed_leaf, is_leaf_number, tells, tells_once}
+use Rattle.mls_apply.specs.ListRules.{removed_leaf, is_leaf_number, maps_to, maps_once}
 use Rattle.mls_apply.specs.Senders.{member_index, leaf_of_member}
 use Rattle.mls_apply.specs.AppliedList.{updated_at, after_update, after_updates, after_remove, after_removes, without_adds, new_members, ExceedsCapacity}
-use Rattle.mls_apply.specs.TargetLeaves.{removed_by, removed_leaves, number_in, removed_in, is_set_if_told, updates_set_leaf, update_set_leaves, concerns_set_leaf, concern_set_leaves, tell_set_leaves}
+use Rattle.mls_apply.specs.TargetLeaves.{removed_by, removed_leaves, number_in, removed_in, is_non_blank_if_some, updates_set_leaf, update_set_leaves, concerns_set_leaf, concern_set_leaves, map_to_non_blank}
 use Rattle.mls_apply.proofs.Leaves.{leaf_inside, kept_beside, put_there}
-use Rattle.mls_apply.proofs.Spellings.{taken_out}
-use Rattle.mls_apply.proofs.LeavesAreValid.{member_count-change_above, member_count-replaced, member_count-blanked, member_count-shrink}
+use Rattle.mls_apply.proofs.Encodings.{taken_out}
+use Rattle.mls_apply.proofs.LeavesAreValid.{member_count-change_above, member_count-replaced, member_count-blanked, member_count-truncate}
 
 both : (a b : Bool) → (a && b) ≡ true → (a ≡ true) × (b ≡ true)
 both true b h = (refl, h)
@@ -55,7 +55,7 @@ set-update t i y set j =
 -- after a Remove all but its leaf are
 set-remove : (t : Tree) (i : ℕ) → IsSome (leaf_at 0 t i) → (j : ℕ) → is_some (leaf_at 0 (remove t i) j) ≡ (is_some (leaf_at 0 t j) && not (j == i))
 set-remove t i set j =
-    ap is_some (leaf_at-shrink 0 (clear_path (put_leaf 0 t i None) i) j)
+    ap is_some (leaf_at-truncate 0 (blank_path (put_leaf 0 t i None) i) j)
     ∙ elim (cases_eq j i) [
       | inl same ↦
           ap is_some (put_there t i j None set same)
@@ -71,23 +71,23 @@ set-remove t i set j =
 
 module _ (f : ListItem → Option ℕ) where
   -- in trees whose set leaves are the same
-  told-alike : (t u : Tree) → ((j : ℕ) → is_some (leaf_at 0 u j) ≡ is_some (leaf_at 0 t j)) → (xs : List ListItem) → tell_set_leaves f u xs ≡ tell_set_leaves f t xs
-  told-alike t u alike [] = refl
-  told-alike t u alike (x ∷ xs) = (λ i. one (f x) i && told-alike t u alike xs i)
+  mapped-alike : (t u : Tree) → ((j : ℕ) → is_some (leaf_at 0 u j) ≡ is_some (leaf_at 0 t j)) → (xs : List ListItem) → map_to_non_blank f u xs ≡ map_to_non_blank f t xs
+  mapped-alike t u alike [] = refl
+  mapped-alike t u alike (x ∷ xs) = (λ i. one (f x) i && mapped-alike t u alike xs i)
     where
-      one : (o : Option ℕ) → is_set_if_told u o ≡ is_set_if_told t o
+      one : (o : Option ℕ) → is_non_blank_if_some u o ≡ is_non_blank_if_some t o
       one None = refl
       one (Some j) = alike j
 
   -- in a tree that has one set leaf less
-  told-less : (t u : Tree) (i : ℕ) → ((j : ℕ) → is_some (leaf_at 0 u j) ≡ (is_some (leaf_at 0 t j) && not (j == i))) → (xs : List ListItem)
-      → tell_set_leaves f u xs ≡ (tell_set_leaves f t xs && not (tells f xs (Some i)))
-  told-less t u i less [] = refl
-  told-less t u i less (x ∷ xs) =
-      (λ k. one (f x) k && told-less t u i less xs k)
-      ∙ regrouped (is_set_if_told t (f x)) (is_leaf_number (f x) i) (tell_set_leaves f t xs) (tells f xs (Some i))
+  mapped-less : (t u : Tree) (i : ℕ) → ((j : ℕ) → is_some (leaf_at 0 u j) ≡ (is_some (leaf_at 0 t j) && not (j == i))) → (xs : List ListItem)
+      → map_to_non_blank f u xs ≡ (map_to_non_blank f t xs && not (maps_to f xs (Some i)))
+  mapped-less t u i less [] = refl
+  mapped-less t u i less (x ∷ xs) =
+      (λ k. one (f x) k && mapped-less t u i less xs k)
+      ∙ regrouped (is_non_blank_if_some t (f x)) (is_leaf_number (f x) i) (map_to_non_blank f t xs) (maps_to f xs (Some i))
     where
-      one : (o : Option ℕ) → is_set_if_told u o ≡ (is_set_if_told t o && not (is_leaf_number o i))
+      one : (o : Option ℕ) → is_non_blank_if_some u o ≡ (is_non_blank_if_some t o && not (is_leaf_number o i))
       one None = refl
       one (Some j) = less j
 
@@ -99,24 +99,24 @@ module _ (f : ListItem → Option ℕ) where
       regrouped false p b q = refl
 
   -- each that is told is set
-  told_set : (t : Tree) (xs : List ListItem) → tell_set_leaves f t xs ≡ true → (i : ℕ) → tells f xs (Some i) ≡ true → IsSome (leaf_at 0 t i)
-  told_set t [] all i e = absurd (false≢true e)
-  told_set t (x ∷ xs) all i e =
-      go (told_set t xs (both (is_set_if_told t (f x)) (tell_set_leaves f t xs) all).1 i) (f x) (is_leaf_number (f x) i) refl refl
+  mapped_set : (t : Tree) (xs : List ListItem) → map_to_non_blank f t xs ≡ true → (i : ℕ) → maps_to f xs (Some i) ≡ true → IsSome (leaf_at 0 t i)
+  mapped_set t [] all i e = absurd (false≢true e)
+  mapped_set t (x ∷ xs) all i e =
+      go (mapped_set t xs (both (is_non_blank_if_some t (f x)) (map_to_non_blank f t xs) all).1 i) (f x) (is_leaf_number (f x) i) refl refl
     where
-      go : (tells f xs (Some i) ≡ true → IsSome (leaf_at 0 t i)) → (o : Option ℕ) (b : Bool) → f x ≡ o → is_leaf_number (f x) i ≡ b → IsSome (leaf_at 0 t i)
-      go later o false h m = later (sym (ap (λ b. b || tells f xs (Some i)) m) ∙ e)
+      go : (maps_to f xs (Some i) ≡ true → IsSome (leaf_at 0 t i)) → (o : Option ℕ) (b : Bool) → f x ≡ o → is_leaf_number (f x) i ≡ b → IsSome (leaf_at 0 t i)
+      go later o false h m = later (sym (ap (λ b. b || maps_to f xs (Some i)) m) ∙ e)
       go later None true h m = absurd (false≢true (sym (ap (λ o. is_leaf_number o i) h) ∙ m))
       go later (Some j) true h m =
           let same : j ≡ i = (let t : (j == i) ≡ true = sym (ap (λ o. is_leaf_number o i) h) ∙ m in grind (arith, nat_tests)) in
-          ap (λ k. is_some (leaf_at 0 t k)) (sym same) ∙ sym (ap (is_set_if_told t) h) ∙ (both (is_set_if_told t (f x)) (tell_set_leaves f t xs) all).0
+          ap (λ k. is_some (leaf_at 0 t k)) (sym same) ∙ sym (ap (is_non_blank_if_some t) h) ∙ (both (is_non_blank_if_some t (f x)) (map_to_non_blank f t xs) all).0
 
 -- those that Updates and those that Removes concern
-concerned-parts : (t : Tree) (xs : List ListItem) → concern_set_leaves t xs ≡ (update_set_leaves t xs && tell_set_leaves removed_by t xs)
+concerned-parts : (t : Tree) (xs : List ListItem) → concern_set_leaves t xs ≡ (update_set_leaves t xs && map_to_non_blank removed_by t xs)
 concerned-parts t [] = refl
 concerned-parts t (x ∷ xs) =
     ap (λ b. concerns_set_leaf t x && b) (concerned-parts t xs)
-    ∙ regrouped (updates_set_leaf t x.sender x.proposal) (is_set_if_told t (removed_by x)) (update_set_leaves t xs) (tell_set_leaves removed_by t xs)
+    ∙ regrouped (updates_set_leaf t x.sender x.proposal) (is_non_blank_if_some t (removed_by x)) (update_set_leaves t xs) (map_to_non_blank removed_by t xs)
   where
     regrouped : (a b c d : Bool) → ((a && b) && (c && d)) ≡ ((a && c) && (b && d))
     regrouped true true c d = refl
@@ -217,25 +217,25 @@ updates_keep (x ∷ xs) t u e =
 
 -- ---- Removes
 
-removes_set : (xs : List ListItem) (t : Tree) → is_some (after_removes xs t) ≡ (tell_set_leaves removed_by t xs && tells_once removed_by xs)
+removes_set : (xs : List ListItem) (t : Tree) → is_some (after_removes xs t) ≡ (map_to_non_blank removed_by t xs && maps_once removed_by xs)
 unfolding after_removes
 removes_set [] t = refl
 removes_set (x ∷ xs) t = go (removes_set xs) x.proposal
   where
     Later : Type 0
-    Later = (u : Tree) → is_some (after_removes xs u) ≡ (tell_set_leaves removed_by u xs && tells_once removed_by xs)
+    Later = (u : Tree) → is_some (after_removes xs u) ≡ (map_to_non_blank removed_by u xs && maps_once removed_by xs)
 
     at : Later → (i : ℕ) (b : Bool) → is_some (leaf_at 0 t i) ≡ b
         → is_some (option_and_then (after_removes xs) (if b then Some (remove t i) else None))
-        ≡ ((b && tell_set_leaves removed_by t xs) && (not (tells removed_by xs (Some i)) && tells_once removed_by xs))
+        ≡ ((b && map_to_non_blank removed_by t xs) && (not (maps_to removed_by xs (Some i)) && maps_once removed_by xs))
     at later i true set =
         later (remove t i)
-        ∙ ap (λ b. b && tells_once removed_by xs) (told-less removed_by t (remove t i) i (set-remove t i set) xs)
-        ∙ joined (tell_set_leaves removed_by t xs) (not (tells removed_by xs (Some i))) (tells_once removed_by xs)
+        ∙ ap (λ b. b && maps_once removed_by xs) (mapped-less removed_by t (remove t i) i (set-remove t i set) xs)
+        ∙ joined (map_to_non_blank removed_by t xs) (not (maps_to removed_by xs (Some i))) (maps_once removed_by xs)
     at later i false blank = refl
 
     go : Later → (p : Proposal) → is_some (option_and_then (after_removes xs) (after_remove p t))
-        ≡ ((is_set_if_told t (removed_leaf p) && tell_set_leaves removed_by t xs) && (not (tells removed_by xs (removed_leaf p)) && tells_once removed_by xs))
+        ≡ ((is_non_blank_if_some t (removed_leaf p) && map_to_non_blank removed_by t xs) && (not (maps_to removed_by xs (removed_leaf p)) && maps_once removed_by xs))
     go later (Add k) = later t
     go later (Update y) = later t
     go later (ContextExtensions es) = later t
@@ -258,7 +258,7 @@ removed (Remove i) others rest t u e h =
     let inside = leaf_inside t i parts.0 in
     let fewer = member_count-blanked 0 t i (omega arith) (omega arith) parts.0 in
     let cleared = member_count-change_above (λ _. None) 0 (put_leaf 0 t i None) i in
-    let shrunk = member_count-shrink (clear_path (put_leaf 0 t i None) i) in
+    let shrunk = member_count-truncate (blank_path (put_leaf 0 t i None) i) in
     let there = ap member_count parts.1 in
     omega arith
 
@@ -289,9 +289,9 @@ number_low first (Some i) k e =
     let there : i - first ≡ k = parts.1 in
     grind (arith, nat_tests)
 
-told_there : (first k : ℕ) → k < 65536 → (xs : List ListItem) → tells (removed_in first) xs (Some k) ≡ tells removed_by xs (Some (first + k))
-told_there first k low [] = refl
-told_there first k low (x ∷ xs) = λ i. number_there first k low (removed_by x) i || told_there first k low xs i
+mapped_there : (first k : ℕ) → k < 65536 → (xs : List ListItem) → maps_to (removed_in first) xs (Some k) ≡ maps_to removed_by xs (Some (first + k))
+mapped_there first k low [] = refl
+mapped_there first k low (x ∷ xs) = λ i. number_there first k low (removed_by x) i || mapped_there first k low xs i
 
 -- the flag of a number
 abbrev pub flag : List Bool → ℕ → Bool
@@ -318,31 +318,31 @@ flag-set flags i inside j =
     ]
 
 -- where no leaf is removed twice, none of a window is
-pub window_once : (first : ℕ) (xs : List ListItem) → tells_once removed_by xs ≡ true → tells_once (removed_in first) xs ≡ true
+pub window_once : (first : ℕ) (xs : List ListItem) → maps_once removed_by xs ≡ true → maps_once (removed_in first) xs ≡ true
 window_once first [] once = refl
 window_once first (x ∷ xs) once =
-    let parts = both (not (tells removed_by xs (removed_by x))) (tells_once removed_by xs) once in
+    let parts = both (not (maps_to removed_by xs (removed_by x))) (maps_once removed_by xs) once in
     go (removed_by x) parts.0 (window_once first xs parts.1)
   where
-    go : (o : Option ℕ) → not (tells removed_by xs o) ≡ true → tells_once (removed_in first) xs ≡ true
-        → (not (tells (removed_in first) xs (number_in first o)) && tells_once (removed_in first) xs) ≡ true
+    go : (o : Option ℕ) → not (maps_to removed_by xs o) ≡ true → maps_once (removed_in first) xs ≡ true
+        → (not (maps_to (removed_in first) xs (number_in first o)) && maps_once (removed_in first) xs) ≡ true
     go None new rest = rest
     go (Some i) new rest = at (nat_le first i && nat_lt i (first + 65536)) refl
       where
         at : (b : Bool) → (nat_le first i && nat_lt i (first + 65536)) ≡ b
-            → (not (tells (removed_in first) xs (if b then Some (i - first) else None)) && tells_once (removed_in first) xs) ≡ true
+            → (not (maps_to (removed_in first) xs (if b then Some (i - first) else None)) && maps_once (removed_in first) xs) ≡ true
         at true inside =
             let low : i - first < 65536 = grind (arith, nat_tests) in
             let same : first + (i - first) ≡ i = grind (arith, nat_tests) in
-            ap (λ b. not b && tells_once (removed_in first) xs) (told_there first (i - first) low xs ∙ ap (λ k. tells removed_by xs (Some k)) same)
-            ∙ ap (λ b. b && tells_once (removed_in first) xs) new ∙ rest
+            ap (λ b. not b && maps_once (removed_in first) xs) (mapped_there first (i - first) low xs ∙ ap (λ k. maps_to removed_by xs (Some k)) same)
+            ∙ ap (λ b. b && maps_once (removed_in first) xs) new ∙ rest
         at false outside = rest
 
 -- where some leaf of a window is, some leaf is
-pub window_twice : (first : ℕ) (xs : List ListItem) → tells_once (removed_in first) xs ≡ false → false ≡ tells_once removed_by xs
-window_twice first xs twice = go (tells_once removed_by xs) refl
+pub window_twice : (first : ℕ) (xs : List ListItem) → maps_once (removed_in first) xs ≡ false → false ≡ maps_once removed_by xs
+window_twice first xs twice = go (maps_once removed_by xs) refl
   where
-    go : (b : Bool) → tells_once removed_by xs ≡ b → false ≡ tells_once removed_by xs
+    go : (b : Bool) → maps_once removed_by xs ≡ b → false ≡ maps_once removed_by xs
     go true once = absurd (false≢true (sym twice ∙ window_once first xs once))
     go false once = sym once
 
@@ -353,33 +353,33 @@ number_of w k i below split =
     ap (λ b. if b then Some (i - w * 65536) else None) inside ∙ ap Some (let e : i - w * 65536 ≡ k = omega arith in e)
 
 -- where none of any window is, no leaf of these windows is
-pub windows_once : (xs : List ListItem) → ((i : ℕ) → tells removed_by xs (Some i) ≡ true → i < leaf_limit)
-    → ((w : ℕ) → w < 16 → tells_once (removed_in (w * 65536)) xs ≡ true) → tells_once removed_by xs ≡ true
+pub windows_once : (xs : List ListItem) → ((i : ℕ) → maps_to removed_by xs (Some i) ≡ true → i < leaf_limit)
+    → ((w : ℕ) → w < 16 → maps_once (removed_in (w * 65536)) xs ≡ true) → maps_once removed_by xs ≡ true
 windows_once [] low once = refl
 windows_once (x ∷ xs) low once =
-    ap (λ b. b && tells_once removed_by xs) (first (removed_by x) refl)
+    ap (λ b. b && maps_once removed_by xs) (first (removed_by x) refl)
     ∙ windows_once xs (λ i e. low i (ap (λ b. is_leaf_number (removed_by x) i || b) e ∙ or_true (is_leaf_number (removed_by x) i))) (λ w within. (parts w within).1)
   where
     or_true : (b : Bool) → (b || true) ≡ true
     or_true true = refl
     or_true false = refl
 
-    parts : (w : ℕ) → w < 16 → (not (tells (removed_in (w * 65536)) xs (number_in (w * 65536) (removed_by x))) ≡ true) × (tells_once (removed_in (w * 65536)) xs ≡ true)
-    parts w within = both (not (tells (removed_in (w * 65536)) xs (number_in (w * 65536) (removed_by x)))) (tells_once (removed_in (w * 65536)) xs) (once w within)
+    parts : (w : ℕ) → w < 16 → (not (maps_to (removed_in (w * 65536)) xs (number_in (w * 65536) (removed_by x))) ≡ true) × (maps_once (removed_in (w * 65536)) xs ≡ true)
+    parts w within = both (not (maps_to (removed_in (w * 65536)) xs (number_in (w * 65536) (removed_by x)))) (maps_once (removed_in (w * 65536)) xs) (once w within)
 
-    first : (o : Option ℕ) → removed_by x ≡ o → not (tells removed_by xs o) ≡ true
+    first : (o : Option ℕ) → removed_by x ≡ o → not (maps_to removed_by xs o) ≡ true
     first None e = refl
     first (Some i) e =
         let own : is_leaf_number (removed_by x) i ≡ true = ap (λ o. is_leaf_number o i) e ∙ (let t : (i == i) ≡ true = grind (arith, nat_tests) in t) in
-        let small : i < 1048576 = low i (ap (λ b. b || tells removed_by xs (Some i)) own) in
+        let small : i < 1048576 = low i (ap (λ b. b || maps_to removed_by xs (Some i)) own) in
         let w = i / 65536 in
         let k = i % 65536 in
         let within : w < 16 = omega arith in
         let below : k < 65536 = omega arith in
         let split : w * 65536 + k ≡ i = omega arith in
         let number : number_in (w * 65536) (Some i) ≡ Some k = number_of w k i below split in
-        ap not (sym (told_there (w * 65536) k below xs ∙ ap (λ j. tells removed_by xs (Some j)) split))
-        ∙ sym (ap (λ o. not (tells (removed_in (w * 65536)) xs o)) (ap (number_in (w * 65536)) e ∙ number)) ∙ (parts w within).0
+        ap not (sym (mapped_there (w * 65536) k below xs ∙ ap (λ j. maps_to removed_by xs (Some j)) split))
+        ∙ sym (ap (λ o. not (maps_to (removed_in (w * 65536)) xs o)) (ap (number_in (w * 65536)) e ∙ number)) ∙ (parts w within).0
 
 -- ---- the whole list
 
@@ -389,9 +389,9 @@ steps items t v e = option_and_then_some (after_removes items) (after_updates it
 
 module _ (items : List ListItem) (t : Tree) where
   -- those that Removes concern are told alike of the tree after the Updates
-  removes_after : (u : Tree) → after_updates items t ≡ Some u → is_some (after_removes items u) ≡ (tell_set_leaves removed_by t items && tells_once removed_by items)
+  removes_after : (u : Tree) → after_updates items t ≡ Some u → is_some (after_removes items u) ≡ (map_to_non_blank removed_by t items && maps_once removed_by items)
   removes_after u e =
-      removes_set items u ∙ ap (λ b. b && tells_once removed_by items) (told-alike removed_by t u (updates_keep items t u e).alike items)
+      removes_set items u ∙ ap (λ b. b && maps_once removed_by items) (mapped-alike removed_by t u (updates_keep items t u e).alike items)
 
   -- as many are left as were, without those that are removed
   left : (v : Tree) → without_adds items t ≡ Some v → member_count v + length (removed_leaves items) ≡ member_count t
@@ -400,18 +400,18 @@ module _ (items : List ListItem) (t : Tree) where
       removes_count items s.0 v s.2 ∙ (updates_keep items t s.0 s.1).count
 
   -- each leaf that is removed may be one of a tree's
-  pub removed_low : (shape : HasShape t) → concern_set_leaves t items ≡ true → (i : ℕ) → tells removed_by items (Some i) ≡ true → i < leaf_limit
+  pub removed_low : (shape : HasShape t) → concern_set_leaves t items ≡ true → (i : ℕ) → maps_to removed_by items (Some i) ≡ true → i < leaf_limit
   removed_low shape all i e =
-      let parts = both (update_set_leaves t items) (tell_set_leaves removed_by t items) (sym (concerned-parts t items) ∙ all) in
-      let inside = leaf_inside t i (told_set removed_by t items parts.1 i e) in
+      let parts = both (update_set_leaves t items) (map_to_non_blank removed_by t items) (sym (concerned-parts t items) ∙ all) in
+      let inside = leaf_inside t i (mapped_set removed_by t items parts.1 i e) in
       let limit = leaf_count-limit (record { tree = t; shape = shape }) in
       omega arith
 
   -- a list whose leaves are set, none of which is removed twice, can be applied but for its Adds
   pub room_lacking : (leaf_limit + length (removed_leaves items) < member_count t + length (new_members items))
-      → concern_set_leaves t items ≡ true → tells_once removed_by items ≡ true → ExceedsCapacity items t
+      → concern_set_leaves t items ≡ true → maps_once removed_by items ≡ true → ExceedsCapacity items t
   room_lacking many all once =
-      let parts = both (update_set_leaves t items) (tell_set_leaves removed_by t items) (sym (concerned-parts t items) ∙ all) in
+      let parts = both (update_set_leaves t items) (map_to_non_blank removed_by t items) (sym (concerned-parts t items) ∙ all) in
       let u = taken_out (after_updates items t) (updates_set items t ∙ parts.0) in
       let v = taken_out (after_removes items u.0) (removes_after u.0 u.1 ∙ (λ k. parts.1 k && once k)) in
       let applied : without_adds items t ≡ Some v.0 = ap (option_and_then (after_removes items)) u.1 ∙ v.1 in
@@ -420,11 +420,11 @@ module _ (items : List ListItem) (t : Tree) where
 
   -- and no other one lacks room
   pub lacking_room : ExceedsCapacity items t
-      → (leaf_limit + length (removed_leaves items) < member_count t + length (new_members items)) × (concern_set_leaves t items ≡ true) × (tells_once removed_by items ≡ true)
+      → (leaf_limit + length (removed_leaves items) < member_count t + length (new_members items)) × (concern_set_leaves t items ≡ true) × (maps_once removed_by items ≡ true)
   lacking_room h =
       let s = steps items t h.tree h.applied in
       let replaced = sym (updates_set items t) ∙ ap is_some s.1 in
-      let parts = both (tell_set_leaves removed_by t items) (tells_once removed_by items) (sym (removes_after s.0 s.1) ∙ ap is_some s.2) in
+      let parts = both (map_to_non_blank removed_by t items) (maps_once removed_by items) (sym (removes_after s.0 s.1) ∙ ap is_some s.2) in
       let count = left h.tree h.applied in
       let full = h.full in
       (omega arith, concerned-parts t items ∙ (λ k. replaced k && parts.0 k), parts.1)

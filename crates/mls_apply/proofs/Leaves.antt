@@ -5,7 +5,7 @@ use Rattle.std.proofs.lemmas.Bool.{cases_lt, false≢true}
 use Rattle.mls_nodes.specs.declared.leaf.LeafNode.{LeafNode}
 use Rattle.mls_nodes.specs.declared.parent.ParentNode.{ParentNode}
 use Rattle.mls_tree.specs.Tree.{Tree, branch, leaf_count, leaf_at}
-use Rattle.mls_tree.specs.TreeOperations.{put_leaf, clear_path}
+use Rattle.mls_tree.specs.TreeOperations.{put_leaf, blank_path}
 use Rattle.mls_tree.proofs.Kept.{leaf_at-put_leaf, leaf_at-put_leaf_other, leaf_at-change_above}
 use Rattle.mls_tree.proofs.Choices.{below, from}
 use Rattle.mls_tree.proofs.Lookups.{leaf_at-past}
@@ -41,12 +41,12 @@ module _ (t : Tree) (i : ℕ) (shown : Option (Bor LeafNode)) (none : Bool)
 -- ---- a leaf is replaced or made blank, and the parents above it made blank
 
 -- another leaf stays
-pub kept_beside : (t : Tree) (i j : ℕ) (y : Option LeafNode) → IsSome (leaf_at 0 t i) → j ≢ i → leaf_at 0 (clear_path (put_leaf 0 t i y) i) j ≡ leaf_at 0 t j
+pub kept_beside : (t : Tree) (i j : ℕ) (y : Option LeafNode) → IsSome (leaf_at 0 t i) → j ≢ i → leaf_at 0 (blank_path (put_leaf 0 t i y) i) j ≡ leaf_at 0 t j
 kept_beside t i j y set away =
     leaf_at-change_above (λ _. None) 0 (put_leaf 0 t i y) i j ∙ leaf_at-put_leaf_other 0 t i j y (omega arith) (omega (arith, leaf_inside t i set)) away
 
 -- the leaf itself is the new one
-pub put_there : (t : Tree) (i j : ℕ) (y : Option LeafNode) → IsSome (leaf_at 0 t i) → j ≡ i → leaf_at 0 (clear_path (put_leaf 0 t i y) i) j ≡ y
+pub put_there : (t : Tree) (i j : ℕ) (y : Option LeafNode) → IsSome (leaf_at 0 t i) → j ≡ i → leaf_at 0 (blank_path (put_leaf 0 t i y) i) j ≡ y
 put_there t i j y set same =
     leaf_at-change_above (λ _. None) 0 (put_leaf 0 t i y) i j
     ∙ ap (λ k. leaf_at 0 (put_leaf 0 t i y) k) same

@@ -7,7 +7,7 @@ use Rattle.mls_nodes.specs.declared.leaf.LeafNode.{LeafNode}
 use Rattle.mls_nodes.specs.declared.parent.ParentNode.{ParentNode}
 use Rattle.mls_tree.specs.Tree.{Tree, leaf, branch, height, leaf_count, member_count, leaf_at}
 use Rattle.mls_tree.specs.BlankLeaves.{first_of, first_blank_leaf}
-use Rattle.mls_tree.specs.TreeOperations.{put_leaf, change_above, blank_tree, grow, has_set_leaf, shrink}
+use Rattle.mls_tree.specs.TreeOperations.{put_leaf, change_above, blank_tree, extend, has_set_leaf, truncate}
 use Rattle.mls_tree.proofs.Choices.{below, from, same}
 use Rattle.mls_tree.proofs.Kept.{either, or_none}
 
@@ -41,8 +41,8 @@ member_count-blank_tree : (h : ℕ) → member_count (blank_tree h) ≡ 0
 member_count-blank_tree zero = refl
 member_count-blank_tree (suc h) = let e = member_count-blank_tree h in omega arith
 
-pub member_count-grow : (t : Tree) → member_count (grow t) ≡ member_count t
-member_count-grow t = let e = member_count-blank_tree (height t) in omega arith
+pub member_count-extend : (t : Tree) → member_count (extend t) ≡ member_count t
+member_count-extend t = let e = member_count-blank_tree (height t) in omega arith
 
 both_none : (a b : Option ℕ) → first_of a b ≡ None → (a ≡ None) × (b ≡ None)
 both_none None b e = (refl, e)
@@ -53,9 +53,9 @@ pub member_count-full : (first : ℕ) (t : Tree) → first_blank_leaf first t �
 member_count-full first (leaf None) e = absurd (none-some first (sym e))
 member_count-full first (leaf (Some x)) e = refl
 member_count-full first (branch l n r) e =
-    let halves = both_none (first_blank_leaf first l) (first_blank_leaf (first + leaf_count l) r) e in
-    let a = member_count-full first l halves.0 in
-    let b = member_count-full (first + leaf_count l) r halves.1 in
+    let children = both_none (first_blank_leaf first l) (first_blank_leaf (first + leaf_count l) r) e in
+    let a = member_count-full first l children.0 in
+    let b = member_count-full (first + leaf_count l) r children.1 in
     omega arith
 
 -- ---- a set leaf is replaced or made blank
@@ -116,15 +116,15 @@ none_set : (t : Tree) → has_set_leaf t ≡ false → member_count t ≡ 0
 none_set (leaf None) e = refl
 none_set (leaf (Some x)) e = absurd (false≢true (sym e))
 none_set (branch l n r) e =
-    let halves = or_none (has_set_leaf l) (has_set_leaf r) e in
-    let a = none_set l halves.0 in
-    let b = none_set r halves.1 in
+    let children = or_none (has_set_leaf l) (has_set_leaf r) e in
+    let a = none_set l children.0 in
+    let b = none_set r children.1 in
     omega arith
 
-pub member_count-shrink : (t : Tree) → member_count (shrink t) ≡ member_count t
-member_count-shrink (leaf x) = refl
-member_count-shrink (branch l n r) = go (has_set_leaf r) refl (member_count-shrink l)
+pub member_count-truncate : (t : Tree) → member_count (truncate t) ≡ member_count t
+member_count-truncate (leaf x) = refl
+member_count-truncate (branch l n r) = go (has_set_leaf r) refl (member_count-truncate l)
   where
-    go : (b : Bool) → has_set_leaf r ≡ b → member_count (shrink l) ≡ member_count l → member_count (if b then branch l n r else shrink l) ≡ member_count l + member_count r
+    go : (b : Bool) → has_set_leaf r ≡ b → member_count (truncate l) ≡ member_count l → member_count (if b then branch l n r else truncate l) ≡ member_count l + member_count r
     go true e a = refl
     go false e a = let b = none_set r e in omega arith

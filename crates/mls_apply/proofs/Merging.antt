@@ -10,15 +10,15 @@ use Rattle.mls_nodes.specs.declared.leaf.LeafNode.{LeafNode}
 use Rattle.mls_nodes.specs.declared.leaf_source.LeafSource.{LeafSource}
 use Rattle.mls_nodes.specs.declared.leaf_source.LeafSource.TheVariants as sources
 use Rattle.mls_nodes.specs.declared.parent.ParentNode.{ParentNode}
-use Rattle.mls_tree.specs.Tree.{Tree, leaf, branch, leaf_count, Subtree, subtree_at, root_place, root_entry}
+use Rattle.mls_tree.specs.Tree.{Tree, leaf, branch, leaf_count, Subtree, subtree_at, root_node_index, root_entry}
 use Rattle.mls_tree.specs.TreeHash.{tree_hash}
 use Rattle.mls_tree.specs.Paths.{resolution, filtered_direct_path, where_resolved}
 use Rattle.mls_tree.proofs.Trees.{subtree_at-root}
 use Rattle.mls_hash.specs.ParentHash.{parent_hash_input}
 use Rattle.mls_hash.proofs.Strips.{strip-none}
-use Rattle.mls_check.specs.ParentHashValid.{source_hash, linked_hash, ParentHashLink, Step, IsLeaf, ParentHashValid, from_leaf, from_parent, IsParentHashValidHere}
+use Rattle.mls_check.specs.ParentHashValid.{source_hash, linked_hash, ParentHashLink, ParentHashStep, IsLeaf, ParentHashValid, from_leaf, from_parent, IsParentHashValidHere}
 use Rattle.mls_check.proofs.Elements.{contains-nil, contains-cons, contains-head}
-use Rattle.mls_apply.specs.MergePath.{Handed, handed, handed_by, path_parent, path_hash, merged_from, merged, hashes_from, expected_hashes, behind}
+use Rattle.mls_apply.specs.MergePath.{PathStep, path_step_at, path_step, path_parent, path_hash, merged_from, merged, hashes_from, expected_hashes, append_parent_hash}
 use Rattle.mls_apply.specs.PathRules.{has_first_parent_hash}
 use Rattle.mls_check.specs.PreservedValidity.{IsParentHashValidTree}
 use Rattle.mls_check.proofs.Reaching.{in_left, in_right}
@@ -32,33 +32,33 @@ came_from f (Some a) y e = (a, refl, same_Some (f a) y e)
 module _ (H : List ℕ → List ℕ) (leaves : ℕ) where
   -- one set node alone is the resolution of a subtree, it carries the hash, and a chain has come to it
   record IsHead (first : ℕ) (t : Tree) (hash : List ℕ) : Type 0 where
-    place : ℕ
+    node_index : ℕ
     node : Subtree
-    stands : subtree_at first t place ≡ Some node
+    stands : subtree_at first t node_index ≡ Some node
     linked : linked_hash (root_entry node.tree) ≡ Some hash
-    alone : resolution leaves first t ≡ place ∷ []
+    alone : resolution leaves first t ≡ node_index ∷ []
     ended : IsLeaf node.tree ⊎ ParentHashValid H leaves node
 
   -- a path's parent has a link from the head of its half on the path
-  head-link : (key hash h : List ℕ) (half other : Subtree) (head : IsHead half.first half.tree h) → path_hash H (path_parent key hash) other.first other.tree ≡ Some h
-      → ParentHashLink H leaves (path_parent key hash) half other head.node
-  head-link key hash h half other head e = record {
-    place = head.place;
+  head-link : (key hash h : List ℕ) (child other : Subtree) (head : IsHead child.first child.tree h) → path_hash H (path_parent key hash) other.first other.tree ≡ Some h
+      → ParentHashLink H leaves (path_parent key hash) child other head.node
+  head-link key hash h child other head e = record {
+    node_index = head.node_index;
     stands = head.stands;
     hash = h;
     linked = head.linked;
     expected =
         ap (λ u. option_and_then (λ original. option_map H (parent_hash_input (path_parent key hash) original)) (tree_hash H other.first u)) (strip-none other.first other.tree)
         ∙ e;
-    resolved = subst (λ ps. Contains ps head.place) (sym head.alone) (contains-head head.place []);
+    resolved = subst (λ ps. Contains ps head.node_index) (sym head.alone) (contains-head head.node_index []);
     unmerged = λ u. (
-      λ c. absurd (elim (contains-cons head.place [] u (subst (λ ps. Contains ps u) head.alone c.0)) [ inl s ↦ c.1 (sym s) | inr d ↦ contains-nil u d ]),
+      λ c. absurd (elim (contains-cons head.node_index [] u (subst (λ ps. Contains ps u) head.alone c.0)) [ inl s ↦ c.1 (sym s) | inr d ↦ contains-nil u d ]),
       λ w. absurd (contains-nil w.0 w.1),
     );
   }
 
   -- so it is reached
-  by_head : (d s : Subtree) → Step H leaves d s → IsLeaf d.tree ⊎ ParentHashValid H leaves d → ParentHashValid H leaves s
+  by_head : (d s : Subtree) → ParentHashStep H leaves d s → IsLeaf d.tree ⊎ ParentHashValid H leaves d → ParentHashValid H leaves s
   by_head d s step (inl l) = from_leaf d s step l
   by_head d s step (inr r) = from_parent d s step r
 
@@ -68,19 +68,19 @@ module _ (H : List ℕ → List ℕ) (leaves : ℕ) where
 
     reached-left : IsHead first l h → path_hash H (path_parent key hash) (first + leaf_count l) r ≡ Some h → ParentHashValid H leaves set_top
     reached-left head e =
-        let half : Subtree = record { first = first; tree = l } in
+        let child : Subtree = record { first = first; tree = l } in
         let other : Subtree = record { first = first + leaf_count l; tree = r } in
-        by_head head.node set_top (record { parent = path_parent key hash; half = half; other = other; halves = (refl, inl (refl, refl)); link = head-link key hash h half other head e }) head.ended
+        by_head head.node set_top (record { parent = path_parent key hash; child = child; other = other; children = (refl, inl (refl, refl)); link = head-link key hash h child other head e }) head.ended
 
     reached-right : IsHead (first + leaf_count l) r h → path_hash H (path_parent key hash) first l ≡ Some h → ParentHashValid H leaves set_top
     reached-right head e =
-        let half : Subtree = record { first = first + leaf_count l; tree = r } in
+        let child : Subtree = record { first = first + leaf_count l; tree = r } in
         let other : Subtree = record { first = first; tree = l } in
-        by_head head.node set_top (record { parent = path_parent key hash; half = half; other = other; halves = (refl, inr (refl, refl)); link = head-link key hash h half other head e }) head.ended
+        by_head head.node set_top (record { parent = path_parent key hash; child = child; other = other; children = (refl, inr (refl, refl)); link = head-link key hash h child other head e }) head.ended
 
     set-head : ParentHashValid H leaves set_top → IsHead first (branch l (Some (path_parent key hash)) r) hash
     set-head reached = record {
-      place = root_place first (branch l (Some (path_parent key hash)) r);
+      node_index = root_node_index first (branch l (Some (path_parent key hash)) r);
       node = set_top;
       stands = subtree_at-root first (branch l (Some (path_parent key hash)) r);
       linked = refl;
@@ -89,14 +89,14 @@ module _ (H : List ℕ → List ℕ) (leaves : ℕ) where
     }
 
     sound-set : ParentHashValid H leaves set_top → IsSoundSubtree H leaves first (branch l (Some (path_parent key hash)) r)
-    sound-set reached = record { sorted = λ k lt. absurd (omega (arith, lt)); placed = refl; reached = λ set. reached }
+    sound-set reached = record { sorted = λ k lt. absurd (omega (arith, lt)); consistent = refl; parent_hash = λ set. reached }
 
   -- a blank parent hands through
   blank-left : (first : ℕ) (l r : Tree) (hash : List ℕ) → IsHead first l hash → resolution leaves (first + leaf_count l) r ≡ [] → IsHead first (branch l None r) hash
   blank-left first l r hash head e = record {
-    place = head.place;
+    node_index = head.node_index;
     node = head.node;
-    stands = in_left first l None r head.place head.node head.stands;
+    stands = in_left first l None r head.node_index head.node head.stands;
     linked = head.linked;
     alone = λ i. head.alone i ++ e i;
     ended = head.ended;
@@ -104,29 +104,29 @@ module _ (H : List ℕ → List ℕ) (leaves : ℕ) where
 
   blank-right : (first : ℕ) (l r : Tree) (hash : List ℕ) → IsHead (first + leaf_count l) r hash → resolution leaves first l ≡ [] → IsHead first (branch l None r) hash
   blank-right first l r hash head e = record {
-    place = head.place;
+    node_index = head.node_index;
     node = head.node;
-    stands = in_right first l None r head.place head.node head.stands;
+    stands = in_right first l None r head.node_index head.node head.stands;
     linked = head.linked;
     alone = λ i. e i ++ head.alone i;
     ended = head.ended;
   }
 
   -- what a parent hands down
-  abbrev HandsDown : ℕ → Tree → List ℕ → Handed → Type 0
+  abbrev HandsDown : ℕ → Tree → List ℕ → PathStep → Type 0
   HandsDown first away hash n =
       ((resolution leaves first away ≡ []) × (n.parent ≡ None) × (n.hash ≡ hash))
       ⊎ ((key : List ℕ) × (n.parent ≡ Some (path_parent key hash)) × (path_hash H (path_parent key hash) first away ≡ Some n.hash))
 
-  hands_down : (first : ℕ) (away : Tree) (hash : List ℕ) (keys : List (List ℕ)) (n : Handed) → handed H leaves first away hash keys ≡ Some n → HandsDown first away hash n
+  hands_down : (first : ℕ) (away : Tree) (hash : List ℕ) (keys : List (List ℕ)) (n : PathStep) → path_step_at H leaves first away hash keys ≡ Some n → HandsDown first away hash n
   hands_down first away hash keys n e = go (resolution leaves first away) refl keys e
     where
-      go : (res : List ℕ) → resolution leaves first away ≡ res → (keys : List (List ℕ)) → handed_by H res first away hash keys ≡ Some n → HandsDown first away hash n
-      go [] is keys e = (let s = same_Some _ n e in inl (is, sym (ap (λ (v : Handed). v.parent) s), sym (ap (λ (v : Handed). v.hash) s)))
+      go : (res : List ℕ) → resolution leaves first away ≡ res → (keys : List (List ℕ)) → path_step H res first away hash keys ≡ Some n → HandsDown first away hash n
+      go [] is keys e = (let s = same_Some _ n e in inl (is, sym (ap (λ (v : PathStep). v.parent) s), sym (ap (λ (v : PathStep). v.hash) s)))
       go (p ∷ ps) is [] e = absurd (none-some n e)
       go (p ∷ ps) is (key ∷ keys) e =
           (let w = came_from (λ h. record { parent = Some (path_parent key hash); hash = h; keys = keys }) (path_hash H (path_parent key hash) first away) n e in
-          inr (key, sym (ap (λ (v : Handed). v.parent) w.2), w.1 ∙ ap (λ (v : Handed). Some v.hash) w.2))
+          inr (key, sym (ap (λ (v : PathStep). v.parent) w.2), w.1 ∙ ap (λ (v : PathStep). Some v.hash) w.2))
 
   -- a parent at a place is reached
   abbrev IsReachedIn : ℕ → Tree → ℕ → Type 0
@@ -142,15 +142,15 @@ module _ (H : List ℕ → List ℕ) (leaves : ℕ) where
     IsThere [] = ⊥
     IsThere (h ∷ hs) = Unit {0}
 
-    carried-behind : (q : Option ParentNode) (hash : List ℕ) (hs : List (List ℕ)) → IsThere hs → IsCarried (behind q hash hs) → IsCarried hs
-    carried-behind None hash hs there c = c
-    carried-behind (Some p) hash [] there c = absurd there
-    carried-behind (Some p) hash (h ∷ hs) there c = c
+    carried-append_parent_hash : (q : Option ParentNode) (hash : List ℕ) (hs : List (List ℕ)) → IsThere hs → IsCarried (append_parent_hash q hash hs) → IsCarried hs
+    carried-append_parent_hash None hash hs there c = c
+    carried-append_parent_hash (Some p) hash [] there c = absurd there
+    carried-append_parent_hash (Some p) hash (h ∷ hs) there c = c
 
-    there-behind : (q : Option ParentNode) (hash : List ℕ) (hs : List (List ℕ)) → IsThere hs → IsThere (behind q hash hs)
-    there-behind None hash hs there = there
-    there-behind (Some p) hash [] there = tt
-    there-behind (Some p) hash (h ∷ hs) there = tt
+    there-append_parent_hash : (q : Option ParentNode) (hash : List ℕ) (hs : List (List ℕ)) → IsThere hs → IsThere (append_parent_hash q hash hs)
+    there-append_parent_hash None hash hs there = there
+    there-append_parent_hash (Some p) hash [] there = tt
+    there-append_parent_hash (Some p) hash (h ∷ hs) there = tt
 
     -- what becomes of a subtree on the path, which is handed a hash; the new parents stand at the places `path`
     record IsMade (first : ℕ) (t new : Tree) (hash : List ℕ) (hs : List (List ℕ)) (path : List ℕ) : Type 0 where
@@ -161,23 +161,23 @@ module _ (H : List ℕ → List ℕ) (leaves : ℕ) where
       sound : IsCarried hs → HasSoundSubtrees H leaves first t → HasSoundSubtrees H leaves first new
 
     -- a parent that is passed has its place in the path where its half away from the leaf has a resolution
-    no_place : (res : List ℕ) (place : ℕ) (q : ℕ) → res ≡ [] → ¬ Contains (where_resolved res place) q
-    no_place [] place q e c = contains-nil q c
-    no_place (r ∷ rs) place q e c = absurd (cons-nil e)
+    no_node_index : (res : List ℕ) (node_index : ℕ) (q : ℕ) → res ≡ [] → ¬ Contains (where_resolved res node_index) q
+    no_node_index [] node_index q e c = contains-nil q c
+    no_node_index (r ∷ rs) node_index q e c = absurd (cons-nil e)
       where
         cons-nil : r ∷ rs ≡ [] → ⊥
         cons-nil e = cc
 
-    one_place : (res : List ℕ) (place q : ℕ) → Contains (where_resolved res place) q → place ≡ q
-    one_place [] place q c = absurd (contains-nil q c)
-    one_place (r ∷ rs) place q c = elim (contains-cons place [] q c) [ inl e ↦ e | inr d ↦ absurd (contains-nil q d) ]
+    one_node_index : (res : List ℕ) (node_index q : ℕ) → Contains (where_resolved res node_index) q → node_index ≡ q
+    one_node_index [] node_index q c = absurd (contains-nil q c)
+    one_node_index (r ∷ rs) node_index q c = elim (contains-cons node_index [] q c) [ inl e ↦ e | inr d ↦ absurd (contains-nil q d) ]
 
-    module _ (first : ℕ) (l : Tree) (p : Option ParentNode) (r : Tree) (hash : List ℕ) (hs : List (List ℕ)) (path : List ℕ) (n : Handed) where
+    module _ (first : ℕ) (l : Tree) (p : Option ParentNode) (r : Tree) (hash : List ℕ) (hs : List (List ℕ)) (path : List ℕ) (n : PathStep) where
       made-left : (u : Tree) → IsMade first l u n.hash hs path → HandsDown (first + leaf_count l) r hash n
-          → IsMade first (branch l p r) (branch u n.parent r) hash (behind n.parent hash hs) (path ++ where_resolved (resolution leaves (first + leaf_count l) r) (2 * (first + leaf_count l) - 1))
+          → IsMade first (branch l p r) (branch u n.parent r) hash (append_parent_hash n.parent hash hs) (path ++ where_resolved (resolution leaves (first + leaf_count l) r) (2 * (first + leaf_count l) - 1))
       made-left u m (inl w) =
           let all = path ++ where_resolved (resolution leaves (first + leaf_count l) r) (2 * (first + leaf_count l) - 1) in
-          subst (λ (q : Option ParentNode). IsMade first (branch l p r) (branch u q r) hash (behind q hash hs) all) (sym w.1) (record {
+          subst (λ (q : Option ParentNode). IsMade first (branch l p r) (branch u q r) hash (append_parent_hash q hash hs) all) (sym w.1) (record {
             count = ap (λ k. k + leaf_count r) m.count;
             there = m.there;
             head = λ c.
@@ -185,24 +185,24 @@ module _ (H : List ℕ → List ℕ) (leaves : ℕ) where
                 (ap (λ k. resolution leaves (first + k) r) m.count ∙ w.0);
             reached = λ c q d. elim (Contains-append_cases path (where_resolved (resolution leaves (first + leaf_count l) r) (2 * (first + leaf_count l) - 1)) q d) [
               | inl a ↦ (let s = m.reached c q a in (s.0, in_left first u None r q s.0 s.1, s.2))
-              | inr b ↦ absurd (no_place (resolution leaves (first + leaf_count l) r) (2 * (first + leaf_count l) - 1) q w.0 b)
+              | inr b ↦ absurd (no_node_index (resolution leaves (first + leaf_count l) r) (2 * (first + leaf_count l) - 1) q w.0 b)
             ];
             sound = λ c g. sound_blank H leaves first u r (m.sound c g.1) (subst (λ k. HasSoundSubtrees H leaves (first + k) r) (sym m.count) g.2);
           })
       made-left u m (inr w) =
           let all = path ++ where_resolved (resolution leaves (first + leaf_count l) r) (2 * (first + leaf_count l) - 1) in
           let hashed = ap (λ k. path_hash H (path_parent w.0 hash) (first + k) r) m.count ∙ w.2 in
-          let below : IsCarried (behind (Some (path_parent w.0 hash)) hash hs) → IsCarried hs = carried-behind (Some (path_parent w.0 hash)) hash hs m.there in
-          let top : IsCarried (behind (Some (path_parent w.0 hash)) hash hs) → ParentHashValid H leaves (record { first = first; tree = branch u (Some (path_parent w.0 hash)) r })
+          let below : IsCarried (append_parent_hash (Some (path_parent w.0 hash)) hash hs) → IsCarried hs = carried-append_parent_hash (Some (path_parent w.0 hash)) hash hs m.there in
+          let top : IsCarried (append_parent_hash (Some (path_parent w.0 hash)) hash hs) → ParentHashValid H leaves (record { first = first; tree = branch u (Some (path_parent w.0 hash)) r })
           = λ c. reached-left first u r w.0 hash n.hash (m.head (below c)) hashed in
-          subst (λ (q : Option ParentNode). IsMade first (branch l p r) (branch u q r) hash (behind q hash hs) all) (sym w.1) (record {
+          subst (λ (q : Option ParentNode). IsMade first (branch l p r) (branch u q r) hash (append_parent_hash q hash hs) all) (sym w.1) (record {
             count = ap (λ k. k + leaf_count r) m.count;
-            there = there-behind (Some (path_parent w.0 hash)) hash hs m.there;
+            there = there-append_parent_hash (Some (path_parent w.0 hash)) hash hs m.there;
             head = λ c. set-head first u r w.0 hash n.hash (top c);
             reached = λ c q d. elim (Contains-append_cases path (where_resolved (resolution leaves (first + leaf_count l) r) (2 * (first + leaf_count l) - 1)) q d) [
               | inl a ↦ (let s = m.reached (below c) q a in (s.0, in_left first u (Some (path_parent w.0 hash)) r q s.0 s.1, s.2))
               | inr b ↦
-                  (let e = one_place (resolution leaves (first + leaf_count l) r) (2 * (first + leaf_count l) - 1) q b in
+                  (let e = one_node_index (resolution leaves (first + leaf_count l) r) (2 * (first + leaf_count l) - 1) q b in
                   let v = branch u (Some (path_parent w.0 hash)) r in (
                     record { first = first; tree = v },
                     ap (λ k. subtree_at first v k) (sym e ∙ ap (λ k. 2 * (first + k) - 1) (sym m.count)) ∙ subtree_at-root first v,
@@ -213,32 +213,32 @@ module _ (H : List ℕ → List ℕ) (leaves : ℕ) where
           })
 
       made-right : (u : Tree) → IsMade (first + leaf_count l) r u n.hash hs path → HandsDown first l hash n
-          → IsMade first (branch l p r) (branch l n.parent u) hash (behind n.parent hash hs) (path ++ where_resolved (resolution leaves first l) (2 * (first + leaf_count l) - 1))
+          → IsMade first (branch l p r) (branch l n.parent u) hash (append_parent_hash n.parent hash hs) (path ++ where_resolved (resolution leaves first l) (2 * (first + leaf_count l) - 1))
       made-right u m (inl w) =
           let all = path ++ where_resolved (resolution leaves first l) (2 * (first + leaf_count l) - 1) in
-          subst (λ (q : Option ParentNode). IsMade first (branch l p r) (branch l q u) hash (behind q hash hs) all) (sym w.1) (record {
+          subst (λ (q : Option ParentNode). IsMade first (branch l p r) (branch l q u) hash (append_parent_hash q hash hs) all) (sym w.1) (record {
             count = ap (λ k. leaf_count l + k) m.count;
             there = m.there;
             head = λ c. blank-right first l u hash (subst (IsHead (first + leaf_count l) u) w.2 (m.head c)) w.0;
             reached = λ c q d. elim (Contains-append_cases path (where_resolved (resolution leaves first l) (2 * (first + leaf_count l) - 1)) q d) [
               | inl a ↦ (let s = m.reached c q a in (s.0, in_right first l None u q s.0 s.1, s.2))
-              | inr b ↦ absurd (no_place (resolution leaves first l) (2 * (first + leaf_count l) - 1) q w.0 b)
+              | inr b ↦ absurd (no_node_index (resolution leaves first l) (2 * (first + leaf_count l) - 1) q w.0 b)
             ];
             sound = λ c g. sound_blank H leaves first l u g.1 (m.sound c g.2);
           })
       made-right u m (inr w) =
           let all = path ++ where_resolved (resolution leaves first l) (2 * (first + leaf_count l) - 1) in
-          let below : IsCarried (behind (Some (path_parent w.0 hash)) hash hs) → IsCarried hs = carried-behind (Some (path_parent w.0 hash)) hash hs m.there in
-          let top : IsCarried (behind (Some (path_parent w.0 hash)) hash hs) → ParentHashValid H leaves (record { first = first; tree = branch l (Some (path_parent w.0 hash)) u })
+          let below : IsCarried (append_parent_hash (Some (path_parent w.0 hash)) hash hs) → IsCarried hs = carried-append_parent_hash (Some (path_parent w.0 hash)) hash hs m.there in
+          let top : IsCarried (append_parent_hash (Some (path_parent w.0 hash)) hash hs) → ParentHashValid H leaves (record { first = first; tree = branch l (Some (path_parent w.0 hash)) u })
           = λ c. reached-right first l u w.0 hash n.hash (m.head (below c)) w.2 in
-          subst (λ (q : Option ParentNode). IsMade first (branch l p r) (branch l q u) hash (behind q hash hs) all) (sym w.1) (record {
+          subst (λ (q : Option ParentNode). IsMade first (branch l p r) (branch l q u) hash (append_parent_hash q hash hs) all) (sym w.1) (record {
             count = ap (λ k. leaf_count l + k) m.count;
-            there = there-behind (Some (path_parent w.0 hash)) hash hs m.there;
+            there = there-append_parent_hash (Some (path_parent w.0 hash)) hash hs m.there;
             head = λ c. set-head first l u w.0 hash n.hash (top c);
             reached = λ c q d. elim (Contains-append_cases path (where_resolved (resolution leaves first l) (2 * (first + leaf_count l) - 1)) q d) [
               | inl a ↦ (let s = m.reached (below c) q a in (s.0, in_right first l (Some (path_parent w.0 hash)) u q s.0 s.1, s.2))
               | inr b ↦
-                  (let e = one_place (resolution leaves first l) (2 * (first + leaf_count l) - 1) q b in
+                  (let e = one_node_index (resolution leaves first l) (2 * (first + leaf_count l) - 1) q b in
                   let v = branch l (Some (path_parent w.0 hash)) u in
                   (record { first = first; tree = v }, ap (λ k. subtree_at first v k) (sym e) ∙ subtree_at-root first v, top c))
             ];
@@ -247,19 +247,19 @@ module _ (H : List ℕ → List ℕ) (leaves : ℕ) where
 
     -- what is made of one half, by what its parent hands down
     module _ (first : ℕ) (l : Tree) (p : Option ParentNode) (r : Tree) (hash : List ℕ) (new : Tree) (hs : List (List ℕ)) (path : List ℕ)
-        (half away : Tree) (start other : ℕ) (build : Option ParentNode → Tree → Tree)
-        (made : (u : Tree) (ks : List (List ℕ)) (n : Handed) → IsMade start half u n.hash ks (filtered_direct_path leaves start half i) → HandsDown other away hash n
-        → IsMade first (branch l p r) (build n.parent u) hash (behind n.parent hash ks) path)
-        (ih : (m : List ℕ) (g : List (List ℕ)) (u : Tree) (ks : List (List ℕ)) → merged_from H leaves start half i x m g ≡ Some u → hashes_from H leaves start half i m g ≡ Some ks
-        → IsMade start half u m ks (filtered_direct_path leaves start half i)) where
-      through : (keys : List (List ℕ)) (o : Option Handed) → handed H leaves other away hash keys ≡ o
-          → option_and_then (λ (n : Handed). option_map (λ u. build n.parent u) (merged_from H leaves start half i x n.hash n.keys)) o ≡ Some new
-          → option_and_then (λ (n : Handed). option_map (behind n.parent hash) (hashes_from H leaves start half i n.hash n.keys)) o ≡ Some hs
+        (child away : Tree) (start other : ℕ) (build : Option ParentNode → Tree → Tree)
+        (made : (u : Tree) (ks : List (List ℕ)) (n : PathStep) → IsMade start child u n.hash ks (filtered_direct_path leaves start child i) → HandsDown other away hash n
+        → IsMade first (branch l p r) (build n.parent u) hash (append_parent_hash n.parent hash ks) path)
+        (ih : (m : List ℕ) (g : List (List ℕ)) (u : Tree) (ks : List (List ℕ)) → merged_from H leaves start child i x m g ≡ Some u → hashes_from H leaves start child i m g ≡ Some ks
+        → IsMade start child u m ks (filtered_direct_path leaves start child i)) where
+      through : (keys : List (List ℕ)) (o : Option PathStep) → path_step_at H leaves other away hash keys ≡ o
+          → option_and_then (λ (n : PathStep). option_map (λ u. build n.parent u) (merged_from H leaves start child i x n.hash n.keys)) o ≡ Some new
+          → option_and_then (λ (n : PathStep). option_map (append_parent_hash n.parent hash) (hashes_from H leaves start child i n.hash n.keys)) o ≡ Some hs
           → IsMade first (branch l p r) new hash hs path
       through keys None is e f = absurd (none-some new e)
       through keys (Some n) is e f =
-          let a = came_from (λ u. build n.parent u) (merged_from H leaves start half i x n.hash n.keys) new e in
-          let b = came_from (behind n.parent hash) (hashes_from H leaves start half i n.hash n.keys) hs f in
+          let a = came_from (λ u. build n.parent u) (merged_from H leaves start child i x n.hash n.keys) new e in
+          let b = came_from (append_parent_hash n.parent hash) (hashes_from H leaves start child i n.hash n.keys) hs f in
           let m = made a.0 b.0 n (ih n.hash n.keys a.0 b.0 a.1 b.1) (hands_down other away hash keys n is) in
           subst (λ v. v) (λ k. IsMade first (branch l p r) (a.2 k) hash (b.2 k) path) m
 
@@ -274,7 +274,7 @@ module _ (H : List ℕ → List ℕ) (leaves : ℕ) where
           count = refl;
           there = tt;
           head = λ c. record {
-            place = 2 * first;
+            node_index = 2 * first;
             node = record { first = first; tree = leaf (Some x) };
             stands = subtree_at-root first (leaf (Some x));
             linked = c;
@@ -294,22 +294,22 @@ module _ (H : List ℕ → List ℕ) (leaves : ℕ) where
             → ((m : List ℕ) (k : List (List ℕ)) (u : Tree) (ks : List (List ℕ)) → merged_from H leaves (first + leaf_count l) r i x m k ≡ Some u → hashes_from H leaves (first + leaf_count l) r i m k ≡ Some ks
             → IsMade (first + leaf_count l) r u m ks (filtered_direct_path leaves (first + leaf_count l) r i))
             → (if c
-            then option_and_then (λ n. option_map (λ t. branch t n.parent r) (merged_from H leaves first l i x n.hash n.keys)) (handed H leaves (first + leaf_count l) r hash keys)
-            else option_and_then (λ n. option_map (λ t. branch l n.parent t) (merged_from H leaves (first + leaf_count l) r i x n.hash n.keys)) (handed H leaves first l hash keys)) ≡ Some new
+            then option_and_then (λ n. option_map (λ t. branch t n.parent r) (merged_from H leaves first l i x n.hash n.keys)) (path_step_at H leaves (first + leaf_count l) r hash keys)
+            else option_and_then (λ n. option_map (λ t. branch l n.parent t) (merged_from H leaves (first + leaf_count l) r i x n.hash n.keys)) (path_step_at H leaves first l hash keys)) ≡ Some new
             → (if c
-            then option_and_then (λ n. option_map (behind n.parent hash) (hashes_from H leaves first l i n.hash n.keys)) (handed H leaves (first + leaf_count l) r hash keys)
-            else option_and_then (λ n. option_map (behind n.parent hash) (hashes_from H leaves (first + leaf_count l) r i n.hash n.keys)) (handed H leaves first l hash keys)) ≡ Some hs
+            then option_and_then (λ n. option_map (append_parent_hash n.parent hash) (hashes_from H leaves first l i n.hash n.keys)) (path_step_at H leaves (first + leaf_count l) r hash keys)
+            else option_and_then (λ n. option_map (append_parent_hash n.parent hash) (hashes_from H leaves (first + leaf_count l) r i n.hash n.keys)) (path_step_at H leaves first l hash keys)) ≡ Some hs
             → IsMade first (branch l p r) new hash hs (if c
             then filtered_direct_path leaves first l i ++ where_resolved (resolution leaves (first + leaf_count l) r) (2 * (first + leaf_count l) - 1)
             else filtered_direct_path leaves (first + leaf_count l) r i ++ where_resolved (resolution leaves first l) (2 * (first + leaf_count l) - 1))
         go true left right e f =
             through first l p r hash new hs (filtered_direct_path leaves first l i ++ where_resolved (resolution leaves (first + leaf_count l) r) (2 * (first + leaf_count l) - 1))
             l r first (first + leaf_count l) (λ q u. branch u q r)
-            (λ u ks n m d. made-left first l p r hash ks (filtered_direct_path leaves first l i) n u m d) left keys (handed H leaves (first + leaf_count l) r hash keys) refl e f
+            (λ u ks n m d. made-left first l p r hash ks (filtered_direct_path leaves first l i) n u m d) left keys (path_step_at H leaves (first + leaf_count l) r hash keys) refl e f
         go false left right e f =
             through first l p r hash new hs (filtered_direct_path leaves (first + leaf_count l) r i ++ where_resolved (resolution leaves first l) (2 * (first + leaf_count l) - 1))
             r l (first + leaf_count l) first (λ q u. branch l q u)
-            (λ u ks n m d. made-right first l p r hash ks (filtered_direct_path leaves (first + leaf_count l) r i) n u m d) right keys (handed H leaves first l hash keys) refl e f
+            (λ u ks n m d. made-right first l p r hash ks (filtered_direct_path leaves (first + leaf_count l) r i) n u m d) right keys (path_step_at H leaves first l hash keys) refl e f
 
 carries : (source : LeafSource) (h : List ℕ) (hs : List (List ℕ)) → has_first_parent_hash source (Some (h ∷ hs)) ≡ true → source_hash source ≡ Some h
 carries (sources.KeyPackage lifetime) h hs e = absurd (false≢true e)
@@ -335,16 +335,16 @@ module _ (H : List ℕ → List ℕ) (t new : Tree) (i : ℕ) (x : LeafNode) (ke
   sound_in : IsParentHashValidTree H t → IsParentHashValidTree H new
   sound_in h = subtrees_whole H (leaf_count t) new (sym whole.made.count) (whole.made.sound whole.carried (subtrees_from H t h))
 
-  reached_in : (place : ℕ) → Contains (filtered_direct_path (leaf_count t) 0 t i) place → IsParentHashValidHere H new place
-  reached_in place d =
-      let s = whole.made.reached whole.carried place d in
+  reached_in : (node_index : ℕ) → Contains (filtered_direct_path (leaf_count t) 0 t i) node_index → IsParentHashValidHere H new node_index
+  reached_in node_index d =
+      let s = whole.made.reached whole.carried node_index d in
       (s.0, s.1, subst (λ n. ParentHashValid H n s.0) (sym whole.made.count) s.2)
 
 pub sound_merge : (H : List ℕ → List ℕ) (t new : Tree) (i : ℕ) (x : LeafNode) (keys : List (List ℕ))
     → has_first_parent_hash x.source (expected_hashes H t i keys) ≡ true → IsParentHashValidTree H t → merged H t i x keys ≡ Some new → IsParentHashValidTree H new
 sound_merge H t new i x keys c h e = sound_in H t new i x keys c e h
 
-pub reached_merge : (H : List ℕ → List ℕ) (t new : Tree) (i : ℕ) (x : LeafNode) (keys : List (List ℕ)) (place : ℕ)
+pub reached_merge : (H : List ℕ → List ℕ) (t new : Tree) (i : ℕ) (x : LeafNode) (keys : List (List ℕ)) (node_index : ℕ)
     → has_first_parent_hash x.source (expected_hashes H t i keys) ≡ true → merged H t i x keys ≡ Some new
-    → Contains (filtered_direct_path (leaf_count t) 0 t i) place → IsParentHashValidHere H new place
-reached_merge H t new i x keys place c e d = reached_in H t new i x keys c e place d
+    → Contains (filtered_direct_path (leaf_count t) 0 t i) node_index → IsParentHashValidHere H new node_index
+reached_merge H t new i x keys node_index c e d = reached_in H t new i x keys c e node_index d

@@ -31,7 +31,7 @@ module _ (items : List ListItem) (t u v : Tree) (updated : after_updates items t
     -- there is room for the Adds
     pub outcome-adds : member_count v + length (new_members items) ≤ leaf_limit → outcome items t ≡ after_adds (new_members items) v
     unfolding with_members
-    outcome-adds room =
+    outcome-adds capacity =
         let e : nat_le (member_count v + length (new_members items)) leaf_limit ≡ true = grind (arith, nat_tests) in
         outcome-members ∙ ap (λ b. if b then after_adds (new_members items) v else None) e
 
@@ -40,11 +40,11 @@ module _ (items : List ListItem) (t u v : Tree) (updated : after_updates items t
     room_left never =
         elim (cases_lt leaf_limit (member_count v + length (new_members items))) [
           | inl full ↦ absurd (never (record { tree = v; applied = without_adds-some; full = full }))
-          | inr room ↦ room
+          | inr capacity ↦ capacity
         ]
 
-    pub outcome-room : (ExceedsCapacity items t → ⊥) → outcome items t ≡ after_adds (new_members items) v
-    outcome-room never = outcome-adds (room_left never)
+    pub outcome-capacity : (ExceedsCapacity items t → ⊥) → outcome items t ≡ after_adds (new_members items) v
+    outcome-capacity never = outcome-adds (room_left never)
 
 -- where it does, there is no outcome
 pub outcome-lacking : (items : List ListItem) (t : Tree) → ExceedsCapacity items t → IsSome (without_adds items t) × (outcome items t ≡ None)

@@ -157,13 +157,13 @@ tree_keys-listing (branch l p r) =
 
 module _ (key : List ℕ) where
   -- where a listing has it
-  place_in : (xs : List (Option NodeValue)) → has_key (keys_in xs) key ≡ true → (p : ℕ) × (option_map encryption_key (unwrap_or (slice_get xs p) None) ≡ Some key)
-  place_in [] e = absurd (false≢true e)
-  place_in (None ∷ xs) e = let h = place_in xs e in (suc h.0, h.1)
-  place_in (Some n ∷ xs) e =
+  node_index_in : (xs : List (Option NodeValue)) → has_key (keys_in xs) key ≡ true → (p : ℕ) × (option_map encryption_key (unwrap_or (slice_get xs p) None) ≡ Some key)
+  node_index_in [] e = absurd (false≢true e)
+  node_index_in (None ∷ xs) e = let h = node_index_in xs e in (suc h.0, h.1)
+  node_index_in (Some n ∷ xs) e =
       elim (cases_Bool (bytes_eq (encryption_key n) key)) [
         | inl equal ↦ (zero, ap Some ((bytes_eq-Decides (encryption_key n) key).0 equal))
-        | inr differs ↦ (let h = place_in xs (ap (λ (b : Bool). b || has_key (keys_in xs) key) (sym differs) ∙ e) in (suc h.0, h.1))
+        | inr differs ↦ (let h = node_index_in xs (ap (λ (b : Bool). b || has_key (keys_in xs) key) (sym differs) ∙ e) in (suc h.0, h.1))
       ]
 
   listed : (xs : List (Option NodeValue)) (p : ℕ) → option_map encryption_key (unwrap_or (slice_get xs p) None) ≡ Some key → has_key (keys_in xs) key ≡ true
@@ -176,22 +176,22 @@ module _ (key : List ℕ) where
       ap (λ (b : Bool). bytes_eq (encryption_key n) key || b) (listed xs p e) ∙ or_true (bytes_eq (encryption_key n) key)
 
   module _ (t : Tree) where
-    has_place : has_key (tree_keys t) key ≡ true → HasKey Encryption t key
-    has_place e =
-        let h = place_in (listing t) (ap (λ keys. has_key keys key) (sym (tree_keys-listing t)) ∙ e) in
+    has_node_index : has_key (tree_keys t) key ≡ true → HasKey Encryption t key
+    has_node_index e =
+        let h = node_index_in (listing t) (ap (λ keys. has_key keys key) (sym (tree_keys-listing t)) ∙ e) in
         (h.0, ap (option_map encryption_key) (node_at-listing t h.0) ∙ h.1)
 
-    of_place : HasKey Encryption t key → has_key (tree_keys t) key ≡ true
-    of_place h =
+    of_node_index : HasKey Encryption t key → has_key (tree_keys t) key ≡ true
+    of_node_index h =
         ap (λ keys. has_key keys key) (tree_keys-listing t)
         ∙ listed (listing t) h.0 (ap (option_map encryption_key) (sym (node_at-listing t h.0)) ∙ h.1)
 
     -- whether some node has it
     pub stands : (b : Bool) → IsTrue b ↔ HasKey Encryption t key → b ≡ has_key (tree_keys t) key
-    stands true h = sym (of_place (h.0 refl))
+    stands true h = sym (of_node_index (h.0 refl))
     stands false h =
         elim (cases_Bool (has_key (tree_keys t) key)) [
-          | inl e ↦ h.1 (has_place e) ∙ sym e
+          | inl e ↦ h.1 (has_node_index e) ∙ sym e
           | inr e ↦ sym e
         ]
 

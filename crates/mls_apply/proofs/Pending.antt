@@ -23,11 +23,11 @@ pub first_found : (ks : List KnownProposal) (r : List ℕ) (i : ℕ) → positio
 first_found [] r i e = absurd (cc)
 first_found (k ∷ ks) r i e = go (first_found ks r) (bytes_eq k.reference r) e
   where
-    behind : ((j : ℕ) → position_of ks r ≡ Some j → (j < length ks) × ((d : KnownProposal) → find_known ks r ≡ Some (slice_index_or ks j d)))
+    append_parent_hash : ((j : ℕ) → position_of ks r ≡ Some j → (j < length ks) × ((d : KnownProposal) → find_known ks r ≡ Some (slice_index_or ks j d)))
         → (o : Option ℕ) → position_of ks r ≡ o → option_map suc o ≡ Some i
         → (i < length (k ∷ ks)) × ((d : KnownProposal) → find_known ks r ≡ Some (slice_index_or (k ∷ ks) i d))
-    behind less None q f = absurd (cc)
-    behind less (Some j) q f =
+    append_parent_hash less None q f = absurd (cc)
+    append_parent_hash less (Some j) q f =
         subst (λ n. (n < length (k ∷ ks)) × ((d : KnownProposal) → find_known ks r ≡ Some (slice_index_or (k ∷ ks) n d))) (same_Some (suc j) i f)
         (omega (arith, (less j q).0), λ d. (less j q).1 d)
 
@@ -37,7 +37,7 @@ first_found (k ∷ ks) r i e = go (first_found ks r) (bytes_eq k.reference r) e
     go less true f =
         subst (λ n. (n < length (k ∷ ks)) × ((d : KnownProposal) → Some k ≡ Some (slice_index_or (k ∷ ks) n d))) (same_Some 0 i f)
         (omega arith, λ d. refl)
-    go less false f = behind less (position_of ks r) refl f
+    go less false f = append_parent_hash less (position_of ks r) refl f
 
 -- what a look-up at the position gives is the first one
 pub found_at : (ks : List KnownProposal) (r : List ℕ) (i : ℕ) → position_of ks r ≡ Some i → (o : Option (Bor KnownProposal))
@@ -51,14 +51,14 @@ pub none_found : (ks : List KnownProposal) (r : List ℕ) → position_of ks r �
 none_found [] r e = refl
 none_found (k ∷ ks) r e = go (none_found ks r) (bytes_eq k.reference r) e
   where
-    behind : (o : Option ℕ) → (o ≡ None → find_known ks r ≡ None) → option_map suc o ≡ None → find_known ks r ≡ None
-    behind None less f = less refl
-    behind (Some j) less f = absurd (cc)
+    append_parent_hash : (o : Option ℕ) → (o ≡ None → find_known ks r ≡ None) → option_map suc o ≡ None → find_known ks r ≡ None
+    append_parent_hash None less f = less refl
+    append_parent_hash (Some j) less f = absurd (cc)
 
     go : (position_of ks r ≡ None → find_known ks r ≡ None)
         → (b : Bool) → (if b then Some 0 else option_map suc (position_of ks r)) ≡ None → (if b then Some k else find_known ks r) ≡ None
     go less true f = absurd (cc)
-    go less false f = behind (position_of ks r) less f
+    go less false f = append_parent_hash (position_of ks r) less f
 
 -- the first of two positions that there is
 abbrev or_else : Option ℕ → Option ℕ → Option ℕ
@@ -153,11 +153,11 @@ module _ {A : Type 0} where
           ∙ apart (is_key r e.0) (is_key r key) (both q)
 
   -- the index once a proposal with a new reference is known
-  pub entered : (ks : List KnownProposal) (k : KnownProposal) (es : List (Vec ℕ A × ℕ)) (key : Vec ℕ A) (n : ℕ)
+  pub staged_nodes : (ks : List KnownProposal) (k : KnownProposal) (es : List (Vec ℕ A × ℕ)) (key : Vec ℕ A) (n : ℕ)
       → key.items ≡ k.reference → n ≡ length ks → is_some (position_of ks k.reference) ≡ false
       → ((r : List ℕ) → lookup (is_key r) es ≡ position_of ks r)
       → (r : List ℕ) → lookup (is_key r) (insert_entry order es key n) ≡ position_of (ks ++ k ∷ []) r
-  entered ks k es key n same counted unknown indexed r =
+  staged_nodes ks k es key n same counted unknown indexed r =
       inserted r es key n
       ∙ ap (λ (l : List ℕ). cond (is_eq (slice_cmp nat_cmp r l)) (Some n) (lookup (is_key r) es)) same
       ∙ ap (λ (b : Bool). cond b (Some n) (lookup (is_key r) es)) (sym (texts_ties r k.reference) ∙ nat_list_eq_equiv.symm r k.reference)

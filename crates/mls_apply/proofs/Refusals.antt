@@ -11,13 +11,13 @@ use Rattle.mls_tree.specs.Paths.{filtered_direct_path}
 use Rattle.mls_tree.proofs.Choices.{not_less}
 use Rattle.mls_apply.specs.declared.fault.ApplyFault.{ApplyFault}
 use Rattle.mls_apply.specs.declared.fault.ApplyFault.TheVariants.{NoSuchLeaf, PathLength, PathSource, PathKeyUsed, CiphertextCount, PathParentHash}
-use Rattle.mls_apply.specs.AppliedList.{Grown}
+use Rattle.mls_apply.specs.AppliedList.{AppliedTree}
 use Rattle.mls_apply.specs.RuleLists.{rule}
 use Rattle.mls_apply.specs.PathRules.{keys_refusal, path_refusal, path_rules, path_length, has_path_length, has_new_keys, has_ciphertexts, has_expected_hash, has_first_parent_hash, node_keys}
 use Rattle.mls_apply.specs.ProposalRules.{is_from_commit}
-use Rattle.mls_apply.specs.PathParents.{Change, Route, carried, path_route}
+use Rattle.mls_apply.specs.PathParents.{Change, PathParents, carried, parents_of_path}
 use Rattle.mls_apply.specs.PathModel.{hash_refusal}
-use Rattle.mls_apply.proofs.Routes.{expected-route}
+use Rattle.mls_apply.proofs.Routes.{expected-path_parents}
 use Rattle.mls_apply.proofs.RuleLists.{no_rules, one_more, it_fails}
 
 same_number : (a b : ℕ) → a ≡ b → (a == b) ≡ true
@@ -27,9 +27,9 @@ other_number : (a b : ℕ) → a ≢ b → (a == b) ≡ false
 other_number a b e = grind (arith, nat_tests)
 
 -- a path with a node for each place is as long as it has to be
-pub path-long : (t : Tree) (i count : ℕ) (nodes all : List PathNode) (places : List ℕ) → nodes ≡ all → places ≡ filtered_direct_path (leaf_count t) 0 t i → length places ≡ count
+pub path-long : (t : Tree) (i count : ℕ) (nodes all : List PathNode) (node_indices : List ℕ) → nodes ≡ all → node_indices ≡ filtered_direct_path (leaf_count t) 0 t i → length node_indices ≡ count
     → length nodes ≡ count → length all ≡ path_length t i
-path-long t i count nodes all places n p a b = let d = ap length n in let e = ap length p in omega arith
+path-long t i count nodes all node_indices n p a b = let d = ap length n in let e = ap length p in omega arith
 
 pub outside : (i n : ℕ) → nat_lt i n ≡ false → n ≤ i
 outside i n e = grind (arith, nat_tests)
@@ -40,9 +40,9 @@ same_error e f g same h = let h' : e ≡ g = cc in ap Err (sym same ∙ h')
 
 module _ (t : Tree) (i : ℕ) (keys : List (List ℕ)) where
   -- of these refusals only the first rule's is named so
-  pub keys-told : keys_refusal t i keys ≡ Some NoSuchLeaf → leaf_count t ≤ i
+  pub keys-mapped : keys_refusal t i keys ≡ Some NoSuchLeaf → leaf_count t ≤ i
   unfolding keys_refusal
-  keys-told h =
+  keys-mapped h =
       outside i (leaf_count t)
       (it_fails NoSuchLeaf (nat_lt i (leaf_count t)) (rule PathLength (length keys == path_length t i) ∷ []) (one_more (λ e. cc) no_rules) h)
 
@@ -62,23 +62,23 @@ module _ (t : Tree) (i : ℕ) (keys : List (List ℕ)) where
   pub keys-set : {A : Type 0} (r : Result A ApplyFault) → (r ≡ Err NoSuchLeaf → ⊥) → nat_lt i (leaf_count t) ≡ true
       → (r ≡ Err NoSuchLeaf) ↔ (keys_refusal t i keys ≡ Some NoSuchLeaf)
   keys-set r other set =
-      (λ h. absurd (other h), λ h. absurd (false≢true (sym (not_less i (leaf_count t) (keys-told h)) ∙ set)))
+      (λ h. absurd (other h), λ h. absurd (false≢true (sym (not_less i (leaf_count t) (keys-mapped h)) ∙ set)))
 
   -- what a call said of the leaf is said of the keys
   pub keys-by_leaf : {A B : Type 0} (e f : ApplyFault) → f ≡ e → ◌≡◌ {A = Result A ApplyFault} (Err e) (Err NoSuchLeaf) ↔ (leaf_count t ≤ i)
       → ◌≡◌ {A = Result B ApplyFault} (Err f) (Err NoSuchLeaf) ↔ (keys_refusal t i keys ≡ Some NoSuchLeaf)
   keys-by_leaf {A} {B} e f same of_leaf =
-      (λ h. keys-no_leaf (of_leaf.0 (same_error {A = B} {B = A} f e NoSuchLeaf same h)), λ h. same_error {A = A} {B = B} e f NoSuchLeaf (sym same) (of_leaf.1 (keys-told h)))
+      (λ h. keys-no_leaf (of_leaf.0 (same_error {A = B} {B = A} f e NoSuchLeaf same h)), λ h. same_error {A = A} {B = B} e f NoSuchLeaf (sym same) (of_leaf.1 (keys-mapped h)))
 
 -- of two faults with what they hand back
 pub same_fault : {A C : Type 0} (e f : ApplyFault) (b c : C) → ◌≡◌ {A = Result A (ApplyFault × C)} (Err (e, b)) (Err (f, c)) → e ≡ f
 same_fault {C = C} e f b c h = let both : ◌≡◌ {A = ApplyFault × C} (e, b) (f, c) = cc in ap (λ (x : ApplyFault × C). x.0) both
 
-module _ (g : Grown) (i : ℕ) (path : UpdatePath) (H : List ℕ → List ℕ) where
+module _ (g : AppliedTree) (i : ℕ) (path : UpdatePath) (H : List ℕ → List ℕ) where
   -- of these refusals only the first rule's is named so
-  pub path-told : path_refusal H g i path ≡ Some NoSuchLeaf → leaf_count g.tree ≤ i
+  pub path-mapped : path_refusal H g i path ≡ Some NoSuchLeaf → leaf_count g.tree ≤ i
   unfolding path_refusal
-  path-told h =
+  path-mapped h =
       outside i (leaf_count g.tree)
       (it_fails NoSuchLeaf (nat_lt i (leaf_count g.tree)) (path_rules H g i path)
       (one_more (λ e. cc) (one_more (λ e. cc) (one_more (λ e. cc) (one_more (λ e. cc) (one_more (λ e. cc) no_rules))))) h)
@@ -91,19 +91,19 @@ module _ (g : Grown) (i : ℕ) (path : UpdatePath) (H : List ℕ → List ℕ) w
   pub path-by_leaf : {A B C : Type 0} (e : ApplyFault) (back : C) → ◌≡◌ {A = Result A ApplyFault} (Err e) (Err NoSuchLeaf) ↔ (leaf_count g.tree ≤ i)
       → ◌≡◌ {A = Result B (ApplyFault × C)} (Err (e, back)) (Err (NoSuchLeaf, back)) ↔ (path_refusal H g i path ≡ Some NoSuchLeaf)
   path-by_leaf {C = C} e back of_leaf =
-      (λ h. let both : ◌≡◌ {A = ApplyFault × C} (e, back) (NoSuchLeaf, back) = cc in path-no_leaf (of_leaf.0 (λ i. Err (both i).0)), λ h. let told = of_leaf.1 (path-told h) in let same : e ≡ NoSuchLeaf = cc in ap (λ f. Err (f, back)) same)
+      (λ h. let both : ◌≡◌ {A = ApplyFault × C} (e, back) (NoSuchLeaf, back) = cc in path-no_leaf (of_leaf.0 (λ i. Err (both i).0)), λ h. let mapped = of_leaf.1 (path-mapped h) in let same : e ≡ NoSuchLeaf = cc in ap (λ f. Err (f, back)) same)
 
   -- the same, where nothing is handed back
   pub path-by_fault : {A B : Type 0} (e f : ApplyFault) → f ≡ e → ◌≡◌ {A = Result A ApplyFault} (Err e) (Err NoSuchLeaf) ↔ (leaf_count g.tree ≤ i)
       → ◌≡◌ {A = Result B ApplyFault} (Err f) (Err NoSuchLeaf) ↔ (path_refusal H g i path ≡ Some NoSuchLeaf)
   path-by_fault {A} {B} e f same of_leaf =
-      (λ h. path-no_leaf (of_leaf.0 (same_error {A = B} {B = A} f e NoSuchLeaf same h)), λ h. same_error {A = A} {B = B} e f NoSuchLeaf (sym same) (of_leaf.1 (path-told h)))
+      (λ h. path-no_leaf (of_leaf.0 (same_error {A = B} {B = A} f e NoSuchLeaf same h)), λ h. same_error {A = A} {B = B} e f NoSuchLeaf (sym same) (of_leaf.1 (path-mapped h)))
 
   -- where the tree has the leaf neither is said
   pub path-set : {P : Type 0} → (P → leaf_count g.tree ≤ i) → nat_lt i (leaf_count g.tree) ≡ true → P ↔ (path_refusal H g i path ≡ Some NoSuchLeaf)
   path-set none set =
       let there : leaf_count g.tree ≤ i → ⊥ = λ e. false≢true (sym (not_less i (leaf_count g.tree) e) ∙ set) in
-      (λ h. absurd (there (none h)), λ h. absurd (there (path-told h)))
+      (λ h. absurd (there (none h)), λ h. absurd (there (path-mapped h)))
 
   -- a path that keeps the rules isn't refused so
   pub path-kept : {A : Type 0} (r : Result A ApplyFault) → (r ≡ Err NoSuchLeaf → ⊥) → path_refusal H g i path ≡ None
@@ -141,11 +141,11 @@ module _ (g : Grown) (i : ℕ) (path : UpdatePath) (H : List ℕ → List ℕ) w
 -- ---- the parent hash
 
 -- whether a path carries the hash that comes down to its leaf
-pub has_expected_hash-route : (H : List ℕ → List ℕ) (path : UpdatePath) (t : Tree) (i : ℕ) (r : Route) (b : Bool) → path_route H t i (node_keys path) ≡ Some r
+pub has_expected_hash-path_parents : (H : List ℕ → List ℕ) (path : UpdatePath) (t : Tree) (i : ℕ) (r : PathParents) (b : Bool) → parents_of_path H t i (node_keys path) ≡ Some r
     → ((hashes : List (List ℕ)) → b ≡ has_first_parent_hash path.leaf_node.source (Some (r.hash ∷ hashes))) → has_expected_hash H path t i ≡ b
 unfolding has_expected_hash
-has_expected_hash-route H path t i r b made e =
-    ap (has_first_parent_hash path.leaf_node.source) (expected-route H t i (node_keys path) ∙ ap (option_map carried) made)
+has_expected_hash-path_parents H path t i r b made e =
+    ap (has_first_parent_hash path.leaf_node.source) (expected-path_parents H t i (node_keys path) ∙ ap (option_map carried) made)
     ∙ sym (e (reverse (map (λ (c : Change). c.parent.parent_hash) r.changes)))
 
 pub hash-refused : (H : List ℕ → List ℕ) (path : UpdatePath) (t : Tree) (i : ℕ) → has_expected_hash H path t i ≡ false → hash_refusal H path t i ≡ Some PathParentHash

@@ -6,16 +6,16 @@ use Rattle.mls_nodes.specs.declared.parent.ParentNode.{ParentNode}
 use Rattle.mls_msgs.specs.declared.proposal.Proposal.{Proposal}
 use Rattle.mls_msgs.specs.declared.proposal.Proposal.TheVariants.{Add, Update, Remove, ContextExtensions, PreSharedKey, ReInit, ExternalInit}
 use Rattle.mls_tree.specs.Tree.{Tree, leaf, branch, leaf_count, leaf_at}
-use Rattle.mls_tree.specs.TreeOperations.{put_leaf, change_above, has_set_leaf, shrink, remove}
+use Rattle.mls_tree.specs.TreeOperations.{put_leaf, change_above, has_set_leaf, truncate, remove}
 use Rattle.mls_tree.proofs.Choices.{below}
-use Rattle.mls_tree.proofs.Kept.{leaf_at-shrink, leaf_at-none_set, leaf_count-put_leaf}
+use Rattle.mls_tree.proofs.Kept.{leaf_at-truncate, leaf_at-none_set, leaf_count-put_leaf}
 use Rattle.mls_apply.specs.AppliedList.{after_remove, after_removes}
 use Rattle.mls_apply.specs.declared.list_item.ListItem.{ListItem}
 use Rattle.mls_apply.proofs.Leaves.{inside_from}
 
 -- the tree made smaller, where it has to be
 abbrev pub shrunk_if : Bool → Tree → Tree
-shrunk_if true t = shrink t
+shrunk_if true t = truncate t
 shrunk_if false t = t
 
 -- a leaf and the parents above it become blank, in a tree whose first leaf is numbered first
@@ -33,18 +33,18 @@ cleared-left first l n r i lt =
     (branch (put_leaf first l i None) None (change_above (λ _. None) (first + leaf_count (put_leaf first l i None)) r i)) (omega arith))
 
 -- A set leaf is cleared in a tree that was made smaller: to make it smaller after that is the same as to do so once.
-pub shrink-cleared : (first : ℕ) (t : Tree) (i : ℕ) → IsSome (leaf_at first t i) → shrink (cleared first (shrink t) i) ≡ shrink (cleared first t i)
-shrink-cleared first (leaf x) i set = refl
-shrink-cleared first (branch l n r) i set = go (shrink-cleared first l i) (has_set_leaf r) refl
+pub truncate-cleared : (first : ℕ) (t : Tree) (i : ℕ) → IsSome (leaf_at first t i) → truncate (cleared first (truncate t) i) ≡ truncate (cleared first t i)
+truncate-cleared first (leaf x) i set = refl
+truncate-cleared first (branch l n r) i set = go (truncate-cleared first l i) (has_set_leaf r) refl
   where
     -- the right half has no set leaf
-    go : (IsSome (leaf_at first l i) → shrink (cleared first (shrink l) i) ≡ shrink (cleared first l i))
-        → (b : Bool) → has_set_leaf r ≡ b → shrink (cleared first (if b then branch l n r else shrink l) i) ≡ shrink (cleared first (branch l n r) i)
+    go : (IsSome (leaf_at first l i) → truncate (cleared first (truncate l) i) ≡ truncate (cleared first l i))
+        → (b : Bool) → has_set_leaf r ≡ b → truncate (cleared first (if b then branch l n r else truncate l) i) ≡ truncate (cleared first (branch l n r) i)
     go in_left true e = refl
     go in_left false e =
-        let in_half = inside_from first l n r i set (leaf_at-none_set (first + leaf_count l) r i e) in
-        in_left in_half.1
-        ∙ sym (ap shrink (cleared-left first l n r i in_half.0) ∙ ap (λ b. if b then branch (cleared first l i) None r else shrink (cleared first l i)) e)
+        let in_child = inside_from first l n r i set (leaf_at-none_set (first + leaf_count l) r i e) in
+        in_left in_child.1
+        ∙ sym (ap truncate (cleared-left first l n r i in_child.0) ∙ ap (λ b. if b then branch (cleared first l i) None r else truncate (cleared first l i)) e)
 
 -- ---- a walk along the list
 
@@ -71,15 +71,15 @@ remove-blank : (i : ℕ) (t : Tree) → leaf_at 0 t i ≡ None → after_remove 
 remove-blank i t blank = ap (λ o. if is_some o then Some (remove t i) else None) blank
 
 leaf_at-shrunk_if : (b : Bool) (t : Tree) (i : ℕ) → leaf_at 0 (shrunk_if b t) i ≡ leaf_at 0 t i
-leaf_at-shrunk_if true t i = leaf_at-shrink 0 t i
+leaf_at-shrunk_if true t i = leaf_at-truncate 0 t i
 leaf_at-shrunk_if false t i = refl
 
-remove-shrunk_if : (b : Bool) (t : Tree) (i : ℕ) → IsSome (leaf_at 0 t i) → remove (shrunk_if b t) i ≡ shrink (cleared 0 t i)
-remove-shrunk_if true t i set = shrink-cleared 0 t i set
+remove-shrunk_if : (b : Bool) (t : Tree) (i : ℕ) → IsSome (leaf_at 0 t i) → remove (shrunk_if b t) i ≡ truncate (cleared 0 t i)
+remove-shrunk_if true t i set = truncate-cleared 0 t i set
 remove-shrunk_if false t i set = refl
 
 module _ (x : ListItem) (xs : List ListItem) (b : Bool) (t : Tree) (i : ℕ) (e : x.proposal ≡ Remove i) where
-  pub removes-set : IsSome (leaf_at 0 t i) → after_removes (x ∷ xs) (shrunk_if b t) ≡ after_removes xs (shrink (cleared 0 t i))
+  pub removes-set : IsSome (leaf_at 0 t i) → after_removes (x ∷ xs) (shrunk_if b t) ≡ after_removes xs (truncate (cleared 0 t i))
   unfolding after_removes
   removes-set set =
       ap (λ p. option_and_then (after_removes xs) (after_remove p (shrunk_if b t))) e

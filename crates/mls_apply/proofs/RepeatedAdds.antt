@@ -12,16 +12,16 @@ use Rattle.mls_msgs.specs.declared.proposal.Proposal.{Proposal}
 use Rattle.mls_msgs.specs.declared.proposal.Proposal.TheVariants.{Add, Update, Remove, ContextExtensions, PreSharedKey, ReInit, ExternalInit}
 use Rattle.mls_tree.specs.Tree.{Tree, height, leaf_count, member_count, leaf_at, leaf_entry}
 use Rattle.mls_tree.specs.BlankLeaves.{first_blank_leaf, IsFirstBlank, AllLeavesSet}
-use Rattle.mls_tree.specs.TreeOperations.{blank_tree, grow, add, add_at, added_leaf, grown_for, number_or, is_overfilled_above}
+use Rattle.mls_tree.specs.TreeOperations.{blank_tree, extend, add, add_at, added_leaf, grown_for, number_or, is_overfilled_above}
 use Rattle.mls_tree.proofs.Trees.{leaf_count-positive}
-use Rattle.mls_tree.proofs.Kept.{leaf_at-grow}
+use Rattle.mls_tree.proofs.Kept.{leaf_at-extend}
 use Rattle.mls_tree.proofs.FirstBlanks.{first_blank_leaf-leftmost}
 use Rattle.mls_tree.proofs.Added.{leaf_at-add_at, leaf_at-add_at_other}
 use Rattle.mls_tree.proofs.Positions.{node_at-listing, leaf_at-listing}
 use Rattle.mls_check.specs.DistinctKeys.{encryption_key, key_at, IsDistinct, has_key, are_distinct, has_distinct_keys}
 use Rattle.mls_check.proofs.Distinctness.{distinct-by_keys}
 use Rattle.mls_apply.specs.declared.list_item.ListItem.{ListItem}
-use Rattle.mls_apply.specs.AppliedList.{Grown, grown, outcome, with_members, new_members, added_to, without_adds, after_leaf, after_adds}
+use Rattle.mls_apply.specs.AppliedList.{AppliedTree, applied_tree, outcome, with_members, new_members, added_to, without_adds, after_leaf, after_adds}
 use Rattle.mls_apply.specs.AddedKeys.{key_of_add, added_key, have_distinct_added_keys, RepeatedAddsRepeatKeys}
 use Rattle.mls_apply.proofs.Leaves.{leaf_inside}
 use Rattle.mls_apply.proofs.SoundOutcomes.{unless, where_so, mapped}
@@ -56,10 +56,10 @@ pub record AddedAt (t : Tree) (x : LeafNode) (j : ℕ) (u : Tree) : Type 0 where
 added_by : (t : Tree) (x : LeafNode) (o : Option ℕ) → MatchOption o (AllLeavesSet t) (λ j. IsFirstBlank t j)
     → AddedAt t x (number_or (leaf_count t) o) (add_at (grown_for o t) (number_or (leaf_count t) o) x)
 added_by t x None h = record {
-  there = leaf_at-add_at (grow t) (leaf_count t) x (omega (arith, leaf_count-positive (blank_tree (height t))));
+  there = leaf_at-add_at (extend t) (leaf_count t) x (omega (arith, leaf_count-positive (blank_tree (height t))));
   others = λ i set. (
     λ e. omega (arith, leaf_inside t i set, e),
-    leaf_at-add_at_other (grow t) (leaf_count t) i x (omega (arith, leaf_count-positive (blank_tree (height t)))) (λ e. omega (arith, leaf_inside t i set, e)) ∙ leaf_at-grow t i,
+    leaf_at-add_at_other (extend t) (leaf_count t) i x (omega (arith, leaf_count-positive (blank_tree (height t)))) (λ e. omega (arith, leaf_inside t i set, e)) ∙ leaf_at-extend t i,
   );
 }
 added_by t x (Some j) h = record {
@@ -73,16 +73,16 @@ added_by t x (Some j) h = record {
 pub added-at : (t : Tree) (x : LeafNode) → AddedAt t x (added_leaf t) (add t x)
 added-at t x = added_by t x (first_blank_leaf 0 t) (first_blank_leaf-leftmost t)
 
--- ---- the leaves of members that are added stay
+-- ---- the leaves of members that are added are unchanged by later Adds
 
-pub leaf_stays : (xs : List LeafNode) (t : Tree) (g : Grown) (j : ℕ) (y : LeafNode) → after_adds xs t ≡ Some g → leaf_at 0 t j ≡ Some y → leaf_at 0 g.tree j ≡ Some y
+pub leaf_stays : (xs : List LeafNode) (t : Tree) (g : AppliedTree) (j : ℕ) (y : LeafNode) → after_adds xs t ≡ Some g → leaf_at 0 t j ≡ Some y → leaf_at 0 g.tree j ≡ Some y
 unfolding after_adds
-leaf_stays [] t g j y e at = subst (λ (v : Grown). leaf_at 0 v.tree j ≡ Some y) (same_Some (grown t []) g e) at
+leaf_stays [] t g j y e at = subst (λ (v : AppliedTree). leaf_at 0 v.tree j ≡ Some y) (same_Some (applied_tree t []) g e) at
 leaf_stays (x ∷ xs) t g j y e at =
     let m = mapped (added_leaf t) (after_adds xs (add t x)) g (unless (is_overfilled_above 0 (grown_for (first_blank_leaf 0 t) t) (added_leaf t)) (option_map (after_leaf (added_leaf t)) (after_adds xs (add t x))) g e) in
     subst (λ (v : Tree). leaf_at 0 v j ≡ Some y) m.2 (leaf_stays xs (add t x) m.0 j y m.1 (((added-at t x).others j (ap is_some at)).1 ∙ at))
 
--- the key of a leaf by its place
+-- the key of a leaf by its node index
 leaf_key : (t : Tree) (j : ℕ) (y : LeafNode) → leaf_at 0 t j ≡ Some y → key_at t (2 * j) ≡ Some y.encryption_key
 leaf_key t j y at = ap (option_map encryption_key) (node_at-listing t (2 * j) ∙ sym (leaf_at-listing t j) ∙ ap leaf_entry at)
 
@@ -91,7 +91,7 @@ differing true n = absurd (n refl)
 differing false n = refl
 
 -- no member that is added has the key of a leaf of the tree
-no_key_again : (xs : List LeafNode) (t : Tree) (g : Grown) (j : ℕ) (y : LeafNode) → after_adds xs t ≡ Some g → IsDistinct g.tree → leaf_at 0 t j ≡ Some y
+no_key_again : (xs : List LeafNode) (t : Tree) (g : AppliedTree) (j : ℕ) (y : LeafNode) → after_adds xs t ≡ Some g → IsDistinct g.tree → leaf_at 0 t j ≡ Some y
     → has_key (keys_of xs) y.encryption_key ≡ false
 unfolding after_adds
 no_key_again [] t g j y e d at = refl
@@ -110,7 +110,7 @@ no_key_again (x ∷ xs) t g j y e d at =
     ap (λ b. b || has_key (keys_of xs) y.encryption_key) first ∙ no_key_again xs (add t x) m.0 j y m.1 distinct (beside.1 ∙ at)
 
 -- no two members that are added have one key
-keys_apart : (xs : List LeafNode) (t : Tree) (g : Grown) → after_adds xs t ≡ Some g → IsDistinct g.tree → are_distinct (keys_of xs) ≡ true
+keys_apart : (xs : List LeafNode) (t : Tree) (g : AppliedTree) → after_adds xs t ≡ Some g → IsDistinct g.tree → are_distinct (keys_of xs) ≡ true
 unfolding after_adds are_distinct
 keys_apart [] t g e d = refl
 keys_apart (x ∷ xs) t g e d =

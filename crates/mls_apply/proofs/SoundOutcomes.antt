@@ -12,22 +12,22 @@ use Rattle.mls_tree.specs.BlankLeaves.{first_blank_leaf}
 use Rattle.mls_tree.specs.TreeOperations.{update, remove, add, added_leaf, grown_for, is_overfilled_above}
 use Rattle.mls_apply.specs.declared.list_item.ListItem.{ListItem}
 use Rattle.mls_apply.specs.Senders.{member_index}
-use Rattle.mls_apply.specs.AppliedList.{Grown, grown, outcome, with_members, new_members, without_adds, after_leaf, after_adds, updated_at, after_update, after_updates, after_remove, after_removes}
+use Rattle.mls_apply.specs.AppliedList.{AppliedTree, applied_tree, outcome, with_members, new_members, without_adds, after_leaf, after_adds, updated_at, after_update, after_updates, after_remove, after_removes}
 use Rattle.mls_check.specs.PreservedValidity.{IsParentHashValidTree}
 use Rattle.mls_check.proofs.Remaining.{update_parents, remove_parents, parts_sound}
 use Rattle.mls_check.proofs.Adding.{sound_add}
 
-pub unless : (b : Bool) (o : Option Grown) (g : Grown) → (if b then None else o) ≡ Some g → o ≡ Some g
+pub unless : (b : Bool) (o : Option AppliedTree) (g : AppliedTree) → (if b then None else o) ≡ Some g → o ≡ Some g
 unless true o g e = absurd (none-some g e)
 unless false o g e = e
 
-pub where_so : (b : Bool) (o : Option Grown) (g : Grown) → (if b then o else None) ≡ Some g → o ≡ Some g
+pub where_so : (b : Bool) (o : Option AppliedTree) (g : AppliedTree) → (if b then o else None) ≡ Some g → o ≡ Some g
 where_so true o g e = e
 where_so false o g e = absurd (none-some g e)
 
-pub mapped : (j : ℕ) (o : Option Grown) (g : Grown) → option_map (after_leaf j) o ≡ Some g → (h : Grown) × (o ≡ Some h) × (h.tree ≡ g.tree)
+pub mapped : (j : ℕ) (o : Option AppliedTree) (g : AppliedTree) → option_map (after_leaf j) o ≡ Some g → (h : AppliedTree) × (o ≡ Some h) × (h.tree ≡ g.tree)
 mapped j None g e = absurd (none-some g e)
-mapped j (Some h) g e = (h, refl, ap (λ (v : Grown). v.tree) (same_Some (after_leaf j h) g e))
+mapped j (Some h) g e = (h, refl, ap (λ (v : AppliedTree). v.tree) (same_Some (after_leaf j h) g e))
 
 module _ (H : List ℕ → List ℕ) where
   member-sound : (o : Option ℕ) (x : LeafNode) (t u : Tree) → updated_at o x t ≡ Some u → IsParentHashValidTree H t → IsParentHashValidTree H u
@@ -68,14 +68,14 @@ module _ (H : List ℕ → List ℕ) where
       option_and_then_some (after_removes xs) (after_remove x.proposal t) u e
       (λ v a b. removes-sound xs v u b (remove-sound x.proposal t v a h))
 
-  adds-sound : (xs : List LeafNode) (t : Tree) (g : Grown) → after_adds xs t ≡ Some g → IsParentHashValidTree H t → IsParentHashValidTree H g.tree
+  adds-sound : (xs : List LeafNode) (t : Tree) (g : AppliedTree) → after_adds xs t ≡ Some g → IsParentHashValidTree H t → IsParentHashValidTree H g.tree
   unfolding after_adds
-  adds-sound [] t g e h = subst (λ (v : Grown). IsParentHashValidTree H v.tree) (same_Some (grown t []) g e) h
+  adds-sound [] t g e h = subst (λ (v : AppliedTree). IsParentHashValidTree H v.tree) (same_Some (applied_tree t []) g e) h
   adds-sound (x ∷ xs) t g e h =
       let m = mapped (added_leaf t) (after_adds xs (add t x)) g (unless (is_overfilled_above 0 (grown_for (first_blank_leaf 0 t) t) (added_leaf t)) (option_map (after_leaf (added_leaf t)) (after_adds xs (add t x))) g e) in
       subst (IsParentHashValidTree H) m.2 (adds-sound xs (add t x) m.0 m.1 (sound_add H t x h))
 
-  pub outcome-sound : (items : List ListItem) (t : Tree) (g : Grown) → outcome items t ≡ Some g → IsParentHashValidTree H t → IsParentHashValidTree H g.tree
+  pub outcome-sound : (items : List ListItem) (t : Tree) (g : AppliedTree) → outcome items t ≡ Some g → IsParentHashValidTree H t → IsParentHashValidTree H g.tree
   unfolding outcome with_members
   outcome-sound items t g e h =
       option_and_then_some (with_members (new_members items)) (without_adds items t) g e

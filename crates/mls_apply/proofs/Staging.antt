@@ -12,7 +12,7 @@ use Rattle.mls_check.specs.LeafValidation.{all_leaves, FindsFailing, LeavesAreVa
 use Rattle.mls_check.specs.Signatures.{VerifyFn}
 use Rattle.mls_check.proofs.Distinctness.{distinct-by_keys}
 use Rattle.mls_index.specs.FirstChanged.{FindsFailingAt, leaf_rule}
-use Rattle.mls_index.specs.IncrementalCheck.{AreOwnKeys}
+use Rattle.mls_index.specs.IncrementalCheck.{AreUniqueKeys}
 use Rattle.mls_index.specs.declared.changed_leaves.LeafRule.TheVariants.{Extensions, Requirements, Signature}
 use Rattle.mls_index.specs.declared.node_key.KeyKind.TheVariants.{Encryption}
 use Rattle.mls_index.proofs.Changed.{changed_keys, changed_first, members-extensions, members-signatures}
@@ -27,17 +27,17 @@ pub some_there : {A : Type 0} (o : Option A) (P : A → Type 0) → MatchOption 
 some_there (Some a) P h e = (a, h)
 some_there None P h e = absurd (false≢true e)
 
-module _ (places : List ℕ) (base t : Tree) (same : AgreeExceptAt places base t) where
+module _ (node_indices : List ℕ) (base t : Tree) (same : AgreeExceptAt node_indices base t) where
   -- the keys at the changed node indices decide whether all are distinct
-  pub distinct_there : has_distinct_keys base ≡ true → (own : Bool) → IsTrue own ↔ AreOwnKeys Encryption places t → own ≡ has_distinct_keys t
+  pub distinct_there : has_distinct_keys base ≡ true → (own : Bool) → IsTrue own ↔ AreUniqueKeys Encryption node_indices t → own ≡ has_distinct_keys t
   distinct_there distinct own looked =
-      let decided = changed_keys places base t same ((distinct-by_keys base).0 distinct) in
+      let decided = changed_keys node_indices base t same ((distinct-by_keys base).0 distinct) in
       same_answer own (has_distinct_keys t) (λ e. (distinct-by_keys t).1 (decided.1 (looked.0 e))) (λ e. looked.1 (decided.0 ((distinct-by_keys t).0 e)))
 
   -- the first leaf there that fails a test is the first one of the tree
-  pub first_there : {E : Type 0} (test : ℕ → LeafNode → Bool) → all_leaves test 0 base ≡ true → (found : Result (Option ℕ) E) → IfOk found (FindsFailingAt test places t)
+  pub first_there : {E : Type 0} (test : ℕ → LeafNode → Bool) → all_leaves test 0 base ≡ true → (found : Result (Option ℕ) E) → IfOk found (FindsFailingAt test node_indices t)
       → IfOk found (FindsFailing test t)
-  first_there test was (Ok o) h = changed_first test places base t same was o h
+  first_there test was (Ok o) h = changed_first test node_indices base t same was o h
   first_there test was (Err e) h = tt
 
 -- ---- the rules of one leaf by their names

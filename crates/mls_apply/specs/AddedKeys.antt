@@ -5,7 +5,7 @@ use Rattle.mls_msgs.specs.declared.proposal.Proposal.{Proposal}
 use Rattle.mls_msgs.specs.declared.proposal.Proposal.TheVariants.{Add, Update, Remove, ContextExtensions, PreSharedKey, ReInit, ExternalInit}
 use Rattle.mls_tree.specs.Tree.{Tree}
 use Rattle.mls_check.specs.DistinctKeys.{are_distinct, has_distinct_keys}
-use Rattle.mls_apply.specs.AppliedList.{Grown, outcome}
+use Rattle.mls_apply.specs.AppliedList.{AppliedTree, outcome}
 use Rattle.mls_apply.specs.declared.list_item.ListItem.{ListItem}
 
 -- `key_of_add p` is the encryption key of the leaf node of a proposal, if it is an Add.
@@ -29,5 +29,5 @@ have_distinct_added_keys items = are_distinct (filter_map added_key items)
 -- If two Adds of a list have one encryption key, then two nodes of the tree after the list have one.
 abbrev pub RepeatedAddsRepeatKeys : Type 0
 RepeatedAddsRepeatKeys =
-    (items : List ListItem) (t : Tree) (g : Grown) → outcome items t ≡ Some g → have_distinct_added_keys items ≡ false
+    (items : List ListItem) (t : Tree) (g : AppliedTree) → outcome items t ≡ Some g → have_distinct_added_keys items ≡ false
     → has_distinct_keys g.tree ≡ false

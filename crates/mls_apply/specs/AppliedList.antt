@@ -66,22 +66,22 @@ new_members [] = []
 new_members (x ∷ xs) = added_to x.proposal (new_members xs)
 
 -- A tree, and the indices of the leaves that were added to it.
-pub record Grown : Type 0 where
+pub record AppliedTree : Type 0 where
   pub tree : Tree
   pub added : List ℕ
 
--- `grown t added` is the tree with these indices.
-abbrev pub grown : Tree → List ℕ → Grown
-grown t added = record { tree = t; added = added }
+-- `applied_tree t added` is the tree with these indices.
+abbrev pub applied_tree : Tree → List ℕ → AppliedTree
+applied_tree t added = record { tree = t; added = added }
 
 -- `after_leaf j g` is `g` with leaf j as the first added one.
-abbrev pub after_leaf : ℕ → Grown → Grown
-after_leaf j g = grown g.tree (j ∷ g.added)
+abbrev pub after_leaf : ℕ → AppliedTree → AppliedTree
+after_leaf j g = applied_tree g.tree (j ∷ g.added)
 
 -- `after_adds xs t` is the tree after Adds, each at the leftmost blank leaf at that point (RFC 9420, 12.1.1). `None` if
 -- an unmerged list would be too long.
-unfoldable pub after_adds : List LeafNode → Tree → Option Grown
-after_adds [] t = Some (grown t [])
+unfoldable pub after_adds : List LeafNode → Tree → Option AppliedTree
+after_adds [] t = Some (applied_tree t [])
 after_adds (x ∷ xs) t =
     if is_overfilled_above 0 (grown_for (first_blank_leaf 0 t) t) (added_leaf t)
     then None
@@ -92,13 +92,13 @@ abbrev pub without_adds : List ListItem → Tree → Option Tree
 without_adds items t = option_and_then (after_removes items) (after_updates items t)
 
 -- `with_members xs t` is the tree after Adds, if the group has no more members than a tree may have leaves.
-unfoldable pub with_members : List LeafNode → Tree → Option Grown
+unfoldable pub with_members : List LeafNode → Tree → Option AppliedTree
 with_members xs t = if nat_le (member_count t + length xs) leaf_limit then after_adds xs t else None
 
 -- `outcome items t` is the tree after the proposal list (RFC 9420, 12.3), with the indices of the added leaves in the
 -- order of the list. `None` if the leaf of an Update or Remove is blank at that point, an Update is from no member, or the
 -- Adds exceed a limit.
-unfoldable pub outcome : List ListItem → Tree → Option Grown
+unfoldable pub outcome : List ListItem → Tree → Option AppliedTree
 outcome items t = option_and_then (with_members (new_members items)) (without_adds items t)
 
 -- `ExceedsCapacity items t`: the Updates and the Removes can be applied, and with the Adds the group would have more

@@ -11,22 +11,22 @@ use Rattle.mls_check.specs.ParentHashValid.{IsParentHashValidHere}
 use Rattle.mls_check.specs.PreservedValidity.{IsParentHashValidTree}
 use Rattle.mls_apply.specs.declared.list_item.ListItem.{ListItem}
 use Rattle.mls_apply.specs.MergePath.{merged, expected_hashes}
-use Rattle.mls_apply.specs.AppliedList.{Grown, outcome}
+use Rattle.mls_apply.specs.AppliedList.{AppliedTree, outcome}
 use Rattle.mls_apply.specs.PathRules.{has_first_parent_hash, path_length, copath_resolutions}
 
 -- The proposals of a commit preserve them (RFC 9420, 12.3).
 abbrev pub OutcomesKeepSound : Type 0
 OutcomesKeepSound =
-    (H : List ℕ → List ℕ) (items : List ListItem) (t : Tree) (g : Grown)
+    (H : List ℕ → List ℕ) (items : List ListItem) (t : Tree) (g : AppliedTree)
     → outcome items t ≡ Some g → IsParentHashValidTree H t → IsParentHashValidTree H g.tree
 
 -- After a path was merged whose leaf has the expected parent hash, each parent of the filtered direct path is
 -- parent-hash valid (RFC 9420, 7.5 and 7.9).
 abbrev pub PathsAreReached : Type 0
 PathsAreReached =
-    (H : List ℕ → List ℕ) (t new : Tree) (i : ℕ) (x : LeafNode) (keys : List (List ℕ)) (place : ℕ)
+    (H : List ℕ → List ℕ) (t new : Tree) (i : ℕ) (x : LeafNode) (keys : List (List ℕ)) (node_index : ℕ)
     → has_first_parent_hash x.source (expected_hashes H t i keys) ≡ true → merged H t i x keys ≡ Some new
-    → Contains (filtered_direct_path (leaf_count t) 0 t i) place → IsParentHashValidHere H new place
+    → Contains (filtered_direct_path (leaf_count t) 0 t i) node_index → IsParentHashValidHere H new node_index
 
 -- Merging a path leaves each subtree outside the direct path unchanged.
 abbrev pub PathsLeaveOthers : Type 0
@@ -44,7 +44,7 @@ PathsKeepSound =
 -- ---- a client that joins with a commit (12.4.3.2). It takes the leaf of the next new member, which is still blank: see
 -- `seat`. The standard adds the client as by an Add, and then merges its path. `y` is any leaf node of such an Add.
 
--- The tree with the seat keeps them.
+-- The tree with the seat satisfies them too.
 abbrev pub SeatsKeepSound : Type 0
 SeatsKeepSound = (H : List ℕ → List ℕ) (t : Tree) → IsParentHashValidTree H t → IsParentHashValidTree H (seat t).tree
 

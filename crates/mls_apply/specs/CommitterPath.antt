@@ -2,11 +2,11 @@
 -- Used by contracts: `refusal_of` and `merged_by`. Internal: `AreNewNodes`.
 -- H is the hash function, t the tree after the list.
 use Rattle.std.specs.Prelude.{◌≡◌, ◌<◌, ℕ, List, All, map, Option, Some, option_map}
-use Rattle.mls_tree.specs.Tree.{Tree, leaf_count, IsParentPlace}
-use Rattle.mls_apply.specs.AppliedList.{grown}
+use Rattle.mls_tree.specs.Tree.{Tree, leaf_count, IsParentNodeIndex}
+use Rattle.mls_apply.specs.AppliedList.{applied_tree}
 use Rattle.mls_apply.specs.MergePath.{merged}
 use Rattle.mls_apply.specs.PathModel.{change_of}
-use Rattle.mls_apply.specs.PathParents.{path_route}
+use Rattle.mls_apply.specs.PathParents.{parents_of_path}
 use Rattle.mls_apply.specs.PathRules.{node_keys, path_refusal}
 use Rattle.mls_apply.specs.declared.committer_path.CommitterPath.{CommitterPath}
 use Rattle.mls_apply.specs.declared.fault.ApplyFault.{ApplyFault}
@@ -14,7 +14,7 @@ use Rattle.mls_apply.specs.declared.new_parents.NewNodes.{NewNodes}
 
 -- `refusal_of H t p` is the refusal of the path p, if there is one
 abbrev pub refusal_of : (List ℕ → List ℕ) → Tree → CommitterPath → Option ApplyFault
-refusal_of H t p = path_refusal H (grown t p.added.now) p.leaf p.path.now
+refusal_of H t p = path_refusal H (applied_tree t p.added.now) p.leaf p.path.now
 
 -- `merged_by H t p` is the tree with the path p merged into it, if the path has a key for each of its nodes
 abbrev pub merged_by : (List ℕ → List ℕ) → Tree → CommitterPath → Option Tree
@@ -23,6 +23,6 @@ merged_by H t p = merged H t p.leaf p.path.now.leaf_node (node_keys p.path.now)
 -- `AreNewNodes H t p new` says that new are the leaf node and the parents that the path p puts into the tree
 pub record AreNewNodes (H : List ℕ → List ℕ) (t : Tree) (p : CommitterPath) (new : NewNodes) : Type 0 where
   pub leaf : new.leaf.value ≡ p.path.now.leaf_node
-  pub route : option_map (λ r. r.changes) (path_route H t p.leaf (node_keys p.path.now)) ≡ Some (map change_of new.parents.items)
+  pub path_parents : option_map (λ r. r.changes) (parents_of_path H t p.leaf (node_keys p.path.now)) ≡ Some (map change_of new.parents.items)
   pub inside : p.leaf < leaf_count t
-  pub parents : All (λ n. IsParentPlace t n.place) new.parents.items
+  pub parents : All (λ n. IsParentNodeIndex t n.node_index) new.parents.items

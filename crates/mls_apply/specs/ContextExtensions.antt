@@ -16,26 +16,26 @@ extensions_of (PreSharedKey extensions) = None
 extensions_of (ReInit extensions) = None
 extensions_of (ExternalInit extensions) = None
 
--- `brings_extensions x`: the item is a GroupContextExtensions proposal.
-abbrev pub brings_extensions : ListItem → Bool
-brings_extensions x = is_some (extensions_of x.proposal)
+-- `is_context_extensions x`: the item is a GroupContextExtensions proposal.
+abbrev pub is_context_extensions : ListItem → Bool
+is_context_extensions x = is_some (extensions_of x.proposal)
 
--- `bring_once items`: the list has at most one GroupContextExtensions proposal (RFC 9420, 12.2).
-abbrev pub bring_once : List ListItem → Bool
-bring_once [] = true
-bring_once (x ∷ xs) = if brings_extensions x then not (list_any brings_extensions xs) else bring_once xs
+-- `has_one_context_extensions items`: the list has at most one GroupContextExtensions proposal (RFC 9420, 12.2).
+abbrev pub has_one_context_extensions : List ListItem → Bool
+has_one_context_extensions [] = true
+has_one_context_extensions (x ∷ xs) = if is_context_extensions x then not (list_any is_context_extensions xs) else has_one_context_extensions xs
 
--- `brought_before x rest` is `x`, or `rest` if `x` is `None`.
-abbrev pub brought_before : Option (List Extension) → Option (List Extension) → Option (List Extension)
-brought_before (Some extensions) rest = Some extensions
-brought_before None rest = rest
+-- `first_some x rest` is `x`, or `rest` if `x` is `None`.
+abbrev pub first_some : Option (List Extension) → Option (List Extension) → Option (List Extension)
+first_some (Some extensions) rest = Some extensions
+first_some None rest = rest
 
--- `brought items` is the extensions of the first GroupContextExtensions proposal of the list.
-abbrev pub brought : List ListItem → Option (List Extension)
-brought [] = None
-brought (x ∷ xs) = brought_before (extensions_of x.proposal) (brought xs)
+-- `proposed_extensions items` is the extensions of the first GroupContextExtensions proposal of the list.
+abbrev pub proposed_extensions : List ListItem → Option (List Extension)
+proposed_extensions [] = None
+proposed_extensions (x ∷ xs) = first_some (extensions_of x.proposal) (proposed_extensions xs)
 
 -- `new_extensions present items` is the extensions of the next GroupContext: those that the list proposes, else the
 -- current ones (RFC 9420, 12.1.7).
 abbrev pub new_extensions : List Extension → List ListItem → List Extension
-new_extensions present items = unwrap_or (brought items) present
+new_extensions present items = unwrap_or (proposed_extensions items) present

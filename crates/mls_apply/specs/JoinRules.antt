@@ -84,7 +84,7 @@ joiner_item p = record { sender = NewMemberCommit; proposal = p }
 abbrev pub join_items : List ProposalOrRef → List ListItem
 join_items es = map joiner_item (filter_map value_of es)
 
--- ---- the client that comes back (12.4.3.2)
+-- ---- the client that rejoins (12.4.3.2)
 
 -- `are_same_certificates xs ys`: the two chains have equal certificates, in one order.
 abbrev pub are_same_certificates : List (List ℕ) → List (List ℕ) → Bool
@@ -100,8 +100,8 @@ is_same_credential (Basic a) (X509 ys) = false
 is_same_credential (X509 xs) (Basic b) = false
 is_same_credential (X509 xs) (X509 ys) = are_same_certificates xs ys
 
--- `is_successor old x`: the leaf node `x` may take the place of `old`. Its encryption key is another one, and it has the
--- credential or the signature key of `old` (12.4.3.2; the second half of the rule is own).
+-- `is_successor old x`: the leaf node `x` may replace `old`. Its encryption key is another one, and it has the
+-- credential or the signature key of `old` (12.4.3.2; the second part of the rule is own).
 abbrev pub is_successor : LeafNode → LeafNode → Bool
 is_successor old x =
     not (bytes_eq old.encryption_key x.encryption_key)
@@ -112,7 +112,7 @@ abbrev pub is_successor_if_set : Option LeafNode → LeafNode → Bool
 is_successor_if_set None x = true
 is_successor_if_set (Some old) x = is_successor old x
 
--- `valid_if_resync t x p`: if the proposal is a Remove, `x` may take the place of the leaf that it removes.
+-- `valid_if_resync t x p`: if the proposal is a Remove, `x` may replace the leaf that it removes.
 abbrev pub valid_if_resync : Tree → LeafNode → Proposal → Bool
 valid_if_resync t x (Add _) = true
 valid_if_resync t x (Update _) = true

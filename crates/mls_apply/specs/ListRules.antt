@@ -10,7 +10,7 @@ use Rattle.mls_apply.specs.RuleLists.{Rule, rule, first_failing}
 use Rattle.mls_apply.specs.declared.fault.ApplyFault.{ApplyFault}
 use Rattle.mls_apply.specs.declared.fault.ApplyFault.TheVariants.{UpdateByCommitter, RemovesCommitter, SameLeafTwice, TwoContextExtensions, PskTwice, ReInitNotAlone, PathMissing}
 use Rattle.mls_apply.specs.declared.list_item.ListItem.{ListItem}
-use Rattle.mls_apply.specs.ContextExtensions.{bring_once}
+use Rattle.mls_apply.specs.ContextExtensions.{has_one_context_extensions}
 use Rattle.mls_apply.specs.PskProposals.{have_distinct_psks}
 use Rattle.mls_apply.specs.Senders.{member_index, is_same_sender}
 
@@ -79,19 +79,19 @@ has_no_remove_of committer items = not (list_any (λ x. removes committer x.prop
 abbrev pub item_target : ListItem → Option ℕ
 item_target x = target_leaf x.sender x.proposal
 
--- `tells f items o`: there is a leaf index, and `f` maps some item to it.
-abbrev pub tells : (ListItem → Option ℕ) → List ListItem → Option ℕ → Bool
-tells f items None = false
-tells f items (Some i) = list_any (λ x. is_leaf_number (f x) i) items
+-- `maps_to f items o`: there is a leaf index, and `f` maps some item to it.
+abbrev pub maps_to : (ListItem → Option ℕ) → List ListItem → Option ℕ → Bool
+maps_to f items None = false
+maps_to f items (Some i) = list_any (λ x. is_leaf_number (f x) i) items
 
--- `tells_once f items`: `f` maps no two items to one leaf index.
-abbrev pub tells_once : (ListItem → Option ℕ) → List ListItem → Bool
-tells_once f [] = true
-tells_once f (x ∷ xs) = not (tells f xs (f x)) && tells_once f xs
+-- `maps_once f items`: `f` maps no two items to one leaf index.
+abbrev pub maps_once : (ListItem → Option ℕ) → List ListItem → Bool
+maps_once f [] = true
+maps_once f (x ∷ xs) = not (maps_to f xs (f x)) && maps_once f xs
 
 -- `have_distinct_targets items`: no two Updates or Removes apply to one leaf (RFC 9420, 12.2).
 unfoldable pub have_distinct_targets : List ListItem → Bool
-have_distinct_targets items = tells_once item_target items
+have_distinct_targets items = maps_once item_target items
 
 -- `requires_path p`: a commit with this proposal must have a path (RFC 9420, 17.4: Path Required).
 abbrev pub requires_path : Proposal → Bool
@@ -132,7 +132,7 @@ list_rules committer items has_path =
     rule UpdateByCommitter (has_no_update_by committer items) ∷
     rule RemovesCommitter (has_no_remove_of committer items) ∷
     rule SameLeafTwice (have_distinct_targets items) ∷
-    rule TwoContextExtensions (bring_once items) ∷
+    rule TwoContextExtensions (has_one_context_extensions items) ∷
     rule PskTwice (have_distinct_psks items) ∷
     rule ReInitNotAlone (is_reinit_alone items) ∷
     rule PathMissing (has_path || not (needs_path items)) ∷ []

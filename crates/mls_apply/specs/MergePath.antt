@@ -23,25 +23,25 @@ path_hash H p first away =
 
 -- One step of the walk: the new parent node, or `None` if it becomes blank; the parent hash for the next node on the
 -- path; the keys that are left.
-pub record Handed : Type 0 where
+pub record PathStep : Type 0 where
   pub parent : Option ParentNode
   pub hash : List ℕ
   pub keys : List (List ℕ)
 
--- `handed_by H r first away hash keys` is the step at a parent whose child on the copath is `away`, with the resolution
+-- `path_step H r first away hash keys` is the step at a parent whose child on the copath is `away`, with the resolution
 -- `r` (RFC 9420, 7.5 and 7.9). If `r` is empty, the parent becomes blank, and hash and keys are passed on. Otherwise
 -- the parent takes the next key and the hash, and passes on its own parent hash. `None` if no key is left, or a hash
 -- does not exist.
-abbrev pub handed_by : (List ℕ → List ℕ) → List ℕ → ℕ → Tree → List ℕ → List (List ℕ) → Option Handed
-handed_by H [] first away hash keys = Some (record { parent = None; hash = hash; keys = keys })
-handed_by H (_ ∷ _) first away hash [] = None
-handed_by H (_ ∷ _) first away hash (key ∷ keys) =
+abbrev pub path_step : (List ℕ → List ℕ) → List ℕ → ℕ → Tree → List ℕ → List (List ℕ) → Option PathStep
+path_step H [] first away hash keys = Some (record { parent = None; hash = hash; keys = keys })
+path_step H (_ ∷ _) first away hash [] = None
+path_step H (_ ∷ _) first away hash (key ∷ keys) =
     option_map (λ h. record { parent = Some (path_parent key hash); hash = h; keys = keys })
     (path_hash H (path_parent key hash) first away)
 
--- `handed H leaves first away hash keys` is this step, with the resolution of `away`.
-abbrev pub handed : (List ℕ → List ℕ) → ℕ → ℕ → Tree → List ℕ → List (List ℕ) → Option Handed
-handed H leaves first away hash keys = handed_by H (resolution leaves first away) first away hash keys
+-- `path_step_at H leaves first away hash keys` is this step, with the resolution of `away`.
+abbrev pub path_step_at : (List ℕ → List ℕ) → ℕ → ℕ → Tree → List ℕ → List (List ℕ) → Option PathStep
+path_step_at H leaves first away hash keys = path_step H (resolution leaves first away) first away hash keys
 
 -- `merged_from H leaves first t i x hash keys` is the subtree with `x` as leaf i and with each parent above it made by
 -- a step. `None` if keys are left at the leaf.
@@ -52,10 +52,10 @@ merged_from H leaves first (branch l _ r) i x hash keys =
     if nat_lt i (first + leaf_count l)
     then option_and_then
     (λ n. option_map (λ t. branch t n.parent r) (merged_from H leaves first l i x n.hash n.keys))
-    (handed H leaves (first + leaf_count l) r hash keys)
+    (path_step_at H leaves (first + leaf_count l) r hash keys)
     else option_and_then
     (λ n. option_map (λ t. branch l n.parent t) (merged_from H leaves (first + leaf_count l) r i x n.hash n.keys))
-    (handed H leaves first l hash keys)
+    (path_step_at H leaves first l hash keys)
 
 -- `merged H t i x keys` is the tree with a path of leaf i merged: `x` is leaf i, and the parents of the filtered direct
 -- path have the keys, the lowest first (RFC 9420, 7.5). `None` if the number of keys is not that of these parents. It
@@ -63,10 +63,10 @@ merged_from H leaves first (branch l _ r) i x hash keys =
 abbrev pub merged : (List ℕ → List ℕ) → Tree → ℕ → LeafNode → List (List ℕ) → Option Tree
 merged H t i x keys = merged_from H (leaf_count t) 0 t i x [] (reverse keys)
 
--- `behind p hash hashes` is `hashes` followed by the hash, if the parent is non-blank.
-abbrev pub behind : Option ParentNode → List ℕ → List (List ℕ) → List (List ℕ)
-behind None hash hashes = hashes
-behind (Some _) hash hashes = hashes ++ hash ∷ []
+-- `append_parent_hash p hash hashes` is `hashes` followed by the hash, if the parent is non-blank.
+abbrev pub append_parent_hash : Option ParentNode → List ℕ → List (List ℕ) → List (List ℕ)
+append_parent_hash None hash hashes = hashes
+append_parent_hash (Some _) hash hashes = hashes ++ hash ∷ []
 
 -- `hashes_from H leaves first t i hash keys` is the parent hashes for leaf i and for each new parent above it, the
 -- leaf's first. `None` if keys are left at the leaf.
@@ -76,11 +76,11 @@ hashes_from H leaves first (leaf _) i hash (_ ∷ _) = None
 hashes_from H leaves first (branch l _ r) i hash keys =
     if nat_lt i (first + leaf_count l)
     then option_and_then
-    (λ n. option_map (behind n.parent hash) (hashes_from H leaves first l i n.hash n.keys))
-    (handed H leaves (first + leaf_count l) r hash keys)
+    (λ n. option_map (append_parent_hash n.parent hash) (hashes_from H leaves first l i n.hash n.keys))
+    (path_step_at H leaves (first + leaf_count l) r hash keys)
     else option_and_then
-    (λ n. option_map (behind n.parent hash) (hashes_from H leaves (first + leaf_count l) r i n.hash n.keys))
-    (handed H leaves first l hash keys)
+    (λ n. option_map (append_parent_hash n.parent hash) (hashes_from H leaves (first + leaf_count l) r i n.hash n.keys))
+    (path_step_at H leaves first l hash keys)
 
 -- `expected_hashes H t i keys` is the parent hashes that a path of leaf i with these keys must have: the leaf's, then
 -- those of the filtered direct path, the lowest first. The last one is empty (RFC 9420, 7.9). `None` if the number of

@@ -3,7 +3,7 @@
 use Rattle.std.specs.Prelude.{◌≡◌, ◌≢◌, ℕ, List, [], ◌∷◌, Option, Some, ⊤}
 use Rattle.mls_nodes.specs.declared.leaf.LeafNode.{LeafNode}
 use Rattle.mls_tree.specs.Tree.{Tree, leaf_at}
-use Rattle.mls_apply.specs.AppliedList.{Grown, grown}
+use Rattle.mls_apply.specs.AppliedList.{AppliedTree, applied_tree}
 
 -- `IsApart js i`: the leaf index `i` is none of the leaf indices `js`.
 abbrev pub IsApart : List ℕ → ℕ → Type 0
@@ -19,7 +19,7 @@ AreAt t (x ∷ xs) (j ∷ js) = (leaf_at 0 t j ≡ Some x) × AreAt t xs js
 
 -- `IsOutline o added u`: `o` is a tree with the added leaves `added`, and each leaf of `u` that was not added is that of the
 -- tree.
-pub record IsOutline (o : Option Grown) (added : List ℕ) (u : Tree) : Type 0 where
+pub record IsOutline (o : Option AppliedTree) (added : List ℕ) (u : Tree) : Type 0 where
   pub tree : Tree
-  pub is : o ≡ Some (grown tree added)
+  pub is : o ≡ Some (applied_tree tree added)
   pub others : (j : ℕ) → IsApart added j → leaf_at 0 u j ≡ leaf_at 0 tree j

@@ -15,56 +15,57 @@ copath_child i first (branch l _ r) =
     then Some (record { first = first + leaf_count l; tree = r })
     else Some (record { first = first; tree = l })
 
--- `away_at t i place` is the child on the copath of leaf i of the parent at a node index.
+-- `away_at t i node_index` is the child on the copath of leaf i of the parent at a node index.
 abbrev pub away_at : Tree → ℕ → ℕ → Option Subtree
-away_at t i place = option_and_then (λ s. copath_child i s.first s.tree) (subtree_at 0 t place)
+away_at t i node_index = option_and_then (λ s. copath_child i s.first s.tree) (subtree_at 0 t node_index)
 
 -- `resolution_of leaves s` is the resolution of a subtree, in a tree with this many leaves.
 abbrev pub resolution_of : ℕ → Option Subtree → List ℕ
 resolution_of leaves None = []
 resolution_of leaves (Some s) = resolution leaves s.first s.tree
 
--- `away_resolution t i place` is the resolution of the child on the copath of leaf i of the parent at a node index.
+-- `away_resolution t i node_index` is the resolution of the child on the copath of leaf i of the parent at a node
+-- index.
 abbrev pub away_resolution : Tree → ℕ → ℕ → List ℕ
-away_resolution t i place = resolution_of (leaf_count t) (away_at t i place)
+away_resolution t i node_index = resolution_of (leaf_count t) (away_at t i node_index)
 
--- `path_hash_at H t i place p` is the parent hash of a parent that a path of leaf i makes at a node index.
+-- `path_hash_at H t i node_index p` is the parent hash of a parent that a path of leaf i makes at a node index.
 abbrev pub path_hash_at : (List ℕ → List ℕ) → Tree → ℕ → ℕ → ParentNode → Option (List ℕ)
-path_hash_at H t i place p = option_and_then (λ s. path_hash H p s.first s.tree) (away_at t i place)
+path_hash_at H t i node_index p = option_and_then (λ s. path_hash H p s.first s.tree) (away_at t i node_index)
 
 -- A new parent, with its node index.
 pub record Change : Type 0 where
-  pub place : ℕ
+  pub node_index : ℕ
   pub parent : ParentNode
 
 -- The new parents, the root's first, and the parent hash for the leaf.
-pub record Route : Type 0 where
+pub record PathParents : Type 0 where
   pub changes : List Change
   pub hash : List ℕ
 
--- `below place p route` is the route with a new parent above the others.
-abbrev pub below : ℕ → ParentNode → Route → Route
-below place p route = record { changes = record { place = place; parent = p } ∷ route.changes; hash = route.hash }
+-- `below node_index p path_parents` is the route with a new parent above the others.
+abbrev pub below : ℕ → ParentNode → PathParents → PathParents
+below node_index p path_parents = record { changes = record { node_index = node_index; parent = p } ∷ path_parents.changes; hash = path_parents.hash }
 
--- `route H t i places keys hash` is a path of leaf i through these node indices with as many keys, the root's first,
--- below a node with this parent hash.
-abbrev pub route : (List ℕ → List ℕ) → Tree → ℕ → List ℕ → List (List ℕ) → List ℕ → Option Route
-route H t i [] [] hash = Some (record { changes = []; hash = hash })
-route H t i [] (_ ∷ _) hash = None
-route H t i (place ∷ places) [] hash = None
-route H t i (place ∷ places) (key ∷ keys) hash =
-    option_and_then (λ h. option_map (below place (path_parent key hash)) (route H t i places keys h))
-    (path_hash_at H t i place (path_parent key hash))
+-- `path_parents H t i node_indices keys hash` is a path of leaf i through these node indices with as many keys, the
+-- root's first, below a node with this parent hash.
+abbrev pub path_parents : (List ℕ → List ℕ) → Tree → ℕ → List ℕ → List (List ℕ) → List ℕ → Option PathParents
+path_parents H t i [] [] hash = Some (record { changes = []; hash = hash })
+path_parents H t i [] (_ ∷ _) hash = None
+path_parents H t i (node_index ∷ node_indices) [] hash = None
+path_parents H t i (node_index ∷ node_indices) (key ∷ keys) hash =
+    option_and_then (λ h. option_map (below node_index (path_parent key hash)) (path_parents H t i node_indices keys h))
+    (path_hash_at H t i node_index (path_parent key hash))
 
 -- `changed first t changes` is the tree with the new parents put in place, the last one first.
 abbrev pub changed : ℕ → Tree → List Change → Tree
 changed first t [] = t
-changed first t (c ∷ cs) = put_parent first (changed first t cs) c.place (Some c.parent)
+changed first t (c ∷ cs) = put_parent first (changed first t cs) c.node_index (Some c.parent)
 
 -- `carried r` is the parent hashes for the leaf and for each new parent, the leaf's first.
-abbrev pub carried : Route → List (List ℕ)
+abbrev pub carried : PathParents → List (List ℕ)
 carried r = r.hash ∷ reverse (map (λ c. c.parent.parent_hash) r.changes)
 
--- `path_route H t i keys` is the route of a path of leaf i with these keys, the lowest first.
-abbrev pub path_route : (List ℕ → List ℕ) → Tree → ℕ → List (List ℕ) → Option Route
-path_route H t i keys = route H t i (reverse (filtered_direct_path (leaf_count t) 0 t i)) (reverse keys) []
+-- `parents_of_path H t i keys` is the route of a path of leaf i with these keys, the lowest first.
+abbrev pub parents_of_path : (List ℕ → List ℕ) → Tree → ℕ → List (List ℕ) → Option PathParents
+parents_of_path H t i keys = path_parents H t i (reverse (filtered_direct_path (leaf_count t) 0 t i)) (reverse keys) []

@@ -13,7 +13,7 @@ use Rattle.mls_tree.specs.Paths.{resolution, filtered_direct_path}
 use Rattle.mls_check.specs.DistinctKeys.{are_distinct, has_key, tree_keys}
 use Rattle.mls_apply.specs.RuleLists.{Rule, rule, first_failing}
 use Rattle.mls_apply.specs.ProposalRules.{is_from_commit}
-use Rattle.mls_apply.specs.AppliedList.{Grown}
+use Rattle.mls_apply.specs.AppliedList.{AppliedTree}
 use Rattle.mls_apply.specs.MergePath.{expected_hashes}
 use Rattle.mls_apply.specs.declared.fault.ApplyFault.{ApplyFault}
 use Rattle.mls_apply.specs.declared.fault.ApplyFault.TheVariants.{NoSuchLeaf, PathLength, PathSource, PathKeyUsed, CiphertextCount, PathParentHash}
@@ -30,10 +30,10 @@ path_keys path = path.leaf_node.encryption_key ∷ node_keys path
 unfoldable pub has_new_keys : UpdatePath → Tree → Bool
 has_new_keys path t = are_distinct (path_keys path) && not (list_any (has_key (tree_keys t)) (path_keys path))
 
--- `resolved_behind others r` is `others` followed by the resolution `r`, if it is not empty.
-abbrev pub resolved_behind : List (List ℕ) → List ℕ → List (List ℕ)
-resolved_behind others [] = others
-resolved_behind others (p ∷ ps) = others ++ (p ∷ ps) ∷ []
+-- `append_non_empty others r` is `others` followed by the resolution `r`, if it is not empty.
+abbrev pub append_non_empty : List (List ℕ) → List ℕ → List (List ℕ)
+append_non_empty others [] = others
+append_non_empty others (p ∷ ps) = others ++ (p ∷ ps) ∷ []
 
 -- `copath_resolutions leaves first t i` is the resolutions of the children on the copath of leaf i that are not empty,
 -- the lowest first (RFC 9420, 4.1.2).
@@ -41,12 +41,12 @@ abbrev pub copath_resolutions : ℕ → ℕ → Tree → ℕ → List (List ℕ)
 copath_resolutions leaves first (leaf _) i = []
 copath_resolutions leaves first (branch l _ r) i =
     if nat_lt i (first + leaf_count l)
-    then resolved_behind (copath_resolutions leaves first l i) (resolution leaves (first + leaf_count l) r)
-    else resolved_behind (copath_resolutions leaves (first + leaf_count l) r i) (resolution leaves first l)
+    then append_non_empty (copath_resolutions leaves first l i) (resolution leaves (first + leaf_count l) r)
+    else append_non_empty (copath_resolutions leaves (first + leaf_count l) r i) (resolution leaves first l)
 
--- `without_added added places` is the node indices of a resolution without those of added leaves (RFC 9420, 7.6).
+-- `without_added added node_indices` is the node indices of a resolution without those of added leaves (RFC 9420, 7.6).
 abbrev pub without_added : List ℕ → List ℕ → List ℕ
-without_added added places = filter (λ p. not (list_any (λ j. p == 2 * j) added)) places
+without_added added node_indices = filter (λ p. not (list_any (λ j. p == 2 * j) added)) node_indices
 
 -- `have_counts added resolutions nodes`: each node of a path has a ciphertext for each node of its resolution, without
 -- the leaves that the commit adds (RFC 9420, 7.6).
@@ -58,7 +58,7 @@ have_counts added (r ∷ rs) (n ∷ ns) =
     length n.ciphertexts == length (without_added added r) && have_counts added rs ns
 
 -- `has_ciphertexts path g i`: each node of the path has the right number of ciphertexts (RFC 9420, 7.6).
-unfoldable pub has_ciphertexts : UpdatePath → Grown → ℕ → Bool
+unfoldable pub has_ciphertexts : UpdatePath → AppliedTree → ℕ → Bool
 has_ciphertexts path g i = have_counts g.added (copath_resolutions (leaf_count g.tree) 0 g.tree i) path.nodes
 
 -- `has_first_parent_hash source hashes`: the leaf node is of source commit, and its parent hash is the first of these.
@@ -82,7 +82,7 @@ unfoldable pub has_path_length : UpdatePath → Tree → ℕ → Bool
 has_path_length path t i = length path.nodes == path_length t i
 
 -- `path_rules H g i path` is the rules for a path, in their order.
-abbrev pub path_rules : (List ℕ → List ℕ) → Grown → ℕ → UpdatePath → List (Rule ApplyFault)
+abbrev pub path_rules : (List ℕ → List ℕ) → AppliedTree → ℕ → UpdatePath → List (Rule ApplyFault)
 path_rules H g i path =
     rule PathLength (has_path_length path g.tree i) ∷
     rule PathSource (is_from_commit path.leaf_node.source) ∷
@@ -92,7 +92,7 @@ path_rules H g i path =
 
 -- `path_refusal H g i path` is the refusal of the first of them that fails, or NoSuchLeaf if the tree has no leaf i. The leaf
 -- of a client that joins with a path is blank (12.4.3.2).
-unfoldable pub path_refusal : (List ℕ → List ℕ) → Grown → ℕ → UpdatePath → Option ApplyFault
+unfoldable pub path_refusal : (List ℕ → List ℕ) → AppliedTree → ℕ → UpdatePath → Option ApplyFault
 path_refusal H g i path = first_failing (rule NoSuchLeaf (nat_lt i (leaf_count g.tree)) ∷ path_rules H g i path)
 
 -- `keys_refusal t i keys` is the refusal of keys for a path of leaf i: NoSuchLeaf if the tree has no leaf i, PathLength if

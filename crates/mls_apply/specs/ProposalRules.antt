@@ -211,11 +211,11 @@ checked_rules G context t sender p =
 unfoldable pub checked_refusal : VerifyFn → GroupContext → Tree → Sender → Proposal → Option ApplyFault
 checked_refusal G context t sender p = first_failing (checked_rules G context t sender p)
 
--- `holds_if_by_value asked e`: if a commit includes the proposal by value, `asked` holds of it (RFC 9420, 12.4).
+-- `holds_if_by_value test e`: if a commit includes the proposal by value, `test` holds of it (RFC 9420, 12.4).
 abbrev pub holds_if_by_value : (Proposal → Bool) → ProposalOrRef → Bool
-holds_if_by_value asked (entries.Proposal p) = asked p
-holds_if_by_value asked (entries.Reference _) = true
+holds_if_by_value test (entries.Proposal p) = test p
+holds_if_by_value test (entries.Reference _) = true
 
--- `all_inline asked es`: `asked` holds of each proposal that a commit includes by value (RFC 9420, 12.4).
+-- `all_inline test es`: `test` holds of each proposal that a commit includes by value (RFC 9420, 12.4).
 unfoldable pub all_inline : (Proposal → Bool) → List ProposalOrRef → Bool
-all_inline asked es = list_all (holds_if_by_value asked) es
+all_inline test es = list_all (holds_if_by_value test) es

@@ -17,33 +17,33 @@ use Rattle.mls_apply.specs.declared.list_item.KnownProposal.{KnownProposal}
 use Rattle.mls_apply.specs.ResolvedList.{resolved}
 use Rattle.mls_apply.specs.ListRules.{list_refusal}
 use Rattle.mls_apply.specs.ProposalRules.{checked_refusal}
-use Rattle.mls_apply.specs.AppliedList.{Grown, without_adds, outcome}
+use Rattle.mls_apply.specs.AppliedList.{AppliedTree, without_adds, outcome}
 use Rattle.mls_apply.specs.PathRules.{keys_refusal, path_refusal, node_keys}
 use Rattle.mls_apply.specs.MergePath.{expected_hashes, merged}
 
--- `IsAnswered Right Wrong`: there is a right value, or a right fault that is not OutOfMemory.
-abbrev pub IsAnswered : {A : Type 0} → (A → Type 0) → (ApplyFault → Type 0) → Type 0
-IsAnswered {A} Right Wrong = ((x : A) × Right x) ⊎ ((e : ApplyFault) × (e ≢ OutOfMemory) × Wrong e)
+-- `HasResult Right Wrong`: there is a right value, or a right fault that is not OutOfMemory.
+abbrev pub HasResult : {A : Type 0} → (A → Type 0) → (ApplyFault → Type 0) → Type 0
+HasResult {A} Right Wrong = ((x : A) × Right x) ⊎ ((e : ApplyFault) × (e ≢ OutOfMemory) × Wrong e)
 
 -- The entries of a commit are resolved, or a reference is unknown (RFC 9420, 12.4).
 abbrev pub ItemsExists : Type 0
 ItemsExists =
     (committer : Sender) (known : List KnownProposal) (entries : List ProposalOrRef)
-    → IsAnswered (λ items. resolved committer known entries ≡ Some items)
+    → HasResult (λ items. resolved committer known entries ≡ Some items)
     (λ e. (e ≡ UnknownReference) × (resolved committer known entries ≡ None))
 
 -- A list satisfies the rules for lists, or fails one (RFC 9420, 12.2 and 12.4).
 abbrev pub ListAnswerExists : Type 0
 ListAnswerExists =
     (committer : Sender) (items : List ListItem) (has_path : Bool)
-    → IsAnswered (λ (_ : Unit {0}). list_refusal committer items has_path ≡ None)
+    → HasResult (λ (_ : Unit {0}). list_refusal committer items has_path ≡ None)
     (λ e. list_refusal committer items has_path ≡ Some e)
 
 -- A proposal satisfies the rules for proposals, or fails one (RFC 9420, 12.1).
 abbrev pub ProposalAnswerExists : Type 0
 ProposalAnswerExists =
     (G : VerifyFn) (context : GroupContext) (t : Tree) (sender : Sender) (p : Proposal)
-    → IsAnswered (λ (_ : Unit {0}). checked_refusal G context t sender p ≡ None)
+    → HasResult (λ (_ : Unit {0}). checked_refusal G context t sender p ≡ None)
     (λ e. checked_refusal G context t sender p ≡ Some e)
 
 -- `FailsList items t e`: the list cannot be applied for this fault. A leaf is blank when it is updated or removed, or an
@@ -57,7 +57,7 @@ FailsList items t e =
 abbrev pub OutcomeExists : Type 0
 OutcomeExists =
     (items : List ListItem) (t : Tree)
-    → IsAnswered (λ g. outcome items t ≡ Some g) (FailsList items t)
+    → HasResult (λ g. outcome items t ≡ Some g) (FailsList items t)
 
 -- If the hashes of H have encodings and the tree has a tree hash, then keys that have encodings and the right number
 -- have expected parent hashes (RFC 9420, 7.9).
@@ -66,14 +66,14 @@ HashesExists =
     (H : List ℕ → List ℕ) (t : Tree) (committer : ℕ) (keys : List (List ℕ))
     → ((m : List ℕ) → IsSome (vector (H m))) → IsSome (tree_hash H 0 t)
     → All (λ k. IsSome (vector k)) keys
-    → IsAnswered (λ hashes. (keys_refusal t committer keys ≡ None)
+    → HasResult (λ hashes. (keys_refusal t committer keys ≡ None)
     × (expected_hashes H t committer keys ≡ Some hashes))
     (λ e. keys_refusal t committer keys ≡ Some e)
 
 -- A path that satisfies the rules for paths is merged (RFC 9420, 7.5).
 abbrev pub MergeExists : Type 0
 MergeExists =
-    (H : List ℕ → List ℕ) (g : Grown) (committer : ℕ) (path : UpdatePath)
-    → IsAnswered (λ new. (path_refusal H g committer path ≡ None)
+    (H : List ℕ → List ℕ) (g : AppliedTree) (committer : ℕ) (path : UpdatePath)
+    → HasResult (λ new. (path_refusal H g committer path ≡ None)
     × (merged H g.tree committer path.leaf_node (node_keys path) ≡ Some new))
     (λ e. path_refusal H g committer path ≡ Some e)

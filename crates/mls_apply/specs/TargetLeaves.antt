@@ -26,10 +26,10 @@ number_in first (Some i) = if nat_le first i && nat_lt i (first + 65536) then So
 abbrev pub removed_in : ℕ → ListItem → Option ℕ
 removed_in first x = number_in first (removed_by x)
 
--- `is_set_if_told t o`: the leaf is non-blank, if there is a leaf index.
-abbrev pub is_set_if_told : Tree → Option ℕ → Bool
-is_set_if_told t None = true
-is_set_if_told t (Some i) = is_some (leaf_at 0 t i)
+-- `is_non_blank_if_some t o`: the leaf is non-blank, if there is a leaf index.
+abbrev pub is_non_blank_if_some : Tree → Option ℕ → Bool
+is_non_blank_if_some t None = true
+is_non_blank_if_some t (Some i) = is_some (leaf_at 0 t i)
 
 -- `updates_set_leaf t sender p`: if the proposal is an Update, its sender is a member whose leaf is non-blank.
 abbrev pub updates_set_leaf : Tree → Sender → Proposal → Bool
@@ -48,12 +48,12 @@ update_set_leaves t items = list_all (λ x. updates_set_leaf t x.sender x.propos
 -- `concerns_set_leaf t x`: if the item is an Update or a Remove, there is a leaf to which it applies, and the leaf is
 -- non-blank.
 abbrev pub concerns_set_leaf : Tree → ListItem → Bool
-concerns_set_leaf t x = updates_set_leaf t x.sender x.proposal && is_set_if_told t (removed_by x)
+concerns_set_leaf t x = updates_set_leaf t x.sender x.proposal && is_non_blank_if_some t (removed_by x)
 
 -- `concern_set_leaves t items`: this holds of each item.
 abbrev pub concern_set_leaves : Tree → List ListItem → Bool
 concern_set_leaves t items = list_all (concerns_set_leaf t) items
 
--- `tell_set_leaves f t items`: each leaf to which `f` maps an item is non-blank.
-abbrev pub tell_set_leaves : (ListItem → Option ℕ) → Tree → List ListItem → Bool
-tell_set_leaves f t items = list_all (λ x. is_set_if_told t (f x)) items
+-- `map_to_non_blank f t items`: each leaf to which `f` maps an item is non-blank.
+abbrev pub map_to_non_blank : (ListItem → Option ℕ) → Tree → List ListItem → Bool
+map_to_non_blank f t items = list_all (λ x. is_non_blank_if_some t (f x)) items

@@ -4,9 +4,9 @@ ghost use Rattle.std.specs.Prelude.{◌≡◌, ◌+◌, ◌<◌, ◌≤◌, ◌�
 ghost use Rattle.mls_nodes.specs.Limits.{leaf_limit};
 ghost use Rattle.mls_tree.specs.Tree.{leaf_count, member_count};
 ghost use Rattle.mls_tree.specs.BlankLeaves.{first_blank_leaf, AreSetBelow};
-ghost use Rattle.mls_tree.specs.TreeOperations.{added_leaf, grown_for, enter_unmerged, is_overfilled_above};
+ghost use Rattle.mls_tree.specs.TreeOperations.{added_leaf, grown_for, add_unmerged, is_overfilled_above};
 ghost use Rattle.mls_tree.specs.Journals.{before};
-ghost use Rattle.mls_apply.specs.AppliedList.{after_adds, grown, new_members};
+ghost use Rattle.mls_apply.specs.AppliedList.{after_adds, applied_tree, new_members};
 ghost use Rattle.mls_apply.specs.AddSteps.{is_overfull_add, Adds};
 ghost use Rattle.mls_apply.specs.Outline.{IsOutline};
 
@@ -19,7 +19,7 @@ use mls_nodes::LeafNode;
 use mls_tree::{Journal, PublicTree, TreeError};
 use std::alloc::Global;
 
-/// Returns the leaf of a new member: the leftmost blank one, or else the first one by which the tree is extended. The
+/// Returns the leaf of a new member: the leftmost blank one, otherwise the first one by which the tree is extended. The
 /// leaves before `start` must be non-blank.
 pub(crate) fn leaf_for_member(
     tree: &mut PublicTree,
@@ -27,7 +27,7 @@ pub(crate) fn leaf_for_member(
     start: u32,
 ) -> Result<u32, ApplyFault>
     requires set { AreSetBelow tree.old.tree start }
-    requires room { member_count tree.old.tree < leaf_limit }
+    requires capacity { member_count tree.old.tree < leaf_limit }
     ensures index { IfOk result (λ j. j ≡ added_leaf tree.old.tree) }
     ensures inside { IfOk result (λ j. j < leaf_count tree.new.tree) }
     ensures tree { OnOk result
@@ -47,18 +47,18 @@ pub(crate) fn leaf_for_member(
 }
 
 /// Adds a leaf to the unmerged lists above it. `TooManyLeaves` if one of them would be too long.
-fn enter_unmerged(
+fn add_unmerged(
     alloc: Global,
     tree: &mut PublicTree,
     journal: &mut Journal,
     index: u32,
 ) -> Result<(), ApplyFault>
     requires { index < leaf_count tree.old.tree }
-    ensures entered { OnOk result (tree.new.tree ≡ enter_unmerged tree.old.tree index) }
+    ensures in_lists { OnOk result (tree.new.tree ≡ add_unmerged tree.old.tree index) }
     ensures fits { OnOk result (is_overfilled_above 0 tree.old.tree index ≡ false) }
     ensures too_many_leaves { result ≡ Err ApplyFault.TooManyLeaves
         → is_overfilled_above 0 tree.old.tree index ≡ true }
-    ensures else_memory { IfErr result (λ e.
+    ensures possible_errors { IfErr result (λ e.
         (e ≡ ApplyFault.TooManyLeaves) ⊎ (e ≡ ApplyFault.OutOfMemory)) }
     ensures before { before journal.new tree.new.tree ≡ before journal.old tree.old.tree }
 {
@@ -79,16 +79,16 @@ fn add_member(
     leaf: &LeafNode,
 ) -> Result<u32, ApplyFault>
     requires set { AreSetBelow tree.old.tree start }
-    requires room { member_count tree.old.tree < leaf_limit }
+    requires capacity { member_count tree.old.tree < leaf_limit }
     ensures added { IfOk result (λ j. Adds tree.old.tree leaf.now j tree.new.tree) }
     ensures too_many_leaves { result ≡ Err ApplyFault.TooManyLeaves
         → is_overfull_add tree.old.tree ≡ true }
-    ensures else_memory { IfErr result (λ e.
+    ensures possible_errors { IfErr result (λ e.
         (e ≡ ApplyFault.TooManyLeaves) ⊎ (e ≡ ApplyFault.OutOfMemory)) }
     ensures before { before journal.new tree.new.tree ≡ before journal.old tree.old.tree }
 {
     let index = leaf_for_member(tree, journal, start)?;
-    enter_unmerged(alloc, tree, journal, index)?;
+    add_unmerged(alloc, tree, journal, index)?;
     put_copy(alloc, tree, journal, index, leaf)?;
     Ok(index)
 }
@@ -103,10 +103,10 @@ pub(crate) fn apply_adds(
 ) -> Result<Leaves, ApplyFault>
     requires { member_count tree.old.tree + length (new_members items.now) ≤ leaf_limit }
     ensures added { IfOk result (λ added.
-        after_adds (new_members items.now) tree.old.tree ≡ Some (grown tree.new.tree added)) }
+        after_adds (new_members items.now) tree.old.tree ≡ Some (applied_tree tree.new.tree added)) }
     ensures too_many_leaves { result ≡ Err ApplyFault.TooManyLeaves
         → after_adds (new_members items.now) tree.old.tree ≡ None }
-    ensures else_memory { IfErr result (λ e.
+    ensures possible_errors { IfErr result (λ e.
         (e ≡ ApplyFault.TooManyLeaves) ⊎ (e ≡ ApplyFault.OutOfMemory)) }
     ensures before { before journal.new tree.new.tree ≡ before journal.old tree.old.tree }
 {
@@ -137,7 +137,7 @@ pub(crate) fn fit_adds(
         IsOutline (after_adds (new_members items.now) tree.old.tree) added tree.new.tree) }
     ensures too_many_leaves { result ≡ Err ApplyFault.TooManyLeaves
         → after_adds (new_members items.now) tree.old.tree ≡ None }
-    ensures else_memory { IfErr result (λ e.
+    ensures possible_errors { IfErr result (λ e.
         (e ≡ ApplyFault.TooManyLeaves) ⊎ (e ≡ ApplyFault.OutOfMemory)) }
     ensures before { before journal.new tree.new.tree ≡ before journal.old tree.old.tree }
 {

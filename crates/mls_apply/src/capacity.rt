@@ -1,16 +1,16 @@
 //! Whether a tree has capacity for the Adds of a proposal list (RFC 9420, 12.3), before anything is allocated.
 //!
-//! How many members are left after the list's Removes is known from its length alone, unless it removes a leaf that
-//! isn't set at its turn: one that is blank, or the same one twice. To find a leaf that is removed twice without
-//! memory, the list is gone through once for each window of leaves, with a flag for each leaf of the window.
+//! How many members are left after the list's Removes is known from its length alone, unless it removes a leaf that is
+//! blank when the Remove is applied: one that is blank, or the same one twice. To find a leaf that is removed twice
+//! without memory, the list is gone through once for each window of leaves, with a flag for each leaf of the window.
 
 ghost use Rattle.std.specs.Prelude.{◌≡◌, ◌≤◌, ◌<◌, ◌+◌, ◌↔◌, ℕ, IsTrue, true, Some, length};
 ghost use Rattle.mls_nodes.specs.Limits.{leaf_limit};
 ghost use Rattle.mls_tree.specs.Tree.{member_count};
 ghost use Rattle.mls_apply.specs.AddSteps.{is_add};
-ghost use Rattle.mls_apply.specs.ListRules.{tells, tells_once};
+ghost use Rattle.mls_apply.specs.ListRules.{maps_to, maps_once};
 ghost use Rattle.mls_apply.specs.AppliedList.{new_members, ExceedsCapacity};
-ghost use Rattle.mls_apply.specs.TargetLeaves.{removed_by, removed_leaves, removed_in, is_set_if_told, updates_set_leaf, concern_set_leaves};
+ghost use Rattle.mls_apply.specs.TargetLeaves.{removed_by, removed_leaves, removed_in, is_non_blank_if_some, updates_set_leaf, concern_set_leaves};
 
 use crate::list_item::ListItem;
 use crate::list_rules::removed_leaf;
@@ -82,7 +82,7 @@ fn exceeds_member_limit(tree: &PublicTree, items: &[ListItem<'_>]) -> bool
 
 /// Whether the leaf that an item removes is set in a tree, if there is one.
 fn is_removed_set(tree: &PublicTree, item: &ListItem<'_>) -> bool
-    ensures { result ≡ is_set_if_told tree.now.tree (removed_by item.now) }
+    ensures { result ≡ is_non_blank_if_some tree.now.tree (removed_by item.now) }
 {
     match removed_leaf(item) {
         Some(leaf) => tree.leaf(leaf).is_some(),
@@ -90,7 +90,7 @@ fn is_removed_set(tree: &PublicTree, item: &ListItem<'_>) -> bool
     }
 }
 
-/// Whether the sender of an item is a member whose leaf is set in a tree, if the item is an Update.
+/// Whether the sender of an item is a member whose leaf is non-blank in a tree, if the item is an Update.
 fn updates_set_leaf(tree: &PublicTree, item: &ListItem<'_>) -> bool
     ensures { result ≡ updates_set_leaf tree.now.tree item.now.sender item.now.proposal }
 {
@@ -125,7 +125,7 @@ fn removed_in(item: &ListItem<'_>, first: usize) -> Option<usize>
 
 /// Whether no leaf of the window from `first` on is removed twice.
 fn is_removed_once_in(items: &[ListItem<'_>], first: usize) -> bool
-    ensures { result ≡ tells_once (removed_in first) items.now }
+    ensures { result ≡ maps_once (removed_in first) items.now }
 {
     let mut removed = [false; WINDOW];
     for item in items {
@@ -141,8 +141,8 @@ fn is_removed_once_in(items: &[ListItem<'_>], first: usize) -> bool
 
 /// Whether no leaf is removed twice. Each that is removed may be one of a tree's.
 fn is_removed_once(items: &[ListItem<'_>]) -> bool
-    requires { (i : ℕ) → tells removed_by items.now (Some i) ≡ true → i < leaf_limit }
-    ensures { result ≡ tells_once removed_by items.now }
+    requires { (i : ℕ) → maps_to removed_by items.now (Some i) ≡ true → i < leaf_limit }
+    ensures { result ≡ maps_once removed_by items.now }
 {
     for window in 0..MAX_MEMBERS / WINDOW {
         if !is_removed_once_in(items, window * WINDOW) {

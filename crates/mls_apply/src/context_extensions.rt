@@ -1,7 +1,7 @@
 //! GroupContextExtensions proposals in a proposal list (RFC 9420, 12.1.7).
 
 ghost use Rattle.std.specs.Prelude.{◌≡◌, IfOk, IfErr, option_map};
-ghost use Rattle.mls_apply.specs.ContextExtensions.{bring_once, brought, new_extensions};
+ghost use Rattle.mls_apply.specs.ContextExtensions.{has_one_context_extensions, proposed_extensions, new_extensions};
 
 use crate::fault::ApplyFault;
 use crate::list_item::ListItem;
@@ -11,12 +11,12 @@ use mls_wire::{CodecFault, TryClone};
 use std::alloc::Global;
 
 /// Returns whether at most one item is a GroupContextExtensions proposal (RFC 9420, 12.2).
-pub(crate) fn bring_once(items: &[ListItem<'_>]) -> bool
-    ensures { result ≡ bring_once items.now }
+pub(crate) fn has_one_context_extensions(items: &[ListItem<'_>]) -> bool
+    ensures { result ≡ has_one_context_extensions items.now }
 {
     let mut is_brought = false;
     for item in items {
-        if item.brings_extensions() {
+        if item.is_context_extensions() {
             if is_brought {
                 return false;
             }
@@ -27,8 +27,8 @@ pub(crate) fn bring_once(items: &[ListItem<'_>]) -> bool
 }
 
 /// Returns the extensions of the first GroupContextExtensions proposal of a list.
-fn brought<'a>(items: &[ListItem<'a>]) -> Option<&'a Extensions>
-    ensures { option_map (λ extensions. extensions.now) result ≡ brought items.now }
+fn proposed_extensions<'a>(items: &[ListItem<'a>]) -> Option<&'a Extensions>
+    ensures { option_map (λ extensions. extensions.now) result ≡ proposed_extensions items.now }
 {
     for item in items {
         if let Proposal::ContextExtensions(extensions) = item.proposal {
@@ -49,7 +49,7 @@ pub fn new_extensions(
         extensions ≡ new_extensions context.now.extensions items.now) }
     ensures memory { IfErr result (λ e. e ≡ ApplyFault.OutOfMemory) }
 {
-    let extensions = match brought(items) {
+    let extensions = match proposed_extensions(items) {
         Some(extensions) => extensions,
         None => &context.extensions,
     };

@@ -1,4 +1,4 @@
-//! A leaf node without content, which stands for one that is not copied.
+//! A leaf node without content, used in place of one that is not copied.
 
 use mls_nodes::{Capabilities, Codes, Credential, Extensions, LeafNode, LeafSource};
 use mls_wire::Opaque;

@@ -24,7 +24,7 @@ use std::alloc::{AllocError, Global};
 /// The first of these rules that fails, or `OutOfMemory`. The first two are checked without an allocation.
 ///
 /// 1. `PathMissing`: the commit has a path.
-/// 2. `JoinList`: the list has no reference. It has one ExternalInit, at most one Remove, and else only PreSharedKeys.
+/// 2. `JoinList`: the list has no reference. It has one ExternalInit, at most one Remove, and otherwise only PreSharedKeys.
 /// 3. `RemoveInvalid`: the leaf of the Remove is non-blank.
 /// 4. `PskInvalid`: the nonce of each PreSharedKey has the length of the suite's hash, and its usage is application, if it
 ///    is a resumption PSK.
@@ -33,7 +33,7 @@ use std::alloc::{AllocError, Global};
 ///    signature key.
 #[tactic(auto, unfolding(crate::specs::JoinRules::join_refusal), using(crate::proofs::JoinRefusals::not_path_missing, crate::proofs::JoinRefusals::not_join_list))]
 pub fn check_join(alloc: Global, epoch: &EpochState<'_>, commit: &Commit) -> Result<(), ApplyFault>
-    ensures kept { OnOk result
+    ensures rules_hold { OnOk result
         (join_refusal epoch.now.context.now epoch.now.tree.now.tree commit.now ≡ None) }
     ensures refused { IfErr result (λ e. e ≢ ApplyFault.OutOfMemory
         → join_refusal epoch.now.context.now epoch.now.tree.now.tree commit.now ≡ Some e) }

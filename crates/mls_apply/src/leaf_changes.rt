@@ -2,7 +2,7 @@
 
 ghost use Rattle.std.specs.Prelude.{◌≡◌, ◌<◌, Some, None, IfOk, IfErr, OnOk};
 ghost use Rattle.mls_tree.specs.Tree.{leaf_count};
-ghost use Rattle.mls_tree.specs.TreeOperations.{put_leaf, clear_path};
+ghost use Rattle.mls_tree.specs.TreeOperations.{put_leaf, blank_path};
 ghost use Rattle.mls_tree.specs.Journals.{before};
 
 use crate::fault::ApplyFault;
@@ -39,7 +39,7 @@ pub(crate) fn put_copy(
 /// Makes the parents above a leaf blank: its direct path (RFC 9420, 4.1.2).
 pub(crate) fn blank_direct_path(tree: &mut PublicTree, index: u32)
     requires { index < leaf_count tree.old.tree }
-    ensures { tree.new.tree ≡ clear_path tree.old.tree index }
+    ensures { tree.new.tree ≡ blank_path tree.old.tree index }
 {
     let Ok(()) = tree.blank_path(index) else {
         unreachable!();

@@ -2,7 +2,7 @@
 
 ghost use Rattle.std.specs.Prelude.{◌≡◌, ◌⊎◌, Err, Some, None, IfOk, IfErr, IsSome};
 ghost use Rattle.mls_tree.specs.Journals.{before};
-ghost use Rattle.mls_apply.specs.AppliedList.{outcome, without_adds, grown, ExceedsCapacity};
+ghost use Rattle.mls_apply.specs.AppliedList.{outcome, without_adds, applied_tree, ExceedsCapacity};
 
 use crate::adds::apply_adds;
 use crate::capacity::exceeds_capacity;
@@ -35,12 +35,12 @@ fn apply_items(
 ) -> Result<Leaves, ApplyFault>
     requires { ExceedsCapacity items.now tree.old.tree → ⊥ }
     ensures applied { IfOk result (λ added.
-        outcome items.now tree.old.tree ≡ Some (grown tree.new.tree added)) }
+        outcome items.now tree.old.tree ≡ Some (applied_tree tree.new.tree added)) }
     ensures no_such_leaf { result ≡ Err ApplyFault.NoSuchLeaf
         → without_adds items.now tree.old.tree ≡ None }
     ensures too_many_leaves { result ≡ Err ApplyFault.TooManyLeaves
         → IsSome (without_adds items.now tree.old.tree) × (outcome items.now tree.old.tree ≡ None) }
-    ensures else_memory { IfErr result (λ e.
+    ensures possible_errors { IfErr result (λ e.
         (e ≡ ApplyFault.NoSuchLeaf) ⊎ (e ≡ ApplyFault.TooManyLeaves)
         ⊎ (e ≡ ApplyFault.OutOfMemory)) }
     ensures before { before journal.new tree.new.tree ≡ before journal.old tree.old.tree }
@@ -59,13 +59,13 @@ pub fn apply_list_in_place(
     items: &[ListItem<'_>],
 ) -> Result<Leaves, ApplyFault>
     ensures applied { IfOk result (λ added.
-        outcome items.now tree.old.tree ≡ Some (grown tree.new.tree added)) }
+        outcome items.now tree.old.tree ≡ Some (applied_tree tree.new.tree added)) }
     ensures no_such_leaf { result ≡ Err ApplyFault.NoSuchLeaf
         → without_adds items.now tree.old.tree ≡ None }
     ensures too_many_leaves { result ≡ Err ApplyFault.TooManyLeaves
         → IsSome (without_adds items.now tree.old.tree) × (outcome items.now tree.old.tree ≡ None) }
     ensures no_room { ExceedsCapacity items.now tree.old.tree → result ≡ Err ApplyFault.TooManyLeaves }
-    ensures else_memory { IfErr result (λ e.
+    ensures possible_errors { IfErr result (λ e.
         (e ≡ ApplyFault.NoSuchLeaf) ⊎ (e ≡ ApplyFault.TooManyLeaves)
         ⊎ (e ≡ ApplyFault.OutOfMemory)) }
     ensures before { before journal.new tree.new.tree ≡ before journal.old tree.old.tree }
@@ -90,13 +90,13 @@ pub fn apply_list(
     items: &[ListItem<'_>],
 ) -> Result<Applied, ApplyFault>
     ensures applied { IfOk result (λ a.
-        outcome items.now tree.now.tree ≡ Some (grown a.tree.tree a.added)) }
+        outcome items.now tree.now.tree ≡ Some (applied_tree a.tree.tree a.added)) }
     ensures no_such_leaf { result ≡ Err ApplyFault.NoSuchLeaf
         → without_adds items.now tree.now.tree ≡ None }
     ensures too_many_leaves { result ≡ Err ApplyFault.TooManyLeaves
         → IsSome (without_adds items.now tree.now.tree) × (outcome items.now tree.now.tree ≡ None) }
     ensures no_room { ExceedsCapacity items.now tree.now.tree → result ≡ Err ApplyFault.TooManyLeaves }
-    ensures else_memory { IfErr result (λ e.
+    ensures possible_errors { IfErr result (λ e.
         (e ≡ ApplyFault.NoSuchLeaf) ⊎ (e ≡ ApplyFault.TooManyLeaves)
         ⊎ (e ≡ ApplyFault.OutOfMemory)) }
 {

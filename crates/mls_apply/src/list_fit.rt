@@ -31,7 +31,7 @@ fn fit_items(
         → without_adds items.now tree.old.tree ≡ None }
     ensures too_many_leaves { result ≡ Err ApplyFault.TooManyLeaves
         → IsSome (without_adds items.now tree.old.tree) × (outcome items.now tree.old.tree ≡ None) }
-    ensures else_memory { IfErr result (λ e.
+    ensures possible_errors { IfErr result (λ e.
         (e ≡ ApplyFault.NoSuchLeaf) ⊎ (e ≡ ApplyFault.TooManyLeaves)
         ⊎ (e ≡ ApplyFault.OutOfMemory)) }
     ensures before { before journal.new tree.new.tree ≡ before journal.old tree.old.tree }
@@ -46,7 +46,7 @@ fn fit_items(
 
 /// Checks whether a proposal list can be applied. No leaf node of an Add is copied: the list is applied to the tree in place,
 /// with an empty leaf node for each Add. Returns the added leaves. The journal logs what is changed. Whatever is returned, the
-/// tree is not the one after the list, and has to be taken back.
+/// tree is not the one after the list, and its changes have to be undone.
 pub(crate) fn check_list_fits(
     alloc: Global,
     tree: &mut PublicTree,
@@ -60,7 +60,7 @@ pub(crate) fn check_list_fits(
         → without_adds items.now tree.old.tree ≡ None }
     ensures too_many_leaves { result ≡ Err ApplyFault.TooManyLeaves
         → IsSome (without_adds items.now tree.old.tree) × (outcome items.now tree.old.tree ≡ None) }
-    ensures else_memory { IfErr result (λ e.
+    ensures possible_errors { IfErr result (λ e.
         (e ≡ ApplyFault.NoSuchLeaf) ⊎ (e ≡ ApplyFault.TooManyLeaves)
         ⊎ (e ≡ ApplyFault.OutOfMemory)) }
     ensures before { before journal.new tree.new.tree ≡ before journal.old tree.old.tree }

@@ -30,11 +30,11 @@ impl<'a> Model for ListItem<'a> {
 }
 
 impl<'a> ListItem<'a> {
-    ghost use Rattle.mls_apply.specs.ContextExtensions.{brings_extensions};
+    ghost use Rattle.mls_apply.specs.ContextExtensions.{is_context_extensions};
 
     /// Returns whether it is a GroupContextExtensions proposal (RFC 9420, 12.1.7).
-    pub fn brings_extensions(&self) -> bool
-        ensures { result ≡ brings_extensions self.now }
+    pub fn is_context_extensions(&self) -> bool
+        ensures { result ≡ is_context_extensions self.now }
     {
         match self.proposal {
             Proposal::ContextExtensions(_) => true,
@@ -84,8 +84,8 @@ fn entry_item<'a>(
 }
 
 /// Returns the list of proposals that a commit applies, in the order of its entries (RFC 9420, 12.4). The sender of a
-/// proposal in the commit itself is the committer. A reference stands for the first pending proposal that has it, with
-/// that proposal's sender.
+/// proposal by value is the committer. A reference is resolved to the first pending proposal that has it, with that
+/// proposal's sender.
 ///
 /// No proposal is copied: each item borrows its own.
 ///
@@ -103,7 +103,7 @@ pub fn resolve_list<'a>(
         resolved committer known.now commit.now.proposals ≡ Some v.items) }
     ensures unknown { result ≡ Err ApplyFault.UnknownReference
         → resolved committer known.now commit.now.proposals ≡ None }
-    ensures else_memory { IfErr result (λ e.
+    ensures possible_errors { IfErr result (λ e.
         (e ≡ ApplyFault.UnknownReference) ⊎ (e ≡ ApplyFault.OutOfMemory)) }
 {
     let mut items = Vec::new(alloc);

@@ -6,7 +6,7 @@ ghost use Rattle.mls_apply.specs.ListRules.{is_update_by, removes, item_target, 
 ghost use Rattle.mls_apply.specs.TargetLeaves.{removed_by};
 ghost use Rattle.mls_apply.specs.ListRules.{have_distinct_targets, needs_path, is_reinit_alone, list_refusal};
 
-use crate::context_extensions::bring_once;
+use crate::context_extensions::has_one_context_extensions;
 use crate::fault::ApplyFault;
 use crate::list_item::ListItem;
 use crate::psk_list::have_distinct_psks;
@@ -35,7 +35,7 @@ pub fn check_list(
     items: &[ListItem<'_>],
     has_path: bool,
 ) -> Result<(), ApplyFault>
-    ensures kept { OnOk result (list_refusal committer items.now has_path ≡ None) }
+    ensures rules_hold { OnOk result (list_refusal committer items.now has_path ≡ None) }
     ensures refused { IfErr result (λ e. e ≢ ApplyFault.OutOfMemory
         → list_refusal committer items.now has_path ≡ Some e) }
     ensures update_by_committer { (result ≡ Err ApplyFault.UpdateByCommitter)
@@ -52,7 +52,7 @@ pub fn check_list(
     if !have_distinct_targets(alloc, items)? {
         return Err(ApplyFault::SameLeafTwice);
     }
-    if !bring_once(items) {
+    if !has_one_context_extensions(items) {
         return Err(ApplyFault::TwoContextExtensions);
     }
     if !have_distinct_psks(alloc, items)? {
@@ -139,7 +139,7 @@ fn has_remove_of(committer: Sender, items: &[ListItem<'_>]) -> bool
     items.iter().any(|item| is_remove_of(item, committer))
 }
 
-/// Whether no two Updates or Removes concern one leaf.
+/// Whether no two Updates or Removes apply to one leaf.
 fn have_distinct_targets(alloc: Global, items: &[ListItem<'_>]) -> Result<bool, AllocError>
     ensures { IfOk result (λ once. once ≡ have_distinct_targets items.now) }
 {

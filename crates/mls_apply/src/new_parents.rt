@@ -3,14 +3,14 @@
 //! if it is there.
 
 ghost use Rattle.std.specs.Prelude.{◌≡◌, ◌<◌, Some, All, IfOk, IsSome, OnOk, [], length, map, reverse};
-ghost use Rattle.mls_tree.specs.TreeOperations.{clear_path, put_leaf};
+ghost use Rattle.mls_tree.specs.TreeOperations.{blank_path, put_leaf};
 ghost use Rattle.mls_tree.specs.Journals.{before};
-ghost use Rattle.mls_tree.specs.Tree.{leaf_count, subtree_at, IsParentPlace};
+ghost use Rattle.mls_tree.specs.Tree.{leaf_count, subtree_at, IsParentNodeIndex};
 ghost use Rattle.mls_hash.specs.SuiteHash.{hash_of};
 ghost use Rattle.mls_hash.specs.WithoutLeaves.{tree_hash_at};
 ghost use Rattle.mls_apply.specs.MergePath.{path_parent};
-ghost use Rattle.mls_apply.specs.PathParents.{away_at, changed, path_hash_at, route};
-ghost use Rattle.mls_apply.specs.PathModel.{change_of, route_of};
+ghost use Rattle.mls_apply.specs.PathParents.{away_at, changed, path_hash_at, path_parents};
+ghost use Rattle.mls_apply.specs.PathModel.{change_of, path_parents_model};
 
 use crate::leaf_changes::blank_direct_path;
 use mls_hash::{HashFault, Suite, fill_hashes, parent_hash_of, tree_hash};
@@ -21,15 +21,15 @@ use std::alloc::{AllocError, Global};
 
 /// A leaf, and the node indices of parents above it, the lowest first.
 #[derive(Drop)]
-pub(crate) struct PathPlaces<'a> {
+pub(crate) struct PathNodeIndices<'a> {
     pub(crate) leaf: u32,
-    pub(crate) places: &'a [u32],
+    pub(crate) node_indices: &'a [u32],
 }
 
 /// A new parent, with its node index.
 #[derive(Drop)]
 pub(crate) struct NewParent {
-    pub(crate) place: u32,
+    pub(crate) node_index: u32,
     pub(crate) node: Box<ParentNode>,
 }
 
@@ -48,9 +48,9 @@ pub(crate) struct NewNodes {
 }
 
 /// Returns the node index of the child on the copath of a leaf, of the parent at a node index.
-pub(crate) fn copath_child(tree: &PublicTree, leaf: u32, place: u32) -> u32
-    requires { IsParentPlace tree.now.tree place }
-    ensures half { subtree_at 0 tree.now.tree result ≡ away_at tree.now.tree leaf place }
+pub(crate) fn copath_child(tree: &PublicTree, leaf: u32, node_index: u32) -> u32
+    requires { IsParentNodeIndex tree.now.tree node_index }
+    ensures child { subtree_at 0 tree.now.tree result ≡ away_at tree.now.tree leaf node_index }
     ensures there { IsSome (subtree_at 0 tree.now.tree result) }
 {
     let Some(
@@ -60,7 +60,7 @@ pub(crate) fn copath_child(tree: &PublicTree, leaf: u32, place: u32) -> u32
             middle,
             ..
         },
-    ) = tree.part(place)
+    ) = tree.part(node_index)
     else {
         unreachable!()
     };
@@ -83,12 +83,12 @@ fn subtree_hash(
     alloc: Global,
     suite: Suite,
     tree: &PublicTree,
-    place: u32,
+    node_index: u32,
 ) -> Result<HashValue, AllocError>
-    requires there { IsSome (subtree_at 0 tree.now.tree place) }
-    ensures { IfOk result (λ h. tree_hash_at (hash_of suite) tree.now.tree place ≡ Some h) }
+    requires there { IsSome (subtree_at 0 tree.now.tree node_index) }
+    ensures { IfOk result (λ h. tree_hash_at (hash_of suite) tree.now.tree node_index ≡ Some h) }
 {
-    match tree_hash(alloc, suite, tree, place) {
+    match tree_hash(alloc, suite, tree, node_index) {
         Ok(hash) => Ok(hash),
         Err(HashFault::OutOfMemory) => Err(AllocError),
         Err(_) => unreachable!(),
@@ -104,11 +104,11 @@ fn path_hash(
     leaf: u32,
     parent: &NewParent,
 ) -> Result<HashValue, AllocError>
-    requires parent { IsParentPlace tree.now.tree parent.now.place }
+    requires parent { IsParentNodeIndex tree.now.tree parent.now.node_index }
     ensures { IfOk result (λ h. path_hash_at (hash_of suite) tree.now.tree leaf
-        parent.now.place parent.now.node.value ≡ Some h) }
+        parent.now.node_index parent.now.node.value ≡ Some h) }
 {
-    let away = copath_child(tree, leaf, parent.place);
+    let away = copath_child(tree, leaf, parent.node_index);
     let original = subtree_hash(alloc, suite, tree, away)?;
     match parent_hash_of(alloc, suite, &parent.node, &original) {
         Ok(hash) => Ok(hash),
@@ -141,22 +141,22 @@ pub(crate) fn new_parents(
     alloc: Global,
     suite: Suite,
     tree: &PublicTree,
-    above: &PathPlaces<'_>,
+    above: &PathNodeIndices<'_>,
     mut keys: Vec<Opaque>,
 ) -> Result<NewParents, AllocError>
-    requires parents { All (IsParentPlace tree.now.tree) above.now.places.now }
-    requires paired { length keys.items ≡ length above.now.places.now }
+    requires parents { All (IsParentNodeIndex tree.now.tree) above.now.node_indices.now }
+    requires paired { length keys.items ≡ length above.now.node_indices.now }
     ensures { IfOk result (λ new.
-        route (hash_of suite) tree.now.tree above.now.leaf
-        (reverse above.now.places.now) (reverse keys.items) []
-        ≡ Some (route_of new)) }
+        path_parents (hash_of suite) tree.now.tree above.now.leaf
+        (reverse above.now.node_indices.now) (reverse keys.items) []
+        ≡ Some (path_parents_model new)) }
 {
     let mut hash = HashValue::new(&[]).unwrap();
     let mut parents = Vec::new(alloc);
     while let Some(key) = keys.pop() {
-        let place = above.places[keys.len()];
+        let node_index = above.node_indices[keys.len()];
         let node = path_parent(alloc, key, &hash)?;
-        let parent = NewParent { place, node };
+        let parent = NewParent { node_index, node };
         hash = path_hash(alloc, suite, tree, above.leaf, &parent)?;
         parents.push(parent)?;
     }
@@ -165,11 +165,11 @@ pub(crate) fn new_parents(
 
 /// Puts new parents in place, the last one first.
 fn put_parents(tree: &mut PublicTree, mut parents: Vec<NewParent>)
-    requires { All (λ p. IsParentPlace tree.old.tree p.place) parents.items }
+    requires { All (λ p. IsParentNodeIndex tree.old.tree p.node_index) parents.items }
     ensures { tree.new.tree ≡ changed 0 tree.old.tree (map change_of parents.items) }
 {
     while let Some(parent) = parents.pop() {
-        let Ok(()) = tree.put_parent(parent.place, Some(parent.node)) else {
+        let Ok(()) = tree.put_parent(parent.node_index, Some(parent.node)) else {
             unreachable!();
         };
     }
@@ -179,9 +179,9 @@ fn put_parents(tree: &mut PublicTree, mut parents: Vec<NewParent>)
 /// leaf. Does not allocate.
 pub(crate) fn put_path(tree: &mut PublicTree, leaf: u32, new: NewNodes)
     requires inside { leaf < leaf_count tree.old.tree }
-    requires parents { All (λ p. IsParentPlace tree.old.tree p.place) new.parents.items }
+    requires parents { All (λ p. IsParentNodeIndex tree.old.tree p.node_index) new.parents.items }
     ensures { tree.new.tree ≡
-        put_leaf 0 (changed 0 (clear_path tree.old.tree leaf) (map change_of new.parents.items))
+        put_leaf 0 (changed 0 (blank_path tree.old.tree leaf) (map change_of new.parents.items))
         leaf (Some new.leaf.value) }
 {
     let NewNodes {
@@ -201,13 +201,13 @@ fn put_parents_in_place(
     journal: &mut Journal,
     mut parents: Vec<NewParent>,
 ) -> Result<(), AllocError>
-    requires { All (λ p. IsParentPlace tree.old.tree p.place) parents.items }
+    requires { All (λ p. IsParentNodeIndex tree.old.tree p.node_index) parents.items }
     ensures put { OnOk result
         (tree.new.tree ≡ changed 0 tree.old.tree (map change_of parents.items)) }
     ensures before { before journal.new tree.new.tree ≡ before journal.old tree.old.tree }
 {
     while let Some(parent) = parents.pop() {
-        journal.put_parent(tree, parent.place, Some(parent.node))?;
+        journal.put_parent(tree, parent.node_index, Some(parent.node))?;
     }
     Ok(())
 }
@@ -221,9 +221,9 @@ pub(crate) fn put_path_in_place(
     new: NewNodes,
 ) -> Result<(), AllocError>
     requires inside { leaf < leaf_count tree.old.tree }
-    requires parents { All (λ p. IsParentPlace tree.old.tree p.place) new.parents.items }
+    requires parents { All (λ p. IsParentNodeIndex tree.old.tree p.node_index) new.parents.items }
     ensures put { OnOk result (tree.new.tree ≡
-        put_leaf 0 (changed 0 (clear_path tree.old.tree leaf) (map change_of new.parents.items))
+        put_leaf 0 (changed 0 (blank_path tree.old.tree leaf) (map change_of new.parents.items))
         leaf (Some new.leaf.value)) }
     ensures before { before journal.new tree.new.tree ≡ before journal.old tree.old.tree }
 {

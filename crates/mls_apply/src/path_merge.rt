@@ -6,18 +6,18 @@ ghost use Rattle.mls_tree.specs.Tree.{leaf_count};
 ghost use Rattle.mls_tree.specs.Paths.{filtered_direct_path};
 ghost use Rattle.mls_index.specs.TreeIndex.{ContainsKeysOf};
 ghost use Rattle.mls_apply.specs.MergePath.{expected_hashes, merged};
-ghost use Rattle.mls_apply.specs.AppliedList.{grown};
+ghost use Rattle.mls_apply.specs.AppliedList.{applied_tree};
 ghost use Rattle.mls_apply.specs.PathRules.{has_first_parent_hash, keys_refusal, node_keys, path_refusal};
 ghost use Rattle.mls_apply.specs.ProposalRules.{is_from_commit};
 ghost use Rattle.mls_apply.specs.PathParents.{carried};
-ghost use Rattle.mls_apply.specs.PathModel.{hash_refusal, route_of};
+ghost use Rattle.mls_apply.specs.PathModel.{hash_refusal, path_parents_model};
 ghost use Rattle.mls_apply.specs.CommitterPath.{refusal_of, AreNewNodes};
 
 use crate::committer_path::CommitterPath;
 use crate::fault::ApplyFault;
 use crate::leaf_changes::leaf_of;
 use crate::list_application::{Applied, Leaves};
-use crate::new_parents::{NewNodes, NewParents, PathPlaces, fill, new_parents, put_path};
+use crate::new_parents::{NewNodes, NewParents, PathNodeIndices, fill, new_parents, put_path};
 use crate::path_rules::{has_new_keys, have_counts};
 use mls_hash::Suite;
 use mls_index::TreeIndex;
@@ -32,20 +32,20 @@ use std::alloc::{AllocError, Global};
 /// # Errors
 ///
 /// `NoSuchLeaf` if and only if the leaf is outside the tree, or `OutOfMemory`.
-fn path_places(alloc: Global, tree: &PublicTree, leaf: u32) -> Result<Vec<u32>, ApplyFault>
-    ensures places { IfOk result (λ places. let t = tree.now.tree in
-        places.items ≡ filtered_direct_path (leaf_count t) 0 t leaf) }
+fn path_node_indices(alloc: Global, tree: &PublicTree, leaf: u32) -> Result<Vec<u32>, ApplyFault>
+    ensures node_indices { IfOk result (λ node_indices. let t = tree.now.tree in
+        node_indices.items ≡ filtered_direct_path (leaf_count t) 0 t leaf) }
     ensures inside { OnOk result (leaf < leaf_count tree.now.tree) }
     ensures outside { (result ≡ Err ApplyFault.NoSuchLeaf)
         ↔ (leaf_count tree.now.tree ≤ leaf) }
-    ensures else_memory { IfErr result (λ e.
+    ensures possible_errors { IfErr result (λ e.
         (e ≡ ApplyFault.NoSuchLeaf) ⊎ (e ≡ ApplyFault.OutOfMemory)) }
 {
     if leaf >= tree.leaf_count() {
         return Err(ApplyFault::NoSuchLeaf);
     }
     match tree.filtered_direct_path(alloc, leaf) {
-        Ok(places) => Ok(places),
+        Ok(node_indices) => Ok(node_indices),
         Err(TreeError::OutOfMemory) => Err(ApplyFault::OutOfMemory),
         Err(_) => unreachable!(),
     }
@@ -75,7 +75,7 @@ fn node_keys(alloc: Global, nodes: &[PathNode]) -> Result<Vec<Opaque>, AllocErro
 
 /// Returns the parent hashes for a leaf and for each new parent above it, the leaf's first.
 fn carried(alloc: Global, new: NewParents) -> Result<Vec<Opaque>, AllocError>
-    ensures { IfOk result (λ hashes. hashes.items ≡ carried (route_of new)) }
+    ensures { IfOk result (λ hashes. hashes.items ≡ carried (path_parents_model new)) }
 {
     let NewParents { mut parents, hash } = new;
     let mut hashes = Vec::new(alloc);
@@ -105,20 +105,20 @@ pub fn expected_parent_hashes(
 ) -> Result<Vec<Opaque>, ApplyFault>
     ensures hashes { IfOk result (λ hashes.
         expected_hashes (hash_of suite) tree.now.tree committer keys.now ≡ Some hashes.items) }
-    ensures kept { OnOk result (keys_refusal tree.now.tree committer keys.now ≡ None) }
+    ensures rules_hold { OnOk result (keys_refusal tree.now.tree committer keys.now ≡ None) }
     ensures refused { IfErr result (λ e. e ≢ ApplyFault.OutOfMemory
         → keys_refusal tree.now.tree committer keys.now ≡ Some e) }
     ensures no_such_leaf { (result ≡ Err ApplyFault.NoSuchLeaf)
         ↔ (keys_refusal tree.now.tree committer keys.now ≡ Some ApplyFault.NoSuchLeaf) }
 {
-    let places = path_places(alloc, tree, committer)?;
-    if keys.len() != places.len() {
+    let node_indices = path_node_indices(alloc, tree, committer)?;
+    if keys.len() != node_indices.len() {
         return Err(ApplyFault::PathLength);
     }
     let keys = copies_of(alloc, keys)?;
-    let above = PathPlaces {
+    let above = PathNodeIndices {
         leaf: committer,
-        places: &places,
+        node_indices: &node_indices,
     };
     let new = new_parents(alloc, suite, tree, &above, keys)?;
     Ok(carried(alloc, new)?)
@@ -144,18 +144,18 @@ fn carries(source: &LeafSource, hash: &HashValue) -> bool
 
 /// Returns the node indices of the nodes of a path, if it satisfies the rules for paths except the last one, on the
 /// parent hash. No rule here takes a hash.
-fn checked_places(
+fn checked_node_indices(
     alloc: Global,
     tree: &PublicTree,
     index: &TreeIndex,
     path: &CommitterPath<'_>,
 ) -> Result<Vec<u32>, ApplyFault>
     requires { ContainsKeysOf tree.now.tree index.now }
-    ensures places { IfOk result (λ places. let t = tree.now.tree in
-        places.items ≡ filtered_direct_path (leaf_count t) 0 t path.now.leaf) }
-    ensures paired { IfOk result (λ places. length path.now.path.now.nodes ≡ length places.items) }
+    ensures node_indices { IfOk result (λ node_indices. let t = tree.now.tree in
+        node_indices.items ≡ filtered_direct_path (leaf_count t) 0 t path.now.leaf) }
+    ensures paired { IfOk result (λ node_indices. length path.now.path.now.nodes ≡ length node_indices.items) }
     ensures inside { OnOk result (path.now.leaf < leaf_count tree.now.tree) }
-    ensures kept { OnOk result ((H : List ℕ → List ℕ)
+    ensures rules_hold { OnOk result ((H : List ℕ → List ℕ)
         → refusal_of H tree.now.tree path.now
         ≡ hash_refusal H path.now.path.now tree.now.tree path.now.leaf) }
     ensures refused { IfErr result (λ e. e ≢ ApplyFault.OutOfMemory → (H : List ℕ → List ℕ)
@@ -164,8 +164,8 @@ fn checked_places(
         ↔ (leaf_count tree.now.tree ≤ path.now.leaf) }
 {
     let nodes = path.path.nodes.as_slice();
-    let places = path_places(alloc, tree, path.leaf)?;
-    if nodes.len() != places.len() {
+    let node_indices = path_node_indices(alloc, tree, path.leaf)?;
+    if nodes.len() != node_indices.len() {
         return Err(ApplyFault::PathLength);
     }
     if !is_from_commit(&path.path.leaf_node.source) {
@@ -175,41 +175,41 @@ fn checked_places(
         return Err(ApplyFault::PathKeyUsed);
     }
     let added = path.added.as_slice();
-    let above = PathPlaces {
+    let above = PathNodeIndices {
         leaf: path.leaf,
-        places: &places,
+        node_indices: &node_indices,
     };
     if !have_counts(alloc, tree, &above, added, nodes)? {
         return Err(ApplyFault::CiphertextCount);
     }
-    Ok(places)
+    Ok(node_indices)
 }
 
 /// Returns the new nodes of a path that satisfies the other rules for paths, if its leaf has the parent hash that the
-/// path makes. The path's nodes are those at `places`.
+/// path makes. The path's nodes are those at `node_indices`.
 fn new_nodes(
     alloc: Global,
     suite: Suite,
     tree: &PublicTree,
-    places: &[u32],
+    node_indices: &[u32],
     path: &CommitterPath<'_>,
 ) -> Result<NewNodes, ApplyFault>
-    requires places { let t = tree.now.tree in
-        places.now ≡ filtered_direct_path (leaf_count t) 0 t path.now.leaf }
-    requires paired { length path.now.path.now.nodes ≡ length places.now }
+    requires node_indices { let t = tree.now.tree in
+        node_indices.now ≡ filtered_direct_path (leaf_count t) 0 t path.now.leaf }
+    requires paired { length path.now.path.now.nodes ≡ length node_indices.now }
     requires inside { path.now.leaf < leaf_count tree.now.tree }
     ensures made { IfOk result (AreNewNodes (hash_of suite) tree.now.tree path.now) }
-    ensures kept { OnOk result
+    ensures rules_hold { OnOk result
         (hash_refusal (hash_of suite) path.now.path.now tree.now.tree path.now.leaf ≡ None) }
     ensures refused { IfErr result (λ e. e ≢ ApplyFault.OutOfMemory
         → hash_refusal (hash_of suite) path.now.path.now tree.now.tree path.now.leaf ≡ Some e) }
-    ensures else_memory { IfErr result (λ e.
+    ensures possible_errors { IfErr result (λ e.
         (e ≡ ApplyFault.PathParentHash) ⊎ (e ≡ ApplyFault.OutOfMemory)) }
 {
     let keys = node_keys(alloc, path.path.nodes.as_slice())?;
-    let above = PathPlaces {
+    let above = PathNodeIndices {
         leaf: path.leaf,
-        places,
+        node_indices,
     };
     let new = new_parents(alloc, suite, tree, &above, keys)?;
     if !carries(&path.path.leaf_node.source, &new.hash) {
@@ -240,15 +240,15 @@ pub(crate) fn filled_nodes(
     requires { ContainsKeysOf tree.old.tree index.now }
     ensures tree { tree.new.tree ≡ tree.old.tree }
     ensures made { IfOk result (AreNewNodes (hash_of suite) tree.old.tree path.now) }
-    ensures kept { OnOk result (refusal_of (hash_of suite) tree.old.tree path.now ≡ None) }
+    ensures rules_hold { OnOk result (refusal_of (hash_of suite) tree.old.tree path.now ≡ None) }
     ensures refused { IfErr result (λ e. e ≢ ApplyFault.OutOfMemory
         → refusal_of (hash_of suite) tree.old.tree path.now ≡ Some e) }
     ensures outside { (result ≡ Err ApplyFault.NoSuchLeaf)
         ↔ (leaf_count tree.old.tree ≤ path.now.leaf) }
 {
-    let places = checked_places(alloc, tree, index, path)?;
+    let node_indices = checked_node_indices(alloc, tree, index, path)?;
     fill(alloc, suite, tree)?;
-    new_nodes(alloc, suite, tree, places.as_slice(), path)
+    new_nodes(alloc, suite, tree, node_indices.as_slice(), path)
 }
 
 /// Returns the tree with an update path of the committer merged (RFC 9420, 7.5). Its leaf is that of the path, the
@@ -272,15 +272,15 @@ pub fn merge_path(
     ensures merged { IfOk result (λ tree. let keys = node_keys path.now in
         merged (hash_of suite) applied.tree.tree committer path.now.leaf_node keys
         ≡ Some tree.tree) }
-    ensures kept { let g = grown applied.tree.tree applied.added in
+    ensures rules_hold { let g = applied_tree applied.tree.tree applied.added in
         OnOk result (path_refusal (hash_of suite) g committer path.now ≡ None) }
-    ensures refused { let g = grown applied.tree.tree applied.added in
+    ensures refused { let g = applied_tree applied.tree.tree applied.added in
         IfErr result (λ e. e.0 ≢ ApplyFault.OutOfMemory
         → path_refusal (hash_of suite) g committer path.now ≡ Some e.0) }
-    ensures no_such_leaf { let g = grown applied.tree.tree applied.added in
+    ensures no_such_leaf { let g = applied_tree applied.tree.tree applied.added in
         (result ≡ Err (ApplyFault.NoSuchLeaf, applied))
         ↔ (path_refusal (hash_of suite) g committer path.now ≡ Some ApplyFault.NoSuchLeaf) }
-    ensures handed_back { IfErr result (λ e.
+    ensures returned_arguments { IfErr result (λ e.
         (e.1.tree.tree ≡ applied.tree.tree) × (e.1.added ≡ applied.added)) }
 {
     if committer >= applied.tree.leaf_count() {

@@ -4,13 +4,13 @@ ghost use Rattle.std.specs.Prelude.{◌≡◌, ℕ, ◌*◌, ◌==◌, All, IfOk
 ghost use Rattle.std.specs.BTreeSet.{contains};
 ghost use Rattle.std.specs.List.{list_any};
 ghost use Rattle.std.specs.Ordering.{nat_cmp};
-ghost use Rattle.mls_tree.specs.Tree.{IsParentPlace};
+ghost use Rattle.mls_tree.specs.Tree.{IsParentNodeIndex};
 ghost use Rattle.mls_check.specs.DistinctKeys.{are_distinct, has_key, tree_keys};
 ghost use Rattle.mls_index.specs.TreeIndex.{ContainsKeysOf};
 ghost use Rattle.mls_apply.specs.PathRules.{has_new_keys, have_counts, path_keys};
 ghost use Rattle.mls_apply.specs.PathParents.{away_resolution};
 
-use crate::new_parents::{PathPlaces, copath_child};
+use crate::new_parents::{PathNodeIndices, copath_child};
 use mls_index::{KeyKind, TreeIndex};
 use mls_msgs::{PathNode, UpdatePath};
 use mls_tree::PublicTree;
@@ -74,15 +74,15 @@ pub(crate) fn has_new_keys(
 }
 
 /// Returns the node indices of added leaves.
-fn places_of(alloc: Global, added: &[u32]) -> Result<BTreeSet<u64>, AllocError>
-    ensures { IfOk result (λ places. (p : ℕ)
-        → contains nat_cmp places p ≡ list_any (λ j. p == 2 * j) added.now) }
+fn node_indices_of(alloc: Global, added: &[u32]) -> Result<BTreeSet<u64>, AllocError>
+    ensures { IfOk result (λ node_indices. (p : ℕ)
+        → contains nat_cmp node_indices p ≡ list_any (λ j. p == 2 * j) added.now) }
 {
-    let mut places = BTreeSet::new(alloc);
+    let mut node_indices = BTreeSet::new(alloc);
     for leaf in added {
-        places.insert(2 * u64::from(*leaf))?;
+        node_indices.insert(2 * u64::from(*leaf))?;
     }
-    Ok(places)
+    Ok(node_indices)
 }
 
 /// Returns whether the path node at a node index must have this many ciphertexts: one for each node of the resolution
@@ -90,15 +90,15 @@ fn places_of(alloc: Global, added: &[u32]) -> Result<BTreeSet<u64>, AllocError>
 fn has_recipients(
     tree: &PublicTree,
     leaf: u32,
-    place: u32,
+    node_index: u32,
     added: &BTreeSet<u64>,
     count: usize,
 ) -> bool
-    requires { IsParentPlace tree.now.tree place }
-    ensures { let resolution = away_resolution tree.now.tree leaf place in
+    requires { IsParentNodeIndex tree.now.tree node_index }
+    ensures { let resolution = away_resolution tree.now.tree leaf node_index in
         result ≡ (length (filter (λ p. not (contains nat_cmp added.now p)) resolution) == count) }
 {
-    let away = copath_child(tree, leaf, place);
+    let away = copath_child(tree, leaf, node_index);
     match tree.has_resolution_len(away, added, count) {
         Ok(right) => right,
         Err(_) => unreachable!(),
@@ -110,20 +110,20 @@ fn has_recipients(
 pub(crate) fn have_counts(
     alloc: Global,
     tree: &PublicTree,
-    above: &PathPlaces<'_>,
+    above: &PathNodeIndices<'_>,
     added: &[u32],
     nodes: &[PathNode],
 ) -> Result<bool, AllocError>
-    requires parents { All (IsParentPlace tree.now.tree) above.now.places.now }
-    requires paired { length nodes.now ≡ length above.now.places.now }
+    requires parents { All (IsParentNodeIndex tree.now.tree) above.now.node_indices.now }
+    requires paired { length nodes.now ≡ length above.now.node_indices.now }
     ensures { IfOk result (λ good.
-        let resolutions = map (away_resolution tree.now.tree above.now.leaf) above.now.places.now in
+        let resolutions = map (away_resolution tree.now.tree above.now.leaf) above.now.node_indices.now in
         good ≡ have_counts added.now resolutions nodes.now) }
 {
-    let added = places_of(alloc, added)?;
+    let added = node_indices_of(alloc, added)?;
     for (index, node) in nodes.iter().enumerate() {
         let count = node.ciphertexts.as_slice().len();
-        if !has_recipients(tree, above.leaf, above.places[index], &added, count) {
+        if !has_recipients(tree, above.leaf, above.node_indices[index], &added, count) {
             return Ok(false);
         }
     }

@@ -8,7 +8,7 @@ use std::alloc::{AllocError, Global};
 use std::collections::BTreeMap;
 use std::marker::Model;
 
-/// The proposals that members sent in the present epoch, in the order in which they were accepted, and an index of
+/// The proposals that members sent in the current epoch, in the order in which they were accepted, and an index of
 /// their references.
 ///
 /// Contracts see the list of the proposals.
@@ -67,7 +67,7 @@ impl PendingProposals {
     /// A failed allocation; the list is unchanged.
     pub fn push(&mut self, alloc: Global, proposal: KnownProposal) -> Result<(), AllocError>
         ensures pushed { OnOk result (self.new ≡ self.old ++ proposal ∷ []) }
-        ensures stays { OnErr result (self.new ≡ self.old) }
+        ensures unchanged_on_error { OnErr result (self.new ≡ self.old) }
     {
         let Ok(reference) = Vec::from_slice(alloc, proposal.reference.as_slice()) else {
             drop(proposal);

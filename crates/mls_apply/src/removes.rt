@@ -3,7 +3,7 @@
 ghost use Rattle.std.specs.Prelude.{◌≡◌, ◌⊎◌, Some, None, Err, IsSome, OnOk, IfErr};
 ghost use Rattle.mls_tree.specs.Tree.{leaf_at};
 ghost use Rattle.mls_apply.specs.AppliedList.{after_removes};
-ghost use Rattle.mls_tree.specs.TreeOperations.{put_leaf, clear_path};
+ghost use Rattle.mls_tree.specs.TreeOperations.{put_leaf, blank_path};
 ghost use Rattle.mls_tree.specs.Journals.{before};
 
 use crate::fault::ApplyFault;
@@ -22,10 +22,10 @@ fn clear_leaf(
 ) -> Result<(), ApplyFault>
     ensures set { OnOk result (IsSome (leaf_at 0 tree.old.tree index)) }
     ensures cleared { OnOk result
-        (tree.new.tree ≡ clear_path (put_leaf 0 tree.old.tree index None) index) }
+        (tree.new.tree ≡ blank_path (put_leaf 0 tree.old.tree index None) index) }
     ensures no_such_leaf { result ≡ Err ApplyFault.NoSuchLeaf
         → leaf_at 0 tree.old.tree index ≡ None }
-    ensures else_memory { IfErr result (λ e.
+    ensures possible_errors { IfErr result (λ e.
         (e ≡ ApplyFault.NoSuchLeaf) ⊎ (e ≡ ApplyFault.OutOfMemory)) }
     ensures before { before journal.new tree.new.tree ≡ before journal.old tree.old.tree }
 {
@@ -47,7 +47,7 @@ pub(crate) fn apply_removes(
     ensures removed { OnOk result (after_removes items.now tree.old.tree ≡ Some tree.new.tree) }
     ensures no_such_leaf { result ≡ Err ApplyFault.NoSuchLeaf
         → after_removes items.now tree.old.tree ≡ None }
-    ensures else_memory { IfErr result (λ e.
+    ensures possible_errors { IfErr result (λ e.
         (e ≡ ApplyFault.NoSuchLeaf) ⊎ (e ≡ ApplyFault.OutOfMemory)) }
     ensures before { before journal.new tree.new.tree ≡ before journal.old tree.old.tree }
 {

@@ -1,7 +1,7 @@
 //! A group's tree that a commit changes in place (RFC 9420, 12.4.2).
 //!
-//! A commit's list and its path change a large tree in place, and the tree after both is checked from its changes. A
-//! [`StagedTree`] has what this needs. Until it is settled, the changes can be undone.
+//! A proposal list and a path change a large tree in place, and the tree after both is checked from its changes. A
+//! [`StagedTree`] has what this needs. Until they are made final, the changes can be undone.
 
 ghost use Rattle.std.specs.Prelude.{◌≡◌, ◌≢◌, ◌<◌, ◌≤◌, ◌↔◌, ◌⊎◌, Err, None, Some, IsSome, IfOk, IfErr, OnOk, true};
 ghost use Rattle.mls_hash.specs.SuiteHash.{hash_of};
@@ -12,11 +12,11 @@ ghost use Rattle.mls_tree.specs.Tree.{Tree, leaf_count, member_count};
 ghost use Rattle.mls_tree.specs.TreeOperations.{seat};
 ghost use Rattle.mls_tree.specs.TreeHash.{tree_hash};
 ghost use Rattle.mls_index.specs.TreeIndex.{ContainsKeysOf, HasBase};
-ghost use Rattle.mls_apply.specs.AppliedList.{grown, outcome, without_adds, ExceedsCapacity};
+ghost use Rattle.mls_apply.specs.AppliedList.{applied_tree, outcome, without_adds, ExceedsCapacity};
 ghost use Rattle.mls_apply.specs.Outline.{IsOutline};
 ghost use Rattle.mls_apply.specs.CommitterPath.{merged_by, refusal_of};
 ghost use Rattle.mls_check.specs.DistinctKeys.{has_distinct_keys};
-ghost use Rattle.mls_check.specs.LeafValidation.{FindsFailing, IsMemberFault, LeavesAreValid, all_leaves, has_own_signature_key, supports_required, supports_used_credentials};
+ghost use Rattle.mls_check.specs.LeafValidation.{FindsFailing, IsMemberFault, LeavesAreValid, all_leaves, has_unique_signature_key, supports_required, supports_used_credentials};
 ghost use Rattle.mls_index.specs.FirstChanged.{leaf_rule};
 
 use crate::adds::leaf_for_member;
@@ -39,18 +39,18 @@ use std::marker::Model;
 /// A tree that is changed in place, with a journal of the changes and an index of its keys and of its leaves'
 /// credentials.
 ///
-/// The changes are staged, until [`StagedTree::settle`] keeps them or [`StagedTree::take_back`] takes them back.
+/// The changes are staged, until [`StagedTree::settle`] makes them final or [`StagedTree::rollback`] undoes them.
 /// Neither of the two allocates.
 ///
-/// Contracts see four parts. `tree` is the tree as it is, and `base` the one before the changes. `indexed` says
-/// whether the index has what changed: nothing is judged or settled without it. `clean` says whether the index is that
-/// of `base`, with no entry beside it. A call that fails, also because it is out of memory, leaves `base` unchanged.
+/// Contracts see four parts. `tree` is the tree as it is, and `base` the one before the changes. `indexed` says whether
+/// the index has what changed: nothing is checked or made final without it. `clean` says whether the index is that of
+/// `base`, with no other entry. A call that fails, also because it is out of memory, leaves `base` unchanged.
 #[derive(Drop)]
 pub struct StagedTree {
     tree: PublicTree,
     journal: Journal,
     index: TreeIndex,
-    entered: Option<Vec<u32>>,
+    staged_nodes: Option<Vec<u32>>,
     clean: bool,
 }
 
@@ -76,15 +76,15 @@ fn stage_changed_nodes(
     journal: &Journal,
     index: &mut TreeIndex,
 ) -> Result<Vec<u32>, OutOfMemory>
-    requires between { HasBase (before journal.now tree.now.tree) index.old }
-    ensures between { (t : Tree) → HasBase t index.old → HasBase t index.new }
-    ensures covers { OnOk result (ContainsKeysOf tree.now.tree index.new) }
-    ensures places { IfOk result (λ places.
-        AgreeExceptAt places.items (before journal.now tree.now.tree) tree.now.tree) }
+    requires index_base { HasBase (before journal.now tree.now.tree) index.old }
+    ensures index_base { (t : Tree) → HasBase t index.old → HasBase t index.new }
+    ensures index_contains_keys { OnOk result (ContainsKeysOf tree.now.tree index.new) }
+    ensures node_indices { IfOk result (λ node_indices.
+        AgreeExceptAt node_indices.items (before journal.now tree.now.tree) tree.now.tree) }
 {
-    let places = journal.changed_places(alloc, tree)?;
-    index.enter(tree, places.as_slice())?;
-    Ok(places)
+    let node_indices = journal.changed_node_indices(alloc, tree)?;
+    index.stage(tree, node_indices.as_slice())?;
+    Ok(node_indices)
 }
 
 impl StagedTree {
@@ -93,14 +93,14 @@ impl StagedTree {
         ensures base { IfOk result (λ s. s.base ≡ tree.tree) }
         ensures tree { IfOk result (λ s. s.tree ≡ tree.tree) }
         ensures clean { IfOk result (λ s. s.clean ≡ true) }
-        ensures handed_back { IfErr result (λ back. back ≡ tree) }
+        ensures returned_arguments { IfErr result (λ back. back ≡ tree) }
     {
         match TreeIndex::of(alloc, &tree) {
             Ok(index) => Ok(StagedTree {
                 tree,
                 journal: Journal::new(alloc),
                 index,
-                entered: None,
+                staged_nodes: None,
                 clean: true,
             }),
             Err(_) => Err(tree),
@@ -122,18 +122,18 @@ impl StagedTree {
         items: &[ListItem<'_>],
     ) -> Result<Leaves, ApplyFault>
         ensures applied { IfOk result (λ added.
-            outcome items.now self.old.tree ≡ Some (grown self.new.tree added)) }
+            outcome items.now self.old.tree ≡ Some (applied_tree self.new.tree added)) }
         ensures no_such_leaf { result ≡ Err ApplyFault.NoSuchLeaf
             → without_adds items.now self.old.tree ≡ None }
         ensures too_many_leaves { result ≡ Err ApplyFault.TooManyLeaves
             → IsSome (without_adds items.now self.old.tree) × (outcome items.now self.old.tree ≡ None) }
         ensures no_room { ExceedsCapacity items.now self.old.tree → result ≡ Err ApplyFault.TooManyLeaves }
-        ensures else_memory { IfErr result (λ e.
+        ensures possible_errors { IfErr result (λ e.
             (e ≡ ApplyFault.NoSuchLeaf) ⊎ (e ≡ ApplyFault.TooManyLeaves)
             ⊎ (e ≡ ApplyFault.OutOfMemory)) }
         ensures base { self.new.base ≡ self.old.base }
     {
-        self.entered = None;
+        self.staged_nodes = None;
         apply_list_in_place(alloc, &mut self.tree, &mut self.journal, items)
     }
 
@@ -155,17 +155,17 @@ impl StagedTree {
             → without_adds items.now self.old.tree ≡ None }
         ensures too_many_leaves { result ≡ Err ApplyFault.TooManyLeaves
             → IsSome (without_adds items.now self.old.tree) × (outcome items.now self.old.tree ≡ None) }
-        ensures else_memory { IfErr result (λ e.
+        ensures possible_errors { IfErr result (λ e.
             (e ≡ ApplyFault.NoSuchLeaf) ⊎ (e ≡ ApplyFault.TooManyLeaves)
             ⊎ (e ≡ ApplyFault.OutOfMemory)) }
         ensures base { self.new.base ≡ self.old.base }
     {
-        self.entered = None;
+        self.staged_nodes = None;
         check_list_fits(alloc, &mut self.tree, &mut self.journal, items)
     }
 
-    /// Returns the leaf of a client that joins with a commit: the leftmost blank one, or else the first one by which the tree
-    /// is extended (RFC 9420, 7.7 and 12.4.3.2). The leaf is still blank.
+    /// Returns the leaf of a client that joins with a commit: the leftmost blank one, otherwise the first one by which
+    /// the tree is extended (RFC 9420, 7.7 and 12.4.3.2). The leaf is still blank.
     ///
     /// # Errors
     ///
@@ -174,15 +174,15 @@ impl StagedTree {
         ensures leaf { IfOk result (λ j. j ≡ (seat self.old.tree).leaf) }
         ensures tree { OnOk result (self.new.tree ≡ (seat self.old.tree).tree) }
         ensures inside { IfOk result (λ j. j < leaf_count self.new.tree) }
-        ensures room { OnOk result (member_count self.old.tree < leaf_limit) }
+        ensures capacity { OnOk result (member_count self.old.tree < leaf_limit) }
         ensures too_many_leaves { (result ≡ Err ApplyFault.TooManyLeaves) ↔ (leaf_limit ≤ member_count self.old.tree) }
-        ensures else_memory { IfErr result (λ e. (e ≡ ApplyFault.TooManyLeaves) ⊎ (e ≡ ApplyFault.OutOfMemory)) }
+        ensures possible_errors { IfErr result (λ e. (e ≡ ApplyFault.TooManyLeaves) ⊎ (e ≡ ApplyFault.OutOfMemory)) }
         ensures base { self.new.base ≡ self.old.base }
     {
         if self.tree.member_count() >= 1_048_576 {
             return Err(ApplyFault::TooManyLeaves);
         }
-        self.entered = None;
+        self.staged_nodes = None;
         leaf_for_member(&mut self.tree, &mut self.journal, 0)
     }
 
@@ -202,14 +202,14 @@ impl StagedTree {
     ) -> Result<(), ApplyFault>
         ensures merged { OnOk result
             (merged_by (hash_of suite) self.old.tree path.now ≡ Some self.new.tree) }
-        ensures kept { OnOk result (refusal_of (hash_of suite) self.old.tree path.now ≡ None) }
+        ensures rules_hold { OnOk result (refusal_of (hash_of suite) self.old.tree path.now ≡ None) }
         ensures refused { IfErr result (λ e. e ≢ ApplyFault.OutOfMemory
             → refusal_of (hash_of suite) self.old.tree path.now ≡ Some e) }
-        ensures stays { IfErr result
+        ensures unchanged { IfErr result
             (λ e. e ≢ ApplyFault.OutOfMemory → self.new.tree ≡ self.old.tree) }
         ensures base { self.new.base ≡ self.old.base }
     {
-        self.entered = None;
+        self.staged_nodes = None;
         self.clean = false;
         let tree = &mut self.tree;
         let journal = &mut self.journal;
@@ -223,27 +223,27 @@ impl StagedTree {
     pub fn index_changes(&mut self, alloc: Global) -> Result<(), OutOfMemory>
         ensures base { self.new.base ≡ self.old.base }
         ensures tree { self.new.tree ≡ self.old.tree }
-        ensures indexed { OnOk result (self.new.indexed ≡ true) }
+        ensures is_index_of_tree { OnOk result (self.new.indexed ≡ true) }
     {
-        self.entered = None;
+        self.staged_nodes = None;
         self.clean = false;
-        let places = stage_changed_nodes(alloc, &self.tree, &self.journal, &mut self.index)?;
-        self.entered = Some(places);
+        let node_indices = stage_changed_nodes(alloc, &self.tree, &self.journal, &mut self.index)?;
+        self.staged_nodes = Some(node_indices);
         Ok(())
     }
 
     /// Returns whether the encryption keys of the tree are distinct (RFC 9420, 12.4.2). Those of the tree before the
     /// changes must be. Only the keys of the changed nodes are looked up.
     pub fn has_distinct_keys(&self) -> bool
-        requires indexed { self.now.indexed ≡ true }
+        requires is_index_of_tree { self.now.indexed ≡ true }
         requires distinct { has_distinct_keys self.now.base ≡ true }
         ensures { result ≡ has_distinct_keys self.now.tree }
     {
-        let Some(places) = &self.entered else {
+        let Some(node_indices) = &self.staged_nodes else {
             unreachable!()
         };
         let (index, tree) = (&self.index, &self.tree);
-        index.have_own_keys(tree, KeyKind::Encryption, places.as_slice())
+        index.have_unique_keys(tree, KeyKind::Encryption, node_indices.as_slice())
     }
 
     /// Returns the smallest leaf index of a leaf that fails a rule that needs no other leaf. Each leaf of the tree before
@@ -254,16 +254,16 @@ impl StagedTree {
         rules: &LeafRules<'_, C>,
         rule: LeafRule,
     ) -> Result<Option<u32>, OutOfMemory>
-        requires indexed { self.now.indexed ≡ true }
-        requires kept { all_leaves (leaf_rule (C.meaning rules.now.checker.now) rules.now.context.now
+        requires is_index_of_tree { self.now.indexed ≡ true }
+        requires rules_hold { all_leaves (leaf_rule (C.meaning rules.now.checker.now) rules.now.context.now
             rules.now.required.now rule) 0 self.now.base ≡ true }
         ensures { IfOk result (FindsFailing (leaf_rule (C.meaning rules.now.checker.now) rules.now.context.now
             rules.now.required.now rule) self.now.tree) }
     {
-        let Some(places) = &self.entered else {
+        let Some(node_indices) = &self.staged_nodes else {
             unreachable!()
         };
-        first_changed_failing(alloc, rules, rule, &self.tree, places.as_slice())
+        first_changed_failing(alloc, rules, rule, &self.tree, node_indices.as_slice())
     }
 
     /// Returns the smallest leaf index of a leaf whose capabilities lack what the group requires. Each leaf of the tree
@@ -274,8 +274,8 @@ impl StagedTree {
         former: &RequiredCapabilities,
         rules: &LeafRules<'_, C>,
     ) -> Result<Option<u32>, OutOfMemory>
-        requires indexed { self.now.indexed ≡ true }
-        requires kept { all_leaves (λ _ x. supports_required former.now x) 0 self.now.base ≡ true }
+        requires is_index_of_tree { self.now.indexed ≡ true }
+        requires rules_hold { all_leaves (λ _ x. supports_required former.now x) 0 self.now.base ≡ true }
         ensures { IfOk result (FindsFailing (λ _ x. supports_required rules.now.required.now x) self.now.tree) }
     {
         if same_requirements(former, rules.required) {
@@ -287,7 +287,7 @@ impl StagedTree {
     /// Returns the smallest leaf index of a leaf that does not support the credential type of some leaf. The index has
     /// it: no leaf of the tree is visited.
     fn first_unsupported(&self) -> Option<u32>
-        requires indexed { self.now.indexed ≡ true }
+        requires is_index_of_tree { self.now.indexed ≡ true }
         ensures { FindsFailing (λ _ x. supports_used_credentials self.now.tree x) self.now.tree result }
     {
         self.index.first_unsupported_credential()
@@ -296,14 +296,15 @@ impl StagedTree {
     /// Returns the smallest leaf index of a leaf whose signature key another leaf has. The signature keys of the tree
     /// before the changes must be distinct. Only the keys of the changed leaves are looked up.
     fn first_repeated(&self) -> Option<u32>
-        requires indexed { self.now.indexed ≡ true }
-        requires kept { all_leaves (has_own_signature_key self.now.base) 0 self.now.base ≡ true }
-        ensures { FindsFailing (has_own_signature_key self.now.tree) self.now.tree result }
+        requires is_index_of_tree { self.now.indexed ≡ true }
+        requires rules_hold { all_leaves (has_unique_signature_key self.now.base) 0 self.now.base ≡ true }
+        ensures { FindsFailing (has_unique_signature_key self.now.tree) self.now.tree result }
     {
-        let Some(places) = &self.entered else {
+        let Some(node_indices) = &self.staged_nodes else {
             unreachable!()
         };
-        self.index.first_repeated_key(&self.tree, places.as_slice())
+        self.index
+            .first_repeated_key(&self.tree, node_indices.as_slice())
     }
 
     /// Checks that every non-blank leaf of the tree is a valid leaf node (RFC 9420, 7.3), as
@@ -321,8 +322,8 @@ impl StagedTree {
         former: &RequiredCapabilities,
         rules: &LeafRules<'_, C>,
     ) -> Result<(), MemberFault>
-        requires indexed { self.now.indexed ≡ true }
-        requires kept { LeavesAreValid (C.meaning rules.now.checker.now) rules.now.context.now.cipher_suite
+        requires is_index_of_tree { self.now.indexed ≡ true }
+        requires rules_hold { LeavesAreValid (C.meaning rules.now.checker.now) rules.now.context.now.cipher_suite
             rules.now.context.now.group_id former.now self.now.base }
         ensures members { OnOk result (LeavesAreValid (C.meaning rules.now.checker.now)
             rules.now.context.now.cipher_suite rules.now.context.now.group_id rules.now.required.now self.now.tree) }
@@ -347,41 +348,41 @@ impl StagedTree {
         Ok(())
     }
 
-    /// The tree hash of the tree (RFC 9420, 7.8). What is empty of the hashes that it keeps of its subtrees is filled,
+    /// The tree hash of the tree (RFC 9420, 7.8). The empty slots of its cached tree hashes are filled,
     /// and nothing else is hashed or changes.
     pub fn hash(&mut self, alloc: Global, suite: Suite) -> Result<HashValue, AllocError>
-        ensures stays { self.new ≡ self.old }
+        ensures unchanged { self.new ≡ self.old }
         ensures hash { IfOk result (λ hash. tree_hash (hash_of suite) 0 self.old.tree ≡ Some hash) }
     {
         fill(alloc, suite, &mut self.tree)?;
         root_hash(alloc, suite, &self.tree)
     }
 
-    /// Keeps the changes: the tree as it is becomes the base. Does not allocate.
+    /// Makes the changes final: the tree as it is becomes the base. Does not allocate.
     pub fn settle(&mut self)
         requires { self.old.indexed ≡ true }
         ensures base { self.new.base ≡ self.old.tree }
         ensures tree { self.new.tree ≡ self.old.tree }
         ensures clean { self.new.clean ≡ true }
     {
-        let Some(places) = self.entered.take() else {
+        let Some(node_indices) = self.staged_nodes.take() else {
             unreachable!()
         };
-        self.index.accept(&self.tree, places.as_slice());
-        self.journal.keep();
+        self.index.accept(&self.tree, node_indices.as_slice());
+        self.journal.discard();
         self.clean = true;
     }
 
     /// Undoes the changes: the tree is the base again. Does not allocate.
-    pub fn take_back(&mut self)
+    pub fn rollback(&mut self)
         ensures base { self.new.base ≡ self.old.base }
         ensures tree { self.new.tree ≡ self.old.base }
         ensures clean { self.new.clean ≡ true }
     {
-        self.entered = None;
-        self.index.refuse();
+        self.staged_nodes = None;
+        self.index.revert();
         self.clean = true;
-        self.journal.take_back(&mut self.tree);
+        self.journal.rollback(&mut self.tree);
     }
 }
 

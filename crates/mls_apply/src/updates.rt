@@ -25,7 +25,7 @@ fn apply_update(
         (after_update item.now.sender item.now.proposal tree.old.tree ≡ Some tree.new.tree) }
     ensures no_such_leaf { result ≡ Err ApplyFault.NoSuchLeaf
         → after_update item.now.sender item.now.proposal tree.old.tree ≡ None }
-    ensures else_memory { IfErr result (λ e.
+    ensures possible_errors { IfErr result (λ e.
         (e ≡ ApplyFault.NoSuchLeaf) ⊎ (e ≡ ApplyFault.OutOfMemory)) }
     ensures before { before journal.new tree.new.tree ≡ before journal.old tree.old.tree }
 {
@@ -53,7 +53,7 @@ pub(crate) fn apply_updates(
     ensures updated { OnOk result (after_updates items.now tree.old.tree ≡ Some tree.new.tree) }
     ensures no_such_leaf { result ≡ Err ApplyFault.NoSuchLeaf
         → after_updates items.now tree.old.tree ≡ None }
-    ensures else_memory { IfErr result (λ e.
+    ensures possible_errors { IfErr result (λ e.
         (e ≡ ApplyFault.NoSuchLeaf) ⊎ (e ≡ ApplyFault.OutOfMemory)) }
     ensures before { before journal.new tree.new.tree ≡ before journal.old tree.old.tree }
 {

@@ -26,14 +26,14 @@ records-own G info h records own e t uses =
     e ∙ ap (λ (v : RatchetTree). query_records G (start_signatures info v.tree)) (one_tree None info.extensions h t own uses)
 
 -- the records by the tree that is passed
-pub records-handed : (G : VerifyFn) (info : GroupInfo) (h : RatchetTree) (records : List ℕ)
+pub records-supplied : (G : VerifyFn) (info : GroupInfo) (h : RatchetTree) (records : List ℕ)
     → records ≡ query_records G (start_signatures info h.tree) → IsStartQuery G info (Some h) records
-records-handed G info h records e t uses = e ∙ ap (λ (v : RatchetTree). query_records G (start_signatures info v.tree)) (sym uses)
+records-supplied G info h records e t uses = e ∙ ap (λ (v : RatchetTree). query_records G (start_signatures info v.tree)) (sym uses)
 
 -- a follower starts, so the tree that it uses is there
-pub records-start : (G : VerifyFn) (info : GroupInfo) (handed : Option RatchetTree) (s : State) (records : List ℕ) → IsStart Members all_good info handed s
-    → IsStartQuery G info handed records → ListsStart G info handed records
-records-start G info handed s records start lines = record {
+pub records-start : (G : VerifyFn) (info : GroupInfo) (supplied : Option RatchetTree) (s : State) (records : List ℕ) → IsStart Members all_good info supplied s
+    → IsStartQuery G info supplied records → ListsStart G info supplied records
+records-start G info supplied s records start lines = record {
   state = s;
   start = start;
   records_are =
@@ -41,20 +41,20 @@ records-start G info handed s records start lines = record {
       ∙ ap (λ (st : State). query_records G (start_signatures info st.tree)) (sym start.state);
 }
 
-module _ (info_bytes tree_bytes : List ℕ) (info : GroupInfo) (handed : Option RatchetTree) (is_read : IsReadAs Members info_bytes (passed tree_bytes) info handed) where
-  pub lists-from : (G : VerifyFn) (records : List ℕ) → ListsStart G info handed records → ListsFrom G info_bytes tree_bytes records
+module _ (info_bytes tree_bytes : List ℕ) (info : GroupInfo) (supplied : Option RatchetTree) (is_read : IsReadAs Members info_bytes (passed tree_bytes) info supplied) where
+  pub lists-from : (G : VerifyFn) (records : List ℕ) → ListsStart G info supplied records → ListsFrom G info_bytes tree_bytes records
   lists-from G records q = record {
-    wanted = start_signatures info q.state.tree;
-    can_start = record { info = info; handed = handed; is_read = is_read; state = q.state; has_signatures = record { start = q.start; wanted_is = refl } };
+    signatures = start_signatures info q.state.tree;
+    can_start = record { info = info; supplied = supplied; is_read = is_read; state = q.state; has_signatures = record { start = q.start; needed_is = refl } };
     records_are = q.records_are;
   }
 
-module _ (profile : Profile) (info_bytes tree_bytes : List ℕ) (info : GroupInfo) (handed : Option RatchetTree) (is_read : IsReadAs profile info_bytes (passed tree_bytes) info handed) where
-  declines : (G : VerifyFn) (finding : Finding) → FailsStart G info handed finding → Declines profile G info_bytes tree_bytes finding
+module _ (profile : Profile) (info_bytes tree_bytes : List ℕ) (info : GroupInfo) (supplied : Option RatchetTree) (is_read : IsReadAs profile info_bytes (passed tree_bytes) info supplied) where
+  declines : (G : VerifyFn) (finding : Finding) → FailsStart G info supplied finding → Declines profile G info_bytes tree_bytes finding
   declines G finding f =
-      subst (Declines profile G info_bytes tree_bytes) (sym f.finding_is) (record { found = (info, handed, is_read, f.own, f.fails); verdict = refl })
+      subst (Declines profile G info_bytes tree_bytes) (sym f.finding_is) (record { found = (info, supplied, is_read, f.own, f.fails); verdict = refl })
 
-  pub says-declines : (G : VerifyFn) (failure : StartFailure) → Says (FailsStart G info handed) failure → Says (Declines profile G info_bytes tree_bytes) failure
+  pub says-declines : (G : VerifyFn) (failure : StartFailure) → Says (FailsStart G info supplied) failure → Says (Declines profile G info_bytes tree_bytes) failure
   says-declines G (Found finding) f = declines G finding f
   says-declines G (Fault e) f = f
 

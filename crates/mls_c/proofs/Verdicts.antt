@@ -23,8 +23,8 @@ refuses-start profile G info tree v finding d is = record { finding = finding; f
 pub queries-lists : (G : VerifyFn) (info tree old new : List ℕ) (needed : ℕ) (v : InputVerdict) (records : List ℕ) (number : ℕ) → ListsFrom G info tree records
     → IsPut records old new needed number → v ≡ plain_verdict number → QueriesStart G info tree old new needed v
 queries-lists G info tree old new needed v records number lists put is =
-    let kept : IsPut (query_records G lists.wanted) old new needed number = subst (λ (xs : List ℕ). IsPut xs old new needed number) lists.records_are put in
-    subst (QueriesStart G info tree old new needed) (sym is) (QueriesStart.lists lists.wanted lists.can_start kept refl)
+    let kept : IsPut (query_records G lists.signatures) old new needed number = subst (λ (xs : List ℕ). IsPut xs old new needed number) lists.records_are put in
+    subst (QueriesStart G info tree old new needed) (sym is) (QueriesStart.lists lists.signatures lists.can_start kept refl)
 
 module _ (profile : Profile) (G : VerifyFn) (held new : Option GroupFollower) (v : InputVerdict) (f : GroupFollower) (meaning : meaning_in f ≡ G) where
   pub starts-put : (info tree : List ℕ) → ((v ≡ plain_verdict 0) × (new ≡ Some f)) ⊎ (RunsOut v × (new ≡ held)) → IsStarted profile G info (passed tree) (state_in f)

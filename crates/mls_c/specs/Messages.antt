@@ -6,7 +6,7 @@ use Rattle.mls_signatures.specs.declared.signature_to_verify.SignatureToVerify.{
 use Rattle.mls_follow.specs.Acceptance.{EncodesNoMessage}
 use Rattle.mls_follow.specs.MessageHeader.{HasNoHeader, IsUnreadMessage}
 use Rattle.mls_follow.specs.MessageSignatures.{AreSignaturesOf}
-use Rattle.mls_follow.specs.Runs.{Takes}
+use Rattle.mls_follow.specs.Runs.{IsTransition}
 use Rattle.mls_follow.specs.StoredState.{EncodesState, HasNoFile}
 use Rattle.mls_follow.specs.declared.refusal.Refusal.{Refusal}
 use Rattle.mls_follow.specs.declared.refusal.Refusal.TheVariants as refusals
@@ -34,8 +34,8 @@ pub data Queries (f : GroupFollower) (message old new : List ℕ) (needed number
   runs_out : number ≡ out_of_memory → new ≡ old → needed ≡ 0 → Queries f message old new needed number
   malformed : EncodesNoMessage (state_in f).profile message → number ≡ 1 → new ≡ old → needed ≡ 0
       → Queries f message old new needed number
-  lists : (wanted : List SignatureToVerify) → AreSignaturesOf (state_in f) message wanted
-      → IsPut (query_records (meaning_in f) wanted) old new needed number
+  lists : (signatures : List SignatureToVerify) → AreSignaturesOf (state_in f) message signatures
+      → IsPut (query_records (meaning_in f) signatures) old new needed number
       → Queries f message old new needed number
 
 -- ---- learning
@@ -66,7 +66,7 @@ put_reference (Err e) old = old
 -- `Answers f g message answer`: the follower processed the message with this result (`Follower::take`). Bytes that are too
 -- long or have no header of a message, and messages that are not read, are refused even without memory.
 pub record Answers (f g : GroupFollower) (message : List ℕ) (answer : Result Taken Refusal) : Type 0 where
-  pub takes : Takes (meaning_in f) (state_in f) message answer (state_in g)
+  pub takes : IsTransition (meaning_in f) (state_in f) message answer (state_in g)
   pub meaning : meaning_in g ≡ meaning_in f
   pub limit : input_limit < length message → answer ≡ Err refusals.Malformed
   pub header : HasNoHeader message → answer ≡ Err refusals.Malformed

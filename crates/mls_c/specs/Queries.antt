@@ -28,7 +28,7 @@ signature_record w = record_of (receipt_input w.suite w.key w.content w.signatur
 abbrev pub record_unless : VerifyFn → SignatureToVerify → List ℕ
 record_unless G w = if is_known G w then [] else signature_record w
 
--- `query_records G wanted` is the records of the signatures of a list that `G` does not accept, in its order.
+-- `query_records G signatures` is the records of the signatures of a list that `G` does not accept, in its order.
 abbrev pub query_records : VerifyFn → List SignatureToVerify → List ℕ
 query_records G [] = []
-query_records G (w ∷ wanted) = record_unless G w ++ query_records G wanted
+query_records G (w ∷ signatures) = record_unless G w ++ query_records G signatures

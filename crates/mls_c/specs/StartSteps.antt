@@ -25,12 +25,12 @@ use Rattle.mls_c.specs.Numbers.{plain_verdict, other_profile}
 use Rattle.mls_c.specs.Queries.{query_records}
 use Rattle.mls_c.specs.Starts.{passed, RunsOut, CanStartFrom}
 
--- `FailsStart G info handed finding`: no follower starts from a GroupInfo and a tree, and this is the finding.
-pub record FailsStart (G : VerifyFn) (info : GroupInfo) (handed : Option RatchetTree) (finding : Finding)
+-- `FailsStart G info supplied finding`: no follower starts from a GroupInfo and a tree, and this is the finding.
+pub record FailsStart (G : VerifyFn) (info : GroupInfo) (supplied : Option RatchetTree) (finding : Finding)
     : Type 0 where
   pub fault : StartFault
   pub own : fault ≢ starts.OutOfMemory
-  pub fails : IsStartFault G info handed fault
+  pub fails : IsStartFault G info supplied fault
   pub finding_is : finding ≡ StartRefused fault
 
 -- `Declines profile G info_bytes tree_bytes finding`: no follower with this profile starts from these bytes, and this is the
@@ -40,26 +40,26 @@ pub record Declines (profile : Profile) (G : VerifyFn) (info_bytes tree_bytes : 
   pub found : IsStartFinding profile G info_bytes (passed tree_bytes) finding
   pub verdict : finding_verdict finding ≡ No
 
--- `IsStartQuery G info handed records`: the records of the start, by the tree that it uses.
+-- `IsStartQuery G info supplied records`: the records of the start, by the tree that it uses.
 abbrev pub IsStartQuery : VerifyFn → GroupInfo → Option RatchetTree → List ℕ → Type 0
-IsStartQuery G info handed records =
-    (t : RatchetTree) → UsesTree handed info.extensions t
+IsStartQuery G info supplied records =
+    (t : RatchetTree) → UsesTree supplied info.extensions t
     → records ≡ query_records G (start_signatures info t.tree)
 
--- `ListsStart G info handed records`: a follower can start from a GroupInfo and a tree, each signature being good, and these
--- are the records of the start.
-pub record ListsStart (G : VerifyFn) (info : GroupInfo) (handed : Option RatchetTree) (records : List ℕ)
+-- `ListsStart G info supplied records`: a follower can start from a GroupInfo and a tree, each signature being good,
+-- and these are the records of the start.
+pub record ListsStart (G : VerifyFn) (info : GroupInfo) (supplied : Option RatchetTree) (records : List ℕ)
     : Type 0 where
   pub state : State
-  pub start : IsStart Members all_good info handed state
+  pub start : IsStart Members all_good info supplied state
   pub records_are : records ≡ query_records G (start_signatures info state.tree)
 
 -- `ListsFrom G info_bytes tree_bytes records`: a follower can start from these bytes, each signature being good, and these
 -- are the records of the start.
 pub record ListsFrom (G : VerifyFn) (info_bytes tree_bytes records : List ℕ) : Type 0 where
-  pub wanted : List SignatureToVerify
-  pub can_start : CanStartFrom info_bytes tree_bytes wanted
-  pub records_are : records ≡ query_records G wanted
+  pub signatures : List SignatureToVerify
+  pub can_start : CanStartFrom info_bytes tree_bytes signatures
+  pub records_are : records ≡ query_records G signatures
 
 -- `PutsInProfile profile f held new v`: a follower with this profile was put into a handle, or an allocation failed; a
 -- follower with another profile was not.

@@ -61,14 +61,14 @@ pub record RefusesStart (profile : Profile) (G : VerifyFn) (info_bytes tree_byte
   pub refused : reports.finding_verdict finding ≡ No
   pub verdict_is : v ≡ verdict_of finding
 
--- `CanStartFrom info_bytes tree_bytes wanted`: a follower with the members' profile starts if every signature is good, and
--- these are the signatures of the start.
-pub record CanStartFrom (info_bytes tree_bytes : List ℕ) (wanted : List SignatureToVerify) : Type 0 where
+-- `CanStartFrom info_bytes tree_bytes signatures`: a follower with the members' profile starts if every signature is
+-- good, and these are the signatures of the start.
+pub record CanStartFrom (info_bytes tree_bytes : List ℕ) (signatures : List SignatureToVerify) : Type 0 where
   pub info : GroupInfo
-  pub handed : Option RatchetTree
-  pub is_read : IsReadAs Members info_bytes (passed tree_bytes) info handed
+  pub supplied : Option RatchetTree
+  pub is_read : IsReadAs Members info_bytes (passed tree_bytes) info supplied
   pub state : State
-  pub has_signatures : StartHasSignatures Members info handed state wanted
+  pub has_signatures : StartHasSignatures Members info supplied state signatures
 
 -- `QueriesStart G info_bytes tree_bytes old new needed v`: the records of the signatures of the start that `G` does not
 -- accept were put into the buffer; or no follower starts though every signature is good.
@@ -77,8 +77,8 @@ pub data QueriesStart (G : VerifyFn) (info_bytes tree_bytes old new : List ℕ) 
   runs_out : RunsOut v → new ≡ old → needed ≡ 0 → QueriesStart G info_bytes tree_bytes old new needed v
   refuses : RefusesStart Members all_good info_bytes tree_bytes v → new ≡ old → needed ≡ 0
       → QueriesStart G info_bytes tree_bytes old new needed v
-  lists : (wanted : List SignatureToVerify) → CanStartFrom info_bytes tree_bytes wanted
-      → IsPut (query_records G wanted) old new needed v.number → v ≡ plain_verdict v.number
+  lists : (signatures : List SignatureToVerify) → CanStartFrom info_bytes tree_bytes signatures
+      → IsPut (query_records G signatures) old new needed v.number → v ≡ plain_verdict v.number
       → QueriesStart G info_bytes tree_bytes old new needed v
 
 -- `Starts profile G info_bytes tree_bytes held new v`: a follower with this profile starts, and takes the place of what the

@@ -45,13 +45,13 @@ impl GroupFollower {
         ensures meaning { meaning_in self.new ≡ meaning_in self.old }
     {
         *needed = 0;
-        let wanted = match self.follower.wanted(message) {
-            Ok(wanted) => wanted,
+        let signatures = match self.follower.signatures_to_verify(message) {
+            Ok(signatures) => signatures,
             Err(SignatureListFault::Malformed) => return MALFORMED,
             Err(SignatureListFault::OutOfMemory) => return OUT_OF_MEMORY,
         };
-        let records = query_records(alloc, wanted.as_slice(), self.follower.checker());
-        drop(wanted);
+        let records = query_records(alloc, signatures.as_slice(), self.follower.checker());
+        drop(signatures);
         match records {
             Ok(records) => put_sized(records.as_slice(), buffer, needed),
             Err(AllocError) => OUT_OF_MEMORY,

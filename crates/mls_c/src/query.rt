@@ -14,15 +14,15 @@ use std::alloc::{AllocError, Global};
 
 /// Returns the input of the receipt of a signature.
 #[tactic(auto, using(mls_wire::specs::WriteSequences::written), unfolding(mls_check::specs::Receipts::receipt_input))]
-fn input_of(alloc: Global, wanted: &SignatureToVerify) -> Result<Vec<u8>, CodecFault>
-    ensures { let input = receipt_input wanted.now.suite wanted.now.key wanted.now.content
-        wanted.now.signature in Makes input (seen (λ v. v.items) result) }
+fn input_of(alloc: Global, needed: &SignatureToVerify) -> Result<Vec<u8>, CodecFault>
+    ensures { let input = receipt_input needed.now.suite needed.now.key needed.now.content
+        needed.now.signature in Makes input (seen (λ v. v.items) result) }
 {
     let mut draft = Draft::new(alloc);
-    draft.put_u16(wanted.suite)?;
-    draft.put_vec(wanted.key.as_slice())?;
-    draft.put_vec(wanted.content.as_slice())?;
-    draft.put_vec(wanted.signature.as_slice())?;
+    draft.put_u16(needed.suite)?;
+    draft.put_vec(needed.key.as_slice())?;
+    draft.put_vec(needed.content.as_slice())?;
+    draft.put_vec(needed.signature.as_slice())?;
     Ok(draft.finish())
 }
 
@@ -58,21 +58,21 @@ fn push_receipt(
 /// Appends the record of a signature.
 fn push_record(
     alloc: Global,
-    wanted: &SignatureToVerify,
+    needed: &SignatureToVerify,
     records: &mut Vec<u8>,
 ) -> Result<(), AllocError>
     ensures { OnOk result
-        (records.new.items ≡ records.old.items ++ signature_record wanted.now) }
+        (records.new.items ≡ records.old.items ++ signature_record needed.now) }
 {
-    let input = match input_of(alloc, wanted) {
+    let input = match input_of(alloc, needed) {
         Ok(input) => input,
         Err(CodecFault::Wire(_)) => return Ok(()),
         Err(CodecFault::OutOfMemory) => return Err(AllocError),
     };
-    let key = wanted.key.as_slice();
-    let content = wanted.content.as_slice();
-    let signature = wanted.signature.as_slice();
-    match receipt(wanted.suite, key, content, signature) {
+    let key = needed.key.as_slice();
+    let content = needed.content.as_slice();
+    let signature = needed.signature.as_slice();
+    match receipt(needed.suite, key, content, signature) {
         Some(digest) => push_receipt(alloc, &digest, input.as_slice(), records),
         None => Ok(()),
     }
@@ -81,32 +81,32 @@ fn push_record(
 /// Appends the record of a signature, unless the checker accepts it.
 fn push_record_unless<C: SignatureCheck>(
     alloc: Global,
-    wanted: &SignatureToVerify,
+    needed: &SignatureToVerify,
     checker: &C,
     records: &mut Vec<u8>,
 ) -> Result<(), AllocError>
     ensures { OnOk result (records.new.items ≡ records.old.items
-        ++ record_unless (C.meaning checker.now) wanted.now) }
+        ++ record_unless (C.meaning checker.now) needed.now) }
 {
-    let key = wanted.key.as_slice();
-    let content = wanted.content.as_slice();
-    if checker.good(wanted.suite, key, content, wanted.signature.as_slice()) {
+    let key = needed.key.as_slice();
+    let content = needed.content.as_slice();
+    if checker.good(needed.suite, key, content, needed.signature.as_slice()) {
         return Ok(());
     }
-    push_record(alloc, wanted, records)
+    push_record(alloc, needed, records)
 }
 
 /// Returns the records of the signatures that the checker does not accept.
 pub(crate) fn query_records<C: SignatureCheck>(
     alloc: Global,
-    wanted: &[SignatureToVerify],
+    needed: &[SignatureToVerify],
     checker: &C,
 ) -> Result<Vec<u8>, AllocError>
     ensures { IfOk result
-        (λ records. records.items ≡ query_records (C.meaning checker.now) wanted.now) }
+        (λ records. records.items ≡ query_records (C.meaning checker.now) needed.now) }
 {
     let mut records = Vec::new(alloc);
-    for signature in wanted {
+    for signature in needed {
         push_record_unless(alloc, signature, checker, &mut records)?;
     }
     Ok(records)

@@ -5,7 +5,7 @@ ghost use Rattle.std.specs.Prelude.{◌≡◌, ◌≢◌, ℕ, List, IfOk, IfErr
 ghost use Rattle.mls_tree.specs.PublicTreeModel.{plain};
 ghost use Rattle.mls_follow.specs.FollowerModel.{checker_of, state_of};
 ghost use Rattle.mls_follow.specs.Start.{IsStart};
-ghost use Rattle.mls_report.specs.StartInputs.{IsInfo, IsHanded, IsHandedUnread, IsReadAs, IsStarted};
+ghost use Rattle.mls_report.specs.StartInputs.{IsInfo, IsSupplied, IsSuppliedUnread, IsReadAs, IsStarted};
 ghost use Rattle.mls_report.specs.StartSteps.{Says, IsUnread};
 ghost use Rattle.mls_c.specs.Starts.{passed};
 ghost use Rattle.mls_c.specs.StartSteps.{FailsStart, Declines};
@@ -39,9 +39,9 @@ fn read_info(alloc: Global, profile: Profile, bytes: &[u8]) -> Result<GroupInfo,
 
 /// Decodes a tree, if there is one.
 fn read_tree(alloc: Global, bytes: &[u8]) -> Result<Option<PublicTree>, NodeFault>
-    ensures tree { IfOk result (λ t. IsHanded (passed bytes.now) (option_map plain t)) }
+    ensures tree { IfOk result (λ t. IsSupplied (passed bytes.now) (option_map plain t)) }
     ensures unread { IfErr result (λ fault. fault ≢ NodeFault.OutOfMemory
-        → IsHandedUnread (passed bytes.now)) }
+        → IsSuppliedUnread (passed bytes.now)) }
 {
     if bytes.is_empty() {
         return Ok(None);

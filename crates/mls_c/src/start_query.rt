@@ -4,7 +4,7 @@ ghost use Rattle.std.specs.Prelude.{◌≡◌, List, ℕ, None, IfOk, IfErr, OnO
 ghost use Rattle.mls_tree.specs.PublicTreeModel.{plain};
 ghost use Rattle.mls_check.specs.Signatures.{VerifyFn};
 ghost use Rattle.mls_msgs.specs.declared.profile.Profile.TheVariants.{Members};
-ghost use Rattle.mls_signatures.specs.SignaturesToVerify as wanted;
+ghost use Rattle.mls_signatures.specs.SignaturesToVerify as signatures;
 ghost use Rattle.mls_follow.specs.CoveredLogs.{all_good};
 ghost use Rattle.mls_report.specs.StartSteps.{Says};
 ghost use Rattle.mls_c.specs.Queries as queries;
@@ -30,14 +30,14 @@ fn records_by<C: SignatureCheck>(
     checker: &C,
 ) -> Result<Vec<u8>, RunFault>
     ensures records { IfOk result (λ records. records.items ≡ queries.query_records
-        (C.meaning checker.now) (wanted.start_signatures info.now tree.now.tree)) }
+        (C.meaning checker.now) (signatures.start_signatures info.now tree.now.tree)) }
     ensures memory { IfErr result (λ e. e ≡ RunFault.Memory) }
 {
-    let Ok(wanted) = start_signatures(alloc, info, tree) else {
+    let Ok(signatures) = start_signatures(alloc, info, tree) else {
         return Err(RunFault::Memory);
     };
-    let records = query_records(alloc, wanted.as_slice(), checker);
-    drop(wanted);
+    let records = query_records(alloc, signatures.as_slice(), checker);
+    drop(signatures);
     Ok(records?)
 }
 

@@ -9,15 +9,15 @@ use Rattle.mls_nodes.specs.declared.leaf.LeafNode.{LeafNode}
 use Rattle.mls_nodes.specs.declared.parent.ParentNode.{ParentNode}
 use Rattle.mls_tree.specs.Tree.{Tree, leaf, branch, height, leaf_count, leaf_at, Subtree, subtree_at}
 use Rattle.mls_tree.specs.BlankLeaves.{first_blank_leaf, IsFirstBlank, AllLeavesSet}
-use Rattle.mls_tree.specs.TreeOperations.{blank_tree, grow, add, add_at, grown_for, number_or}
+use Rattle.mls_tree.specs.TreeOperations.{blank_tree, extend, add, add_at, grown_for, number_or}
 use Rattle.mls_tree.proofs.Choices.{below, from, same, other}
 use Rattle.mls_tree.proofs.FirstBlanks.{first_blank_leaf-leftmost}
-use Rattle.mls_tree.proofs.Kept.{leaf_at-grow}
+use Rattle.mls_tree.proofs.Kept.{leaf_at-extend}
 use Rattle.mls_tree.proofs.Lookups.{leaf_at-past}
 use Rattle.mls_tree.proofs.Trees.{leaf_count-positive, subtree_at-stands}
 use Rattle.mls_hash.specs.ParentHash.{root_parent}
-use Rattle.mls_check.specs.ParentHashValid.{HasSetParent, Step}
-use Rattle.mls_check.specs.UnmergedLists.{HasSortedEntries, lists, is_unmerged_in_all, is_placed, HasConsistentUnmerged}
+use Rattle.mls_check.specs.ParentHashValid.{HasSetParent, ParentHashStep}
+use Rattle.mls_check.specs.UnmergedLists.{HasSortedEntries, lists, is_unmerged_in_all, is_consistent, HasConsistentUnmerged}
 use Rattle.mls_check.proofs.Elements.{contains-head, contains-tail, contains-found, all-each, and-left, and-right}
 use Rattle.mls_check.proofs.Walks.{contained}
 use Rattle.mls_check.specs.PreservedValidity.{HasValidUnmergedLists, IsParentHashValidTree, IsStepAt}
@@ -27,7 +27,7 @@ use Rattle.mls_check.proofs.Carrying.{HasOwnList, any-step, carry}
 use Rattle.mls_check.proofs.Reaching.{in_left}
 use Rattle.mls_check.proofs.Touching.{is_under, under, inside, touched_parent, touch, touched, leaf_count-touch, IsLeaf-touch, touch-add, IsFreeAt, IsFree, IsFresh, subtree_at-touch, touch-step}
 use Rattle.mls_check.proofs.SoundSubtrees.{IsSoundSubtree, HasSoundSubtrees, own_lists, sorted_in, sorted_from, subtrees_from, subtrees_whole}
-use Rattle.mls_check.proofs.Remaining.{grow_parents, parts_placed, parts_lists, sound_grow}
+use Rattle.mls_check.proofs.Remaining.{grow_parents, parts_consistent, parts_lists, sound_grow}
 
 all-from_each : (f : ℕ → Bool) (xs : List ℕ) → ((i : ℕ) → Contains xs i → f i ≡ true) → list_all f xs ≡ true
 all-from_each f [] h = refl
@@ -57,25 +57,25 @@ leaf_at-before first (branch l n r) i lt =
 
 module _ (j : ℕ) (x : LeafNode) where
   -- the lists are placed everywhere
-  abbrev IsPlacedIn : ℕ → Tree → Type 0
-  IsPlacedIn first t = IsTrue (is_placed first t)
+  abbrev IsConsistentIn : ℕ → Tree → Type 0
+  IsConsistentIn first t = IsTrue (is_consistent first t)
 
-  unlisted : (first : ℕ) (l : Tree) (n : Option ParentNode) (r : Tree) → IsPlacedIn first (branch l n r) → leaf_at first (branch l n r) j ≡ None
+  unlisted : (first : ℕ) (l : Tree) (n : Option ParentNode) (r : Tree) → IsConsistentIn first (branch l n r) → leaf_at first (branch l n r) j ≡ None
       → (p : ParentNode) → n ≡ Some p → ¬ Contains p.unmerged j
-  unlisted first l n r placed blank p e c =
-      let here : IsPlacedIn first (branch l (Some p) r) = subst (λ (o : Option ParentNode). IsPlacedIn first (branch l o r)) e placed in
+  unlisted first l n r consistent blank p e c =
+      let here : IsConsistentIn first (branch l (Some p) r) = subst (λ (o : Option ParentNode). IsConsistentIn first (branch l o r)) e consistent in
       let set = entered-set j first (branch l None r) (all-each (λ i. is_unmerged_in_all i first (branch l None r)) p.unmerged j here c) in
       false≢true (sym (ap is_some blank) ∙ set)
 
-  pub free_from : (first : ℕ) (t : Tree) → Everywhere IsPlacedIn first t → leaf_at first t j ≡ None → IsFree j x first t
-  free_from first (leaf y) placed blank = λ e. sym (same j first y None (sym e)) ∙ blank
-  free_from first (branch l n r) placed blank = (
-    unlisted first l n r placed.0 blank,
-    free_from first l placed.1 (elim (cases_lt j (first + leaf_count l)) [
+  pub free_from : (first : ℕ) (t : Tree) → Everywhere IsConsistentIn first t → leaf_at first t j ≡ None → IsFree j x first t
+  free_from first (leaf y) consistent blank = λ e. sym (same j first y None (sym e)) ∙ blank
+  free_from first (branch l n r) consistent blank = (
+    unlisted first l n r consistent.0 blank,
+    free_from first l consistent.1 (elim (cases_lt j (first + leaf_count l)) [
       | inl lt ↦ sym (below j (first + leaf_count l) (leaf_at first l j) (leaf_at (first + leaf_count l) r j) lt) ∙ blank
       | inr ge ↦ leaf_at-past first l j ge
     ]),
-    free_from (first + leaf_count l) r placed.2 (elim (cases_lt j (first + leaf_count l)) [
+    free_from (first + leaf_count l) r consistent.2 (elim (cases_lt j (first + leaf_count l)) [
       | inl lt ↦ leaf_at-before (first + leaf_count l) r j lt
       | inr ge ↦ sym (from j (first + leaf_count l) (leaf_at first l j) (leaf_at (first + leaf_count l) r j) ge) ∙ blank
     ]),
@@ -136,10 +136,10 @@ module _ (j : ℕ) (x : LeafNode) where
             ∙ entered-new (first + leaf_count l) r b (omega (arith, hi))
       ])
 
-  placed-touch : (first : ℕ) (t : Tree) → IsPlacedIn first t → IsPlacedIn first (touch j x first t)
-  placed-touch first (leaf y) h = refl
-  placed-touch first (branch l None r) h = refl
-  placed-touch first (branch l (Some p) r) h =
+  consistent-touch : (first : ℕ) (t : Tree) → IsConsistentIn first t → IsConsistentIn first (touch j x first t)
+  consistent-touch first (leaf y) h = refl
+  consistent-touch first (branch l None r) h = refl
+  consistent-touch first (branch l (Some p) r) h =
       let b = is_under j x first (leaf_count l + leaf_count r) in
       all-from_each (λ i. is_unmerged_in_all i first (touch j x first (branch l None r))) (entered_list j b p.unmerged)
       (λ i c. elim (list-has j b p.unmerged i c) [
@@ -165,10 +165,10 @@ module _ (j : ℕ) (x : LeafNode) where
     sound-top_touch : (first : ℕ) (t : Tree) → IsSoundSubtree H n first t → IsFree j x first t → first + leaf_count t ≤ n → IsSoundSubtree H n first (touch j x first t)
     sound-top_touch first t g free low = record {
       sorted = sorted-touch first t g.sorted;
-      placed = placed-touch first t g.placed;
-      reached = λ set.
+      consistent = consistent-touch first t g.consistent;
+      parent_hash = λ set.
           carry H n n (touched j x) (IsFresh j x H n) (touch-step j x H n) (λ d l. IsLeaf-touch j x d.first d.tree l)
-          (record { first = first; tree = t }) (record { free = free; low = low }) (g.reached (set-touch first t set));
+          (record { first = first; tree = t }) (record { free = free; low = low }) (g.parent_hash (set-touch first t set));
     }
 
     sound_touch : (first : ℕ) (t : Tree) → HasSoundSubtrees H n first t → IsFree j x first t → first + leaf_count t ≤ n → HasSoundSubtrees H n first (touch j x first t)
@@ -184,7 +184,7 @@ module _ (j : ℕ) (x : LeafNode) where
   sound_add_at H t low blank g =
       subst (λ u. IsParentHashValidTree H u) (sym (touch-add j x 0 t (omega arith) (omega (arith, low))))
       (subtrees_whole H (leaf_count t) (touch j x 0 t) (sym (leaf_count-touch j x 0 t))
-      (sound_touch H (leaf_count t) 0 t g (free_from 0 t (everywhere-more (IsSoundSubtree H (leaf_count t)) IsPlacedIn (λ first u k. k.placed) 0 t g) blank) (omega arith)))
+      (sound_touch H (leaf_count t) 0 t g (free_from 0 t (everywhere-more (IsSoundSubtree H (leaf_count t)) IsConsistentIn (λ first u k. k.consistent) 0 t g) blank) (omega arith)))
 
   -- ---- lists and steps alone
 
@@ -202,18 +202,18 @@ module _ (j : ℕ) (x : LeafNode) where
       subst HasValidUnmergedLists (sym (touch-add j x 0 t (omega arith) (omega (arith, low))))
       (record {
         sorted = sorted_from (touch j x 0 t) (everywhere-touch (λ first u. HasSortedEntries (root_parent u)) sorted-touch 0 t (sorted_in t h.sorted));
-        placed = λ p s e.
-            everywhere-top IsPlacedIn s.first s.tree
-            (everywhere-at IsPlacedIn 0 (touch j x 0 t) p s e (everywhere-touch IsPlacedIn placed-touch 0 t (everywhere-from IsPlacedIn 0 t h.placed)));
+        consistent = λ p s e.
+            everywhere-top IsConsistentIn s.first s.tree
+            (everywhere-at IsConsistentIn 0 (touch j x 0 t) p s e (everywhere-touch IsConsistentIn consistent-touch 0 t (everywhere-from IsConsistentIn 0 t h.consistent)));
       })
 
   steps_add_at : (H : List ℕ → List ℕ) (t : Tree) → j < leaf_count t → leaf_at 0 t j ≡ None → HasConsistentUnmerged t → (d s : Subtree) (low high : ℕ)
-      → subtree_at 0 t low ≡ Some d → subtree_at 0 t high ≡ Some s → Step H (leaf_count t) d s → IsStepAt H (add_at t j x) low high
-  steps_add_at H t inside blank placed d s low high at_d at_s step =
+      → subtree_at 0 t low ≡ Some d → subtree_at 0 t high ≡ Some s → ParentHashStep H (leaf_count t) d s → IsStepAt H (add_at t j x) low high
+  steps_add_at H t inside blank consistent d s low high at_d at_s step =
       subst (λ u. IsStepAt H u low high) (sym (touch-add j x 0 t (omega arith) (omega (arith, inside)))) go
     where
       free : IsFree j x 0 t
-      free = free_from 0 t (everywhere-from IsPlacedIn 0 t placed) blank
+      free = free_from 0 t (everywhere-from IsConsistentIn 0 t consistent) blank
 
       go : IsStepAt H (touch j x 0 t) low high
       go e f at_e at_f =
@@ -223,14 +223,14 @@ module _ (j : ℕ) (x : LeafNode) where
           let a = same_Some (touched j x d) e (sym (subtree_at-touch j x 0 t low d at_d) ∙ at_e) in
           let b = same_Some (touched j x s) f (sym (subtree_at-touch j x 0 t high s at_s) ∙ at_f) in
           let c = sym (leaf_count-touch j x 0 t) in
-          subst (λ v. v) (λ i. Step H (c i) (a i) (b i)) k
+          subst (λ v. v) (λ i. ParentHashStep H (c i) (a i) (b i)) k
 
 module _ (H : List ℕ → List ℕ) (t : Tree) (x : LeafNode) (h : IsParentHashValidTree H t) where
   by_answer : (o : Option ℕ) → MatchOption o (AllLeavesSet t) (λ j. IsFirstBlank t j) → IsParentHashValidTree H (add_at (grown_for o t) (number_or (leaf_count t) o) x)
   by_answer None all =
       let pos = leaf_count-positive (blank_tree (height t)) in
-      sound_add_at (leaf_count t) x H (grow t) (omega (arith, pos)) (leaf_at-grow t (leaf_count t) ∙ leaf_at-past 0 t (leaf_count t) (omega arith))
-      (subtrees_from H (grow t) (sound_grow H t h))
+      sound_add_at (leaf_count t) x H (extend t) (omega (arith, pos)) (leaf_at-extend t (leaf_count t) ∙ leaf_at-past 0 t (leaf_count t) (omega arith))
+      (subtrees_from H (extend t) (sound_grow H t h))
   by_answer (Some j) first = sound_add_at j x H t first.inside first.blank (subtrees_from H t h)
 
   pub sound_add : IsParentHashValidTree H (add t x)
@@ -239,34 +239,34 @@ module _ (H : List ℕ → List ℕ) (t : Tree) (x : LeafNode) (h : IsParentHash
 module _ (t : Tree) (x : LeafNode) where
   lists_by : HasValidUnmergedLists t → (o : Option ℕ) → MatchOption o (AllLeavesSet t) (λ j. IsFirstBlank t j) → HasValidUnmergedLists (add_at (grown_for o t) (number_or (leaf_count t) o) x)
   lists_by h None all =
-      lists_add_at (leaf_count t) x (grow t) (omega (arith, leaf_count-positive (blank_tree (height t)))) (parts_lists (grow t) t (grow_parents t) h)
+      lists_add_at (leaf_count t) x (extend t) (omega (arith, leaf_count-positive (blank_tree (height t)))) (parts_lists (extend t) t (grow_parents t) h)
   lists_by h (Some j) first = lists_add_at j x t first.inside h
 
   pub lists_add : HasValidUnmergedLists t → HasValidUnmergedLists (add t x)
   lists_add h = lists_by h (first_blank_leaf 0 t) (first_blank_leaf-leftmost t)
 
-  module _ (H : List ℕ → List ℕ) (d s : Subtree) (low high : ℕ) (placed : HasConsistentUnmerged t) (at_d : subtree_at 0 t low ≡ Some d) (at_s : subtree_at 0 t high ≡ Some s)
-      (step : Step H (leaf_count t) d s) where
-    grown_step : Step H (leaf_count (grow t)) d s
+  module _ (H : List ℕ → List ℕ) (d s : Subtree) (low high : ℕ) (consistent : HasConsistentUnmerged t) (at_d : subtree_at 0 t low ≡ Some d) (at_s : subtree_at 0 t high ≡ Some s)
+      (step : ParentHashStep H (leaf_count t) d s) where
+    grown_step : ParentHashStep H (leaf_count (extend t)) d s
     grown_step =
         let stands = subtree_at-stands 0 t high s at_s in
-        (any-step (leaf_count t) (leaf_count (grow t)) H d s (record {
-          own = everywhere-at HasOwnList 0 t high s at_s (own_lists t placed);
+        (any-step (leaf_count t) (leaf_count (extend t)) H d s (record {
+          own = everywhere-at HasOwnList 0 t high s at_s (own_lists t consistent);
           low = omega (arith, stands.to_right);
           lower = omega (arith, stands.to_right);
         }) step).0
 
     steps_by : (o : Option ℕ) → MatchOption o (AllLeavesSet t) (λ j. IsFirstBlank t j) → IsStepAt H (add_at (grown_for o t) (number_or (leaf_count t) o) x) low high
     steps_by None all =
-        steps_add_at (leaf_count t) x H (grow t) (omega (arith, leaf_count-positive (blank_tree (height t))))
-        (leaf_at-grow t (leaf_count t) ∙ leaf_at-past 0 t (leaf_count t) (omega arith)) (parts_placed (grow t) t (grow_parents t) placed) d s low high
+        steps_add_at (leaf_count t) x H (extend t) (omega (arith, leaf_count-positive (blank_tree (height t))))
+        (leaf_at-extend t (leaf_count t) ∙ leaf_at-past 0 t (leaf_count t) (omega arith)) (parts_consistent (extend t) t (grow_parents t) consistent) d s low high
         (in_left 0 t None (blank_tree (height t)) low d at_d) (in_left 0 t None (blank_tree (height t)) high s at_s) grown_step
-    steps_by (Some j) first = steps_add_at j x H t first.inside first.blank placed d s low high at_d at_s step
+    steps_by (Some j) first = steps_add_at j x H t first.inside first.blank consistent d s low high at_d at_s step
 
     steps_add_in : IsStepAt H (add t x) low high
     steps_add_in = steps_by (first_blank_leaf 0 t) (first_blank_leaf-leftmost t)
 
 pub steps_add : (H : List ℕ → List ℕ) (t : Tree) (x : LeafNode) (descendant above : Subtree) (low high : ℕ) → HasConsistentUnmerged t
-    → subtree_at 0 t low ≡ Some descendant → subtree_at 0 t high ≡ Some above → Step H (leaf_count t) descendant above
+    → subtree_at 0 t low ≡ Some descendant → subtree_at 0 t high ≡ Some above → ParentHashStep H (leaf_count t) descendant above
     → IsStepAt H (add t x) low high
-steps_add H t x d s low high placed at_d at_s step = steps_add_in t x H d s low high placed at_d at_s step
+steps_add H t x d s low high consistent at_d at_s step = steps_add_in t x H d s low high consistent at_d at_s step

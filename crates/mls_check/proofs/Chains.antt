@@ -7,9 +7,9 @@ use Rattle.std.proofs.lemmas.Option.{same_Some, none-some, cond_some}
 use Rattle.mls_nodes.specs.declared.parent.ParentNode.{ParentNode}
 use Rattle.mls_tree.specs.Tree.{Tree, leaf, branch, leaf_count, Subtree, subtree_at, root_entry}
 use Rattle.mls_tree.specs.Paths.{resolution}
-use Rattle.mls_tree.proofs.Trees.{subtree_at-stands, subtree_at-here, subtree_at-in_left, subtree_at-in_right, root_place-below}
+use Rattle.mls_tree.proofs.Trees.{subtree_at-stands, subtree_at-here, subtree_at-in_left, subtree_at-in_right, root_node_index-below}
 use Rattle.mls_hash.specs.ParentHash.{parent_hash}
-use Rattle.mls_check.specs.ParentHashValid.{linked_hash, AreHalves, IsUnmergedUnder, ParentHashLink, Step, IsLeaf, ParentHashValid, from_leaf, from_parent, HasSetParent, IsParentHashValidAt}
+use Rattle.mls_check.specs.ParentHashValid.{linked_hash, AreChildren, IsUnmergedUnder, ParentHashLink, ParentHashStep, IsLeaf, ParentHashValid, from_leaf, from_parent, HasSetParent, IsParentHashValidAt}
 use Rattle.mls_check.proofs.Decided.{Decided, decided-like, decided-and, decided-or, decided-implies, decided-lt, decided-same, decided-other, decided-contains, decided-agree, decided-all, found_below, above_all, contains-above}
 use Rattle.mls_check.proofs.Reaching.{ends, coe_link}
 
@@ -37,33 +37,33 @@ module _ (H : List ℕ → List ℕ) (n : ℕ) where
 
   -- ---- one half of a parent
 
-  module _ (node : ParentNode) (half other : Subtree) where
+  module _ (node : ParentNode) (child other : Subtree) where
     -- what a link asks of the subtree at place b of the half, and that a chain has come to it
     record Linked (b : ℕ) (d : Subtree) : Type 0 where
       hash : List ℕ
       linked : linked_hash (root_entry d.tree) ≡ Some hash
       expected : parent_hash H node other.first other.tree ≡ Some hash
-      resolved : Contains (resolution n half.first half.tree) b
-      unmerged : (u : ℕ) → (Contains (resolution n half.first half.tree) u × (u ≢ b)) ↔ IsUnmergedUnder node half u
+      resolved : Contains (resolution n child.first child.tree) b
+      unmerged : (u : ℕ) → (Contains (resolution n child.first child.tree) u × (u ≢ b)) ↔ IsUnmergedUnder node child u
       ended : IsLeaf d.tree ⊎ ParentHashValid H n d
 
     -- a chain comes to the parent through the half
     abbrev Comes : Type 0
-    Comes = (d : Subtree) × ParentHashLink H n node half other d × (IsLeaf d.tree ⊎ ParentHashValid H n d)
+    Comes = (d : Subtree) × ParentHashLink H n node child other d × (IsLeaf d.tree ⊎ ParentHashValid H n d)
 
     -- it comes by place b
     abbrev ComesBy : ℕ → Type 0
-    ComesBy b = (d : Subtree) × (subtree_at half.first half.tree b ≡ Some d) × Linked b d
+    ComesBy b = (d : Subtree) × (subtree_at child.first child.tree b ≡ Some d) × Linked b d
 
-    decided-rest : (b : ℕ) → Decided ((u : ℕ) → (Contains (resolution n half.first half.tree) u × (u ≢ b)) ↔ IsUnmergedUnder node half u)
+    decided-rest : (b : ℕ) → Decided ((u : ℕ) → (Contains (resolution n child.first child.tree) u × (u ≢ b)) ↔ IsUnmergedUnder node child u)
     decided-rest b =
-        decided-all (λ u. (Contains (resolution n half.first half.tree) u × (u ≢ b)) ↔ IsUnmergedUnder node half u)
-        (λ u. let here = decided-and (decided-contains (resolution n half.first half.tree) u) (decided-other u b) in
-        let there = decided-unmerged node half u in
+        decided-all (λ u. (Contains (resolution n child.first child.tree) u × (u ≢ b)) ↔ IsUnmergedUnder node child u)
+        (λ u. let here = decided-and (decided-contains (resolution n child.first child.tree) u) (decided-other u b) in
+        let there = decided-unmerged node child u in
         decided-and (decided-implies here there) (decided-implies there here))
-        (above_all (resolution n half.first half.tree) + 2 * (half.first + leaf_count half.tree))
+        (above_all (resolution n child.first child.tree) + 2 * (child.first + leaf_count child.tree))
         (λ u g. (
-          λ w. absurd (omega (arith, contains-above (resolution n half.first half.tree) u w.0)),
+          λ w. absurd (omega (arith, contains-above (resolution n child.first child.tree) u w.0)),
           λ w. absurd (omega (arith, w.3, w.4)),
         ))
 
@@ -71,7 +71,7 @@ module _ (H : List ℕ → List ℕ) (n : ℕ) where
     decided-linked b d ended =
         elim (decided-agree (linked_hash (root_entry d.tree)) (parent_hash H node other.first other.tree)) [
           | inr m ↦ inr (λ w. m (w.hash, w.linked, w.expected))
-          | inl h ↦ elim (decided-contains (resolution n half.first half.tree) b) [
+          | inl h ↦ elim (decided-contains (resolution n child.first child.tree) b) [
             | inr m ↦ inr (λ w. m w.resolved)
             | inl c ↦ elim (decided-rest b) [
               | inr m ↦ inr (λ w. m w.unmerged)
@@ -83,10 +83,10 @@ module _ (H : List ℕ → List ℕ) (n : ℕ) where
           ]
         ]
 
-    decided-by : AreDecided half.first half.tree → (b : ℕ) → Decided (ComesBy b)
-    decided-by known b = go (subtree_at half.first half.tree b) refl
+    decided-by : AreDecided child.first child.tree → (b : ℕ) → Decided (ComesBy b)
+    decided-by known b = go (subtree_at child.first child.tree b) refl
       where
-        go : (o : Option Subtree) → subtree_at half.first half.tree b ≡ o → Decided (ComesBy b)
+        go : (o : Option Subtree) → subtree_at child.first child.tree b ≡ o → Decided (ComesBy b)
         go None e = inr (λ w. none-some w.0 (sym e ∙ w.1))
         go (Some d) e =
             elim (decided-linked b d (decided-or (decided-leaf d.tree) (known b d e))) [
@@ -94,58 +94,58 @@ module _ (H : List ℕ → List ℕ) (n : ℕ) where
               | inr m ↦ inr (λ w. m (subst (λ v. Linked b v) (same_Some w.0 d (sym w.1 ∙ e)) w.2))
             ]
 
-    decided-half : AreDecided half.first half.tree → Decided Comes
-    decided-half known =
-        elim (found_below ComesBy (decided-by known) (2 * (half.first + leaf_count half.tree))) [
+    decided-child : AreDecided child.first child.tree → Decided Comes
+    decided-child known =
+        elim (found_below ComesBy (decided-by known) (2 * (child.first + leaf_count child.tree))) [
           | inl w ↦
               (let by = w.2 in let l = by.2 in
-              inl (by.0, record { place = w.0; stands = by.1; hash = l.hash; linked = l.linked; expected = l.expected; resolved = l.resolved; unmerged = l.unmerged }, l.ended))
+              inl (by.0, record { node_index = w.0; stands = by.1; hash = l.hash; linked = l.linked; expected = l.expected; resolved = l.resolved; unmerged = l.unmerged }, l.ended))
           | inr none ↦
               inr (λ w.
               let k = w.1 in
-              let at = subtree_at-stands half.first half.tree k.place w.0 k.stands in
+              let at = subtree_at-stands child.first child.tree k.node_index w.0 k.stands in
               let d = w.0 in
-              none k.place (omega (arith, at.place, at.to_right, root_place-below d.first d.tree))
+              none k.node_index (omega (arith, at.node_index, at.to_right, root_node_index-below d.first d.tree))
               (w.0, k.stands, record { hash = k.hash; linked = k.linked; expected = k.expected; resolved = k.resolved; unmerged = k.unmerged; ended = w.2 }))
         ]
 
   -- ---- a parent
 
   set_top : (s : Subtree) → ParentHashValid H n s → HasSetParent s.tree
-  set_top s r = (let w = ends s r in let step = w.1 in go s.first s.tree step.parent step.half step.other step.halves)
+  set_top s r = (let w = ends s r in let step = w.1 in go s.first s.tree step.parent step.child step.other step.children)
     where
-      go : (first : ℕ) (t : Tree) (p : ParentNode) (half other : Subtree) → AreHalves first t p half other → HasSetParent t
-      go first (leaf x) p half other h = absurd h
-      go first (branch l None r) p half other h = absurd h
-      go first (branch l (Some q) r) p half other h = tt
+      go : (first : ℕ) (t : Tree) (p : ParentNode) (child other : Subtree) → AreChildren first t p child other → HasSetParent t
+      go first (leaf x) p child other h = absurd h
+      go first (branch l None r) p child other h = absurd h
+      go first (branch l (Some q) r) p child other h = tt
 
   module _ (first : ℕ) (l : Tree) (node : ParentNode) (r : Tree) where
-    abbrev left_half : Subtree
-    left_half = record { first = first; tree = l }
+    abbrev left_subtree : Subtree
+    left_subtree = record { first = first; tree = l }
 
-    abbrev right_half : Subtree
-    right_half = record { first = first + leaf_count l; tree = r }
+    abbrev right_subtree : Subtree
+    right_subtree = record { first = first + leaf_count l; tree = r }
 
     abbrev top : Subtree
     top = record { first = first; tree = branch l (Some node) r }
 
-    reach : (half other : Subtree) → AreHalves first (branch l (Some node) r) node half other → Comes node half other → ParentHashValid H n top
-    reach half other h w =
-        let step : Step H n w.0 top = record { parent = node; half = half; other = other; halves = h; link = w.1 } in
+    reach : (child other : Subtree) → AreChildren first (branch l (Some node) r) node child other → Comes node child other → ParentHashValid H n top
+    reach child other h w =
+        let step : ParentHashStep H n w.0 top = record { parent = node; child = child; other = other; children = h; link = w.1 } in
         elim w.2 [ inl e ↦ from_leaf w.0 top step e | inr c ↦ from_parent w.0 top step c ]
 
-    through : ParentHashValid H n top → Comes node left_half right_half ⊎ Comes node right_half left_half
-    through c = (let w = ends top c in let step = w.1 in by w.0 step.parent step.half step.other step.halves step.link w.2)
+    through : ParentHashValid H n top → Comes node left_subtree right_subtree ⊎ Comes node right_subtree left_subtree
+    through c = (let w = ends top c in let step = w.1 in by w.0 step.parent step.child step.other step.children step.link w.2)
       where
-        by : (d : Subtree) (p : ParentNode) (half other : Subtree) → AreHalves first (branch l (Some node) r) p half other → ParentHashLink H n p half other d → (IsLeaf d.tree ⊎ ParentHashValid H n d)
-            → Comes node left_half right_half ⊎ Comes node right_half left_half
-        by d p half other (a, inl b) link e = inl (d, coe_link d p half other left_half right_half (sym a) b.0 b.1 link, e)
-        by d p half other (a, inr b) link e = inr (d, coe_link d p half other right_half left_half (sym a) b.0 b.1 link, e)
+        by : (d : Subtree) (p : ParentNode) (child other : Subtree) → AreChildren first (branch l (Some node) r) p child other → ParentHashLink H n p child other d → (IsLeaf d.tree ⊎ ParentHashValid H n d)
+            → Comes node left_subtree right_subtree ⊎ Comes node right_subtree left_subtree
+        by d p child other (a, inl b) link e = inl (d, coe_link d p child other left_subtree right_subtree (sym a) b.0 b.1 link, e)
+        by d p child other (a, inr b) link e = inr (d, coe_link d p child other right_subtree left_subtree (sym a) b.0 b.1 link, e)
 
     decided-top : AreDecided first l → AreDecided (first + leaf_count l) r → Decided (ParentHashValid H n top)
     decided-top a b =
-        decided-like (λ w. elim w [ inl c ↦ reach left_half right_half (refl, inl (refl, refl)) c | inr c ↦ reach right_half left_half (refl, inr (refl, refl)) c ]) through
-        (decided-or (decided-half node left_half right_half a) (decided-half node right_half left_half b))
+        decided-like (λ w. elim w [ inl c ↦ reach left_subtree right_subtree (refl, inl (refl, refl)) c | inr c ↦ reach right_subtree left_subtree (refl, inr (refl, refl)) c ]) through
+        (decided-or (decided-child node left_subtree right_subtree a) (decided-child node right_subtree left_subtree b))
 
   decided-root : (first : ℕ) (l : Tree) (o : Option ParentNode) (r : Tree) → AreDecided first l → AreDecided (first + leaf_count l) r
       → Decided (ParentHashValid H n (record { first = first; tree = branch l o r }))
@@ -166,8 +166,8 @@ module _ (H : List ℕ → List ℕ) (n : ℕ) where
       ]
 
 -- whether the parent at a place is reached
-pub decided-reached : (H : List ℕ → List ℕ) (t : Tree) (p : ℕ) → Decided (IsParentHashValidAt H t p)
-decided-reached H t p = go (subtree_at 0 t p) refl
+pub decided-parent_hash : (H : List ℕ → List ℕ) (t : Tree) (p : ℕ) → Decided (IsParentHashValidAt H t p)
+decided-parent_hash H t p = go (subtree_at 0 t p) refl
   where
     go : (o : Option Subtree) → subtree_at 0 t p ≡ o → Decided (IsParentHashValidAt H t p)
     go None e = inl (λ s f h. absurd (none-some s (sym e ∙ f)))

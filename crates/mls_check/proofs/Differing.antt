@@ -15,7 +15,7 @@ use Rattle.std.proofs.lemmas.List.Kept.{AllPairs-from_increasing}
 use Rattle.std.proofs.lemmas.List.Sorted.{IsPermutation-sym}
 use Rattle.std.proofs.lemmas.Map.Keys.{IsDistinct-IsPermutation, IsStrictlyIncreasing-from_distinct}
 use Rattle.std.proofs.lemmas.Map.Made.{AllPairs-from_IsDistinct, IsDistinct-from_AllPairs}
-use Rattle.mls_check.specs.KeyPrefix.{beginning}
+use Rattle.mls_check.specs.KeyPrefix.{key_prefix}
 
 -- ---- numbers
 
@@ -33,17 +33,17 @@ differ-moved xs ys moved differ =
     let after = IsDistinct-IsPermutation eqb eqb-sym xs ys moved before in
     AllPairs-from_IsDistinct Decides-eqb ys after
 
-differ-rising : (xs : List ℕ) → IsStrictlyIncreasing xs → AllDiffer xs
-differ-rising xs rising i j d before in' =
-    λ same. let less = AllPairs-from_increasing xs rising i j d before in' in omega arith
+differ-increasing : (xs : List ℕ) → IsStrictlyIncreasing xs → AllDiffer xs
+differ-increasing xs increasing i j d before in' =
+    λ same. let less = AllPairs-from_increasing xs increasing i j d before in' in omega arith
 
 -- numbers differ exactly if they rise once they are sorted
 pub differ-sorted : (xs sorted : List ℕ) → IsPermutation xs sorted → IsNonDecreasing sorted
     → IsStrictlyIncreasing sorted ↔ AllDiffer xs
 differ-sorted xs sorted moved up = (
-  λ rising.
+  λ increasing.
       let back = IsPermutation-sym xs sorted moved in
-      differ-moved sorted xs back (differ-rising sorted rising),
+      differ-moved sorted xs back (differ-increasing sorted increasing),
   λ differ.
       let after = differ-moved xs sorted moved differ in
       IsStrictlyIncreasing-from_distinct sorted up (IsDistinct-from_AllPairs Decides-eqb sorted after),
@@ -51,26 +51,26 @@ differ-sorted xs sorted moved up = (
 
 -- ---- the bytes of a beginning
 
-pub beginning-long : (key front : List ℕ) → 8 ≤ length key → front ≡ take 8 key
-    → from_be_bytes w64 front ≡ beginning key
-unfolding beginning
-beginning-long key front long same =
+pub key_prefix-long : (key front : List ℕ) → 8 ≤ length key → front ≡ take 8 key
+    → from_be_bytes w64 front ≡ key_prefix key
+unfolding key_prefix
+key_prefix-long key front long same =
     ap (from_be_bytes w64) (same ∙ sym (take-append-le 8 key (replicate 8 0) long))
 
 padded : (key : List ℕ) → length key < 8
     → key ++ drop (length key) (replicate 8 0) ≡ take 8 (key ++ replicate 8 0)
 padded key short =
-    let room : ℕ = 8 - length key in
-    let whole : length key + room ≡ 8 = omega arith in
-    let zeros = drop-replicate (length key) 8 0 ∙ sym (take-replicate room 8 0 (omega arith)) in
+    let capacity : ℕ = 8 - length key in
+    let whole : length key + capacity ≡ 8 = omega arith in
+    let zeros = drop-replicate (length key) 8 0 ∙ sym (take-replicate capacity 8 0 (omega arith)) in
     ap (λ ys. key ++ ys) zeros
-    ∙ sym (take-append-add key (replicate 8 0) room)
+    ∙ sym (take-append-add key (replicate 8 0) capacity)
     ∙ ap (λ n. take n (key ++ replicate 8 0)) whole
 
-pub beginning-short : (key bytes : List ℕ) → length key < 8
-    → bytes ≡ key ++ drop (length key) (replicate 8 0) → from_be_bytes w64 bytes ≡ beginning key
-unfolding beginning
-beginning-short key bytes short same = ap (from_be_bytes w64) (same ∙ padded key short)
+pub key_prefix-short : (key bytes : List ℕ) → length key < 8
+    → bytes ≡ key ++ drop (length key) (replicate 8 0) → from_be_bytes w64 bytes ≡ key_prefix key
+unfolding key_prefix
+key_prefix-short key bytes short same = ap (from_be_bytes w64) (same ∙ padded key short)
 
 -- ---- the walk over the keys at places, of which some have none
 
@@ -82,7 +82,7 @@ AreApart key_at low =
 -- the numbers have the beginnings of the keys below `low`, once for each key
 pub record Begun (key_at : ℕ → Option (List ℕ)) (low : ℕ) (numbers : List ℕ) : Type 0 where
   pub met : (p : ℕ) (key : List ℕ) → p < low → key_at p ≡ Some key
-      → Contains numbers (beginning key)
+      → Contains numbers (key_prefix key)
   pub apart : AllDiffer numbers → AreApart key_at low
 
 pub Begun-none : (key_at : ℕ → Option (List ℕ)) → Begun key_at 0 []
@@ -114,33 +114,33 @@ module _ (key_at : ℕ → Option (List ℕ)) (low : ℕ) (numbers : List ℕ)
 
   -- a place with a key
   module _ (key : List ℕ) (at : key_at low ≡ Some key) where
-    one_more : length (numbers ++ beginning key ∷ []) ≡ length numbers + 1
-    one_more = length-append numbers (beginning key ∷ [])
+    one_more : length (numbers ++ key_prefix key ∷ []) ≡ length numbers + 1
+    one_more = length-append numbers (key_prefix key ∷ [])
 
-    kept : AllDiffer (numbers ++ beginning key ∷ []) → AllDiffer numbers
+    kept : AllDiffer (numbers ++ key_prefix key ∷ []) → AllDiffer numbers
     kept differ i j d before in' same =
-        let at_i = get_or_append_left numbers (beginning key ∷ []) d i (omega arith) in
-        let at_j = get_or_append_left numbers (beginning key ∷ []) d j in' in
+        let at_i = get_or_append_left numbers (key_prefix key ∷ []) d i (omega arith) in
+        let at_j = get_or_append_left numbers (key_prefix key ∷ []) d j in' in
         differ i j d before (omega (arith, one_more)) (at_i ∙ same ∙ sym at_j)
 
-    unmet : AllDiffer (numbers ++ beginning key ∷ []) → Contains numbers (beginning key) → ⊥
+    unmet : AllDiffer (numbers ++ key_prefix key ∷ []) → Contains numbers (key_prefix key) → ⊥
     unmet differ there =
-        let at = get_or_append_left numbers (beginning key ∷ []) (beginning key) there.0 there.1 in
-        let end = get_or-append_seam numbers (beginning key) [] (beginning key) in
-        differ there.0 (length numbers) (beginning key) there.1
+        let at = get_or_append_left numbers (key_prefix key ∷ []) (key_prefix key) there.0 there.1 in
+        let end = get_or-append_seam numbers (key_prefix key) [] (key_prefix key) in
+        differ there.0 (length numbers) (key_prefix key) there.1
         (omega (arith, one_more)) (at ∙ there.2 ∙ sym end)
 
-    begun_more : Begun key_at (low + 1) (numbers ++ beginning key ∷ [])
+    begun_more : Begun key_at (low + 1) (numbers ++ key_prefix key ∷ [])
     begun_more = record {
       met = λ p other below there.
           elim (cases_lt p low) [
             | inl before ↦
                 let old = begun.met p other before there in
-                Contains-append_left numbers (beginning key ∷ []) (beginning other) old
+                Contains-append_left numbers (key_prefix key ∷ []) (key_prefix other) old
             | inr here ↦
                 let last : p ≡ low = omega arith in
                 let same : key ≡ other = same_Some key other (sym at ∙ (rw last at there)) in
-                rw (← same) (Contains-push numbers (beginning key))
+                rw (← same) (Contains-push numbers (key_prefix key))
           ];
       apart = λ differ p q other below high here there.
           elim (cases_lt q low) [
@@ -152,7 +152,7 @@ module _ (key_at : ℕ → Option (List ℕ)) (low : ℕ) (numbers : List ℕ)
           ];
     }
 
-    pub Begun-key : (number : ℕ) (more : List ℕ) → number ≡ beginning key
+    pub Begun-key : (number : ℕ) (more : List ℕ) → number ≡ key_prefix key
         → more ≡ numbers ++ number ∷ [] → Begun key_at (low + 1) more
     Begun-key number more is pushed = rw (pushed, is) begun_more
 

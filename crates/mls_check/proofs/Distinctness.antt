@@ -13,7 +13,7 @@ use Rattle.mls_tree.proofs.Trees.{length-listing}
 use Rattle.mls_tree.proofs.Growing.{slice_get-append_left}
 use Rattle.mls_tree.proofs.Listings.{slice_get-append_right}
 use Rattle.mls_check.specs.FirstFailure.{IsFirstFailureIn}
-use Rattle.mls_check.specs.DistinctKeys.{encryption_key, key_at, HasOwnKeyAt, IsDistinct, parent_keys, tree_keys, has_key, are_distinct, has_distinct_keys}
+use Rattle.mls_check.specs.DistinctKeys.{encryption_key, key_at, HasUniqueKeyAt, IsDistinct, parent_keys, tree_keys, has_key, are_distinct, has_distinct_keys}
 
 -- ---- the node at a place is the entry of the listing there
 
@@ -84,29 +84,29 @@ tree_keys-listing (branch l n r) =
     let b = parent_first n (tree_keys r) (listing r) (tree_keys-listing r) in
     (λ i. a i ++ b i) ∙ sym (keys_among-append (listing l) (parent_entry n ∷ listing r))
 
-has_key-place : (xs : List (Option NodeValue)) (k : List ℕ) → has_key (keys_among xs) k ≡ true → (p : ℕ) × (key_in xs p ≡ Some k)
+has_key-node_index : (xs : List (Option NodeValue)) (k : List ℕ) → has_key (keys_among xs) k ≡ true → (p : ℕ) × (key_in xs p ≡ Some k)
 unfolding keys_among
-has_key-place [] k e = absurd (false≢true e)
-has_key-place (None ∷ xs) k e = let h = has_key-place xs k e in (suc h.0, h.1)
-has_key-place (Some n ∷ xs) k e =
+has_key-node_index [] k e = absurd (false≢true e)
+has_key-node_index (None ∷ xs) k e = let h = has_key-node_index xs k e in (suc h.0, h.1)
+has_key-node_index (Some n ∷ xs) k e =
     elim (cases_Bool (bytes_eq (encryption_key n) k)) [
       | inl equal ↦ (zero, ap Some ((bytes_eq-Decides (encryption_key n) k).0 equal))
-      | inr differs ↦ (let h = has_key-place xs k (ap (λ (b : Bool). b || has_key (keys_among xs) k) (sym differs) ∙ e) in (suc h.0, h.1))
+      | inr differs ↦ (let h = has_key-node_index xs k (ap (λ (b : Bool). b || has_key (keys_among xs) k) (sym differs) ∙ e) in (suc h.0, h.1))
     ]
 
 or_true : (b : Bool) → (b || true) ≡ true
 or_true true = refl
 or_true false = refl
 
-place-has_key : (xs : List (Option NodeValue)) (p : ℕ) (k : List ℕ) → key_in xs p ≡ Some k → has_key (keys_among xs) k ≡ true
+node_index-has_key : (xs : List (Option NodeValue)) (p : ℕ) (k : List ℕ) → key_in xs p ≡ Some k → has_key (keys_among xs) k ≡ true
 unfolding keys_among
-place-has_key [] p k e = absurd (none-some k e)
-place-has_key (None ∷ xs) zero k e = absurd (none-some k e)
-place-has_key (None ∷ xs) (suc p) k e = place-has_key xs p k e
-place-has_key (Some n ∷ xs) zero k e =
+node_index-has_key [] p k e = absurd (none-some k e)
+node_index-has_key (None ∷ xs) zero k e = absurd (none-some k e)
+node_index-has_key (None ∷ xs) (suc p) k e = node_index-has_key xs p k e
+node_index-has_key (Some n ∷ xs) zero k e =
     ap (λ (b : Bool). b || has_key (keys_among xs) k) ((bytes_eq-Decides (encryption_key n) k).1 (same_Some (encryption_key n) k e))
-place-has_key (Some n ∷ xs) (suc p) k e =
-    ap (λ (b : Bool). bytes_eq (encryption_key n) k || b) (place-has_key xs p k e) ∙ or_true (bytes_eq (encryption_key n) k)
+node_index-has_key (Some n ∷ xs) (suc p) k e =
+    ap (λ (b : Bool). bytes_eq (encryption_key n) k || b) (node_index-has_key xs p k e) ∙ or_true (bytes_eq (encryption_key n) k)
 
 -- no two places of the list have one key
 abbrev AreApart : List (Option NodeValue) → Type 0
@@ -125,10 +125,10 @@ apart (None ∷ xs) e (suc p) (suc q) k n a b = apart xs e p q k (λ s. n (ap (�
 apart (Some x ∷ xs) e zero zero k n a b = n refl
 apart (Some x ∷ xs) e zero (suc q) k n a b =
     let parts = and_parts (not (has_key (keys_among xs) (encryption_key x))) (are_distinct (keys_among xs)) e in
-    not_true _ parts.0 (place-has_key xs q (encryption_key x) (b ∙ sym a))
+    not_true _ parts.0 (node_index-has_key xs q (encryption_key x) (b ∙ sym a))
 apart (Some x ∷ xs) e (suc p) zero k n a b =
     let parts = and_parts (not (has_key (keys_among xs) (encryption_key x))) (are_distinct (keys_among xs)) e in
-    not_true _ parts.0 (place-has_key xs p (encryption_key x) (a ∙ sym b))
+    not_true _ parts.0 (node_index-has_key xs p (encryption_key x) (a ∙ sym b))
 apart (Some x ∷ xs) e (suc p) (suc q) k n a b =
     let parts = and_parts (not (has_key (keys_among xs) (encryption_key x))) (are_distinct (keys_among xs)) e in
     apart xs parts.1 p q k (λ s. n (ap (λ v. suc v) s)) a b
@@ -143,7 +143,7 @@ distinct (None ∷ xs) h = distinct xs (behind None xs h)
 distinct (Some x ∷ xs) h =
     let rest = distinct xs (behind (Some x) xs h) in
     elim (cases_Bool (has_key (keys_among xs) (encryption_key x))) [
-      | inl again ↦ (let place = has_key-place xs (encryption_key x) again in absurd (h zero (suc place.0) (encryption_key x) (λ e. omega arith) refl place.1))
+      | inl again ↦ (let node_index = has_key-node_index xs (encryption_key x) again in absurd (h zero (suc node_index.0) (encryption_key x) (λ e. omega arith) refl node_index.1))
       | inr new ↦ (λ i. not (new i) && rest i)
     ]
 
@@ -160,7 +160,7 @@ distinct-by_keys t = (
 )
 
 -- whether a search for the first place whose key another one has finds none
-pub distinct-none_repeated : (t : Tree) (o : Option ℕ) → IsFirstFailureIn (HasOwnKeyAt t) o → (b : Bool) → is_some o ≡ not b → b ≡ has_distinct_keys t
+pub distinct-none_repeated : (t : Tree) (o : Option ℕ) → IsFirstFailureIn (HasUniqueKeyAt t) o → (b : Bool) → is_some o ≡ not b → b ≡ has_distinct_keys t
 distinct-none_repeated t None h true e = sym ((distinct-by_keys t).1 h)
 distinct-none_repeated t None h false e = absurd (false≢true e)
 distinct-none_repeated t (Some p) h true e = absurd (false≢true (sym e))

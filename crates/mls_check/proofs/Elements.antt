@@ -8,9 +8,9 @@ use Rattle.std.proofs.lemmas.List.Recursion.{and_at}
 use Rattle.std.proofs.lemmas.List.Folds.{list_any_at}
 use Rattle.std.proofs.lemmas.Bool.Decides.{Decides-eqb}
 use Rattle.std.proofs.lemmas.Map.Views.{Contains-from_any}
-use Rattle.mls_tree.specs.Paths.{unmerged_places}
+use Rattle.mls_tree.specs.Paths.{unmerged_node_indices}
 use Rattle.mls_tree.proofs.Choices.{below, from}
-use Rattle.mls_check.specs.ParentHashMarks.{IsListed}
+use Rattle.mls_check.specs.ParentHashMarks.{IsLeafInList}
 
 module _ {X : Type 0} where
   pub contains-nil : (x : X) → Contains [] x → ⊥
@@ -44,42 +44,42 @@ and-right false b e = absurd (false≢true e)
 pub contains-found : (xs : List ℕ) (i : ℕ) → list_any (λ x. x == i) xs ≡ true → Contains xs i
 contains-found xs i h = Contains-from_any {eq = λ a b. b == a} (λ x y e. sym (eqb-true y x e)) i xs h
 
-pub kept-below : (n x : ℕ) (xs : List ℕ) → x < n → unmerged_places n (x ∷ xs) ≡ (2 * x) ∷ unmerged_places n xs
+pub kept-below : (n x : ℕ) (xs : List ℕ) → x < n → unmerged_node_indices n (x ∷ xs) ≡ (2 * x) ∷ unmerged_node_indices n xs
 kept-below n x xs l = ap (λ ys. map (λ i. 2 * i) ys) (below x n (x ∷ filter (λ i. nat_lt i n) xs) (filter (λ i. nat_lt i n) xs) l)
 
-pub left_out : (n x : ℕ) (xs : List ℕ) → n ≤ x → unmerged_places n (x ∷ xs) ≡ unmerged_places n xs
+pub left_out : (n x : ℕ) (xs : List ℕ) → n ≤ x → unmerged_node_indices n (x ∷ xs) ≡ unmerged_node_indices n xs
 left_out n x xs l = ap (λ ys. map (λ i. 2 * i) ys) (from x n (x ∷ filter (λ i. nat_lt i n) xs) (filter (λ i. nat_lt i n) xs) l)
 
 -- the places of a parent's unmerged leaves are those of the numbers in its list
-pub unmerged-in : (n : ℕ) (xs : List ℕ) (i : ℕ) → Contains xs i → i < n → Contains (unmerged_places n xs) (2 * i)
+pub unmerged-in : (n : ℕ) (xs : List ℕ) (i : ℕ) → Contains xs i → i < n → Contains (unmerged_node_indices n xs) (2 * i)
 unmerged-in n [] i c l = absurd (contains-nil i c)
 unmerged-in n (x ∷ xs) i c l =
     elim (contains-cons x xs i c) [
       | inl e ↦
-          (let at : Contains ((2 * x) ∷ unmerged_places n xs) (2 * i) = subst (λ v. Contains ((2 * x) ∷ unmerged_places n xs) (2 * v)) e (contains-head (2 * x) (unmerged_places n xs)) in
+          (let at : Contains ((2 * x) ∷ unmerged_node_indices n xs) (2 * i) = subst (λ v. Contains ((2 * x) ∷ unmerged_node_indices n xs) (2 * v)) e (contains-head (2 * x) (unmerged_node_indices n xs)) in
           subst (λ ys. Contains ys (2 * i)) (sym (kept-below n x xs (omega arith))) at)
       | inr d ↦
           (let rest = unmerged-in n xs i d l in
           elim (cases_lt x n) [
-            | inl b ↦ subst (λ ys. Contains ys (2 * i)) (sym (kept-below n x xs b)) (contains-tail (2 * x) (unmerged_places n xs) (2 * i) rest)
+            | inl b ↦ subst (λ ys. Contains ys (2 * i)) (sym (kept-below n x xs b)) (contains-tail (2 * x) (unmerged_node_indices n xs) (2 * i) rest)
             | inr g ↦ subst (λ ys. Contains ys (2 * i)) (sym (left_out n x xs g)) rest
           ])
     ]
 
 -- the places of unmerged leaves are those of entries that are leaves of the whole tree
-pub unmerged-from : (n : ℕ) (xs : List ℕ) (u : ℕ) → Contains (unmerged_places n xs) u → (i : ℕ) × Contains xs i × (i < n) × (u ≡ 2 * i)
+pub unmerged-from : (n : ℕ) (xs : List ℕ) (u : ℕ) → Contains (unmerged_node_indices n xs) u → (i : ℕ) × Contains xs i × (i < n) × (u ≡ 2 * i)
 unmerged-from n [] u c = absurd (contains-nil u c)
 unmerged-from n (x ∷ xs) u c =
     elim (cases_lt x n) [
       | inl b ↦
-          elim (contains-cons (2 * x) (unmerged_places n xs) u (subst (λ ys. Contains ys u) (kept-below n x xs b) c)) [
+          elim (contains-cons (2 * x) (unmerged_node_indices n xs) u (subst (λ ys. Contains ys u) (kept-below n x xs b) c)) [
             | inl e ↦ (x, contains-head x xs, b, sym e)
             | inr d ↦ (let w = unmerged-from n xs u d in (w.0, contains-tail x xs w.0 w.1, w.2, w.3))
           ]
       | inr g ↦ (let w = unmerged-from n xs u (subst (λ ys. Contains ys u) (left_out n x xs g) c) in (w.0, contains-tail x xs w.0 w.1, w.2, w.3))
     ]
 
-pub unmerged-listed : (n : ℕ) (xs : List ℕ) (u : ℕ) → Contains (unmerged_places n xs) u → IsListed xs u
+pub unmerged-listed : (n : ℕ) (xs : List ℕ) (u : ℕ) → Contains (unmerged_node_indices n xs) u → IsLeafInList xs u
 unmerged-listed n xs u c = let w = unmerged-from n xs u c in (w.0, w.1, w.3)
 
 pub found-at : (xs : List ℕ) (i k : ℕ) → k < length xs → get_or xs k i ≡ i → list_any (λ x. x == i) xs ≡ true

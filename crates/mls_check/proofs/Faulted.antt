@@ -8,16 +8,16 @@ use Rattle.mls_nodes.specs.NodeModel.{NodeValue, leaf_node, parent_node}
 use Rattle.mls_tree.specs.Tree.{Tree, leaf_count, Subtree, subtree_at, node_at}
 use Rattle.mls_tree.specs.TreeHash.{tree_hash}
 use Rattle.mls_tree.proofs.Trees.{leaf_count-positive}
-use Rattle.mls_check.specs.DistinctKeys.{key_at, HaveOneKey, HasOwnKeyAt, IsDistinct}
+use Rattle.mls_check.specs.DistinctKeys.{key_at, HaveOneKey, HasUniqueKeyAt, IsDistinct}
 use Rattle.mls_check.specs.ParentHashValid.{IsParentHashValidAt}
-use Rattle.mls_check.specs.UnmergedLists.{is_placed, HasSortedList, IsSortedAt, HasStrictlyIncreasingLists, HasConsistentUnmergedAt, HasConsistentUnmerged}
+use Rattle.mls_check.specs.UnmergedLists.{is_consistent, HasSortedList, IsSortedAt, HasStrictlyIncreasingLists, HasConsistentUnmergedAt, HasConsistentUnmerged}
 use Rattle.mls_check.specs.ValidTree.{Valid, IsFirstTreeFault}
 use Rattle.mls_check.specs.declared.tree_validation.TreeFault.{TreeFault}
 use Rattle.mls_check.specs.declared.tree_validation.TreeFault.TheVariants.{HashDiffers, UnmergedUnsorted, UnmergedUnsound, KeyRepeated, ParentHashInvalid, OutOfMemory}
-use Rattle.mls_check.proofs.Chains.{decided-reached}
+use Rattle.mls_check.proofs.Chains.{decided-parent_hash}
 use Rattle.mls_check.proofs.Decided.{Decided, decided-like, decided-and, decided-implies, decided-lt, decided-other, decided-agree, decided-all, found_below, first_or_all, not_all, failure-unique}
 use Rattle.mls_check.proofs.Outside.{outside_above}
-use Rattle.mls_check.proofs.Placing.{placed_everywhere, sorted_everywhere}
+use Rattle.mls_check.proofs.Placing.{consistent_everywhere, sorted_everywhere}
 use Rattle.mls_check.proofs.Repeats.{no_key_above}
 
 -- ---- each condition is decided
@@ -32,14 +32,14 @@ decided-list None = inl tt
 decided-list (Some (leaf_node x)) = inl tt
 decided-list (Some (parent_node p)) = decided-increasing p.unmerged
 
-decided-placed : (t : Tree) (p : ℕ) → Decided (HasConsistentUnmergedAt t p)
-decided-placed t p = go (subtree_at 0 t p) refl
+decided-consistent : (t : Tree) (p : ℕ) → Decided (HasConsistentUnmergedAt t p)
+decided-consistent t p = go (subtree_at 0 t p) refl
   where
     go : (o : Option Subtree) → subtree_at 0 t p ≡ o → Decided (HasConsistentUnmergedAt t p)
     go None e = inl (λ s f. absurd (none-some s (sym e ∙ f)))
     go (Some s) e =
-        elim (cases_Bool (is_placed s.first s.tree)) [
-          | inl h ↦ inl (λ u f. subst (λ (v : Subtree). is_placed v.first v.tree ≡ true) (same_Some s u (sym e ∙ f)) h)
+        elim (cases_Bool (is_consistent s.first s.tree)) [
+          | inl h ↦ inl (λ u f. subst (λ (v : Subtree). is_consistent v.first v.tree ≡ true) (same_Some s u (sym e ∙ f)) h)
           | inr m ↦ inr (λ w. false≢true (sym m ∙ w s e))
         ]
 
@@ -47,7 +47,7 @@ decided-one_key : (t : Tree) (p q : ℕ) → Decided (HaveOneKey t p q)
 decided-one_key t p q =
     decided-like (λ w. record { key = w.0; here = w.1; there = w.2 }) (λ h. (h.key, h.here, h.there)) (decided-agree (key_at t p) (key_at t q))
 
-decided-own_key : (t : Tree) (n : ℕ) → n + 1 ≡ 2 * leaf_count t → (p : ℕ) → Decided (HasOwnKeyAt t p)
+decided-own_key : (t : Tree) (n : ℕ) → n + 1 ≡ 2 * leaf_count t → (p : ℕ) → Decided (HasUniqueKeyAt t p)
 decided-own_key t n e p =
     elim (found_below (λ q. (q ≢ p) × HaveOneKey t p q) (λ q. decided-and (decided-other q p) (decided-one_key t p q)) n) [
       | inl w ↦ (let both = w.2 in inr (λ own. own w.0 both.0 both.1))
@@ -55,7 +55,7 @@ decided-own_key t n e p =
     ]
 
 -- past the last place each of them holds
-own_everywhere : (t : Tree) (n : ℕ) → n + 1 ≡ 2 * leaf_count t → ((p : ℕ) → p < n → HasOwnKeyAt t p) → (p : ℕ) → HasOwnKeyAt t p
+own_everywhere : (t : Tree) (n : ℕ) → n + 1 ≡ 2 * leaf_count t → ((p : ℕ) → p < n → HasUniqueKeyAt t p) → (p : ℕ) → HasUniqueKeyAt t p
 own_everywhere t n e h p q d k = elim (cases_lt p n) [ inl l ↦ h p l q d k | inr g ↦ none-some k.key (sym (no_key_above t n p e g) ∙ k.here) ]
 
 reached_everywhere : (H : List ℕ → List ℕ) (t : Tree) (n : ℕ) → n + 1 ≡ 2 * leaf_count t → ((p : ℕ) → p < n → IsParentHashValidAt H t p) → (p : ℕ) → IsParentHashValidAt H t p
@@ -64,8 +64,8 @@ reached_everywhere H t n e h p s a k = elim (cases_lt p n) [ inl l ↦ h p l s a
 -- ---- the tree
 
 module _ (H : List ℕ → List ℕ) (hash : List ℕ) (t : Tree) where
-  abbrev Judged : Type 0
-  Judged = Valid H hash t ⊎ ((fault : TreeFault) × (fault ≢ OutOfMemory) × IsFirstTreeFault H hash t fault)
+  abbrev CheckedTrees : Type 0
+  CheckedTrees = Valid H hash t ⊎ ((fault : TreeFault) × (fault ≢ OutOfMemory) × IsFirstTreeFault H hash t fault)
 
   decided-hash : Decided (tree_hash H 0 t ≡ Some hash)
   decided-hash =
@@ -74,42 +74,42 @@ module _ (H : List ℕ → List ℕ) (hash : List ℕ) (t : Tree) where
   abbrev last : ℕ
   last = 2 * leaf_count t - 1
 
-  places : last + 1 ≡ 2 * leaf_count t
-  places = omega (arith, leaf_count-positive t)
+  node_indices : last + 1 ≡ 2 * leaf_count t
+  node_indices = omega (arith, leaf_count-positive t)
 
-  judge_reached : tree_hash H 0 t ≡ Some hash → HasStrictlyIncreasingLists t → HasConsistentUnmerged t → IsDistinct t → Judged
-  judge_reached h s p d =
-      elim (first_or_all (λ k. IsParentHashValidAt H t k) (decided-reached H t) last (reached_everywhere H t last places)) [
-        | inl all ↦ inl (record { hashed = h; sorted = s; placed = p; distinct = d; reached = all })
-        | inr w ↦ inr (ParentHashInvalid w.0, (λ e. absurd cc), record { hashed = h; sorted = s; placed = p; distinct = d; first = w.1 })
+  check_parent_hash_valid : tree_hash H 0 t ≡ Some hash → HasStrictlyIncreasingLists t → HasConsistentUnmerged t → IsDistinct t → CheckedTrees
+  check_parent_hash_valid h s p d =
+      elim (first_or_all (λ k. IsParentHashValidAt H t k) (decided-parent_hash H t) last (reached_everywhere H t last node_indices)) [
+        | inl all ↦ inl (record { hashed = h; sorted = s; consistent = p; distinct = d; parent_hashes = all })
+        | inr w ↦ inr (ParentHashInvalid w.0, (λ e. absurd cc), record { hashed = h; sorted = s; consistent = p; distinct = d; first = w.1 })
       ]
 
-  judge_keys : tree_hash H 0 t ≡ Some hash → HasStrictlyIncreasingLists t → HasConsistentUnmerged t → Judged
-  judge_keys h s p =
-      elim (first_or_all (λ k. HasOwnKeyAt t k) (decided-own_key t last places) last (own_everywhere t last places)) [
-        | inl all ↦ judge_reached h s p all
-        | inr w ↦ inr (KeyRepeated w.0, (λ e. absurd cc), record { hashed = h; sorted = s; placed = p; first = w.1 })
+  check_keys : tree_hash H 0 t ≡ Some hash → HasStrictlyIncreasingLists t → HasConsistentUnmerged t → CheckedTrees
+  check_keys h s p =
+      elim (first_or_all (λ k. HasUniqueKeyAt t k) (decided-own_key t last node_indices) last (own_everywhere t last node_indices)) [
+        | inl all ↦ check_parent_hash_valid h s p all
+        | inr w ↦ inr (KeyRepeated w.0, (λ e. absurd cc), record { hashed = h; sorted = s; consistent = p; first = w.1 })
       ]
 
-  judge_placed : tree_hash H 0 t ≡ Some hash → HasStrictlyIncreasingLists t → Judged
-  judge_placed h s =
-      elim (first_or_all (λ k. HasConsistentUnmergedAt t k) (decided-placed t) last (placed_everywhere t last places)) [
-        | inl all ↦ judge_keys h s all
+  check_consistent : tree_hash H 0 t ≡ Some hash → HasStrictlyIncreasingLists t → CheckedTrees
+  check_consistent h s =
+      elim (first_or_all (λ k. HasConsistentUnmergedAt t k) (decided-consistent t) last (consistent_everywhere t last node_indices)) [
+        | inl all ↦ check_keys h s all
         | inr w ↦ inr (UnmergedUnsound w.0, (λ e. absurd cc), record { hashed = h; sorted = s; first = w.1 })
       ]
 
-  judge_sorted : tree_hash H 0 t ≡ Some hash → Judged
-  judge_sorted h =
-      elim (first_or_all (λ k. IsSortedAt t k) (λ k. decided-list (node_at t k)) last (sorted_everywhere t last places)) [
-        | inl all ↦ judge_placed h all
+  check_sorted : tree_hash H 0 t ≡ Some hash → CheckedTrees
+  check_sorted h =
+      elim (first_or_all (λ k. IsSortedAt t k) (λ k. decided-list (node_at t k)) last (sorted_everywhere t last node_indices)) [
+        | inl all ↦ check_consistent h all
         | inr w ↦ inr (UnmergedUnsorted w.0, (λ e. absurd cc), record { hashed = h; first = w.1 })
       ]
 
   -- it is valid, or has a fault
-  pub valid_or_fault : Judged
+  pub valid_or_fault : CheckedTrees
   valid_or_fault =
       elim decided-hash [
-        | inl h ↦ judge_sorted h
+        | inl h ↦ check_sorted h
         | inr m ↦ inr (HashDiffers, (λ e. absurd cc), m)
       ]
 
@@ -117,9 +117,9 @@ module _ (H : List ℕ → List ℕ) (hash : List ℕ) (t : Tree) where
   pub fault-not_valid : (fault : TreeFault) → fault ≢ OutOfMemory → IsFirstTreeFault H hash t fault → ¬ (Valid H hash t)
   fault-not_valid HashDiffers m f v = f v.hashed
   fault-not_valid (UnmergedUnsorted p) m f v = not_all p f.first v.sorted
-  fault-not_valid (UnmergedUnsound p) m f v = not_all p f.first v.placed
+  fault-not_valid (UnmergedUnsound p) m f v = not_all p f.first v.consistent
   fault-not_valid (KeyRepeated p) m f v = not_all p f.first v.distinct
-  fault-not_valid (ParentHashInvalid p) m f v = not_all p f.first v.reached
+  fault-not_valid (ParentHashInvalid p) m f v = not_all p f.first v.parent_hashes
   fault-not_valid OutOfMemory m f v = m refl
 
   -- and only one fault
@@ -141,17 +141,17 @@ module _ (H : List ℕ → List ℕ) (hash : List ℕ) (t : Tree) where
   fault-unique (UnmergedUnsound p) HashDiffers m n f g = absurd (g f.hashed)
   fault-unique (UnmergedUnsound p) (UnmergedUnsorted q) m n f g = absurd (not_all q g.first f.sorted)
   fault-unique (UnmergedUnsound p) (UnmergedUnsound q) m n f g = ap UnmergedUnsound (failure-unique p q f.first g.first)
-  fault-unique (UnmergedUnsound p) (KeyRepeated q) m n f g = absurd (not_all p f.first g.placed)
-  fault-unique (UnmergedUnsound p) (ParentHashInvalid q) m n f g = absurd (not_all p f.first g.placed)
+  fault-unique (UnmergedUnsound p) (KeyRepeated q) m n f g = absurd (not_all p f.first g.consistent)
+  fault-unique (UnmergedUnsound p) (ParentHashInvalid q) m n f g = absurd (not_all p f.first g.consistent)
   fault-unique (KeyRepeated p) OutOfMemory m n f g = absurd (n refl)
   fault-unique (KeyRepeated p) HashDiffers m n f g = absurd (g f.hashed)
   fault-unique (KeyRepeated p) (UnmergedUnsorted q) m n f g = absurd (not_all q g.first f.sorted)
-  fault-unique (KeyRepeated p) (UnmergedUnsound q) m n f g = absurd (not_all q g.first f.placed)
+  fault-unique (KeyRepeated p) (UnmergedUnsound q) m n f g = absurd (not_all q g.first f.consistent)
   fault-unique (KeyRepeated p) (KeyRepeated q) m n f g = ap KeyRepeated (failure-unique p q f.first g.first)
   fault-unique (KeyRepeated p) (ParentHashInvalid q) m n f g = absurd (not_all p f.first g.distinct)
   fault-unique (ParentHashInvalid p) OutOfMemory m n f g = absurd (n refl)
   fault-unique (ParentHashInvalid p) HashDiffers m n f g = absurd (g f.hashed)
   fault-unique (ParentHashInvalid p) (UnmergedUnsorted q) m n f g = absurd (not_all q g.first f.sorted)
-  fault-unique (ParentHashInvalid p) (UnmergedUnsound q) m n f g = absurd (not_all q g.first f.placed)
+  fault-unique (ParentHashInvalid p) (UnmergedUnsound q) m n f g = absurd (not_all q g.first f.consistent)
   fault-unique (ParentHashInvalid p) (KeyRepeated q) m n f g = absurd (not_all q g.first f.distinct)
   fault-unique (ParentHashInvalid p) (ParentHashInvalid q) m n f g = ap ParentHashInvalid (failure-unique p q f.first g.first)

@@ -13,7 +13,7 @@ use Rattle.mls_check.specs.declared.members.MemberFault.{MemberFault}
 use Rattle.mls_check.specs.declared.members.MemberFault.TheVariants.{ExtensionUnlisted, RequirementUnmet, CredentialUnsupported, SignatureKeyRepeated, LeafSignature, OutOfMemory}
 use Rattle.mls_check.proofs.Leaves.{leaf_at-leaf, leaf_at-left, leaf_at-right, all_leaves-from}
 use Rattle.mls_check.proofs.Rules.{no_rule, no_rule_zero}
-use Rattle.mls_check.proofs.Judged.{LeavesAreValid-judged}
+use Rattle.mls_check.proofs.CheckedTrees.{LeavesAreValid-checked}
 
 module _ (test : ℕ → LeafNode → Bool) where
   -- where a test holds of all leaves, none fails
@@ -21,9 +21,9 @@ module _ (test : ℕ → LeafNode → Bool) where
   first_failing_leaf-none first (leaf None) e = refl
   first_failing_leaf-none first (leaf (Some x)) e = ap (λ (b : Bool). if b then None else Some first) e
   first_failing_leaf-none first (branch l n r) e =
-      let halves = and_parts (all_leaves test first l) (all_leaves test (first + leaf_count l) r) e in
-      let a = first_failing_leaf-none first l halves.0 in
-      let b = first_failing_leaf-none (first + leaf_count l) r halves.1 in
+      let children = and_parts (all_leaves test first l) (all_leaves test (first + leaf_count l) r) e in
+      let a = first_failing_leaf-none first l children.0 in
+      let b = first_failing_leaf-none (first + leaf_count l) r children.1 in
       λ i. first_of (a i) (b i)
 
   failing_leaf : (first : ℕ) (y : Option LeafNode) (x : LeafNode) → y ≡ Some x → test first x ≡ false → first_failing_leaf test first (leaf y) ≡ Some first
@@ -108,13 +108,13 @@ module _ (G : VerifyFn) (suite : ℕ) (group_id : List ℕ) (required : Required
       opened ∙ (λ j. list (a j) (b j) (c j) (d j) (e j))
 
   -- the fault that is told is the one that is computed
-  told : (f : MemberFault) → f ≢ OutOfMemory → IsMemberFault G suite group_id required t f → computed ≡ Some f
-  told (ExtensionUnlisted i) own h = fault_1 i h
-  told (RequirementUnmet i) own h = fault_2 i h
-  told (CredentialUnsupported i) own h = fault_3 i h
-  told (SignatureKeyRepeated i) own h = fault_4 i h
-  told (LeafSignature i) own h = fault_5 i h
-  told OutOfMemory own h = absurd (own refl)
+  determined : (f : MemberFault) → f ≢ OutOfMemory → IsMemberFault G suite group_id required t f → computed ≡ Some f
+  determined (ExtensionUnlisted i) own h = fault_1 i h
+  determined (RequirementUnmet i) own h = fault_2 i h
+  determined (CredentialUnsupported i) own h = fault_3 i h
+  determined (SignatureKeyRepeated i) own h = fault_4 i h
+  determined (LeafSignature i) own h = fault_5 i h
+  determined OutOfMemory own h = absurd (own refl)
 
   abbrev Known : Type 0
   Known = (f : MemberFault) × (f ≢ OutOfMemory) × (computed ≡ Some f) × IsMemberFault G suite group_id required t f
@@ -133,9 +133,9 @@ module _ (G : VerifyFn) (suite : ℕ) (group_id : List ℕ) (required : Required
   known (suc (suc (suc (suc (suc (suc k)))))) i f =
       absurd (passed (suc (suc (suc (suc (suc (suc k)))))) i f (λ x. no_rule G suite group_id required t (suc (suc (suc (suc (suc (suc k)))))) i x (omega arith)))
 
-  computed-told : (f : MemberFault) → computed ≡ Some f → IsMemberFault G suite group_id required t f
-  computed-told f e =
-      elim (LeavesAreValid-judged G suite group_id required t) [
+  computed-determined : (f : MemberFault) → computed ≡ Some f → IsMemberFault G suite group_id required t f
+  computed-determined f e =
+      elim (LeavesAreValid-checked G suite group_id required t) [
         | inl members ↦ absurd (none-some f (sym (faultless members) ∙ e))
         | inr fails ↦
             (let there = known fails.0 fails.1 fails.2 in
@@ -144,23 +144,23 @@ module _ (G : VerifyFn) (suite : ℕ) (group_id : List ℕ) (required : Required
 
   computed-none : computed ≡ None → LeavesAreValid G suite group_id required t
   computed-none e =
-      elim (LeavesAreValid-judged G suite group_id required t) [
+      elim (LeavesAreValid-checked G suite group_id required t) [
         | inl members ↦ members
         | inr fails ↦ (let there = known fails.0 fails.1 fails.2 in absurd (none-some there.0 (sym e ∙ there.2)))
       ]
 
   -- the leaves are members, or some fault is told of them
-  pub LeavesAreValid-or_told : LeavesAreValid G suite group_id required t
+  pub LeavesAreValid-or_determined : LeavesAreValid G suite group_id required t
       ⊎ ((f : MemberFault) × (f ≢ OutOfMemory) × IsMemberFault G suite group_id required t f)
-  LeavesAreValid-or_told =
-      elim (LeavesAreValid-judged G suite group_id required t) [
+  LeavesAreValid-or_determined =
+      elim (LeavesAreValid-checked G suite group_id required t) [
         | inl members ↦ inl members
         | inr fails ↦ (let there = known fails.0 fails.1 fails.2 in inr (there.0, there.1, there.3))
       ]
 
 pub fault-first : (G : VerifyFn) (suite : ℕ) (group_id : List ℕ) (required : RequiredCapabilities) (t : Tree) (f : MemberFault)
     → f ≢ OutOfMemory → IsMemberFault G suite group_id required t f ↔ (member_fault G suite group_id required t ≡ Some f)
-fault-first G suite group_id required t f own = (told G suite group_id required t f own, computed-told G suite group_id required t f)
+fault-first G suite group_id required t f own = (determined G suite group_id required t f own, computed-determined G suite group_id required t f)
 
 pub members-faultless : (G : VerifyFn) (suite : ℕ) (group_id : List ℕ) (required : RequiredCapabilities) (t : Tree)
     → LeavesAreValid G suite group_id required t ↔ (member_fault G suite group_id required t ≡ None)

@@ -2,7 +2,7 @@
 use Rattle.std.proofs.Common.{◌≡◌, ◌≢◌, ◌∙◌, Option, Some, None, inl, inr, refl, sym, ap, subst}
 use Rattle.std.specs.Prelude.{◌⊎◌}
 use Rattle.std.proofs.lemmas.Option.{same_Some, none-some}
-use Rattle.mls_nodes.proofs.RequiredOnce.{Requires-one, required_by-tells, required_by-told}
+use Rattle.mls_nodes.proofs.RequiredOnce.{Requires-one, required_by-determines, required_by-determined}
 use Rattle.mls_nodes.specs.Requirements.{Requires, required_by}
 use Rattle.mls_nodes.specs.declared.context.GroupContext.{GroupContext}
 use Rattle.mls_nodes.specs.declared.required_capabilities.RequiredCapabilities.{RequiredCapabilities}
@@ -17,15 +17,15 @@ use Rattle.mls_check.specs.declared.group_tree.GroupTreeFault.TheVariants.{Requi
 use Rattle.mls_check.specs.declared.members.MemberFault.{MemberFault}
 use Rattle.mls_check.specs.declared.tree_validation.TreeFault.{TreeFault}
 use Rattle.mls_check.proofs.Faulted.{valid_or_fault, fault-not_valid, fault-unique}
-use Rattle.mls_check.proofs.FirstFault.{LeavesAreValid-or_told, fault-first, members-faultless}
+use Rattle.mls_check.proofs.FirstFault.{LeavesAreValid-or_determined, fault-first, members-faultless}
 use Rattle.mls_check.proofs.GroupTrees.{requirements_fail, invalid, strangers, all_members}
 
 module _ (G : VerifyFn) (c : GroupContext) (t : RatchetTree) where
   abbrev Own : RatchetTree → Type 0
   Own u = u ≡ t
 
-  abbrev Judged : Type 0
-  Judged =
+  abbrev CheckedTrees : Type 0
+  CheckedTrees =
       ((required : RequiredCapabilities) × HasMembers G c Own t required)
       ⊎ ((fault : GroupTreeFault) × (fault ≢ OutOfMemory) × IsGroupTreeFault G c Own fault)
 
@@ -33,32 +33,32 @@ module _ (G : VerifyFn) (c : GroupContext) (t : RatchetTree) where
 
   module _ (followed : IsSupportedContext c) where
     module _ (required : RequiredCapabilities) (requires : Requires c required) where
-      judge_members : Valid (hash_of c.cipher_suite) c.tree_hash t.tree → Judged
-      judge_members valid =
-          elim (LeavesAreValid-or_told G c.cipher_suite c.group_id required t.tree) [
+      check_members : Valid (hash_of c.cipher_suite) c.tree_hash t.tree → CheckedTrees
+      check_members valid =
+          elim (LeavesAreValid-or_determined G c.cipher_suite c.group_id required t.tree) [
             | inl members ↦ inl (required, all_members G c t followed required requires valid members)
-            | inr told ↦ inr (Member told.0, (λ e. cc), strangers G c t followed required requires valid told.0 told.1 told.2)
+            | inr determined ↦ inr (Member determined.0, (λ e. cc), strangers G c t followed required requires valid determined.0 determined.1 determined.2)
           ]
 
-      judge_valid : Judged
-      judge_valid =
+      check_valid : CheckedTrees
+      check_valid =
           elim (valid_or_fault (hash_of c.cipher_suite) c.tree_hash t.tree) [
-            | inl valid ↦ judge_members valid
-            | inr told ↦ inr (Tree told.0, (λ e. cc), invalid G c t followed required requires told.0 told.1 told.2)
+            | inl valid ↦ check_members valid
+            | inr determined ↦ inr (Tree determined.0, (λ e. cc), invalid G c t followed required requires determined.0 determined.1 determined.2)
           ]
 
-    judge_read : (o : Option RequiredCapabilities) → required_by c.extensions ≡ o → Judged
-    judge_read None e =
+    check_read : (o : Option RequiredCapabilities) → required_by c.extensions ≡ o → CheckedTrees
+    check_read None e =
         inr (
           RequirementsUnreadable,
           (λ f. cc),
           requirements_fail G c t followed
-              (λ r h. none-some r (sym e ∙ required_by-told c.extensions r h)),
+              (λ r h. none-some r (sym e ∙ required_by-determined c.extensions r h)),
         )
-    judge_read (Some required) e = judge_valid required (required_by-tells c.extensions required e)
+    check_read (Some required) e = check_valid required (required_by-determines c.extensions required e)
 
-    pub group_tree_or_fault : Judged
-    group_tree_or_fault = judge_read (required_by c.extensions) refl
+    pub group_tree_or_fault : CheckedTrees
+    group_tree_or_fault = check_read (required_by c.extensions) refl
 
   -- ---- what a fault says, of this tree
 
@@ -78,9 +78,9 @@ module _ (G : VerifyFn) (c : GroupContext) (t : RatchetTree) where
         f.valid_tree.readable.has_tree.uses f.first
 
     -- it is the one that is computed by what the group requires
-    told_by : (required : RequiredCapabilities) → Requires c required
+    determined_by : (required : RequiredCapabilities) → Requires c required
         → member_fault G c.cipher_suite c.group_id required t.tree ≡ Some fault
-    told_by required requires =
+    determined_by required requires =
         ap (λ (r : RequiredCapabilities). member_fault G c.cipher_suite c.group_id r t.tree)
         (Requires-one c required f.required requires f.valid_tree.readable.requires)
         ∙ (fault-first G c.cipher_suite c.group_id f.required t.tree fault f.own).0 first_of_members
@@ -94,7 +94,7 @@ module _ (G : VerifyFn) (c : GroupContext) (t : RatchetTree) where
       fault-not_valid (hash_of c.cipher_suite) c.tree_hash t.tree fault f.own (first_of_tree fault f) h.valid_tree.valid
   fault-no_members required (Member fault) h f own =
       none-some fault (sym ((members-faultless G c.cipher_suite c.group_id required t.tree).0 h.members)
-      ∙ told_by fault f required h.valid_tree.readable.requires)
+      ∙ determined_by fault f required h.valid_tree.readable.requires)
   fault-no_members required OutOfMemory h f own = own refl
 
   -- ---- and only one fault
@@ -121,4 +121,4 @@ module _ (G : VerifyFn) (c : GroupContext) (t : RatchetTree) where
   group_tree_fault-unique (Member fault) (Tree other) m n f g = absurd (valid-no_fault other fault g f)
   group_tree_fault-unique (Member fault) (Member other) m n f g =
       ap Member (same_Some fault other
-      (sym (told_by fault f f.required f.valid_tree.readable.requires) ∙ told_by other g f.required f.valid_tree.readable.requires))
+      (sym (determined_by fault f f.required f.valid_tree.readable.requires) ∙ determined_by other g f.required f.valid_tree.readable.requires))

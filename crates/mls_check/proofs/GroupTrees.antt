@@ -42,11 +42,11 @@ module _ (G : VerifyFn) (c : GroupContext) (t : RatchetTree) (followed : IsSuppo
     tree_fails trees.OutOfMemory first = tt
 
     module _ (valid : Valid (hash_of c.cipher_suite) c.tree_hash t.tree) where
-      judged : HasValidTree c Own t required
-      judged = record { readable = read; valid = valid }
+      checked : HasValidTree c Own t required
+      checked = record { readable = read; valid = valid }
 
       pub strangers : (fault : MemberFault) → fault ≢ members.OutOfMemory → IsMemberFault G c.cipher_suite c.group_id required t.tree fault → FailsMembers G c Own fault
-      strangers fault own first = record { tree = t; required = required; valid_tree = judged; own = own; first = first }
+      strangers fault own first = record { tree = t; required = required; valid_tree = checked; own = own; first = first }
 
       pub members_fail : (fault : MemberFault) → IsMemberFault G c.cipher_suite c.group_id required t.tree fault → IsGroupTreeFault G c Own (member_fault_of fault)
       members_fail (members.ExtensionUnlisted i) first = strangers (members.ExtensionUnlisted i) (λ e. cc) first
@@ -57,7 +57,7 @@ module _ (G : VerifyFn) (c : GroupContext) (t : RatchetTree) (followed : IsSuppo
       members_fail members.OutOfMemory first = tt
 
       pub all_members : LeavesAreValid G c.cipher_suite c.group_id required t.tree → HasMembers G c Own t required
-      all_members are_members = record { valid_tree = judged; members = are_members }
+      all_members are_members = record { valid_tree = checked; members = are_members }
 
 -- ---- of a tree that is given in another way too
 

@@ -11,7 +11,7 @@ use Rattle.std.proofs.lemmas.Map.Text.{is_eq-slice_cmp}
 use Rattle.std.proofs.lemmas.Slice.Eq.{bytes_eq-Decides}
 use Rattle.mls_nodes.specs.declared.leaf.LeafNode.{LeafNode}
 use Rattle.mls_tree.specs.Tree.{Tree, leaf_count, leaf_at}
-use Rattle.mls_check.specs.LeafValidation.{all_leaves, has_own_signature_key, FindsFailing}
+use Rattle.mls_check.specs.LeafValidation.{all_leaves, has_unique_signature_key, FindsFailing}
 use Rattle.mls_check.proofs.Leaves.{all_leaves-below, all_leaves-at, leaf_at-low}
 use Rattle.mls_check.proofs.Differing.{AreApart}
 
@@ -185,8 +185,8 @@ differs_not xs ys other =
     ]
 
 -- a leaf below `high` has its own key
-own_key : (t : Tree) (high : ℕ) → SinglesFrom t 0 high → (j : ℕ) (x : LeafNode) → j < high → leaf_at 0 t j ≡ Some x → has_own_signature_key t j x ≡ true
-unfolding has_own_signature_key
+own_key : (t : Tree) (high : ℕ) → SinglesFrom t 0 high → (j : ℕ) (x : LeafNode) → j < high → leaf_at 0 t j ≡ Some x → has_unique_signature_key t j x ≡ true
+unfolding has_unique_signature_key
 own_key t high h j x low set =
     all_leaves-below (λ m other. eqb m j || not (bytes_eq other.signature_key x.signature_key)) t (leaf_count t)
     (record {
@@ -200,10 +200,10 @@ own_key t high h j x low set =
     (omega arith)
 
 -- a leaf whose key a later one has too hasn't
-shared_key : (t : Tree) (r : ℕ) (x : LeafNode) → HasLeafKey t (r + 1) x.signature_key → has_own_signature_key t r x ≡ false
-unfolding has_own_signature_key
+shared_key : (t : Tree) (r : ℕ) (x : LeafNode) → HasLeafKey t (r + 1) x.signature_key → has_unique_signature_key t r x ≡ false
+unfolding has_unique_signature_key
 shared_key t r x later =
-    elim (cases_Bool (has_own_signature_key t r x)) [
+    elim (cases_Bool (has_unique_signature_key t r x)) [
       | inl own ↦
           let e = all_leaves-at (λ m other. eqb m r || not (bytes_eq other.signature_key x.signature_key)) 0 t own later.0 later.1 later.3 in
           let apart : eqb later.0 r ≡ false = grind (arith, nat_tests, later.2) in
@@ -214,13 +214,13 @@ shared_key t r x later =
 
 -- no leaf has the signature key of another one
 own_keys : (t : Tree) → SinglesFrom t 0 (leaf_count t)
-    → all_leaves (has_own_signature_key t) 0 t ≡ true
+    → all_leaves (has_unique_signature_key t) 0 t ≡ true
 own_keys t singles =
-    all_leaves-below (has_own_signature_key t) t (leaf_count t)
+    all_leaves-below (has_unique_signature_key t) t (leaf_count t)
     (record { at = λ j x low set. own_key t (leaf_count t) singles j x low set })
     (omega arith)
 
-pub KeysFrom-all : (t : Tree) (s : BTreeSet (Bor (List ℕ))) (repeated : Option ℕ) → KeysFrom t 0 s repeated → FindsFailing (has_own_signature_key t) t repeated
+pub KeysFrom-all : (t : Tree) (s : BTreeSet (Bor (List ℕ))) (repeated : Option ℕ) → KeysFrom t 0 s repeated → FindsFailing (has_unique_signature_key t) t repeated
 KeysFrom-all t s None h = own_keys t h.found
 KeysFrom-all t s (Some r) h =
     let twin = h.found.1 in
@@ -246,7 +246,7 @@ signature_key-blank t i blank = ap (λ o. option_map (λ (y : LeafNode). y.signa
 
 -- keys that are apart at all indices of the tree
 pub own_keys-apart : (t : Tree) → AreApart (signature_key_at t) (leaf_count t)
-    → all_leaves (has_own_signature_key t) 0 t ≡ true
+    → all_leaves (has_unique_signature_key t) 0 t ≡ true
 own_keys-apart t apart = own_keys t (record {
   at = λ j x from low set m y after there same.
       let last = leaf_at-low 0 t m y there in

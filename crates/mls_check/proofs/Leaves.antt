@@ -79,10 +79,10 @@ module _ (test : ℕ → LeafNode → Bool) where
   pub all_leaves-at : (first : ℕ) (t : Tree) → all_leaves test first t ≡ true → (i : ℕ) (x : LeafNode) → leaf_at first t i ≡ Some x → test i x ≡ true
   all_leaves-at first (leaf y) h i x e = all_leaves-leaf first y h i x e
   all_leaves-at first (branch l n r) h i x e =
-      let halves = and_parts (all_leaves test first l) (all_leaves test (first + leaf_count l) r) h in
+      let children = and_parts (all_leaves test first l) (all_leaves test (first + leaf_count l) r) h in
       elim (cases_lt i (first + leaf_count l)) [
-        | inl low ↦ all_leaves-at first l halves.0 i x (sym (leaf_at-left first l n r i low) ∙ e)
-        | inr from ↦ all_leaves-at (first + leaf_count l) r halves.1 i x (sym (leaf_at-right first l n r i from) ∙ e)
+        | inl low ↦ all_leaves-at first l children.0 i x (sym (leaf_at-left first l n r i low) ∙ e)
+        | inr from ↦ all_leaves-at (first + leaf_count l) r children.1 i x (sym (leaf_at-right first l n r i from) ∙ e)
       ]
 
   pub FailsFirst-here : (t : Tree) (i : ℕ) (x : LeafNode) → HoldsBelow test t i → leaf_at 0 t i ≡ Some x → test i x ≡ false → FailsFirst test t i

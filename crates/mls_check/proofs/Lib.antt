@@ -7,7 +7,7 @@ pub mod Differing
 pub mod Neighbours
 pub mod Keys
 pub mod Rules
-pub mod Judged
+pub mod CheckedTrees
 pub mod FirstFault
 pub mod Outside
 pub mod Elements
@@ -22,7 +22,7 @@ pub mod Distinctness
 pub mod Decided
 pub mod Chains
 pub mod Faulted
-pub mod RisingCodes
+pub mod IncreasingCodes
 pub mod OwnLeaves
 pub mod SortedLists
 pub mod Walks

@@ -108,7 +108,7 @@ decode_sized-other line other =
       | inl odd ↦ let t : eqb (length line % 2) 1 ≡ true = grind (arith, nat_tests) in rw t refl
       | inr even ↦
           let t : eqb (length line % 2) 1 ≡ false = grind (arith, nat_tests) in
-          let n : length line / 2 ≢ 32 = λ half. other (omega arith) in
+          let n : length line / 2 ≢ 32 = λ child. other (omega arith) in
           let u : eqb (length line / 2) 32 ≡ false = grind (arith, nat_tests) in
           rw (t, u) refl
     ]

@@ -5,7 +5,7 @@ use Rattle.std.proofs.Common.{get_or-set_same, get_or-set_other}
 use Rattle.std.proofs.lemmas.Option.{same_Some, none-some}
 use Rattle.std.proofs.lemmas.Bool.{cases_order, cases_lt}
 use Rattle.mls_nodes.specs.declared.parent.ParentNode.{ParentNode}
-use Rattle.mls_tree.specs.Tree.{Tree, leaf, branch, leaf_count, Subtree, subtree_at, root_place, root_entry}
+use Rattle.mls_tree.specs.Tree.{Tree, leaf, branch, leaf_count, Subtree, subtree_at, root_node_index, root_entry}
 use Rattle.mls_tree.proofs.Trees.{subtree_at-stands, subtree_at-root, subtree_at-nested, subtree_at-in_left, subtree_at-in_right}
 use Rattle.mls_check.specs.FirstFailure.{IsFirstFailureIn}
 use Rattle.mls_tree.specs.NodeView.{HasChildren, parent_of}
@@ -20,12 +20,12 @@ IfOk-same (Err e) f g h = tt
 
 module _ (H : List ℕ → List ℕ) (t : Tree) (marks : List Bool) where
   -- what is marked in both halves is marked under the parent
-  pub under_from_halves : (p q u m : ℕ) (n : Option ParentNode) → HasChildren t p q u m n → AreAllMarkedAt H t marks q → AreAllMarkedAt H t marks u → AreAllMarkedUnder H t marks p
-  under_from_halves p q u m n h left right s e k v ne sub r =
+  pub under_from_children : (p q u m : ℕ) (n : Option ParentNode) → HasChildren t p q u m n → AreAllMarkedAt H t marks q → AreAllMarkedAt H t marks u → AreAllMarkedUnder H t marks p
+  under_from_children p q u m n h left right s e k v ne sub r =
       let st = subtree_at-stands 0 t p _ h.whole in
       let in_top : subtree_at h.first (branch h.left n h.right) k ≡ Some v = subst (λ w. subtree_at w.first w.tree k ≡ Some v) (same_Some _ _ (sym e ∙ h.whole)) sub in
       elim (cases_order (k + 1) (2 * (h.first + leaf_count h.left))) [
-        | inl at ↦ absurd (ne (omega (arith, st.place)))
+        | inl at ↦ absurd (ne (omega (arith, st.node_index)))
         | inr (inl lt) ↦ left _ h.left_child k v (sym (subtree_at-in_left h.first h.left n h.right k lt) ∙ in_top) r
         | inr (inr gt) ↦
             right _ h.right_child k v (sym (subtree_at-in_right h.first h.left n h.right k gt) ∙ in_top) r
@@ -47,9 +47,9 @@ module _ (H : List ℕ → List ℕ) (t : Tree) (marks : List Bool) where
       ]
 
   -- marks that are sound and whole tell which parents are reached
-  pub reached-marked : AreSound H t marks → ((s : Subtree) → subtree_at 0 t (root_place 0 t) ≡ Some s → (q : ℕ) (u : Subtree) → subtree_at s.first s.tree q ≡ Some u → ParentHashValid H (leaf_count t) u → IsMarked marks q)
+  pub marks-marked : AreSound H t marks → ((s : Subtree) → subtree_at 0 t (root_node_index 0 t) ≡ Some s → (q : ℕ) (u : Subtree) → subtree_at s.first s.tree q ≡ Some u → ParentHashValid H (leaf_count t) u → IsMarked marks q)
       → (o : Option ℕ) → IsFirstFailureIn (IsMarkedAt t marks) o → IsFirstFailureIn (IsParentHashValidAt H t) o
-  reached-marked sound whole o f = go o f
+  marks-marked sound whole o f = go o f
     where
       there : (p : ℕ) → IsMarkedAt t marks p → IsParentHashValidAt H t p
       there p h s e set = sound p (h s e set) s e

@@ -8,10 +8,10 @@ use Rattle.std.specs.List.Sorted.{IsStrictlyIncreasing}
 use Rattle.std.proofs.lemmas.Bool.{ltb-true, ltb-false}
 use Rattle.std.proofs.lemmas.Fn.{always_returns_same}
 
-rising-answered : (xs : List ℕ) (r : Bool) → IsAllAdjacentAnswer (λ x y b. b ≡ ltb x y) xs r
+increasing-answered : (xs : List ℕ) (r : Bool) → IsAllAdjacentAnswer (λ x y b. b ≡ ltb x y) xs r
     → IsTrue r ↔ IsStrictlyIncreasing xs
-rising-answered xs true h = (λ _. λ k lt. ltb-true _ _ (sym (h k 0 lt)), λ _. refl)
-rising-answered xs false h = (
+increasing-answered xs true h = (λ _. λ k lt. ltb-true _ _ (sym (h k 0 lt)), λ _. refl)
+increasing-answered xs false h = (
   λ never. absurd cc,
   λ rises.
       let above = h.2 0 in
@@ -20,8 +20,8 @@ rising-answered xs false h = (
 )
 
 -- what `is_sorted_by` tells by a closure that tests whether a number is below another
-pub rising-tested : {F : Type 0} {g : Mut F (Bor ℕ × (Bor ℕ × Unit {0})) Bool} (xs : List ℕ) (r : Bool) (f : F)
+pub increasing-tested : {F : Type 0} {g : Mut F (Bor ℕ × (Bor ℕ × Unit {0})) Bool} (xs : List ℕ) (r : Bool) (f : F)
     → ((a : Bor ℕ × (Bor ℕ × Unit {0})) (b : Bool) (f' : F) → Called g f a b f' → (b ≡ ltb a.0.now a.1.0.now) × (f' ≡ f))
     → ((e : ℕ → ℕ → Bool) → ComputesOnPairs g e f → IsAllAdjacentAnswer (λ x y b. b ≡ e x y) xs r)
     → IsTrue r ↔ IsStrictlyIncreasing xs
-rising-tested xs r f call told = rising-answered xs r (told ltb (always_returns_same _ _ f call))
+increasing-tested xs r f call determined = increasing-answered xs r (determined ltb (always_returns_same _ _ f call))

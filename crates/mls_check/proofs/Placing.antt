@@ -15,7 +15,7 @@ use Rattle.mls_tree.specs.NodeView.{HasChildren}
 use Rattle.mls_tree.proofs.Choices.{below, from}
 use Rattle.mls_tree.proofs.Descent.{depth}
 use Rattle.mls_check.specs.UnmergedInAll.{is_unmerged_in_all_at}
-use Rattle.mls_check.specs.UnmergedLists.{lists, is_unmerged_in_all, is_placed, HasConsistentUnmergedAt, IsSortedAt, HasSortedList}
+use Rattle.mls_check.specs.UnmergedLists.{lists, is_unmerged_in_all, is_consistent, HasConsistentUnmergedAt, IsSortedAt, HasSortedList}
 use Rattle.mls_check.proofs.Elements.{contains-head, contains-tail, all-each, and-left}
 use Rattle.mls_check.proofs.Outside.{outside_above}
 use Rattle.mls_check.proofs.Walks.{one-fails, list_all-and, list_all-same, contained}
@@ -44,7 +44,7 @@ module _ (t : Tree) (p index : ℕ) (x : Option LeafNode) (at : subtree_at 0 t p
       only b = ap (λ a. (a && b) && true) (eqb-same index) ∙ and-true b
 
   pub others-entered : 0 < length leaves → IsStrictlyIncreasing leaves → leaves ≢ index ∷ [] → false ≡ list_all (λ i. is_unmerged_in_all_at (subtree_at 0 t p) i) leaves
-  others-entered l rising n = go leaves l rising n ∙ sym entered-here
+  others-entered l increasing n = go leaves l increasing n ∙ sym entered-here
     where
       same : (xs : List ℕ) → list_all (λ i. (i == index) && is_some x) xs ≡ true → (k : ℕ) → k < length xs → get_or xs k 0 ≡ index
       same xs h k l = eqb-true (get_or xs k 0) index (and-left (get_or xs k 0 == index) (is_some x) (all-each (λ i. (i == index) && is_some x) xs (get_or xs k 0) h (Contains-get_or xs k 0 l)))
@@ -63,31 +63,31 @@ left_lower t p q u m n h = omega (arith, ap depth h.left_child, ap depth h.whole
 
 -- under a parent, those that it lists and that are entered in the half that they lie in
 module _ (t : Tree) (p q u m : ℕ) (n : Option ParentNode) (h : HasChildren t p q u m n) where
-  abbrev pub in_half : ℕ → Bool
-  in_half i = if nat_lt i (h.first + leaf_count h.left) then is_unmerged_in_all i h.first h.left else is_unmerged_in_all i (h.first + leaf_count h.left) h.right
+  abbrev pub in_child : ℕ → Bool
+  in_child i = if nat_lt i (h.first + leaf_count h.left) then is_unmerged_in_all i h.first h.left else is_unmerged_in_all i (h.first + leaf_count h.left) h.right
 
-  pub parent-entered : (leaves : List ℕ) → list_all (λ i. is_unmerged_in_all_at (subtree_at 0 t p) i) leaves ≡ (list_all (λ i. lists n i) leaves && list_all in_half leaves)
-  parent-entered leaves = (λ j. list_all (λ i. is_unmerged_in_all_at (h.whole j) i) leaves) ∙ list_all-and (λ i. lists n i) in_half leaves
+  pub parent-entered : (leaves : List ℕ) → list_all (λ i. is_unmerged_in_all_at (subtree_at 0 t p) i) leaves ≡ (list_all (λ i. lists n i) leaves && list_all in_child leaves)
+  parent-entered leaves = (λ j. list_all (λ i. is_unmerged_in_all_at (h.whole j) i) leaves) ∙ list_all-and (λ i. lists n i) in_child leaves
 
-  pub halves-entered : (leaves before after : List ℕ) → leaves ≡ before ++ after → All (λ i. i < m) before → All (λ i. m ≤ i) after
-      → list_all in_half leaves ≡ (list_all (λ i. is_unmerged_in_all_at (subtree_at 0 t q) i) before && list_all (λ i. is_unmerged_in_all_at (subtree_at 0 t u) i) after)
-  halves-entered leaves before after e low high =
-      ap (λ xs. list_all in_half xs) e
-      ∙ list_all-append in_half before after
-      ∙ ap (λ a. a && list_all in_half after)
-      (list_all-same in_half (λ i. is_unmerged_in_all_at (subtree_at 0 t q) i) before
-      (All-weaker (λ i. i < m) (λ i. in_half i ≡ is_unmerged_in_all_at (subtree_at 0 t q) i)
+  pub children-entered : (leaves before after : List ℕ) → leaves ≡ before ++ after → All (λ i. i < m) before → All (λ i. m ≤ i) after
+      → list_all in_child leaves ≡ (list_all (λ i. is_unmerged_in_all_at (subtree_at 0 t q) i) before && list_all (λ i. is_unmerged_in_all_at (subtree_at 0 t u) i) after)
+  children-entered leaves before after e low high =
+      ap (λ xs. list_all in_child xs) e
+      ∙ list_all-append in_child before after
+      ∙ ap (λ a. a && list_all in_child after)
+      (list_all-same in_child (λ i. is_unmerged_in_all_at (subtree_at 0 t q) i) before
+      (All-weaker (λ i. i < m) (λ i. in_child i ≡ is_unmerged_in_all_at (subtree_at 0 t q) i)
       (λ i l. below i (h.first + leaf_count h.left) (is_unmerged_in_all i h.first h.left) (is_unmerged_in_all i (h.first + leaf_count h.left) h.right) (let s = h.split in omega (arith, l, s)) ∙ sym (ap (λ s. is_unmerged_in_all_at s i) h.left_child)) before low))
       ∙ ap (λ a. list_all (λ i. is_unmerged_in_all_at (subtree_at 0 t q) i) before && a)
-      (list_all-same in_half (λ i. is_unmerged_in_all_at (subtree_at 0 t u) i) after
-      (All-weaker (λ i. m ≤ i) (λ i. in_half i ≡ is_unmerged_in_all_at (subtree_at 0 t u) i)
+      (list_all-same in_child (λ i. is_unmerged_in_all_at (subtree_at 0 t u) i) after
+      (All-weaker (λ i. m ≤ i) (λ i. in_child i ≡ is_unmerged_in_all_at (subtree_at 0 t u) i)
       (λ i l. from i (h.first + leaf_count h.left) (is_unmerged_in_all i h.first h.left) (is_unmerged_in_all i (h.first + leaf_count h.left) h.right) (let s = h.split in omega (arith, l, s)) ∙ sym (ap (λ s. is_unmerged_in_all_at s i) h.right_child)) after high))
 
   pub apart-entered : (leaves before after : List ℕ) → leaves ≡ before ++ after → All (λ i. i < m) before → All (λ i. m ≤ i) after → list_all (λ i. lists n i) leaves ≡ true
       → list_all (λ i. is_unmerged_in_all_at (subtree_at 0 t p) i) leaves
       ≡ (list_all (λ i. is_unmerged_in_all_at (subtree_at 0 t q) i) before && list_all (λ i. is_unmerged_in_all_at (subtree_at 0 t u) i) after)
   apart-entered leaves before after e low high listed =
-      parent-entered leaves ∙ ap (λ a. a && list_all in_half leaves) listed ∙ halves-entered leaves before after e low high
+      parent-entered leaves ∙ ap (λ a. a && list_all in_child leaves) listed ∙ children-entered leaves before after e low high
 
 -- a parent lists each of its own leaves
 own-listed : (n : ParentNode) (xs : List ℕ) → ((i : ℕ) → Contains xs i → Contains n.unmerged i) → list_all (λ i. lists (Some n) i) xs ≡ true
@@ -95,23 +95,23 @@ own-listed n [] h = refl
 own-listed n (x ∷ xs) h = ap (λ a. a && list_all (λ i. lists (Some n) i) xs) (contained n.unmerged x (h x (contains-head x xs))) ∙ own-listed n xs (λ i c. h i (contains-tail x xs i c))
 
 module _ (t : Tree) (p q u m : ℕ) where
-  pub placed-parent : (n : ParentNode) → (h : HasChildren t p q u m (Some n))
-      → list_all (λ i. is_unmerged_in_all_at (subtree_at 0 t p) i) n.unmerged ≡ is_placed h.first (branch h.left (Some n) h.right)
-  placed-parent n h = parent-entered t p q u m (Some n) h n.unmerged ∙ ap (λ a. a && list_all (in_half t p q u m (Some n) h) n.unmerged) (own-listed n n.unmerged (λ i c. c))
+  pub consistent-parent : (n : ParentNode) → (h : HasChildren t p q u m (Some n))
+      → list_all (λ i. is_unmerged_in_all_at (subtree_at 0 t p) i) n.unmerged ≡ is_consistent h.first (branch h.left (Some n) h.right)
+  consistent-parent n h = parent-entered t p q u m (Some n) h n.unmerged ∙ ap (λ a. a && list_all (in_child t p q u m (Some n) h) n.unmerged) (own-listed n n.unmerged (λ i c. c))
 
   -- what the entries of the parent were found to be
-  pub placed_here : (n : ParentNode) → HasChildren t p q u m (Some n) → (r : Bool) → r ≡ list_all (λ i. is_unmerged_in_all_at (subtree_at 0 t p) i) n.unmerged
+  pub consistent_here : (n : ParentNode) → HasChildren t p q u m (Some n) → (r : Bool) → r ≡ list_all (λ i. is_unmerged_in_all_at (subtree_at 0 t p) i) n.unmerged
       → (IsTrue r → HasConsistentUnmergedAt t p) × (HasConsistentUnmergedAt t p → IsTrue r)
-  placed_here n h r e =
-      let f = e ∙ placed-parent n h in (
+  consistent_here n h r e =
+      let f = e ∙ consistent-parent n h in (
         λ w s a. let k : record { first = h.first; tree = branch h.left (Some n) h.right } ≡ s = same_Some _ s (sym h.whole ∙ a) in
-            subst (λ v. IsTrue (is_placed v.first v.tree)) k (sym f ∙ w),
+            subst (λ v. IsTrue (is_consistent v.first v.tree)) k (sym f ∙ w),
         λ w. f ∙ w (record { first = h.first; tree = branch h.left (Some n) h.right }) h.whole,
       )
 
 -- there is nothing to ask past the last place
-pub placed_everywhere : (t : Tree) (n : ℕ) → n + 1 ≡ 2 * leaf_count t → ((p : ℕ) → p < n → HasConsistentUnmergedAt t p) → (p : ℕ) → HasConsistentUnmergedAt t p
-placed_everywhere t n e h p s a =
+pub consistent_everywhere : (t : Tree) (n : ℕ) → n + 1 ≡ 2 * leaf_count t → ((p : ℕ) → p < n → HasConsistentUnmergedAt t p) → (p : ℕ) → HasConsistentUnmergedAt t p
+consistent_everywhere t n e h p s a =
     elim (cases_lt p n) [ inl l ↦ h p l s a | inr g ↦ absurd (none-some s (sym (outside_above t p n e g) ∙ a)) ]
 
 pub sorted_everywhere : (t : Tree) (n : ℕ) → n + 1 ≡ 2 * leaf_count t → ((p : ℕ) → p < n → IsSortedAt t p) → (p : ℕ) → IsSortedAt t p

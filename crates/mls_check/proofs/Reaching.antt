@@ -6,17 +6,17 @@ use Rattle.std.proofs.lemmas.Option.{same_Some}
 use Rattle.std.proofs.lemmas.Bool.{cases_lt, false≢true, eqb-true}
 use Rattle.std.proofs.lemmas.List.Elements.{Contains-append_cases, Contains-append_left, Contains-append_right}
 use Rattle.mls_nodes.specs.declared.parent.ParentNode.{ParentNode}
-use Rattle.mls_tree.specs.Tree.{Tree, leaf, branch, leaf_count, Subtree, subtree_at, root_place, entry_of}
-use Rattle.mls_tree.specs.Paths.{resolution, resolution_at, unmerged_places}
+use Rattle.mls_tree.specs.Tree.{Tree, leaf, branch, leaf_count, Subtree, subtree_at, root_node_index, entry_of}
+use Rattle.mls_tree.specs.Paths.{resolution, resolution_at, unmerged_node_indices}
 use Rattle.mls_tree.proofs.Choices.{below, from}
-use Rattle.mls_tree.proofs.Trees.{leaf_count-positive, subtree_at-stands, subtree_at-root, subtree_at-nested, subtree_at-some, subtree_at-in_left, subtree_at-in_right, root_place-above, root_place-below}
+use Rattle.mls_tree.proofs.Trees.{leaf_count-positive, subtree_at-stands, subtree_at-root, subtree_at-nested, subtree_at-some, subtree_at-in_left, subtree_at-in_right, root_node_index-above, root_node_index-below}
 use Rattle.mls_hash.specs.ParentHash.{parent_hash, parent_hash_at, root_parent_hash}
 use Rattle.mls_hash.specs.declared.side.Side.{Side}
 use Rattle.mls_hash.specs.declared.side.Side.TheVariants.{Left, Right}
-use Rattle.mls_check.specs.UnmergedLists.{is_unmerged_in_all, is_placed, lists, HasConsistentUnmerged}
+use Rattle.mls_check.specs.UnmergedLists.{is_unmerged_in_all, is_consistent, lists, HasConsistentUnmerged}
 use Rattle.mls_tree.specs.NodeView.{HasChildren}
-use Rattle.mls_check.specs.ParentHashValid.{linked_hash, AreHalves, IsUnmergedUnder, ParentHashLink, Step, IsLeaf, ParentHashValid, from_leaf, from_parent, IsParentHashValidHere}
-use Rattle.mls_check.specs.ParentHashMarks.{IsLone, IsMarked, IsChainEnd, IsCandidateIn, HasParentHash, AreSound, AreAllMarkedUnder}
+use Rattle.mls_check.specs.ParentHashValid.{linked_hash, AreChildren, IsUnmergedUnder, ParentHashLink, ParentHashStep, IsLeaf, ParentHashValid, from_leaf, from_parent, IsParentHashValidHere}
+use Rattle.mls_check.specs.ParentHashMarks.{IsOnlyUnlisted, IsMarked, IsChainEnd, IsChainPredecessorIn, HasParentHash, AreSound, AreAllMarkedUnder}
 use Rattle.mls_check.proofs.Lone.{lone_once}
 use Rattle.mls_check.proofs.Elements.{contains-nil, contains-cons, contains-head, contains-tail, contains-found, all-each, and-left, and-right, unmerged-in, unmerged-listed}
 
@@ -52,32 +52,32 @@ entered-resolved n i first (branch l None r) lt h =
           (entered-resolved n i (first + leaf_count l) r lt (sym (from i (first + leaf_count l) (is_unmerged_in_all i first l) (is_unmerged_in_all i (first + leaf_count l) r) b) ∙ h))
     ]
 entered-resolved n i first (branch l (Some p) r) lt h =
-    contains-tail (2 * (first + leaf_count l) - 1) (unmerged_places n p.unmerged) (2 * i)
+    contains-tail (2 * (first + leaf_count l) - 1) (unmerged_node_indices n p.unmerged) (2 * i)
     (unmerged-in n p.unmerged i (contains-found p.unmerged i (and-left (lists (Some p) i) _ h)) lt)
 
 -- ---- resolutions
 
 -- the lists of a subtree are placed
-abbrev pub PlacedIn : ℕ → Tree → Type 0
-PlacedIn first t = (p : ℕ) (s : Subtree) → subtree_at first t p ≡ Some s → IsTrue (is_placed s.first s.tree)
+abbrev pub ConsistentIn : ℕ → Tree → Type 0
+ConsistentIn first t = (p : ℕ) (s : Subtree) → subtree_at first t p ≡ Some s → IsTrue (is_consistent s.first s.tree)
 
 pub in_left : (first : ℕ) (l : Tree) (n : Option ParentNode) (r : Tree) (p : ℕ) (s : Subtree) → subtree_at first l p ≡ Some s → subtree_at first (branch l n r) p ≡ Some s
 in_left first l n r p s e =
     let at = subtree_at-stands first l p s e in
-    subtree_at-in_left first l n r p (omega (arith, at.place, at.to_right, root_place-below s.first s.tree)) ∙ e
+    subtree_at-in_left first l n r p (omega (arith, at.node_index, at.to_right, root_node_index-below s.first s.tree)) ∙ e
 
 pub in_right : (first : ℕ) (l : Tree) (n : Option ParentNode) (r : Tree) (p : ℕ) (s : Subtree) → subtree_at (first + leaf_count l) r p ≡ Some s → subtree_at first (branch l n r) p ≡ Some s
 in_right first l n r p s e =
     let at = subtree_at-stands (first + leaf_count l) r p s e in
-    subtree_at-in_right first l n r p (omega (arith, at.place, at.from_left, root_place-above s.first s.tree)) ∙ e
+    subtree_at-in_right first l n r p (omega (arith, at.node_index, at.from_left, root_node_index-above s.first s.tree)) ∙ e
 
-entry-entered : (first : ℕ) (l : Tree) (p : ParentNode) (r : Tree) → PlacedIn first (branch l (Some p) r) → (i : ℕ) → Contains p.unmerged i → IsTrue (is_unmerged_in_all i first (branch l None r))
+entry-entered : (first : ℕ) (l : Tree) (p : ParentNode) (r : Tree) → ConsistentIn first (branch l (Some p) r) → (i : ℕ) → Contains p.unmerged i → IsTrue (is_unmerged_in_all i first (branch l None r))
 entry-entered first l p r h i c =
     all-each (λ i. is_unmerged_in_all i first (branch l None r)) p.unmerged i
-    (h (root_place first (branch l (Some p) r)) (record { first = first; tree = branch l (Some p) r }) (subtree_at-root first (branch l (Some p) r))) c
+    (h (root_node_index first (branch l (Some p) r)) (record { first = first; tree = branch l (Some p) r }) (subtree_at-root first (branch l (Some p) r))) c
 
 -- the resolution of a subtree lies in it
-pub resolution-inside : (n first : ℕ) (t : Tree) → PlacedIn first t → (u : ℕ) → Contains (resolution n first t) u → (2 * first ≤ u) × (u + 1 < 2 * (first + leaf_count t))
+pub resolution-inside : (n first : ℕ) (t : Tree) → ConsistentIn first t → (u : ℕ) → Contains (resolution n first t) u → (2 * first ≤ u) × (u + 1 < 2 * (first + leaf_count t))
 resolution-inside n first (leaf None) h u c = absurd (contains-nil u c)
 resolution-inside n first (leaf (Some x)) h u c =
     elim (contains-cons (2 * first) [] u c) [ inl e ↦ (omega arith, omega arith) | inr d ↦ absurd (contains-nil u d) ]
@@ -91,7 +91,7 @@ resolution-inside n first (branch l None r) h u c =
           (omega (arith, k.0), omega (arith, k.1)))
     ]
 resolution-inside n first (branch l (Some p) r) h u c =
-    elim (contains-cons (2 * (first + leaf_count l) - 1) (unmerged_places n p.unmerged) u c) [
+    elim (contains-cons (2 * (first + leaf_count l) - 1) (unmerged_node_indices n p.unmerged) u c) [
       | inl e ↦ (omega (arith, leaf_count-positive l), omega (arith, leaf_count-positive l, leaf_count-positive r))
       | inr d ↦
           (let w = unmerged-listed n p.unmerged u d in
@@ -102,70 +102,70 @@ resolution-inside n first (branch l (Some p) r) h u c =
 
 -- ---- places
 
-leaf-even : (first : ℕ) (t : Tree) → IsLeaf t → root_place first t % 2 ≡ 0
+leaf-even : (first : ℕ) (t : Tree) → IsLeaf t → root_node_index first t % 2 ≡ 0
 leaf-even first (leaf x) h = omega arith
 leaf-even first (branch l p r) h = absurd h
 
-even-leaf : (first : ℕ) (t : Tree) → root_place first t % 2 ≡ 0 → IsLeaf t
+even-leaf : (first : ℕ) (t : Tree) → root_node_index first t % 2 ≡ 0 → IsLeaf t
 even-leaf first (leaf x) h = tt
 even-leaf first (branch l p r) h = absurd (omega (arith, leaf_count-positive l))
 
 -- the steps that a chain to the parent on top can come by
-pub ends : {H : List ℕ → List ℕ} {n : ℕ} (s : Subtree) → ParentHashValid H n s → (d : Subtree) × Step H n d s × (IsLeaf d.tree ⊎ ParentHashValid H n d)
+pub ends : {H : List ℕ → List ℕ} {n : ℕ} (s : Subtree) → ParentHashValid H n s → (d : Subtree) × ParentHashStep H n d s × (IsLeaf d.tree ⊎ ParentHashValid H n d)
 ends _ (from_leaf d a step l) = (d, step, inl l)
 ends _ (from_parent d a step r) = (d, step, inr r)
 
 -- ---- one half of a parent
 
-module _ (H : List ℕ → List ℕ) (t : Tree) (node : ParentNode) (half other : Subtree) (c : ℕ)
-    (at : subtree_at 0 t c ≡ Some half)
-    (placed : HasConsistentUnmerged t)
-    (entered : (i : ℕ) → Contains node.unmerged i → half.first ≤ i → i < half.first + leaf_count half.tree → IsTrue (is_unmerged_in_all i half.first half.tree)) where
-  placed-half : PlacedIn half.first half.tree
-  placed-half p s e = placed p s (subtree_at-nested 0 t c half at p s e)
+module _ (H : List ℕ → List ℕ) (t : Tree) (node : ParentNode) (child other : Subtree) (c : ℕ)
+    (at : subtree_at 0 t c ≡ Some child)
+    (consistent : HasConsistentUnmerged t)
+    (entered : (i : ℕ) → Contains node.unmerged i → child.first ≤ i → i < child.first + leaf_count child.tree → IsTrue (is_unmerged_in_all i child.first child.tree)) where
+  consistent-child : ConsistentIn child.first child.tree
+  consistent-child p s e = consistent p s (subtree_at-nested 0 t c child at p s e)
 
   -- what a link says of the resolution
-  link-lone : (d : Subtree) (k : ParentHashLink H (leaf_count t) node half other d) → IsLone node.unmerged (resolution (leaf_count t) half.first half.tree) k.place
+  link-lone : (d : Subtree) (k : ParentHashLink H (leaf_count t) node child other d) → IsOnlyUnlisted node.unmerged (resolution (leaf_count t) child.first child.tree) k.node_index
   link-lone d k = record {
     here = k.resolved;
     unlisted = λ w.
-        let st = subtree_at-stands half.first half.tree k.place d k.stands in
+        let st = subtree_at-stands child.first child.tree k.node_index d k.stands in
         let e = w.2 in
-        let lo : half.first ≤ w.0 = omega (arith, st.place, st.from_left, root_place-above d.first d.tree) in
-        let hi : w.0 < half.first + leaf_count half.tree = omega (arith, st.place, st.to_right, root_place-below d.first d.tree) in
-        ((k.unmerged k.place).1 (w.0, w.1, lo, hi, w.2)).1 refl;
+        let lo : child.first ≤ w.0 = omega (arith, st.node_index, st.from_left, root_node_index-above d.first d.tree) in
+        let hi : w.0 < child.first + leaf_count child.tree = omega (arith, st.node_index, st.to_right, root_node_index-below d.first d.tree) in
+        ((k.unmerged k.node_index).1 (w.0, w.1, lo, hi, w.2)).1 refl;
     others = λ u m ne. let w = (k.unmerged u).0 (m, ne) in (w.0, w.1, w.4);
   }
 
-  lone-unmerged : (p : ℕ) → IsLone node.unmerged (resolution (leaf_count t) half.first half.tree) p
-      → (u : ℕ) → ((Contains (resolution (leaf_count t) half.first half.tree) u × (u ≢ p)) → IsUnmergedUnder node half u) × (IsUnmergedUnder node half u → (Contains (resolution (leaf_count t) half.first half.tree) u × (u ≢ p)))
+  lone-unmerged : (p : ℕ) → IsOnlyUnlisted node.unmerged (resolution (leaf_count t) child.first child.tree) p
+      → (u : ℕ) → ((Contains (resolution (leaf_count t) child.first child.tree) u × (u ≢ p)) → IsUnmergedUnder node child u) × (IsUnmergedUnder node child u → (Contains (resolution (leaf_count t) child.first child.tree) u × (u ≢ p)))
   lone-unmerged p h u = (
     λ m. let w = h.others u m.0 m.1 in
-        let k = resolution-inside (leaf_count t) half.first half.tree placed-half u m.0 in
+        let k = resolution-inside (leaf_count t) child.first child.tree consistent-child u m.0 in
         let e = w.2 in
         (w.0, w.1, omega (arith, k.0), omega (arith, k.1), w.2),
-    λ w. let st = subtree_at-stands 0 t c half at in
+    λ w. let st = subtree_at-stands 0 t c child at in
         let hi = w.3 in (
-          subst (λ v. Contains (resolution (leaf_count t) half.first half.tree) v) (sym w.4)
-              (entered-resolved (leaf_count t) w.0 half.first half.tree (omega (arith, st.to_right)) (entered w.0 w.1 w.2 w.3)),
+          subst (λ v. Contains (resolution (leaf_count t) child.first child.tree) v) (sym w.4)
+              (entered-resolved (leaf_count t) w.0 child.first child.tree (omega (arith, st.to_right)) (entered w.0 w.1 w.2 w.3)),
           λ e. h.unlisted (w.0, w.1, sym e ∙ w.4),
         ),
   )
 
   module _ (p : ℕ) (side : Side) (hashed : parent_hash_at H t p side ≡ parent_hash H node other.first other.tree) (marks : List Bool) where
     -- a candidate that carries the parent hash is a link
-    pub linked-up : AreSound H t marks → (o : Option ℕ) → IsCandidateIn t node.unmerged c marks o → HasParentHash H t p side o
-        → (d : Subtree) × ParentHashLink H (leaf_count t) node half other d × (IsLeaf d.tree ⊎ ParentHashValid H (leaf_count t) d)
+    pub linked-up : AreSound H t marks → (o : Option ℕ) → IsChainPredecessorIn t node.unmerged c marks o → HasParentHash H t p side o
+        → (d : Subtree) × ParentHashLink H (leaf_count t) node child other d × (IsLeaf d.tree ⊎ ParentHashValid H (leaf_count t) d)
     linked-up sound None k h = absurd h
     linked-up sound (Some b) k h =
-        let same : k.places ≡ resolution (leaf_count t) half.first half.tree = same_Some _ _ (sym k.resolved ∙ ap (λ o. option_map (λ (s : Subtree). resolution (leaf_count t) s.first s.tree) o) at) in
-        let lone = subst (λ ps. IsLone node.unmerged ps b) same k.lone in
-        let inside = resolution-inside (leaf_count t) half.first half.tree placed-half b lone.here in
-        let d = subtree_at-some half.first half.tree b inside.0 inside.1 in
-        let whole : subtree_at 0 t b ≡ Some d.0 = subtree_at-nested 0 t c half at b d.0 d.1 in (
+        let same : k.node_indices ≡ resolution (leaf_count t) child.first child.tree = same_Some _ _ (sym k.resolved ∙ ap (λ o. option_map (λ (s : Subtree). resolution (leaf_count t) s.first s.tree) o) at) in
+        let lone = subst (λ ps. IsOnlyUnlisted node.unmerged ps b) same k.lone in
+        let inside = resolution-inside (leaf_count t) child.first child.tree consistent-child b lone.here in
+        let d = subtree_at-some child.first child.tree b inside.0 inside.1 in
+        let whole : subtree_at 0 t b ≡ Some d.0 = subtree_at-nested 0 t c child at b d.0 d.1 in (
           d.0,
           record {
-            place = b;
+            node_index = b;
             stands = d.1;
             hash = h.0;
             linked = ap (λ o. linked_hash (entry_of o)) (sym whole) ∙ h.1;
@@ -174,50 +174,50 @@ module _ (H : List ℕ → List ℕ) (t : Tree) (node : ParentNode) (half other 
             unmerged = lone-unmerged b lone;
           },
           elim k.ended [
-            | inl e ↦ inl (even-leaf d.0.first d.0.tree (subst (λ v. v % 2 ≡ 0) (subtree_at-stands 0 t b d.0 whole).place e))
+            | inl e ↦ inl (even-leaf d.0.first d.0.tree (subst (λ v. v % 2 ≡ 0) (subtree_at-stands 0 t b d.0 whole).node_index e))
             | inr m ↦ inr (sound b m d.0 whole)
           ],
         )
 
     -- the candidate of a half that a link comes from carries the parent hash
-    pub linked-down : ((q : ℕ) (v : Subtree) → subtree_at half.first half.tree q ≡ Some v → ParentHashValid H (leaf_count t) v → IsMarked marks q)
-        → (o : Option ℕ) → IsCandidateIn t node.unmerged c marks o
-        → (d : Subtree) → ParentHashLink H (leaf_count t) node half other d → (IsLeaf d.tree ⊎ ParentHashValid H (leaf_count t) d) → HasParentHash H t p side o
+    pub linked-down : ((q : ℕ) (v : Subtree) → subtree_at child.first child.tree q ≡ Some v → ParentHashValid H (leaf_count t) v → IsMarked marks q)
+        → (o : Option ℕ) → IsChainPredecessorIn t node.unmerged c marks o
+        → (d : Subtree) → ParentHashLink H (leaf_count t) node child other d → (IsLeaf d.tree ⊎ ParentHashValid H (leaf_count t) d) → HasParentHash H t p side o
     linked-down marked o k d link e = go o k
       where
-        whole : subtree_at 0 t link.place ≡ Some d
-        whole = subtree_at-nested 0 t c half at link.place d link.stands
+        whole : subtree_at 0 t link.node_index ≡ Some d
+        whole = subtree_at-nested 0 t c child at link.node_index d link.stands
 
-        ended : (IsLeaf d.tree ⊎ ParentHashValid H (leaf_count t) d) → IsChainEnd marks link.place
-        ended (inl l) = inl (subst (λ v. v % 2 ≡ 0) (sym (subtree_at-stands 0 t link.place d whole).place) (leaf-even d.first d.tree l))
-        ended (inr r) = inr (marked link.place d link.stands r)
+        ended : (IsLeaf d.tree ⊎ ParentHashValid H (leaf_count t) d) → IsChainEnd marks link.node_index
+        ended (inl l) = inl (subst (λ v. v % 2 ≡ 0) (sym (subtree_at-stands 0 t link.node_index d whole).node_index) (leaf-even d.first d.tree l))
+        ended (inr r) = inr (marked link.node_index d link.stands r)
 
-        known : resolution_at t c ≡ Some (resolution (leaf_count t) half.first half.tree)
+        known : resolution_at t c ≡ Some (resolution (leaf_count t) child.first child.tree)
         known = ap (λ o. option_map (λ (s : Subtree). resolution (leaf_count t) s.first s.tree) o) at
 
-        carries : HasParentHash H t p side (Some link.place)
+        carries : HasParentHash H t p side (Some link.node_index)
         carries = (link.hash, ap (λ o. linked_hash (entry_of o)) whole ∙ link.linked, hashed ∙ link.expected)
 
-        go : (o : Option ℕ) → IsCandidateIn t node.unmerged c marks o → HasParentHash H t p side o
-        go None k = absurd (k link.place (record { places = resolution (leaf_count t) half.first half.tree; resolved = known; lone = link-lone d link; ended = ended e }))
+        go : (o : Option ℕ) → IsChainPredecessorIn t node.unmerged c marks o → HasParentHash H t p side o
+        go None k = absurd (k link.node_index (record { node_indices = resolution (leaf_count t) child.first child.tree; resolved = known; lone = link-lone d link; ended = ended e }))
         go (Some b) k =
-            let same : k.places ≡ resolution (leaf_count t) half.first half.tree = same_Some _ _ (sym k.resolved ∙ known) in
+            let same : k.node_indices ≡ resolution (leaf_count t) child.first child.tree = same_Some _ _ (sym k.resolved ∙ known) in
             let lone = link-lone d link in
-            let here = subst (λ ps. IsLone node.unmerged ps b) same k.lone in
-            subst (λ v. HasParentHash H t p side (Some v)) (sym (lone_once node.unmerged _ b link.place here lone.here lone.unlisted)) carries
+            let here = subst (λ ps. IsOnlyUnlisted node.unmerged ps b) same k.lone in
+            subst (λ v. HasParentHash H t p side (Some v)) (sym (lone_once node.unmerged _ b link.node_index here lone.here lone.unlisted)) carries
 
 -- a link between equal parts
-pub coe_link : {H : List ℕ → List ℕ} {n : ℕ} (d : Subtree) (a : ParentNode) (half other : Subtree) {b : ParentNode} (x y : Subtree) → a ≡ b → half ≡ x → other ≡ y → ParentHashLink H n a half other d → ParentHashLink H n b x y d
-coe_link {H} {n} d a half other x y e f g link = subst (λ v. v) (λ i. ParentHashLink H n (e i) (f i) (g i) d) link
+pub coe_link : {H : List ℕ → List ℕ} {n : ℕ} (d : Subtree) (a : ParentNode) (child other : Subtree) {b : ParentNode} (x y : Subtree) → a ≡ b → child ≡ x → other ≡ y → ParentHashLink H n a child other d → ParentHashLink H n b x y d
+coe_link {H} {n} d a child other x y e f g link = subst (λ v. v) (λ i. ParentHashLink H n (e i) (f i) (g i) d) link
 
 -- ---- a set parent
 
-module _ (H : List ℕ → List ℕ) (t : Tree) (p q u m : ℕ) (node : ParentNode) (h : HasChildren t p q u m (Some node)) (placed : HasConsistentUnmerged t) (marks : List Bool) where
+module _ (H : List ℕ → List ℕ) (t : Tree) (p q u m : ℕ) (node : ParentNode) (h : HasChildren t p q u m (Some node)) (consistent : HasConsistentUnmerged t) (marks : List Bool) where
   top : Subtree
   top = record { first = h.first; tree = branch h.left (Some node) h.right }
 
   all-entered : (i : ℕ) → Contains node.unmerged i → IsTrue (is_unmerged_in_all i h.first (branch h.left None h.right))
-  all-entered i c = all-each (λ i. is_unmerged_in_all i h.first (branch h.left None h.right)) node.unmerged i (placed p _ h.whole) c
+  all-entered i c = all-each (λ i. is_unmerged_in_all i h.first (branch h.left None h.right)) node.unmerged i (consistent p _ h.whole) c
 
   entered-left : (i : ℕ) → Contains node.unmerged i → h.first ≤ i → i < h.first + leaf_count h.left → IsTrue (is_unmerged_in_all i h.first h.left)
   entered-left i c lo hi =
@@ -235,14 +235,14 @@ module _ (H : List ℕ → List ℕ) (t : Tree) (p q u m : ℕ) (node : ParentNo
   hashed-left = ap (λ o. option_and_then (λ (s : Subtree). root_parent_hash H Left s.first s.tree) o) h.whole
 
   -- a chain that comes through the left half
-  pub reached-left : AreSound H t marks → (o : Option ℕ) → IsCandidateIn t node.unmerged q marks o → HasParentHash H t p Right o → IsParentHashValidHere H t p
-  reached-left sound o k c =
-      let l = linked-up H t node (record { first = h.first; tree = h.left }) (record { first = h.first + leaf_count h.left; tree = h.right }) q h.left_child placed entered-left p Right hashed-right marks sound o k c in
-      let step : Step H (leaf_count t) l.0 (record { first = h.first; tree = branch h.left (Some node) h.right }) = record {
+  pub marks-left : AreSound H t marks → (o : Option ℕ) → IsChainPredecessorIn t node.unmerged q marks o → HasParentHash H t p Right o → IsParentHashValidHere H t p
+  marks-left sound o k c =
+      let l = linked-up H t node (record { first = h.first; tree = h.left }) (record { first = h.first + leaf_count h.left; tree = h.right }) q h.left_child consistent entered-left p Right hashed-right marks sound o k c in
+      let step : ParentHashStep H (leaf_count t) l.0 (record { first = h.first; tree = branch h.left (Some node) h.right }) = record {
         parent = node;
-        half = record { first = h.first; tree = h.left };
+        child = record { first = h.first; tree = h.left };
         other = record { first = h.first + leaf_count h.left; tree = h.right };
-        halves = (refl, inl (refl, refl));
+        children = (refl, inl (refl, refl));
         link = l.1;
       } in (
         record { first = h.first; tree = branch h.left (Some node) h.right },
@@ -251,14 +251,14 @@ module _ (H : List ℕ → List ℕ) (t : Tree) (p q u m : ℕ) (node : ParentNo
       )
 
   -- and one through the right half
-  pub reached-right : AreSound H t marks → (o : Option ℕ) → IsCandidateIn t node.unmerged u marks o → HasParentHash H t p Left o → IsParentHashValidHere H t p
-  reached-right sound o k c =
-      let l = linked-up H t node (record { first = h.first + leaf_count h.left; tree = h.right }) (record { first = h.first; tree = h.left }) u h.right_child placed entered-right p Left hashed-left marks sound o k c in
-      let step : Step H (leaf_count t) l.0 (record { first = h.first; tree = branch h.left (Some node) h.right }) = record {
+  pub marks-right : AreSound H t marks → (o : Option ℕ) → IsChainPredecessorIn t node.unmerged u marks o → HasParentHash H t p Left o → IsParentHashValidHere H t p
+  marks-right sound o k c =
+      let l = linked-up H t node (record { first = h.first + leaf_count h.left; tree = h.right }) (record { first = h.first; tree = h.left }) u h.right_child consistent entered-right p Left hashed-left marks sound o k c in
+      let step : ParentHashStep H (leaf_count t) l.0 (record { first = h.first; tree = branch h.left (Some node) h.right }) = record {
         parent = node;
-        half = record { first = h.first + leaf_count h.left; tree = h.right };
+        child = record { first = h.first + leaf_count h.left; tree = h.right };
         other = record { first = h.first; tree = h.left };
-        halves = (refl, inr (refl, refl));
+        children = (refl, inr (refl, refl));
         link = l.1;
       } in (
         record { first = h.first; tree = branch h.left (Some node) h.right },
@@ -270,33 +270,33 @@ module _ (H : List ℕ → List ℕ) (t : Tree) (p q u m : ℕ) (node : ParentNo
   left-marked under k v e r =
       let st = subtree_at-stands 0 t p _ h.whole in
       let at = subtree_at-stands h.first h.left k v e in
-      under _ h.whole k v (λ d. omega (arith, st.place, at.place, at.to_right, root_place-below v.first v.tree))
+      under _ h.whole k v (λ d. omega (arith, st.node_index, at.node_index, at.to_right, root_node_index-below v.first v.tree))
       (in_left h.first h.left (Some node) h.right k v e) r
 
   right-marked : AreAllMarkedUnder H t marks p → (k : ℕ) (v : Subtree) → subtree_at (h.first + leaf_count h.left) h.right k ≡ Some v → ParentHashValid H (leaf_count t) v → IsMarked marks k
   right-marked under k v e r =
       let st = subtree_at-stands 0 t p _ h.whole in
       let at = subtree_at-stands (h.first + leaf_count h.left) h.right k v e in
-      under _ h.whole k v (λ d. omega (arith, st.place, at.place, at.from_left, root_place-above v.first v.tree, leaf_count-positive h.left))
+      under _ h.whole k v (λ d. omega (arith, st.node_index, at.node_index, at.from_left, root_node_index-above v.first v.tree, leaf_count-positive h.left))
       (in_right h.first h.left (Some node) h.right k v e) r
 
   -- a chain to the parent comes through one of its halves
-  pub reached-through : AreAllMarkedUnder H t marks p
-      → (o : Option ℕ) → IsCandidateIn t node.unmerged q marks o → (o' : Option ℕ) → IsCandidateIn t node.unmerged u marks o'
+  pub marks-through : AreAllMarkedUnder H t marks p
+      → (o : Option ℕ) → IsChainPredecessorIn t node.unmerged q marks o → (o' : Option ℕ) → IsChainPredecessorIn t node.unmerged u marks o'
       → IsParentHashValidHere H t p → HasParentHash H t p Right o ⊎ HasParentHash H t p Left o'
-  reached-through under o k o' k' w =
+  marks-through under o k o' k' w =
       let same = same_Some _ _ (sym w.1 ∙ h.whole) in
       let e = ends (record { first = h.first; tree = branch h.left (Some node) h.right }) (subst (λ s. ParentHashValid H (leaf_count t) s) same w.2) in
-      by e.0 e.1.parent e.1.half e.1.other e.1.halves e.1.link e.2
+      by e.0 e.1.parent e.1.child e.1.other e.1.children e.1.link e.2
     where
-      by : (d : Subtree) (n : ParentNode) (half other : Subtree) → AreHalves h.first (branch h.left (Some node) h.right) n half other → ParentHashLink H (leaf_count t) n half other d
+      by : (d : Subtree) (n : ParentNode) (child other : Subtree) → AreChildren h.first (branch h.left (Some node) h.right) n child other → ParentHashLink H (leaf_count t) n child other d
           → (IsLeaf d.tree ⊎ ParentHashValid H (leaf_count t) d) → HasParentHash H t p Right o ⊎ HasParentHash H t p Left o'
-      by d n half other (a, inl b) link e =
-          inl (linked-down H t node (record { first = h.first; tree = h.left }) (record { first = h.first + leaf_count h.left; tree = h.right }) q h.left_child placed entered-left p Right hashed-right marks
-          (left-marked under) o k d (coe_link d n half other _ _ (sym a) b.0 b.1 link) e)
-      by d n half other (a, inr b) link e =
-          inr (linked-down H t node (record { first = h.first + leaf_count h.left; tree = h.right }) (record { first = h.first; tree = h.left }) u h.right_child placed entered-right p Left hashed-left marks
-          (right-marked under) o' k' d (coe_link d n half other _ _ (sym a) b.0 b.1 link) e)
+      by d n child other (a, inl b) link e =
+          inl (linked-down H t node (record { first = h.first; tree = h.left }) (record { first = h.first + leaf_count h.left; tree = h.right }) q h.left_child consistent entered-left p Right hashed-right marks
+          (left-marked under) o k d (coe_link d n child other _ _ (sym a) b.0 b.1 link) e)
+      by d n child other (a, inr b) link e =
+          inr (linked-down H t node (record { first = h.first + leaf_count h.left; tree = h.right }) (record { first = h.first; tree = h.left }) u h.right_child consistent entered-right p Left hashed-left marks
+          (right-marked under) o' k' d (coe_link d n child other _ _ (sym a) b.0 b.1 link) e)
 
 pub other_way : {P Q : Type 0} → ¬ P → P ⊎ Q → Q
 other_way n (inl p) = absurd (n p)

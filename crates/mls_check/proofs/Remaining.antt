@@ -6,14 +6,14 @@ use Rattle.std.proofs.lemmas.Option.{same_Some, cond_some}
 use Rattle.mls_nodes.specs.declared.leaf.LeafNode.{LeafNode}
 use Rattle.mls_nodes.specs.declared.parent.ParentNode.{ParentNode}
 use Rattle.mls_tree.specs.Tree.{Tree, leaf, branch, height, leaf_count, Subtree, subtree_at, entry_of, root_entry}
-use Rattle.mls_tree.specs.TreeOperations.{put_leaf, change_above, has_set_leaf, shrink, blank_tree, grow, update, remove}
+use Rattle.mls_tree.specs.TreeOperations.{put_leaf, change_above, has_set_leaf, truncate, blank_tree, extend, update, remove}
 use Rattle.mls_tree.proofs.Choices.{below, from}
 use Rattle.mls_tree.proofs.Kept.{either, leaf_count-change_above, leaf_count-put_leaf}
 use Rattle.mls_tree.proofs.Trees.{subtree_at-stands, subtree_at-here, subtree_at-in_left, subtree_at-in_right}
 use Rattle.mls_check.specs.ParentHashValid.{HasSetParent, IsParentHashValid}
-use Rattle.mls_check.specs.UnmergedLists.{HasSortedList, is_placed, HasStrictlyIncreasingLists, HasConsistentUnmerged}
+use Rattle.mls_check.specs.UnmergedLists.{HasSortedList, is_consistent, HasStrictlyIncreasingLists, HasConsistentUnmerged}
 use Rattle.mls_check.specs.PreservedValidity.{HasValidUnmergedLists, IsParentHashValidTree, HasParentsOf}
-use Rattle.mls_check.proofs.Carrying.{HasOwnList, reached-any}
+use Rattle.mls_check.proofs.Carrying.{HasOwnList, marks-any}
 use Rattle.mls_check.proofs.Everywhere.{everywhere-at}
 use Rattle.mls_check.proofs.SoundSubtrees.{own_lists}
 use Rattle.mls_check.proofs.Reaching.{in_left, in_right}
@@ -95,16 +95,16 @@ parents_cleared first (branch l n r) i x =
           (under_blank first l l n (cleared (first + leaf_count l) r i x) r refl (λ p s e set. e) (parents_cleared (first + leaf_count l) r i x))
     ]
 
-parents_shrink : (first : ℕ) (t : Tree) → Parents first (shrink t) t
+parents_shrink : (first : ℕ) (t : Tree) → Parents first (truncate t) t
 parents_shrink first (leaf y) = λ p s e set. e
 parents_shrink first (branch l n r) =
-    either (λ u. Parents first u (branch l n r)) (has_set_leaf r) (branch l n r) (shrink l) (λ p s e set. e)
+    either (λ u. Parents first u (branch l n r)) (has_set_leaf r) (branch l n r) (truncate l) (λ p s e set. e)
     (λ p s e set. in_left first l n r p s (parents_shrink first l p s e set))
 
-pub shrink_parents : (t : Tree) → HasParentsOf (shrink t) t
+pub shrink_parents : (t : Tree) → HasParentsOf (truncate t) t
 shrink_parents t = parents_shrink 0 t
 
-pub grow_parents : (t : Tree) → HasParentsOf (grow t) t
+pub grow_parents : (t : Tree) → HasParentsOf (extend t) t
 grow_parents t p s e set =
     elim (descend 0 t None (blank_tree (height t)) p s e) [
       | inl is ↦ absurd (subst (λ (u : Subtree). HasSetParent u.tree) is set)
@@ -132,10 +132,10 @@ module _ (t u : Tree) (h : HasParentsOf t u) where
       go (branch l None r) k = tt
       go (branch l (Some q) r) k = k tt
 
-  placed_top : (s : Subtree) → (HasSetParent s.tree → IsTrue (is_placed s.first s.tree)) → IsTrue (is_placed s.first s.tree)
-  placed_top s k = go s.tree k
+  consistent_top : (s : Subtree) → (HasSetParent s.tree → IsTrue (is_consistent s.first s.tree)) → IsTrue (is_consistent s.first s.tree)
+  consistent_top s k = go s.tree k
     where
-      go : (v : Tree) → (HasSetParent v → IsTrue (is_placed s.first v)) → IsTrue (is_placed s.first v)
+      go : (v : Tree) → (HasSetParent v → IsTrue (is_consistent s.first v)) → IsTrue (is_consistent s.first v)
       go (leaf x) k = refl
       go (branch l None r) k = refl
       go (branch l (Some q) r) k = k tt
@@ -147,31 +147,31 @@ module _ (t u : Tree) (h : HasParentsOf t u) where
       by_place None e = tt
       by_place (Some s) e = sorted_top s (λ set. subst (λ o. HasSortedList (entry_of o)) (h p s e set) (sorted p))
 
-  pub parts_placed : HasConsistentUnmerged u → HasConsistentUnmerged t
-  parts_placed placed p s e = placed_top s (λ set. placed p s (h p s e set))
+  pub parts_consistent : HasConsistentUnmerged u → HasConsistentUnmerged t
+  parts_consistent consistent p s e = consistent_top s (λ set. consistent p s (h p s e set))
 
   pub parts_lists : HasValidUnmergedLists u → HasValidUnmergedLists t
-  parts_lists lists = record { sorted = parts_sorted lists.sorted; placed = parts_placed lists.placed }
+  parts_lists lists = record { sorted = parts_sorted lists.sorted; consistent = parts_consistent lists.consistent }
 
   parts_reached : (H : List ℕ → List ℕ) → HasConsistentUnmerged u → IsParentHashValid H u → IsParentHashValid H t
-  parts_reached H placed reached p s e set =
+  parts_reached H consistent marks p s e set =
       let there = h p s e set in
       let here = subtree_at-stands 0 t p s e in
       let at = subtree_at-stands 0 u p s there in
-      reached-any (leaf_count u) (leaf_count t) H s
+      marks-any (leaf_count u) (leaf_count t) H s
       (record {
-        own = everywhere-at HasOwnList 0 u p s there (own_lists u placed);
+        own = everywhere-at HasOwnList 0 u p s there (own_lists u consistent);
         low = omega (arith, at.to_right);
         lower = omega (arith, here.to_right);
       })
-      (reached p s there set)
+      (marks p s there set)
 
 pub parts_sound : (H : List ℕ → List ℕ) (t u : Tree) → HasParentsOf t u → IsParentHashValidTree H u → IsParentHashValidTree H t
 parts_sound H t u h sound = record {
   sorted = parts_sorted t u h sound.sorted;
-  placed = parts_placed t u h sound.placed;
-  reached = parts_reached t u h H sound.placed sound.reached;
+  consistent = parts_consistent t u h sound.consistent;
+  parent_hashes = parts_reached t u h H sound.consistent sound.parent_hashes;
 }
 
-pub sound_grow : (H : List ℕ → List ℕ) (t : Tree) → IsParentHashValidTree H t → IsParentHashValidTree H (grow t)
-sound_grow H t h = parts_sound H (grow t) t (grow_parents t) h
+pub sound_grow : (H : List ℕ → List ℕ) (t : Tree) → IsParentHashValidTree H t → IsParentHashValidTree H (extend t)
+sound_grow H t h = parts_sound H (extend t) t (grow_parents t) h

@@ -9,7 +9,7 @@ use Rattle.std.proofs.lemmas.Option.{same_Some, none-some}
 use Rattle.std.proofs.lemmas.Bool.{cases_lt, cases_order, false≢true}
 use Rattle.std.proofs.lemmas.Bool.Decides.{Decides-at, Decides-like, Decides-or}
 use Rattle.mls_tree.specs.Tree.{Tree, leaf_count, entry_of}
-use Rattle.mls_check.specs.DistinctKeys.{key_at, HaveOneKey, HasOwnKeyAt, IsDistinct, encryption_key}
+use Rattle.mls_check.specs.DistinctKeys.{key_at, HaveOneKey, HasUniqueKeyAt, IsDistinct, encryption_key}
 use Rattle.mls_check.specs.FirstFailure.{IsFirstFailureIn}
 use Rattle.mls_check.proofs.Outside.{outside_above}
 use Rattle.mls_check.proofs.Differing.{AreApart}
@@ -20,9 +20,9 @@ by_bytes x y = slice_cmp nat_cmp x.now y.now
 
 -- some place from `low` on has the key
 pub record HasKey (t : Tree) (low : ℕ) (key : List ℕ) : Type 0 where
-  pub place : ℕ
-  pub from : low ≤ place
-  pub is : key_at t place ≡ Some key
+  pub node_index : ℕ
+  pub from : low ≤ node_index
+  pub is : key_at t node_index ≡ Some key
 
 -- the set has just the keys of the places from `low` on
 abbrev pub HoldsKeys : Tree → ℕ → BTreeSet (Bor (List ℕ)) → Type 0
@@ -51,7 +51,7 @@ no_key_above t n p e l = ap (λ o. option_map encryption_key (entry_of o)) (outs
 
 pub walked-start : (t : Tree) (n : ℕ) (set : BTreeSet (Bor (List ℕ))) → n + 1 ≡ 2 * leaf_count t → IsEmpty set → Walked t n set None
 walked-start t n set e h = record {
-  held = λ k. (λ w. absurd (false≢true (sym (ap (λ ks. list_any (λ x. is_eq (by_bytes k x)) ks) h) ∙ w)), λ w. absurd (none-some _ (sym (no_key_above t n w.place e w.from) ∙ w.is)));
+  held = λ k. (λ w. absurd (false≢true (sym (ap (λ ks. list_any (λ x. is_eq (by_bytes k x)) ks) h) ∙ w)), λ w. absurd (none-some _ (sym (no_key_above t n w.node_index e w.from) ∙ w.is)));
   found = λ p l w. none-some _ (sym (no_key_above t n p e l) ∙ w.one_key.here);
 }
 
@@ -67,13 +67,13 @@ either false c = refl
 
 module _ (t : Tree) (low : ℕ) (set : BTreeSet (Bor (List ℕ))) (first : Option ℕ) (pos : 0 < low) (w : Walked t low set first) where
   wider : (k : List ℕ) → HasKey t low k → HasKey t (low - 1) k
-  wider k h = record { place = h.place; from = omega (arith, h.from); is = h.is }
+  wider k h = record { node_index = h.node_index; from = omega (arith, h.from); is = h.is }
 
   here_or_later : (k : List ℕ) → HasKey t (low - 1) k → (key_at t (low - 1) ≡ Some k) ⊎ HasKey t low k
   here_or_later k h =
-      elim (cases_lt h.place low) [
-        | inl u ↦ inl (let e : low - 1 ≡ h.place = omega (arith, h.from) in ap (λ p. key_at t p) e ∙ h.is)
-        | inr g ↦ inr (record { place = h.place; from = g; is = h.is })
+      elim (cases_lt h.node_index low) [
+        | inl u ↦ inl (let e : low - 1 ≡ h.node_index = omega (arith, h.from) in ap (λ p. key_at t p) e ∙ h.is)
+        | inr g ↦ inr (record { node_index = h.node_index; from = g; is = h.is })
       ]
 
   -- at a blank place nothing changes
@@ -92,7 +92,7 @@ module _ (t : Tree) (low : ℕ) (set : BTreeSet (Bor (List ℕ))) (first : Optio
         Decides-at _ _ (u.0 q ∙ either (is_eq (by_bytes k q)) (contains by_bytes set q))
         (Decides-like _
         (λ (o : (k.now ≡ q.now) ⊎ HasKey t low q.now). elim o [
-          | inl s ↦ record { place = low - 1; from = omega arith; is = e ∙ ap Some s }
+          | inl s ↦ record { node_index = low - 1; from = omega arith; is = e ∙ ap Some s }
           | inr h ↦ wider q.now h
         ])
         (λ h. elim (here_or_later q.now h) [ inl s ↦ inl (same_Some k.now q.now (sym e ∙ s)) | inr g ↦ inr g ])
@@ -104,7 +104,7 @@ module _ (t : Tree) (low : ℕ) (set : BTreeSet (Bor (List ℕ))) (first : Optio
         let h = (w.held k).0 m in
         record {
           held = held-more;
-          found = (omega arith, record { other = h.place; after = omega (arith, h.from); one_key = record { key = k.now; here = e; there = h.is } }, λ p l v. absurd (omega arith));
+          found = (omega arith, record { other = h.node_index; after = omega (arith, h.from); one_key = record { key = k.now; here = e; there = h.is } }, λ p l v. absurd (omega arith));
         }
 
     -- a key that is new
@@ -113,10 +113,10 @@ module _ (t : Tree) (low : ℕ) (set : BTreeSet (Bor (List ℕ))) (first : Optio
       held = held-more;
       found = first_later-same t low pos first w.found (λ l.
           let s : l.one_key.key ≡ k.now = same_Some _ _ (sym l.one_key.here ∙ e) in
-          false≢true (sym m ∙ (w.held k).1 (record { place = l.other; from = omega (arith, l.after); is = l.one_key.there ∙ ap Some s })));
+          false≢true (sym m ∙ (w.held k).1 (record { node_index = l.other; from = omega (arith, l.after); is = l.one_key.there ∙ ap Some s })));
     }
 
-own_key : (t : Tree) (p : ℕ) → ((q : ℕ) → q ≤ p → ¬ HasLater t q) → HasOwnKeyAt t p
+own_key : (t : Tree) (p : ℕ) → ((q : ℕ) → q ≤ p → ¬ HasLater t q) → HasUniqueKeyAt t p
 own_key t p none q n h =
     elim (cases_order p q) [
       | inl e ↦ n (sym e)
@@ -125,10 +125,10 @@ own_key t p none q n h =
     ]
 
 -- at the end of the walk
-pub walked-end : (t : Tree) (set : BTreeSet (Bor (List ℕ))) (first : Option ℕ) (low : ℕ) → low ≡ 0 → Walked t low set first → IsFirstFailureIn (HasOwnKeyAt t) first
+pub walked-end : (t : Tree) (set : BTreeSet (Bor (List ℕ))) (first : Option ℕ) (low : ℕ) → low ≡ 0 → Walked t low set first → IsFirstFailureIn (HasUniqueKeyAt t) first
 walked-end t set first low z w = go first (subst (λ v. IsFirstLater t v first) z w.found)
   where
-    go : (o : Option ℕ) → IsFirstLater t 0 o → IsFirstFailureIn (HasOwnKeyAt t) o
+    go : (o : Option ℕ) → IsFirstLater t 0 o → IsFirstFailureIn (HasUniqueKeyAt t) o
     go None f = λ p. own_key t p (λ q _. f q (omega arith))
     go (Some m) f = record {
       fails = λ h. h f.1.other (λ e. let l = f.1.after in omega arith) f.1.one_key;

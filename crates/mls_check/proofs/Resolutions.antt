@@ -8,9 +8,9 @@ use Rattle.std.proofs.lemmas.Option.{none-some, same_Some}
 use Rattle.std.proofs.lemmas.List.Elements.{All-contains, Contains-append_cases}
 use Rattle.mls_nodes.specs.declared.parent.ParentNode.{ParentNode}
 use Rattle.mls_nodes.specs.NodeModel.{parent_node}
-use Rattle.mls_tree.specs.Tree.{Tree, leaf, branch, leaf_count, Subtree, subtree_at, root_place, entry_of}
-use Rattle.mls_tree.specs.Paths.{resolution, resolution_at, unmerged_places}
-use Rattle.mls_tree.proofs.Trees.{leaf_count-positive, subtree_at-stands, subtree_at-root, subtree_at-nested, subtree_at-in_left, subtree_at-in_right, root_place-above, root_place-below}
+use Rattle.mls_tree.specs.Tree.{Tree, leaf, branch, leaf_count, Subtree, subtree_at, root_node_index, entry_of}
+use Rattle.mls_tree.specs.Paths.{resolution, resolution_at, unmerged_node_indices}
+use Rattle.mls_tree.proofs.Trees.{leaf_count-positive, subtree_at-stands, subtree_at-root, subtree_at-nested, subtree_at-in_left, subtree_at-in_right, root_node_index-above, root_node_index-below}
 use Rattle.mls_hash.specs.SubtreeHashes.{IsLeafOf}
 use Rattle.mls_hash.specs.ParentHash.{root_parent}
 use Rattle.mls_check.specs.UnmergedLists.{HasStrictlyIncreasingLists, HasConsistentUnmerged, HasSortedList}
@@ -26,7 +26,7 @@ rises-append (x ∷ xs) ys a b h = (
   rises-append xs ys a.1 b (λ u v c d. h u v (contains-tail x xs u c) d),
 )
 
-rises-unmerged : (n : ℕ) (xs : List ℕ) → IsStrictlyIncreasing xs → RisesInLeaves (unmerged_places n xs)
+rises-unmerged : (n : ℕ) (xs : List ℕ) → IsStrictlyIncreasing xs → RisesInLeaves (unmerged_node_indices n xs)
 rises-unmerged n [] h = tt
 rises-unmerged n (x ∷ xs) h =
     elim (cases_lt x n) [
@@ -43,12 +43,12 @@ HasValidUnmergedLists first t = (p : ℕ) (s : Subtree) (q : ParentNode) → sub
 sound-left : (first : ℕ) (l : Tree) (n : Option ParentNode) (r : Tree) → HasValidUnmergedLists first (branch l n r) → HasValidUnmergedLists first l
 sound-left first l n r h p s q e f =
     let at = subtree_at-stands first l p s e in
-    h p s q (subtree_at-in_left first l n r p (omega (arith, at.place, at.to_right, root_place-below s.first s.tree)) ∙ e) f
+    h p s q (subtree_at-in_left first l n r p (omega (arith, at.node_index, at.to_right, root_node_index-below s.first s.tree)) ∙ e) f
 
 sound-right : (first : ℕ) (l : Tree) (n : Option ParentNode) (r : Tree) → HasValidUnmergedLists first (branch l n r) → HasValidUnmergedLists (first + leaf_count l) r
 sound-right first l n r h p s q e f =
     let at = subtree_at-stands (first + leaf_count l) r p s e in
-    h p s q (subtree_at-in_right first l n r p (omega (arith, at.place, at.from_left, root_place-above s.first s.tree)) ∙ e) f
+    h p s q (subtree_at-in_right first l n r p (omega (arith, at.node_index, at.from_left, root_node_index-above s.first s.tree)) ∙ e) f
 
 -- the leaves of a resolution lie in the subtree
 inside : (n first : ℕ) (t : Tree) → HasValidUnmergedLists first t → (u : ℕ) → Contains (resolution n first t) u → u % 2 ≡ 0 → (2 * first ≤ u) × (u < 2 * (first + leaf_count t))
@@ -60,11 +60,11 @@ inside n first (branch l None r) h u c e =
       | inr b ↦ (let k = inside n (first + leaf_count l) r (sound-right first l None r h) u b e in (omega (arith, k.0), omega (arith, k.1)))
     ]
 inside n first (branch l (Some p) r) h u c e =
-    elim (contains-cons (2 * (first + leaf_count l) - 1) (unmerged_places n p.unmerged) u c) [
+    elim (contains-cons (2 * (first + leaf_count l) - 1) (unmerged_node_indices n p.unmerged) u c) [
       | inl a ↦ (let k = leaf_count-positive l in absurd (omega (arith, a, e, k)))
       | inr b ↦
           (let w = unmerged-listed n p.unmerged u b in
-          let lists = (h (root_place first (branch l (Some p) r)) _ p (subtree_at-root first (branch l (Some p) r)) refl).1 in
+          let lists = (h (root_node_index first (branch l (Some p) r)) _ p (subtree_at-root first (branch l (Some p) r)) refl).1 in
           let k = All-contains (IsLeafOf (record { first = first; tree = branch l (Some p) r })) p.unmerged w.0 lists w.1 in
           let d = w.2 in
           (omega (arith, k.0, d), omega (arith, k.1, d)))
@@ -80,21 +80,21 @@ rises-in n first (branch l None r) h =
     (λ u v c d e f. (let a = inside n first l left u c e in let b = inside n (first + leaf_count l) r right v d f in omega (arith, a.1, b.0)))
 rises-in n first (branch l (Some p) r) h = (
   λ e. (let k = leaf_count-positive l in absurd (omega (arith, e, k))),
-  rises-unmerged n p.unmerged (h (root_place first (branch l (Some p) r)) _ p (subtree_at-root first (branch l (Some p) r)) refl).0,
+  rises-unmerged n p.unmerged (h (root_node_index first (branch l (Some p) r)) _ p (subtree_at-root first (branch l (Some p) r)) refl).0,
 )
 
 sound_lists : (t : Tree) → HasStrictlyIncreasingLists t → HasConsistentUnmerged t → HasValidUnmergedLists 0 t
-sound_lists t sorted placed p s q e f = (rising s.tree f (subst (λ o. HasSortedList (entry_of o)) e (sorted p)), own_leaves t placed p s q e f)
+sound_lists t sorted consistent p s q e f = (increasing s.tree f (subst (λ o. HasSortedList (entry_of o)) e (sorted p)), own_leaves t consistent p s q e f)
   where
-    rising : (u : Tree) → root_parent u ≡ Some q → HasSortedList (entry_of (Some (record { first = s.first; tree = u }))) → IsStrictlyIncreasing q.unmerged
-    rising (leaf x) f h = absurd (none-some q f)
-    rising (branch l n r) f h = subst (λ (o : Option ParentNode). HasSortedList (option_map parent_node o)) f h
+    increasing : (u : Tree) → root_parent u ≡ Some q → HasSortedList (entry_of (Some (record { first = s.first; tree = u }))) → IsStrictlyIncreasing q.unmerged
+    increasing (leaf x) f h = absurd (none-some q f)
+    increasing (branch l n r) f h = subst (λ (o : Option ParentNode). HasSortedList (option_map parent_node o)) f h
 
 pub resolution-rises : (t : Tree) (p : ℕ) (items now : List ℕ) → HasStrictlyIncreasingLists t → HasConsistentUnmerged t → resolution_at t p ≡ Some items → now ≡ items → RisesInLeaves now
-resolution-rises t p items now sorted placed known same = subst (λ ps. RisesInLeaves ps) (sym same) (go (subtree_at 0 t p) refl known)
+resolution-rises t p items now sorted consistent known same = subst (λ ps. RisesInLeaves ps) (sym same) (go (subtree_at 0 t p) refl known)
   where
     go : (o : Option Subtree) → subtree_at 0 t p ≡ o → option_map (λ (s : Subtree). resolution (leaf_count t) s.first s.tree) o ≡ Some items → RisesInLeaves items
     go None e k = absurd (none-some items k)
     go (Some s) e k =
         subst (λ ps. RisesInLeaves ps) (same_Some _ items k)
-        (rises-in (leaf_count t) s.first s.tree (λ q u n f m. sound_lists t sorted placed q u n (subtree_at-nested 0 t p s e q u f) m))
+        (rises-in (leaf_count t) s.first s.tree (λ q u n f m. sound_lists t sorted consistent q u n (subtree_at-nested 0 t p s e q u f) m))

@@ -6,7 +6,7 @@ use Rattle.mls_nodes.specs.declared.leaf.LeafNode.{LeafNode}
 use Rattle.mls_nodes.specs.declared.required_capabilities.RequiredCapabilities.{RequiredCapabilities}
 use Rattle.mls_tree.specs.Tree.{Tree, leaf_count}
 use Rattle.mls_check.specs.Signatures.{VerifyFn}
-use Rattle.mls_check.specs.LeafValidation.{all_leaves, member_rule, LeavesAreValid, FailsFirst, FailsLeafRule, supports_own_extensions, supports_required, supports_used_credentials, has_own_signature_key, is_leaf_signed}
+use Rattle.mls_check.specs.LeafValidation.{all_leaves, member_rule, LeavesAreValid, FailsFirst, FailsLeafRule, supports_own_extensions, supports_required, supports_used_credentials, has_unique_signature_key, is_leaf_signed}
 use Rattle.mls_check.proofs.Leaves.{all_leaves-below}
 
 module _ (G : VerifyFn) (suite : ℕ) (group_id : List ℕ) (required : RequiredCapabilities) (t : Tree) where
@@ -64,7 +64,7 @@ module _ (G : VerifyFn) (suite : ℕ) (group_id : List ℕ) (required : Required
   unfolding member_rule
   credentials_hold earlier e = before_more 3 earlier e
 
-  pub keys_hold : HoldBefore 4 → all_leaves (has_own_signature_key t) 0 t ≡ true → HoldBefore 5
+  pub keys_hold : HoldBefore 4 → all_leaves (has_unique_signature_key t) 0 t ≡ true → HoldBefore 5
   unfolding member_rule
   keys_hold earlier e = before_more 4 earlier e
 
@@ -84,7 +84,7 @@ module _ (G : VerifyFn) (suite : ℕ) (group_id : List ℕ) (required : Required
   unfolding member_rule
   credentials_fail i earlier f = record { first = f; earlier = earlier.at }
 
-  pub keys_fail : (i : ℕ) → HoldBefore 4 → FailsFirst (has_own_signature_key t) t i → FailsLeafRule G suite group_id required t 4 i
+  pub keys_fail : (i : ℕ) → HoldBefore 4 → FailsFirst (has_unique_signature_key t) t i → FailsLeafRule G suite group_id required t 4 i
   unfolding member_rule
   keys_fail i earlier f = record { first = f; earlier = earlier.at }
 

@@ -19,17 +19,17 @@ further xs h i (suc n) lt =
     let next : i + suc n ≡ i + n + 1 = omega arith in
     omega (arith, before, step, ap (λ k. get_or xs k 0) next)
 
-rising : (xs : List ℕ) → IsStrictlyIncreasing xs → IsNonDecreasing xs
-rising xs h =
+increasing : (xs : List ℕ) → IsStrictlyIncreasing xs → IsNonDecreasing xs
+increasing xs h =
     IsNonDecreasingBy-from_default (λ x. x) xs 0
     (λ i j le lt. (let there : i + (j - i) ≡ j = omega arith in subst (λ k. get_or xs i 0 ≤ get_or xs k 0) there (further xs h i (j - i) (omega arith))))
 
 pub sorted_lists : (t : Tree) → HasStrictlyIncreasingLists t → HasNonDecreasingLists t
-sorted_lists t sorted place p e = go (subtree_at 0 t place) (sorted place) e
+sorted_lists t sorted node_index p e = go (subtree_at 0 t node_index) (sorted node_index) e
   where
     listed : (u : Tree) → HasSortedList (root_entry u) → root_parent u ≡ Some p → IsNonDecreasing p.unmerged
     listed (leaf x) h e = absurd (none-some p e)
-    listed (branch l n r) h e = rising p.unmerged (subst (λ (o : Option ParentNode). HasSortedList (option_map parent_node o)) e h)
+    listed (branch l n r) h e = increasing p.unmerged (subst (λ (o : Option ParentNode). HasSortedList (option_map parent_node o)) e h)
 
     go : (o : Option Subtree) → HasSortedList (entry_of o) → option_and_then (λ (s : Subtree). root_parent s.tree) o ≡ Some p → IsNonDecreasing p.unmerged
     go None h e = absurd (none-some p e)

@@ -3,7 +3,7 @@ use Rattle.std.proofs.Common.{◌≡◌, ℕ, ◌+◌, IsTrue, List, Option, Som
 use Rattle.mls_tree.specs.Tree.{Tree, leaf, branch, leaf_count, Subtree, subtree_at, root_entry, entry_of}
 use Rattle.mls_hash.specs.ParentHash.{root_parent}
 use Rattle.mls_check.specs.ParentHashValid.{ParentHashValid, HasSetParent}
-use Rattle.mls_check.specs.UnmergedLists.{HasSortedList, HasSortedEntries, is_placed, HasStrictlyIncreasingLists, HasConsistentUnmerged}
+use Rattle.mls_check.specs.UnmergedLists.{HasSortedList, HasSortedEntries, is_consistent, HasStrictlyIncreasingLists, HasConsistentUnmerged}
 use Rattle.mls_check.proofs.OwnLeaves.{own_leaf}
 use Rattle.mls_check.specs.PreservedValidity.{IsParentHashValidTree}
 use Rattle.mls_check.proofs.Everywhere.{Everywhere, everywhere-top, everywhere-at, everywhere-from, everywhere-more}
@@ -12,15 +12,15 @@ use Rattle.mls_check.proofs.Carrying.{HasOwnList}
 -- what a sound tree of n leaves asks of each subtree
 pub record IsSoundSubtree (H : List ℕ → List ℕ) (n : ℕ) (first : ℕ) (t : Tree) : Type 0 where
   pub sorted : HasSortedEntries (root_parent t)
-  pub placed : IsTrue (is_placed first t)
-  pub reached : HasSetParent t → ParentHashValid H n (record { first = first; tree = t })
+  pub consistent : IsTrue (is_consistent first t)
+  pub parent_hash : HasSetParent t → ParentHashValid H n (record { first = first; tree = t })
 
 abbrev pub HasSoundSubtrees : (List ℕ → List ℕ) → ℕ → ℕ → Tree → Type 0
 HasSoundSubtrees H n = Everywhere (IsSoundSubtree H n)
 
 -- in a tree with placed lists each list is its parent's own
 pub own_lists : (t : Tree) → HasConsistentUnmerged t → Everywhere HasOwnList 0 t
-own_lists t placed = everywhere-from HasOwnList 0 t (λ p s e q set i c. own_leaf s.first s.tree q (placed p s e) set i c)
+own_lists t consistent = everywhere-from HasOwnList 0 t (λ p s e q set i c. own_leaf s.first s.tree q (consistent p s e) set i c)
 
 -- ---- sorted lists
 
@@ -57,8 +57,8 @@ module _ (H : List ℕ → List ℕ) where
       everywhere-from (IsSoundSubtree H (leaf_count t)) 0 t
       (λ p s e. record {
         sorted = list-entries s.tree (subst (λ o. HasSortedList (entry_of o)) e (h.sorted p));
-        placed = h.placed p s e;
-        reached = h.reached p s e;
+        consistent = h.consistent p s e;
+        parent_hash = h.parent_hashes p s e;
       })
 
   subtrees_sound : (t : Tree) → HasSoundSubtrees H (leaf_count t) 0 t → IsParentHashValidTree H t
@@ -67,8 +67,8 @@ module _ (H : List ℕ → List ℕ) where
       = λ p s e. everywhere-top (IsSoundSubtree H (leaf_count t)) s.first s.tree (everywhere-at (IsSoundSubtree H (leaf_count t)) 0 t p s e g) in
       record {
         sorted = sorted_from t (everywhere-more (IsSoundSubtree H (leaf_count t)) (λ first u. HasSortedEntries (root_parent u)) (λ first u k. k.sorted) 0 t g);
-        placed = λ p s e. (at p s e).placed;
-        reached = λ p s e. (at p s e).reached;
+        consistent = λ p s e. (at p s e).consistent;
+        parent_hashes = λ p s e. (at p s e).parent_hash;
       }
 
   pub subtrees_whole : (n : ℕ) (t : Tree) → n ≡ leaf_count t → HasSoundSubtrees H n 0 t → IsParentHashValidTree H t
@@ -76,8 +76,8 @@ module _ (H : List ℕ → List ℕ) where
 
   -- ---- blank parents, and leaves
 
-  pub sound_leaf : (n first : ℕ) (t : Tree) → ¬ HasSetParent t → IsTrue (is_placed first t) → HasSortedEntries (root_parent t) → IsSoundSubtree H n first t
-  sound_leaf n first t h placed sorted = record { sorted = sorted; placed = placed; reached = λ set. absurd (h set) }
+  pub sound_leaf : (n first : ℕ) (t : Tree) → ¬ HasSetParent t → IsTrue (is_consistent first t) → HasSortedEntries (root_parent t) → IsSoundSubtree H n first t
+  sound_leaf n first t h consistent sorted = record { sorted = sorted; consistent = consistent; parent_hash = λ set. absurd (h set) }
 
   pub sound_blank : (n first : ℕ) (l r : Tree) → HasSoundSubtrees H n first l → HasSoundSubtrees H n (first + leaf_count l) r → HasSoundSubtrees H n first (branch l None r)
   sound_blank n first l r a b = (sound_leaf n first (branch l None r) (λ h. h) refl tt, a, b)

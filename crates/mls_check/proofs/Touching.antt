@@ -7,16 +7,16 @@ use Rattle.std.proofs.lemmas.Option.{none-some}
 use Rattle.std.proofs.lemmas.List.Elements.{Contains-append_cases, Contains-append_left, Contains-append_right}
 use Rattle.mls_nodes.specs.declared.leaf.LeafNode.{LeafNode}
 use Rattle.mls_nodes.specs.declared.parent.ParentNode.{ParentNode}
-use Rattle.mls_tree.specs.Tree.{Tree, leaf, branch, leaf_count, leaf_entry, Subtree, subtree_at, root_place, root_entry}
+use Rattle.mls_tree.specs.Tree.{Tree, leaf, branch, leaf_count, leaf_entry, Subtree, subtree_at, root_node_index, root_entry}
 use Rattle.mls_tree.specs.TreeHash.{tree_hash}
-use Rattle.mls_tree.specs.Paths.{resolution, unmerged_places}
+use Rattle.mls_tree.specs.Paths.{resolution, unmerged_node_indices}
 use Rattle.mls_tree.specs.TreeOperations.{put_leaf, change_above, with_unmerged}
 use Rattle.mls_tree.proofs.Choices.{below, from, same, other, is_less, not_less}
 use Rattle.mls_tree.proofs.Kept.{either, leaf_count-change_above}
 use Rattle.mls_tree.proofs.Trees.{along, leaf_count-positive, subtree_at-stands, subtree_at-root, subtree_at-in_left, subtree_at-in_right}
 use Rattle.mls_hash.specs.ParentHash.{parent_hash_input}
 use Rattle.mls_hash.specs.WithoutLeaves.{is_among, stripped_parent, strip}
-use Rattle.mls_check.specs.ParentHashValid.{linked_hash, AreHalves, ParentHashLink, Step, IsLeaf}
+use Rattle.mls_check.specs.ParentHashValid.{linked_hash, AreChildren, ParentHashLink, ParentHashStep, IsLeaf}
 use Rattle.mls_check.proofs.Elements.{contains-nil, contains-cons, contains-head, contains-tail, unmerged-in, unmerged-from}
 use Rattle.mls_check.proofs.Walks.{contained}
 use Rattle.mls_check.proofs.Reaching.{coe_link}
@@ -158,8 +158,8 @@ module _ (j : ℕ) (x : LeafNode) where
     touched-blank first l r = ap (λ k. resolution n first (touch first l) ++ resolution n (first + k) (touch (first + leaf_count l) r)) (leaf_count-touch first l)
 
     touched-set : (first : ℕ) (l : Tree) (p : ParentNode) (r : Tree)
-        → resolution n first (touch first (branch l (Some p) r)) ≡ (2 * (first + leaf_count l) - 1) ∷ unmerged_places n (entered_list j (is_under first (leaf_count l + leaf_count r)) p.unmerged)
-    touched-set first l p r = ap (λ k. (2 * (first + k) - 1) ∷ unmerged_places n (entered_list j (is_under first (leaf_count l + leaf_count r)) p.unmerged)) (leaf_count-touch first l)
+        → resolution n first (touch first (branch l (Some p) r)) ≡ (2 * (first + leaf_count l) - 1) ∷ unmerged_node_indices n (entered_list j (is_under first (leaf_count l + leaf_count r)) p.unmerged)
+    touched-set first l p r = ap (λ k. (2 * (first + k) - 1) ∷ unmerged_node_indices n (entered_list j (is_under first (leaf_count l + leaf_count r)) p.unmerged)) (leaf_count-touch first l)
 
     -- what was in a resolution stays
     pub resolution-has_old : (first : ℕ) (t : Tree) (u : ℕ) → Contains (resolution n first t) u → Contains (resolution n first (touch first t)) u
@@ -173,15 +173,15 @@ module _ (j : ℕ) (x : LeafNode) where
           | inr b ↦ Contains-append_right (resolution n first (touch first l)) _ u (resolution-has_old (first + leaf_count l) r u b)
         ])
     resolution-has_old first (branch l (Some p) r) u c =
-        let place = 2 * (first + leaf_count l) - 1 in
+        let node_index = 2 * (first + leaf_count l) - 1 in
         let list = entered_list j (is_under first (leaf_count l + leaf_count r)) p.unmerged in
         subst (λ xs. Contains xs u) (sym (touched-set first l p r))
-        (elim (contains-cons place (unmerged_places n p.unmerged) u c) [
-          | inl e ↦ subst (λ k. Contains (place ∷ unmerged_places n list) k) e (contains-head place (unmerged_places n list))
+        (elim (contains-cons node_index (unmerged_node_indices n p.unmerged) u c) [
+          | inl e ↦ subst (λ k. Contains (node_index ∷ unmerged_node_indices n list) k) e (contains-head node_index (unmerged_node_indices n list))
           | inr d ↦
               (let w = unmerged-from n p.unmerged u d in
-              contains-tail place (unmerged_places n list) u
-              (subst (λ k. Contains (unmerged_places n list) k) (sym w.3)
+              contains-tail node_index (unmerged_node_indices n list) u
+              (subst (λ k. Contains (unmerged_node_indices n list) k) (sym w.3)
               (unmerged-in n list w.0 (list-has_old j (is_under first (leaf_count l + leaf_count r)) p.unmerged w.0 w.1) w.2)))
         ])
 
@@ -197,10 +197,10 @@ module _ (j : ℕ) (x : LeafNode) where
           | inr ge ↦ Contains-append_right (resolution n first (touch first l)) _ (2 * j) (resolution-has_new (first + leaf_count l) r ge (omega (arith, b)) low)
         ])
     resolution-has_new first (branch l (Some p) r) a b low =
-        let place = 2 * (first + leaf_count l) - 1 in
+        let node_index = 2 * (first + leaf_count l) - 1 in
         subst (λ xs. Contains xs (2 * j)) (sym (touched-set first l p r))
-        (subst (λ c. Contains (place ∷ unmerged_places n (entered_list j c p.unmerged)) (2 * j)) (sym (under first (leaf_count l + leaf_count r) a b))
-        (contains-tail place (unmerged_places n (entered_list j true p.unmerged)) (2 * j)
+        (subst (λ c. Contains (node_index ∷ unmerged_node_indices n (entered_list j c p.unmerged)) (2 * j)) (sym (under first (leaf_count l + leaf_count r) a b))
+        (contains-tail node_index (unmerged_node_indices n (entered_list j true p.unmerged)) (2 * j)
         (unmerged-in n (entered_list j true p.unmerged) j (list-has_new j p.unmerged) low)))
 
     -- place u is that of leaf j, which lies in the subtree
@@ -230,18 +230,18 @@ module _ (j : ℕ) (x : LeafNode) where
           ]
         ]
     resolution-has first (branch l (Some p) r) u c =
-        let place = 2 * (first + leaf_count l) - 1 in
+        let node_index = 2 * (first + leaf_count l) - 1 in
         let b = is_under first (leaf_count l + leaf_count r) in
         let list = entered_list j b p.unmerged in
-        elim (contains-cons place (unmerged_places n list) u (subst (λ xs. Contains xs u) (touched-set first l p r) c)) [
-          | inl e ↦ inr (subst (λ k. Contains (place ∷ unmerged_places n p.unmerged) k) e (contains-head place (unmerged_places n p.unmerged)))
+        elim (contains-cons node_index (unmerged_node_indices n list) u (subst (λ xs. Contains xs u) (touched-set first l p r) c)) [
+          | inl e ↦ inr (subst (λ k. Contains (node_index ∷ unmerged_node_indices n p.unmerged) k) e (contains-head node_index (unmerged_node_indices n p.unmerged)))
           | inr d ↦
               (let w = unmerged-from n list u d in
               elim (list-has j b p.unmerged w.0 w.1) [
                 | inl f ↦ (let k = inside first (leaf_count l + leaf_count r) f.1 in inl (omega (arith, f.0, w.3), k.0, k.1))
                 | inr g ↦
-                    inr (contains-tail place (unmerged_places n p.unmerged) u
-                    (subst (λ k. Contains (unmerged_places n p.unmerged) k) (sym w.3) (unmerged-in n p.unmerged w.0 g w.2)))
+                    inr (contains-tail node_index (unmerged_node_indices n p.unmerged) u
+                    (subst (λ k. Contains (unmerged_node_indices n p.unmerged) k) (sym w.3) (unmerged-in n p.unmerged w.0 g w.2)))
               ])
         ]
 
@@ -258,19 +258,19 @@ module _ (j : ℕ) (x : LeafNode) where
   linked-touch first (branch l (Some p) r) h free e = e
 
   -- a set node doesn't stand at leaf j
-  pub elsewhere : (first : ℕ) (t : Tree) (h : List ℕ) → IsFree first t → linked_hash (root_entry t) ≡ Some h → root_place first t ≡ 2 * j → ⊥
+  pub elsewhere : (first : ℕ) (t : Tree) (h : List ℕ) → IsFree first t → linked_hash (root_entry t) ≡ Some h → root_node_index first t ≡ 2 * j → ⊥
   elsewhere first (leaf None) h free e at = none-some h e
   elsewhere first (leaf (Some y)) h free e at = none-some y (sym (free (omega (arith, at))))
   elsewhere first (branch l n r) h free e at = omega (arith, at, leaf_count-positive l)
 
-  root_place-touch : (first : ℕ) (t : Tree) → root_place first (touch first t) ≡ root_place first t
-  root_place-touch first (leaf y) = refl
-  root_place-touch first (branch l n r) = ap (λ k. 2 * (first + k) - 1) (leaf_count-touch first l)
+  root_node_index-touch : (first : ℕ) (t : Tree) → root_node_index first (touch first t) ≡ root_node_index first t
+  root_node_index-touch first (leaf y) = refl
+  root_node_index-touch first (branch l n r) = ap (λ k. 2 * (first + k) - 1) (leaf_count-touch first l)
 
   pub subtree_at-touch : (first : ℕ) (t : Tree) (p : ℕ) (s : Subtree) → subtree_at first t p ≡ Some s → subtree_at first (touch first t) p ≡ Some (touched s)
   subtree_at-touch =
       along (λ first t p s. subtree_at first (touch first t) p ≡ Some (touched s))
-      (λ first t p e. ap (λ q. subtree_at first (touch first t) q) (e ∙ sym (root_place-touch first t)) ∙ subtree_at-root first (touch first t))
+      (λ first t p e. ap (λ q. subtree_at first (touch first t) q) (e ∙ sym (root_node_index-touch first t)) ∙ subtree_at-root first (touch first t))
       (λ first l n r p s lt sub ih.
       subtree_at-in_left first (touch first l) (touched_parent (is_under first (leaf_count l + leaf_count r)) n) (touch (first + leaf_count l) r) p (omega (arith, lt, leaf_count-touch first l))
       ∙ ih)
@@ -287,31 +287,31 @@ module _ (j : ℕ) (x : LeafNode) where
       pub free : IsFree s.first s.tree
       pub low : s.first + leaf_count s.tree ≤ n
 
-    pub touch-link : (b : Bool) (p : ParentNode) (half other d : Subtree) → IsFresh half → IsFresh other
-        → (half.first ≤ j → j < half.first + leaf_count half.tree → b ≡ true)
+    pub touch-link : (b : Bool) (p : ParentNode) (child other d : Subtree) → IsFresh child → IsFresh other
+        → (child.first ≤ j → j < child.first + leaf_count child.tree → b ≡ true)
         → (other.first ≤ j → j < other.first + leaf_count other.tree → b ≡ true)
-        → ParentHashLink H n p half other d → ParentHashLink H n (touched_node b p) (touched half) (touched other) (touched d)
-    touch-link b p half other d fresh away in_half in_other k =
+        → ParentHashLink H n p child other d → ParentHashLink H n (touched_node b p) (touched child) (touched other) (touched d)
+    touch-link b p child other d fresh away in_child in_other k =
         let list = entered_list j b p.unmerged in
-        let count = leaf_count-touch half.first half.tree in
-        let free : IsFree d.first d.tree = everywhere-at IsFreeAt half.first half.tree k.place d k.stands fresh.free in
-        let at = subtree_at-stands half.first half.tree k.place d k.stands in
+        let count = leaf_count-touch child.first child.tree in
+        let free : IsFree d.first d.tree = everywhere-at IsFreeAt child.first child.tree k.node_index d k.stands fresh.free in
+        let at = subtree_at-stands child.first child.tree k.node_index d k.stands in
         let hashed = strip-touch p.unmerged list (λ i e. list-others j b p.unmerged i e) other.first other.tree away.free
         (λ lo hi. (let e = in_other lo hi in subst (λ c. is_among (entered_list j c p.unmerged) j ≡ true) (sym e) (contained (entered_list j true p.unmerged) j (list-has_new j p.unmerged)))) in
         record {
-          place = k.place;
-          stands = subtree_at-touch half.first half.tree k.place d k.stands;
+          node_index = k.node_index;
+          stands = subtree_at-touch child.first child.tree k.node_index d k.stands;
           hash = k.hash;
           linked = linked-touch d.first d.tree k.hash free k.linked;
           expected =
               ap (λ u. option_and_then (λ original. option_map H (parent_hash_input p original)) (tree_hash H other.first u)) hashed
               ∙ k.expected;
-          resolved = resolution-has_old n half.first half.tree k.place k.resolved;
+          resolved = resolution-has_old n child.first child.tree k.node_index k.resolved;
           unmerged = λ u. (
-            λ c. elim (resolution-has n half.first half.tree u c.0) [
+            λ c. elim (resolution-has n child.first child.tree u c.0) [
               | inl w ↦ (
                 j,
-                subst (λ a. Contains (entered_list j a p.unmerged) j) (sym (in_half w.1 w.2)) (list-has_new j p.unmerged),
+                subst (λ a. Contains (entered_list j a p.unmerged) j) (sym (in_child w.1 w.2)) (list-has_new j p.unmerged),
                 w.1,
                 omega (arith, w.2, count),
                 w.0,
@@ -321,62 +321,62 @@ module _ (j : ℕ) (x : LeafNode) where
             λ w. elim (list-has j b p.unmerged w.0 w.1) [
               | inl f ↦
                   (let e : u ≡ 2 * j = omega (arith, f.0, w.4) in
-                  let lo : half.first ≤ j = omega (arith, f.0, w.2) in
-                  let hi : j < half.first + leaf_count half.tree = omega (arith, f.0, w.3, count) in (
-                    subst (λ v. Contains (resolution n half.first (touch half.first half.tree)) v) (sym e)
-                        (resolution-has_new n half.first half.tree lo hi (omega (arith, hi, fresh.low))),
-                    λ s. elsewhere d.first d.tree k.hash free k.linked (sym at.place ∙ sym s ∙ e),
+                  let lo : child.first ≤ j = omega (arith, f.0, w.2) in
+                  let hi : j < child.first + leaf_count child.tree = omega (arith, f.0, w.3, count) in (
+                    subst (λ v. Contains (resolution n child.first (touch child.first child.tree)) v) (sym e)
+                        (resolution-has_new n child.first child.tree lo hi (omega (arith, hi, fresh.low))),
+                    λ s. elsewhere d.first d.tree k.hash free k.linked (sym at.node_index ∙ sym s ∙ e),
                   ))
               | inr o ↦
                   (let c = (k.unmerged u).1 (w.0, o, w.2, omega (arith, w.3, count), w.4) in
-                  (resolution-has_old n half.first half.tree u c.0, c.1))
+                  (resolution-has_old n child.first child.tree u c.0, c.1))
             ],
           );
         }
 
-    step-in : (d : Subtree) (first : ℕ) (t : Tree) (q : ParentNode) (half other : Subtree) → AreHalves first t q half other → IsFresh (record { first = first; tree = t })
-        → ParentHashLink H n q half other d → Step H n (touched d) (touched (record { first = first; tree = t })) × IsFresh d
-    step-in d first (leaf y) q half other h fresh k = absurd h
-    step-in d first (branch l None r) q half other h fresh k = absurd h
-    step-in d first (branch l (Some p) r) q half other (a, inl b) fresh k =
+    step-in : (d : Subtree) (first : ℕ) (t : Tree) (q : ParentNode) (child other : Subtree) → AreChildren first t q child other → IsFresh (record { first = first; tree = t })
+        → ParentHashLink H n q child other d → ParentHashStep H n (touched d) (touched (record { first = first; tree = t })) × IsFresh d
+    step-in d first (leaf y) q child other h fresh k = absurd h
+    step-in d first (branch l None r) q child other h fresh k = absurd h
+    step-in d first (branch l (Some p) r) q child other (a, inl b) fresh k =
         let left : Subtree = record { first = first; tree = l } in
         let right : Subtree = record { first = first + leaf_count l; tree = r } in
         let fresh_left : IsFresh left = record { free = fresh.free.1; low = omega (arith, fresh.low) } in
         let fresh_right : IsFresh right = record { free = fresh.free.2; low = omega (arith, fresh.low) } in
-        let link = coe_link d q half other left right (sym a) b.0 b.1 k in
+        let link = coe_link d q child other left right (sym a) b.0 b.1 k in
         let c = is_under first (leaf_count l + leaf_count r) in
-        let at = subtree_at-stands first l link.place d link.stands in (
+        let at = subtree_at-stands first l link.node_index d link.stands in (
           record {
             parent = touched_node c p;
-            half = touched left;
+            child = touched left;
             other = touched right;
-            halves = (refl, inl (refl, ap (λ (m : ℕ). record { first = first + m; tree = touch (first + leaf_count l) r }) (sym (leaf_count-touch first l))));
+            children = (refl, inl (refl, ap (λ (m : ℕ). record { first = first + m; tree = touch (first + leaf_count l) r }) (sym (leaf_count-touch first l))));
             link = touch-link c p left right d fresh_left fresh_right
                 (λ lo hi. under first (leaf_count l + leaf_count r) lo (omega (arith, hi)))
                 (λ lo hi. under first (leaf_count l + leaf_count r) (omega (arith, lo)) (omega (arith, hi))) link;
           },
-          record { free = everywhere-at IsFreeAt first l link.place d link.stands fresh.free.1; low = omega (arith, at.to_right, fresh.low) },
+          record { free = everywhere-at IsFreeAt first l link.node_index d link.stands fresh.free.1; low = omega (arith, at.to_right, fresh.low) },
         )
-    step-in d first (branch l (Some p) r) q half other (a, inr b) fresh k =
+    step-in d first (branch l (Some p) r) q child other (a, inr b) fresh k =
         let left : Subtree = record { first = first; tree = l } in
         let right : Subtree = record { first = first + leaf_count l; tree = r } in
         let fresh_left : IsFresh left = record { free = fresh.free.1; low = omega (arith, fresh.low) } in
         let fresh_right : IsFresh right = record { free = fresh.free.2; low = omega (arith, fresh.low) } in
-        let link = coe_link d q half other right left (sym a) b.0 b.1 k in
+        let link = coe_link d q child other right left (sym a) b.0 b.1 k in
         let c = is_under first (leaf_count l + leaf_count r) in
-        let at = subtree_at-stands (first + leaf_count l) r link.place d link.stands in (
+        let at = subtree_at-stands (first + leaf_count l) r link.node_index d link.stands in (
           record {
             parent = touched_node c p;
-            half = touched right;
+            child = touched right;
             other = touched left;
-            halves = (refl, inr (ap (λ (m : ℕ). record { first = first + m; tree = touch (first + leaf_count l) r }) (sym (leaf_count-touch first l)), refl));
+            children = (refl, inr (ap (λ (m : ℕ). record { first = first + m; tree = touch (first + leaf_count l) r }) (sym (leaf_count-touch first l)), refl));
             link = touch-link c p right left d fresh_right fresh_left
                 (λ lo hi. under first (leaf_count l + leaf_count r) (omega (arith, lo)) (omega (arith, hi)))
                 (λ lo hi. under first (leaf_count l + leaf_count r) lo (omega (arith, hi))) link;
           },
-          record { free = everywhere-at IsFreeAt (first + leaf_count l) r link.place d link.stands fresh.free.2; low = omega (arith, at.to_right, fresh.low) },
+          record { free = everywhere-at IsFreeAt (first + leaf_count l) r link.node_index d link.stands fresh.free.2; low = omega (arith, at.to_right, fresh.low) },
         )
 
     -- an addition keeps each step
-    pub touch-step : (d s : Subtree) → IsFresh s → Step H n d s → Step H n (touched d) (touched s) × IsFresh d
-    touch-step d s fresh step = step-in d s.first s.tree step.parent step.half step.other step.halves fresh step.link
+    pub touch-step : (d s : Subtree) → IsFresh s → ParentHashStep H n d s → ParentHashStep H n (touched d) (touched s) × IsFresh d
+    touch-step d s fresh step = step-in d s.first s.tree step.parent step.child step.other step.children fresh step.link

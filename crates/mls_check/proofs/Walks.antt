@@ -9,7 +9,7 @@ use Rattle.std.proofs.lemmas.List.Folds.{list_all_more}
 use Rattle.std.proofs.lemmas.List.Kept.{AllPairs-from_increasing}
 use Rattle.std.proofs.lemmas.List.{length-append, get_or_append_left}
 use Rattle.std.proofs.lemmas.Option.{none-some, same_Some}
-use Rattle.mls_check.specs.ParentHashMarks.{RisesInLeaves, IsListed}
+use Rattle.mls_check.specs.ParentHashMarks.{RisesInLeaves, IsLeafInList}
 use Rattle.mls_check.proofs.Elements.{contains-nil, contains-cons, contains-head, all-each, found-at}
 
 pub increasing-tail : (x : ℕ) (xs : List ℕ) → IsStrictlyIncreasing (x ∷ xs) → IsStrictlyIncreasing xs
@@ -67,10 +67,10 @@ module _ (Coming : ℕ → Type 0) (list rest before after : List ℕ) (n : ℕ)
       first (x ∷ xs) e = subst (λ k. Contains (x ∷ xs) k) (same_Some x n e) (contains-head x xs)
 
   pub unmet : IsStrictlyIncreasing list → slice_get after 0 ≢ Some n → ¬ Contains list n
-  unmet rising e c =
+  unmet increasing e c =
       elim (Contains-append_cases (left.front ++ before) after n (subst (λ xs. Contains xs n) whole c)) [
         | inl a ↦ (let k = front-low n a in omega (arith, k))
-        | inr b ↦ past after high e (increasing-right (left.front ++ before) after (subst (λ xs. IsStrictlyIncreasing xs) whole rising)) b
+        | inr b ↦ past after high e (increasing-right (left.front ++ before) after (subst (λ xs. IsStrictlyIncreasing xs) whole increasing)) b
       ]
     where
       past : (after : List ℕ) → IfSome (slice_get after 0) (λ x. n ≤ x) → slice_get after 0 ≢ Some n → IsStrictlyIncreasing after → ¬ Contains after n
@@ -87,8 +87,8 @@ Among xs i n = (j : ℕ) × (i ≤ j) × (j < length xs) × (get_or xs j 0 ≡ n
 pub here-among : (xs : List ℕ) (i : ℕ) → i < length xs → Among xs i (get_or xs i 0)
 here-among xs i l = (i, omega arith, l, refl)
 
-pub rising-among : (xs : List ℕ) (i : ℕ) → IsStrictlyIncreasing xs → (n : ℕ) → Among xs (i + 1) n → get_or xs i 0 ≤ n
-rising-among xs i h n w = let k = AllPairs-from_increasing xs h i w.0 0 (omega (arith, w.1)) w.2 in let e = w.3 in omega (arith, k, e)
+pub increasing-among : (xs : List ℕ) (i : ℕ) → IsStrictlyIncreasing xs → (n : ℕ) → Among xs (i + 1) n → get_or xs i 0 ≤ n
+increasing-among xs i h n w = let k = AllPairs-from_increasing xs h i w.0 0 (omega (arith, w.1)) w.2 in let e = w.3 in omega (arith, k, e)
 
 pub all-so-far : (f : ℕ → Bool) (xs : List ℕ) (i : ℕ) → i < length xs → list_all f (take i xs) ≡ true → f (get_or xs i 0) ≡ true → list_all f (take (i + 1) xs) ≡ true
 all-so-far f xs i l a b = list_all_more f xs i 0 l ∙ ap (λ r. r && f (get_or xs i 0)) a ∙ b
@@ -159,8 +159,8 @@ leaf-here ps i l e = (i, omega arith, l, omega (arith, e))
 pub later-leaves : (ps : List ℕ) (i n : ℕ) → LeavesOf ps (i + 1) n → LeavesOf ps i n
 later-leaves ps i n w = (w.0, omega (arith, w.1), w.2, w.3)
 
-pub rising-leaves : (ps : List ℕ) (i : ℕ) → RisesInLeaves ps → get_or ps i 0 % 2 ≡ 0 → (n : ℕ) → LeavesOf ps (i + 1) n → get_or ps i 0 / 2 ≤ n
-rising-leaves ps i h e n w =
+pub increasing-leaves : (ps : List ℕ) (i : ℕ) → RisesInLeaves ps → get_or ps i 0 % 2 ≡ 0 → (n : ℕ) → LeavesOf ps (i + 1) n → get_or ps i 0 / 2 ≤ n
+increasing-leaves ps i h e n w =
     let f = w.3 in
     let k = rises-at ps h i w.0 (omega (arith, w.1)) w.2 e (omega (arith, f)) in
     omega (arith, k, f, e)
@@ -170,19 +170,19 @@ module _ (ps list rest before after : List ℕ) (i : ℕ) (inside : i < length p
     (split : rest ≡ before ++ after) (low : All (λ x. x < get_or ps i 0 / 2) before) (high : IfSome (slice_get after 0) (λ x. get_or ps i 0 / 2 ≤ x)) where
   pub leaf-left : RisesInLeaves ps → IsLeft (LeavesOf ps (i + 1)) list after
   leaf-left h =
-      left-after (LeavesOf ps i) list rest before after (get_or ps i 0 / 2) left split low high (leaf-here ps i inside even) (LeavesOf ps (i + 1)) (rising-leaves ps i h even)
+      left-after (LeavesOf ps i) list rest before after (get_or ps i 0 / 2) left split low high (leaf-here ps i inside even) (LeavesOf ps (i + 1)) (increasing-leaves ps i h even)
 
-  pub leaf-listed : slice_get after 0 ≡ Some (get_or ps i 0 / 2) → IsListed list (get_or ps i 0)
+  pub leaf-listed : slice_get after 0 ≡ Some (get_or ps i 0 / 2) → IsLeafInList list (get_or ps i 0)
   leaf-listed e = (get_or ps i 0 / 2, met (LeavesOf ps i) list rest before after (get_or ps i 0 / 2) left split low high (leaf-here ps i inside even) e, omega (arith, even))
 
-  pub leaf-unlisted : IsStrictlyIncreasing list → slice_get after 0 ≢ Some (get_or ps i 0 / 2) → ¬ IsListed list (get_or ps i 0)
+  pub leaf-unlisted : IsStrictlyIncreasing list → slice_get after 0 ≢ Some (get_or ps i 0 / 2) → ¬ IsLeafInList list (get_or ps i 0)
   leaf-unlisted h n w =
       let e = w.2 in
-      let half : w.0 ≡ get_or ps i 0 / 2 = omega (arith, e) in
-      unmet (LeavesOf ps i) list rest before after (get_or ps i 0 / 2) left split low high (leaf-here ps i inside even) h n (subst (λ k. Contains list k) half w.1)
+      let child : w.0 ≡ get_or ps i 0 / 2 = omega (arith, e) in
+      unmet (LeavesOf ps i) list rest before after (get_or ps i 0 / 2) left split low high (leaf-here ps i inside even) h n (subst (λ k. Contains list k) child w.1)
 
 -- the walk comes to the place of a parent
-pub parent-unlisted : (list : List ℕ) (p : ℕ) → p % 2 ≢ 0 → ¬ IsListed list p
+pub parent-unlisted : (list : List ℕ) (p : ℕ) → p % 2 ≢ 0 → ¬ IsLeafInList list p
 parent-unlisted list p odd w = let e = w.2 in odd (omega (arith, e))
 
 pub parent-left : (ps list rest : List ℕ) (i : ℕ) → IsLeft (LeavesOf ps i) list rest → IsLeft (LeavesOf ps (i + 1)) list rest

@@ -22,13 +22,13 @@ pub record HaveOneKey (t : Tree) (p q : ℕ) : Type 0 where
   pub here : key_at t p ≡ Some key
   pub there : key_at t q ≡ Some key
 
--- `HasOwnKeyAt t p`: no other non-blank node has the encryption key of the node at node index p.
-abbrev pub HasOwnKeyAt : Tree → ℕ → Type 0
-HasOwnKeyAt t p = (q : ℕ) → q ≢ p → ¬ HaveOneKey t p q
+-- `HasUniqueKeyAt t p`: no other non-blank node has the encryption key of the node at node index p.
+abbrev pub HasUniqueKeyAt : Tree → ℕ → Type 0
+HasUniqueKeyAt t p = (q : ℕ) → q ≢ p → ¬ HaveOneKey t p q
 
 -- `IsDistinct t`: no two non-blank nodes have equal encryption keys (RFC 9420, 7.3 and 12.4.3.1).
 abbrev pub IsDistinct : Tree → Type 0
-IsDistinct t = (p : ℕ) → HasOwnKeyAt t p
+IsDistinct t = (p : ℕ) → HasUniqueKeyAt t p
 
 -- ---- by the list of all keys, as a function
 

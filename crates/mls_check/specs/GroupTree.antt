@@ -85,10 +85,10 @@ module _ (G : VerifyFn) (c : GroupContext) (IsGiven : RatchetTree → Type 0) wh
 -- `tree_fault_of fault` is the same fault of a tree as a `GroupTreeFault`.
 abbrev pub tree_fault_of : TreeFault → GroupTreeFault
 tree_fault_of trees.HashDiffers = Tree trees.HashDiffers
-tree_fault_of (trees.UnmergedUnsorted place) = Tree (trees.UnmergedUnsorted place)
-tree_fault_of (trees.UnmergedUnsound place) = Tree (trees.UnmergedUnsound place)
-tree_fault_of (trees.KeyRepeated place) = Tree (trees.KeyRepeated place)
-tree_fault_of (trees.ParentHashInvalid place) = Tree (trees.ParentHashInvalid place)
+tree_fault_of (trees.UnmergedUnsorted node_index) = Tree (trees.UnmergedUnsorted node_index)
+tree_fault_of (trees.UnmergedUnsound node_index) = Tree (trees.UnmergedUnsound node_index)
+tree_fault_of (trees.KeyRepeated node_index) = Tree (trees.KeyRepeated node_index)
+tree_fault_of (trees.ParentHashInvalid node_index) = Tree (trees.ParentHashInvalid node_index)
 tree_fault_of trees.OutOfMemory = OutOfMemory
 
 -- `member_fault_of fault` is the same fault of a leaf node as a `GroupTreeFault`.

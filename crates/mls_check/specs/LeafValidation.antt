@@ -21,9 +21,9 @@ all_leaves test first (leaf None) = true
 all_leaves test first (leaf (Some x)) = test first x
 all_leaves test first (branch l _ r) = all_leaves test first l && all_leaves test (first + leaf_count l) r
 
--- `lists_code listed code`: the code is in the list.
-abbrev pub lists_code : List ℕ → ℕ → Bool
-lists_code listed code = list_any (λ x. x == code) listed
+-- `contains_code listed code`: the code is in the list.
+abbrev pub contains_code : List ℕ → ℕ → Bool
+contains_code listed code = list_any (λ x. x == code) listed
 
 -- `is_default_extension kind`: it is one of the extension types 1 to 5, which need not be listed (RFC 9420, 7.2).
 abbrev pub is_default_extension : ℕ → Bool
@@ -35,15 +35,15 @@ is_default_proposal kind = nat_lt 0 kind && nat_le kind 7
 
 -- `supports_extension x kind`: the leaf supports the extension type, by default or by its capabilities (RFC 9420, 7.2).
 abbrev pub supports_extension : LeafNode → ℕ → Bool
-supports_extension x kind = is_default_extension kind || lists_code x.capabilities.extensions kind
+supports_extension x kind = is_default_extension kind || contains_code x.capabilities.extensions kind
 
 -- `supports_proposal x kind`: the leaf supports the proposal type, by default or by its capabilities (RFC 9420, 7.2).
 abbrev pub supports_proposal : LeafNode → ℕ → Bool
-supports_proposal x kind = is_default_proposal kind || lists_code x.capabilities.proposals kind
+supports_proposal x kind = is_default_proposal kind || contains_code x.capabilities.proposals kind
 
 -- `supports_credential x kind`: the leaf's capabilities list the credential type (RFC 9420, 7.2).
 abbrev pub supports_credential : LeafNode → ℕ → Bool
-supports_credential x kind = lists_code x.capabilities.credentials kind
+supports_credential x kind = contains_code x.capabilities.credentials kind
 
 -- Rule 1: the leaf supports the type of each of its extensions (RFC 9420, 7.3).
 unfoldable pub supports_own_extensions : LeafNode → Bool
@@ -65,8 +65,8 @@ unfoldable pub supports_used_credentials : Tree → LeafNode → Bool
 supports_used_credentials t x = all_leaves (λ _ other. supports_credential x (credential_type other.credential)) 0 t
 
 -- Rule 4: no other non-blank leaf has the signature key of leaf i (RFC 9420, 7.3).
-unfoldable pub has_own_signature_key : Tree → ℕ → LeafNode → Bool
-has_own_signature_key t i x = all_leaves (λ j other. j == i || not (bytes_eq other.signature_key x.signature_key)) 0 t
+unfoldable pub has_unique_signature_key : Tree → ℕ → LeafNode → Bool
+has_unique_signature_key t i x = all_leaves (λ j other. j == i || not (bytes_eq other.signature_key x.signature_key)) 0 t
 
 -- Rule 5: the signature of leaf i over its LeafNodeTBS is good (RFC 9420, 7.2 and 7.3).
 unfoldable pub is_leaf_signed : VerifyFn → ℕ → List ℕ → ℕ → LeafNode → Bool
@@ -79,7 +79,7 @@ member_rule G suite group_id required t k i x =
     if k == 1 then supports_own_extensions x
     else if k == 2 then supports_required required x
     else if k == 3 then supports_used_credentials t x
-    else if k == 4 then has_own_signature_key t i x
+    else if k == 4 then has_unique_signature_key t i x
     else if k == 5 then is_leaf_signed G suite group_id i x
     else true
 

@@ -8,17 +8,18 @@ use Rattle.mls_hash.specs.ParentHash.{parent_hash_at}
 use Rattle.mls_hash.specs.declared.side.Side.{Side}
 use Rattle.mls_check.specs.ParentHashValid.{ParentHashValid, linked_hash, HasSetParent}
 
--- `IsListed list u`: node index u is that of a leaf of the list.
-abbrev pub IsListed : List ℕ → ℕ → Type 0
-IsListed list u = (i : ℕ) × Contains list i × (u ≡ 2 * i)
+-- `IsLeafInList list u`: node index u is that of a leaf of the list.
+abbrev pub IsLeafInList : List ℕ → ℕ → Type 0
+IsLeafInList list u = (i : ℕ) × Contains list i × (u ≡ 2 * i)
 
--- `IsLone list places p`: node index p is among `places`, and each other of these is that of a leaf of the list.
-pub record IsLone (list places : List ℕ) (p : ℕ) : Type 0 where
-  pub here : Contains places p
-  pub unlisted : ¬ IsListed list p
-  pub others : (u : ℕ) → Contains places u → u ≢ p → IsListed list u
+-- `IsOnlyUnlisted list node_indices p`: node index p is among `node_indices`, and each other of these is that of a leaf
+-- of the list.
+pub record IsOnlyUnlisted (list node_indices : List ℕ) (p : ℕ) : Type 0 where
+  pub here : Contains node_indices p
+  pub unlisted : ¬ IsLeafInList list p
+  pub others : (u : ℕ) → Contains node_indices u → u ≢ p → IsLeafInList list u
 
--- `RisesInLeaves places`: the node indices of leaves increase along the list.
+-- `RisesInLeaves node_indices`: the node indices of leaves increase along the list.
 abbrev pub RisesInLeaves : List ℕ → Type 0
 RisesInLeaves [] = Unit {0}
 RisesInLeaves (p ∷ ps) = (p % 2 ≡ 0 → (u : ℕ) → Contains ps u → u % 2 ≡ 0 → p < u) × RisesInLeaves ps
@@ -31,23 +32,23 @@ IsMarked marks q = slice_index_or marks q false ≡ true
 abbrev pub IsChainEnd : List Bool → ℕ → Type 0
 IsChainEnd marks q = (q % 2 ≡ 0) ⊎ IsMarked marks q
 
--- `IsCandidate t list half marks p`: p is the only node of the resolution of a child that is not an unmerged leaf in
--- the list, and a chain leads to it.
-pub record IsCandidate (t : Tree) (list : List ℕ) (half : ℕ) (marks : List Bool) (p : ℕ) : Type 0 where
-  pub places : List ℕ
-  pub resolved : resolution_at t half ≡ Some places
-  pub lone : IsLone list places p
+-- `IsChainPredecessor t list child marks p`: p is the only node of the resolution of a child that is not an unmerged
+-- leaf in the list, and a chain leads to it.
+pub record IsChainPredecessor (t : Tree) (list : List ℕ) (child : ℕ) (marks : List Bool) (p : ℕ) : Type 0 where
+  pub node_indices : List ℕ
+  pub resolved : resolution_at t child ≡ Some node_indices
+  pub lone : IsOnlyUnlisted list node_indices p
   pub ended : IsChainEnd marks p
 
--- `IsCandidateIn t list half marks o`: `o` is the candidate of a child, or `None` if it has none.
-abbrev pub IsCandidateIn : Tree → List ℕ → ℕ → List Bool → Option ℕ → Type 0
-IsCandidateIn t list half marks o = MatchOption o ((p : ℕ) → ¬ IsCandidate t list half marks p) (λ p. IsCandidate t list half marks p)
+-- `IsChainPredecessorIn t list child marks o`: `o` is the chain predecessor in a child, or `None` if there is none.
+abbrev pub IsChainPredecessorIn : Tree → List ℕ → ℕ → List Bool → Option ℕ → Type 0
+IsChainPredecessorIn t list child marks o = MatchOption o ((p : ℕ) → ¬ IsChainPredecessor t list child marks p) (λ p. IsChainPredecessor t list child marks p)
 
--- `HasParentHash H t place side below`: the node at `below`, if there is one, has the parent hash of the parent at
--- `place` whose child on the copath is on `side`.
+-- `HasParentHash H t node_index side below`: the node at `below`, if there is one, has the parent hash of the parent at
+-- `node_index` whose child on the copath is on `side`.
 abbrev pub HasParentHash : (List ℕ → List ℕ) → Tree → ℕ → Side → Option ℕ → Type 0
-HasParentHash H t place side None = ⊥
-HasParentHash H t place side (Some below) = (hash : List ℕ) × (linked_hash (node_at t below) ≡ Some hash) × (parent_hash_at H t place side ≡ Some hash)
+HasParentHash H t node_index side None = ⊥
+HasParentHash H t node_index side (Some below) = (hash : List ℕ) × (linked_hash (node_at t below) ≡ Some hash) × (parent_hash_at H t node_index side ≡ Some hash)
 
 -- `AreSound H t marks`: each marked parent is parent-hash valid.
 abbrev pub AreSound : (List ℕ → List ℕ) → Tree → List Bool → Type 0
@@ -61,14 +62,14 @@ AreKept old new = (q : ℕ) → IsMarked old q → IsMarked new q
 abbrev pub AreAllMarked : (List ℕ → List ℕ) → ℕ → List Bool → Subtree → Type 0
 AreAllMarked H leaves marks s = (q : ℕ) (u : Subtree) → subtree_at s.first s.tree q ≡ Some u → ParentHashValid H leaves u → IsMarked marks q
 
--- `AreAllMarkedAt H t marks place`: as `AreAllMarked`, of the subtree at a node index.
+-- `AreAllMarkedAt H t marks node_index`: as `AreAllMarked`, of the subtree at a node index.
 abbrev pub AreAllMarkedAt : (List ℕ → List ℕ) → Tree → List Bool → ℕ → Type 0
-AreAllMarkedAt H t marks place = (s : Subtree) → subtree_at 0 t place ≡ Some s → AreAllMarked H (leaf_count t) marks s
+AreAllMarkedAt H t marks node_index = (s : Subtree) → subtree_at 0 t node_index ≡ Some s → AreAllMarked H (leaf_count t) marks s
 
--- `AreAllMarkedUnder H t marks place`: as `AreAllMarkedAt`, without the parent at the node index itself.
+-- `AreAllMarkedUnder H t marks node_index`: as `AreAllMarkedAt`, without the parent at the node index itself.
 abbrev pub AreAllMarkedUnder : (List ℕ → List ℕ) → Tree → List Bool → ℕ → Type 0
-AreAllMarkedUnder H t marks place =
-    (s : Subtree) → subtree_at 0 t place ≡ Some s → (q : ℕ) (u : Subtree) → q ≢ place → subtree_at s.first s.tree q ≡ Some u → ParentHashValid H (leaf_count t) u → IsMarked marks q
+AreAllMarkedUnder H t marks node_index =
+    (s : Subtree) → subtree_at 0 t node_index ≡ Some s → (q : ℕ) (u : Subtree) → q ≢ node_index → subtree_at s.first s.tree q ≡ Some u → ParentHashValid H (leaf_count t) u → IsMarked marks q
 
 -- `IsMarkedAt t marks p`: the parent at node index p is marked, if it is non-blank.
 abbrev pub IsMarkedAt : Tree → List Bool → ℕ → Type 0

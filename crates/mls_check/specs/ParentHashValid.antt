@@ -22,39 +22,39 @@ linked_hash None = None
 linked_hash (Some (leaf_node x)) = source_hash x.source
 linked_hash (Some (parent_node p)) = Some p.parent_hash
 
--- `AreHalves first t p half other`: the root of `t` is the non-blank parent `p`, and `half` and `other` are its two
+-- `AreChildren first t p child other`: the root of `t` is the non-blank parent `p`, and `child` and `other` are its two
 -- children.
-abbrev pub AreHalves : ℕ → Tree → ParentNode → Subtree → Subtree → Type 0
-AreHalves first (leaf _) p half other = ⊥
-AreHalves first (branch l None r) p half other = ⊥
-AreHalves first (branch l (Some q) r) p half other =
-    (q ≡ p) × (((half ≡ record { first = first; tree = l }) × (other ≡ record { first = first + leaf_count l; tree = r }))
-    ⊎ ((half ≡ record { first = first + leaf_count l; tree = r }) × (other ≡ record { first = first; tree = l })))
+abbrev pub AreChildren : ℕ → Tree → ParentNode → Subtree → Subtree → Type 0
+AreChildren first (leaf _) p child other = ⊥
+AreChildren first (branch l None r) p child other = ⊥
+AreChildren first (branch l (Some q) r) p child other =
+    (q ≡ p) × (((child ≡ record { first = first; tree = l }) × (other ≡ record { first = first + leaf_count l; tree = r }))
+    ⊎ ((child ≡ record { first = first + leaf_count l; tree = r }) × (other ≡ record { first = first; tree = l })))
 
 -- `IsUnmergedUnder p s u`: u is the node index of an unmerged leaf of `p` that is in the subtree `s`.
 abbrev pub IsUnmergedUnder : ParentNode → Subtree → ℕ → Type 0
 IsUnmergedUnder p s u = (i : ℕ) × Contains p.unmerged i × (s.first ≤ i) × (i < s.first + leaf_count s.tree) × (u ≡ 2 * i)
 
--- The parent-hash link of RFC 9420, 7.9.2. `half` is the child of `parent` that contains `descendant`, and `other` is
+-- The parent-hash link of RFC 9420, 7.9.2. `child` is the child of `parent` that contains `descendant`, and `other` is
 -- the child on the copath. The root of `descendant` has the parent hash of `parent` over `other`. It is in the
--- resolution of `half`. The rest of that resolution is the set of unmerged leaves of `parent` in `half`.
-pub record ParentHashLink (H : List ℕ → List ℕ) (leaves : ℕ) (parent : ParentNode) (half other descendant : Subtree) : Type 0 where
-  pub place : ℕ
-  pub stands : subtree_at half.first half.tree place ≡ Some descendant
+-- resolution of `child`. The rest of that resolution is the set of unmerged leaves of `parent` in `child`.
+pub record ParentHashLink (H : List ℕ → List ℕ) (leaves : ℕ) (parent : ParentNode) (child other descendant : Subtree) : Type 0 where
+  pub node_index : ℕ
+  pub stands : subtree_at child.first child.tree node_index ≡ Some descendant
   pub hash : List ℕ
   pub linked : linked_hash (root_entry descendant.tree) ≡ Some hash
   pub expected : parent_hash H parent other.first other.tree ≡ Some hash
-  pub resolved : Contains (resolution leaves half.first half.tree) place
-  pub unmerged : (u : ℕ) → (Contains (resolution leaves half.first half.tree) u × (u ≢ place)) ↔ IsUnmergedUnder parent half u
+  pub resolved : Contains (resolution leaves child.first child.tree) node_index
+  pub unmerged : (u : ℕ) → (Contains (resolution leaves child.first child.tree) u × (u ≢ node_index)) ↔ IsUnmergedUnder parent child u
 
--- `Step H leaves descendant above`: there is a parent-hash link from the root of `descendant` to the root of `above`
--- (RFC 9420, 7.9.2).
-pub record Step (H : List ℕ → List ℕ) (leaves : ℕ) (descendant above : Subtree) : Type 0 where
+-- `ParentHashStep H leaves descendant above`: there is a parent-hash link from the root of `descendant` to the root of
+-- `above` (RFC 9420, 7.9.2).
+pub record ParentHashStep (H : List ℕ → List ℕ) (leaves : ℕ) (descendant above : Subtree) : Type 0 where
   pub parent : ParentNode
-  pub half : Subtree
+  pub child : Subtree
   pub other : Subtree
-  pub halves : AreHalves above.first above.tree parent half other
-  pub link : ParentHashLink H leaves parent half other descendant
+  pub children : AreChildren above.first above.tree parent child other
+  pub link : ParentHashLink H leaves parent child other descendant
 
 -- `IsLeaf t`: the tree is a single leaf.
 abbrev pub IsLeaf : Tree → Type 0
@@ -64,8 +64,8 @@ IsLeaf (branch _ _ _) = ⊥
 -- `ParentHashValid H leaves s`: a chain of links leads from a leaf to the root of `s`. So the root is parent-hash valid
 -- (RFC 9420, 7.9.2).
 pub data ParentHashValid (H : List ℕ → List ℕ) (leaves : ℕ) : Subtree → Type 0 where
-  from_leaf : (descendant above : Subtree) → Step H leaves descendant above → IsLeaf descendant.tree → ParentHashValid H leaves above
-  from_parent : (descendant above : Subtree) → Step H leaves descendant above → ParentHashValid H leaves descendant → ParentHashValid H leaves above
+  from_leaf : (descendant above : Subtree) → ParentHashStep H leaves descendant above → IsLeaf descendant.tree → ParentHashValid H leaves above
+  from_parent : (descendant above : Subtree) → ParentHashStep H leaves descendant above → ParentHashValid H leaves descendant → ParentHashValid H leaves above
 
 -- `HasSetParent t`: the root of the tree is a non-blank parent.
 abbrev pub HasSetParent : Tree → Type 0
@@ -81,6 +81,6 @@ IsParentHashValidAt H t p = (s : Subtree) → subtree_at 0 t p ≡ Some s → Ha
 abbrev pub IsParentHashValid : (List ℕ → List ℕ) → Tree → Type 0
 IsParentHashValid H t = (p : ℕ) → IsParentHashValidAt H t p
 
--- `IsParentHashValidHere H t place`: a non-blank parent is at the node index, and it is parent-hash valid.
+-- `IsParentHashValidHere H t node_index`: a non-blank parent is at the node index, and it is parent-hash valid.
 abbrev pub IsParentHashValidHere : (List ℕ → List ℕ) → Tree → ℕ → Type 0
-IsParentHashValidHere H t place = (s : Subtree) × (subtree_at 0 t place ≡ Some s) × ParentHashValid H (leaf_count t) s
+IsParentHashValidHere H t node_index = (s : Subtree) × (subtree_at 0 t node_index ≡ Some s) × ParentHashValid H (leaf_count t) s

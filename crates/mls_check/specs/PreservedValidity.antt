@@ -2,20 +2,20 @@
 use Rattle.std.specs.Prelude.{◌≡◌, ℕ, List, Some}
 use Rattle.mls_nodes.specs.declared.leaf.LeafNode.{LeafNode}
 use Rattle.mls_tree.specs.Tree.{Tree, leaf_count, Subtree, subtree_at}
-use Rattle.mls_tree.specs.TreeOperations.{update, remove, shrink, grow, add}
-use Rattle.mls_check.specs.ParentHashValid.{HasSetParent, Step, IsParentHashValid}
+use Rattle.mls_tree.specs.TreeOperations.{update, remove, truncate, extend, add}
+use Rattle.mls_check.specs.ParentHashValid.{HasSetParent, ParentHashStep, IsParentHashValid}
 use Rattle.mls_check.specs.UnmergedLists.{HasStrictlyIncreasingLists, HasConsistentUnmerged}
 
 -- `HasValidUnmergedLists t`: the unmerged lists are strictly increasing and consistent (RFC 9420, 7.1 and 12.4.3.1).
 pub record HasValidUnmergedLists (t : Tree) : Type 0 where
   pub sorted : HasStrictlyIncreasingLists t
-  pub placed : HasConsistentUnmerged t
+  pub consistent : HasConsistentUnmerged t
 
 -- `IsParentHashValidTree H t`: and every non-blank parent is parent-hash valid (RFC 9420, 7.9.2).
 pub record IsParentHashValidTree (H : List ℕ → List ℕ) (t : Tree) : Type 0 where
   pub sorted : HasStrictlyIncreasingLists t
-  pub placed : HasConsistentUnmerged t
-  pub reached : IsParentHashValid H t
+  pub consistent : HasConsistentUnmerged t
+  pub parent_hashes : IsParentHashValid H t
 
 -- ---- a member is added (RFC 9420, 12.1.1); a tree without a blank leaf is extended first
 
@@ -26,13 +26,13 @@ AddsKeepLists = (t : Tree) (x : LeafNode) → HasValidUnmergedLists t → HasVal
 -- `IsStepAt H t low high`: there is a parent-hash link between the subtrees at two node indices.
 abbrev pub IsStepAt : (List ℕ → List ℕ) → Tree → ℕ → ℕ → Type 0
 IsStepAt H t low high =
-    (descendant above : Subtree) → subtree_at 0 t low ≡ Some descendant → subtree_at 0 t high ≡ Some above → Step H (leaf_count t) descendant above
+    (descendant above : Subtree) → subtree_at 0 t low ≡ Some descendant → subtree_at 0 t high ≡ Some above → ParentHashStep H (leaf_count t) descendant above
 
 -- Adding a member preserves each parent-hash link, between the subtrees at the same node indices.
 abbrev pub AddsKeepSteps : Type 0
 AddsKeepSteps =
     (H : List ℕ → List ℕ) (t : Tree) (x : LeafNode) (descendant above : Subtree) (low high : ℕ) → HasConsistentUnmerged t
-    → subtree_at 0 t low ≡ Some descendant → subtree_at 0 t high ≡ Some above → Step H (leaf_count t) descendant above
+    → subtree_at 0 t low ≡ Some descendant → subtree_at 0 t high ≡ Some above → ParentHashStep H (leaf_count t) descendant above
     → IsStepAt H (add t x) low high
 
 -- Adding a member preserves `IsParentHashValidTree`.
@@ -60,8 +60,8 @@ RemovesTouchNoParent = (t : Tree) (i : ℕ) → HasParentsOf (remove t i) t
 
 -- Truncating the tree changes no such subtree (RFC 9420, 7.7).
 abbrev pub ShrinkingTouchesNoParent : Type 0
-ShrinkingTouchesNoParent = (t : Tree) → HasParentsOf (shrink t) t
+ShrinkingTouchesNoParent = (t : Tree) → HasParentsOf (truncate t) t
 
 -- Extending the tree changes no such subtree (RFC 9420, 7.7).
 abbrev pub GrowingTouchesNoParent : Type 0
-GrowingTouchesNoParent = (t : Tree) → HasParentsOf (grow t) t
+GrowingTouchesNoParent = (t : Tree) → HasParentsOf (extend t) t

@@ -5,9 +5,9 @@ use Rattle.mls_nodes.specs.declared.required_capabilities.RequiredCapabilities.{
 use Rattle.mls_check.specs.LeafValidation.{supports_required}
 use Rattle.mls_check.specs.declared.sorted_requirements.SortedRequirements.{SortedRequirements}
 
--- `requirements_of rising` is the required capabilities with these strictly increasing lists.
+-- `requirements_of increasing` is the required capabilities with these strictly increasing lists.
 abbrev pub requirements_of : SortedRequirements → RequiredCapabilities
-requirements_of rising = record { extensions = rising.extensions.items; proposals = rising.proposals.items; credentials = rising.credentials.items }
+requirements_of increasing = record { extensions = increasing.extensions.items; proposals = increasing.proposals.items; credentials = increasing.credentials.items }
 
 -- `RequireSame some others`: each leaf satisfies both or neither.
 abbrev pub RequireSame : RequiredCapabilities → RequiredCapabilities → Type 0

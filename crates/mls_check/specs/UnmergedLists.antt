@@ -38,16 +38,16 @@ is_unmerged_in_all i first (leaf x) = (i == first) && is_some x
 is_unmerged_in_all i first (branch l p r) =
     lists p i && (if nat_lt i (first + leaf_count l) then is_unmerged_in_all i first l else is_unmerged_in_all i (first + leaf_count l) r)
 
--- `is_placed first t`: the unmerged leaves of the root are consistent. Each is a non-blank leaf below it and is listed
--- by every non-blank parent between the two (RFC 9420, 12.4.3.1). True if the root is blank or a leaf.
-abbrev pub is_placed : ℕ → Tree → Bool
-is_placed first (leaf _) = true
-is_placed first (branch l None r) = true
-is_placed first (branch l (Some p) r) = list_all (λ i. is_unmerged_in_all i first (branch l None r)) p.unmerged
+-- `is_consistent first t`: the unmerged leaves of the root are consistent. Each is a non-blank leaf below it and is
+-- listed by every non-blank parent between the two (RFC 9420, 12.4.3.1). True if the root is blank or a leaf.
+abbrev pub is_consistent : ℕ → Tree → Bool
+is_consistent first (leaf _) = true
+is_consistent first (branch l None r) = true
+is_consistent first (branch l (Some p) r) = list_all (λ i. is_unmerged_in_all i first (branch l None r)) p.unmerged
 
 -- `HasConsistentUnmergedAt t p`: the unmerged leaves of the parent at node index p are consistent.
 abbrev pub HasConsistentUnmergedAt : Tree → ℕ → Type 0
-HasConsistentUnmergedAt t p = (s : Subtree) → subtree_at 0 t p ≡ Some s → IsTrue (is_placed s.first s.tree)
+HasConsistentUnmergedAt t p = (s : Subtree) → subtree_at 0 t p ≡ Some s → IsTrue (is_consistent s.first s.tree)
 
 -- `HasConsistentUnmerged t`: the unmerged leaves of every non-blank parent are consistent (RFC 9420, 12.4.3.1).
 abbrev pub HasConsistentUnmerged : Tree → Type 0

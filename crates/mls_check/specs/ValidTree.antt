@@ -3,7 +3,7 @@
 use Rattle.std.specs.Prelude.{◌≡◌, ◌≢◌, ◌⊎◌, ℕ, List, Some}
 use Rattle.mls_tree.specs.Tree.{Tree}
 use Rattle.mls_tree.specs.TreeHash.{tree_hash}
-use Rattle.mls_check.specs.DistinctKeys.{HasOwnKeyAt, IsDistinct}
+use Rattle.mls_check.specs.DistinctKeys.{HasUniqueKeyAt, IsDistinct}
 use Rattle.mls_check.specs.FirstFailure.{IsFirstFailure}
 use Rattle.mls_check.specs.ParentHashValid.{IsParentHashValidAt, IsParentHashValid}
 use Rattle.mls_check.specs.UnmergedLists.{IsSortedAt, HasStrictlyIncreasingLists, HasConsistentUnmergedAt, HasConsistentUnmerged}
@@ -15,9 +15,9 @@ use Rattle.mls_check.specs.declared.tree_validation.TreeFault.TheVariants.{HashD
 pub record Valid (H : List ℕ → List ℕ) (hash : List ℕ) (t : Tree) : Type 0 where
   pub hashed : tree_hash H 0 t ≡ Some hash
   pub sorted : HasStrictlyIncreasingLists t
-  pub placed : HasConsistentUnmerged t
+  pub consistent : HasConsistentUnmerged t
   pub distinct : IsDistinct t
-  pub reached : IsParentHashValid H t
+  pub parent_hashes : IsParentHashValid H t
 
 -- `IsFirstUnsorted H hash t p`: the tree hash is right, and p is the first node index with an unmerged list that is not
 -- strictly increasing.
@@ -25,9 +25,9 @@ pub record IsFirstUnsorted (H : List ℕ → List ℕ) (hash : List ℕ) (t : Tr
   pub hashed : tree_hash H 0 t ≡ Some hash
   pub first : IsFirstFailure (IsSortedAt t) p
 
--- `IsFirstUnplaced H hash t p`: and the lists are strictly increasing, and p is the first node index with unmerged
+-- `IsFirstInconsistent H hash t p`: and the lists are strictly increasing, and p is the first node index with unmerged
 -- leaves that are not consistent.
-pub record IsFirstUnplaced (H : List ℕ → List ℕ) (hash : List ℕ) (t : Tree) (p : ℕ) : Type 0 where
+pub record IsFirstInconsistent (H : List ℕ → List ℕ) (hash : List ℕ) (t : Tree) (p : ℕ) : Type 0 where
   pub hashed : tree_hash H 0 t ≡ Some hash
   pub sorted : HasStrictlyIncreasingLists t
   pub first : IsFirstFailure (HasConsistentUnmergedAt t) p
@@ -37,15 +37,15 @@ pub record IsFirstUnplaced (H : List ℕ → List ℕ) (hash : List ℕ) (t : Tr
 pub record IsFirstRepeated (H : List ℕ → List ℕ) (hash : List ℕ) (t : Tree) (p : ℕ) : Type 0 where
   pub hashed : tree_hash H 0 t ≡ Some hash
   pub sorted : HasStrictlyIncreasingLists t
-  pub placed : HasConsistentUnmerged t
-  pub first : IsFirstFailure (HasOwnKeyAt t) p
+  pub consistent : HasConsistentUnmerged t
+  pub first : IsFirstFailure (HasUniqueKeyAt t) p
 
 -- `IsFirstUnreached H hash t p`: and the encryption keys are distinct, and p is the first node index of a non-blank
 -- parent that is not parent-hash valid.
 pub record IsFirstUnreached (H : List ℕ → List ℕ) (hash : List ℕ) (t : Tree) (p : ℕ) : Type 0 where
   pub hashed : tree_hash H 0 t ≡ Some hash
   pub sorted : HasStrictlyIncreasingLists t
-  pub placed : HasConsistentUnmerged t
+  pub consistent : HasConsistentUnmerged t
   pub distinct : IsDistinct t
   pub first : IsFirstFailure (IsParentHashValidAt H t) p
 
@@ -54,7 +54,7 @@ pub record IsFirstUnreached (H : List ℕ → List ℕ) (hash : List ℕ) (t : T
 abbrev pub IsFirstTreeFault : (List ℕ → List ℕ) → List ℕ → Tree → TreeFault → Type 0
 IsFirstTreeFault H hash t HashDiffers = tree_hash H 0 t ≢ Some hash
 IsFirstTreeFault H hash t (UnmergedUnsorted p) = IsFirstUnsorted H hash t p
-IsFirstTreeFault H hash t (UnmergedUnsound p) = IsFirstUnplaced H hash t p
+IsFirstTreeFault H hash t (UnmergedUnsound p) = IsFirstInconsistent H hash t p
 IsFirstTreeFault H hash t (KeyRepeated p) = IsFirstRepeated H hash t p
 IsFirstTreeFault H hash t (ParentHashInvalid p) = IsFirstUnreached H hash t p
 IsFirstTreeFault H hash t OutOfMemory = Unit {0}

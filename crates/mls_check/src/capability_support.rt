@@ -3,11 +3,11 @@
 ghost use Rattle.std.specs.Prelude.{◌≡◌, ◌||◌, IfOk};
 ghost use Rattle.std.specs.List.{list_all};
 ghost use Rattle.std.specs.List.Sorted.{IsStrictlyIncreasing};
-ghost use Rattle.mls_check.specs.LeafValidation.{is_default_extension, is_default_proposal, lists_code, supports_extension, supports_proposal, supports_credential, supports_own_extensions, supports_required};
+ghost use Rattle.mls_check.specs.LeafValidation.{is_default_extension, is_default_proposal, contains_code, supports_extension, supports_proposal, supports_credential, supports_own_extensions, supports_required};
 ghost use Rattle.mls_check.specs.SortedRequirements.{requirements_of};
 
 use crate::signatures::OutOfMemory;
-use crate::sorted_codes::{has_code, rising_codes};
+use crate::sorted_codes::{has_code, sorted_codes};
 use crate::sorted_requirements::SortedRequirements;
 use mls_nodes::LeafNode;
 use std::alloc::Global;
@@ -15,7 +15,7 @@ use std::alloc::Global;
 /// Returns whether an extension type is supported if these are listed. The types 1 to 5 need not be listed.
 fn supports_extension(listed: &[u16], kind: u16) -> bool
     requires { IsStrictlyIncreasing listed.now }
-    ensures { result ≡ (is_default_extension kind || lists_code listed.now kind) }
+    ensures { result ≡ (is_default_extension kind || contains_code listed.now kind) }
 {
     let is_default = 0 < kind && kind <= 5;
     is_default || has_code(listed, kind)
@@ -24,7 +24,7 @@ fn supports_extension(listed: &[u16], kind: u16) -> bool
 /// Returns whether a proposal type is supported if these are listed. The types 1 to 7 need not be listed.
 fn supports_proposal(listed: &[u16], kind: u16) -> bool
     requires { IsStrictlyIncreasing listed.now }
-    ensures { result ≡ (is_default_proposal kind || lists_code listed.now kind) }
+    ensures { result ≡ (is_default_proposal kind || contains_code listed.now kind) }
 {
     let is_default = 0 < kind && kind <= 7;
     is_default || has_code(listed, kind)
@@ -50,7 +50,7 @@ pub fn supports_own_extensions(alloc: Global, leaf: &LeafNode) -> Result<bool, O
     if leaf.extensions.as_slice().is_empty() {
         return Ok(true);
     }
-    let codes = rising_codes(alloc, leaf.capabilities.extensions.as_slice())?;
+    let codes = sorted_codes(alloc, leaf.capabilities.extensions.as_slice())?;
     let listed = codes.as_slice();
     let mut extensions = leaf.extensions.as_slice().iter();
     Ok(extensions.all(|extension| supports_extension(listed, extension.kind)))
@@ -63,7 +63,7 @@ fn supports_extensions(alloc: Global, leaf: &LeafNode, kinds: &[u16]) -> Result<
     if kinds.is_empty() {
         return Ok(true);
     }
-    let codes = rising_codes(alloc, leaf.capabilities.extensions.as_slice())?;
+    let codes = sorted_codes(alloc, leaf.capabilities.extensions.as_slice())?;
     let listed = codes.as_slice();
     Ok(kinds.iter().all(|&kind| supports_extension(listed, kind)))
 }
@@ -75,7 +75,7 @@ fn supports_proposals(alloc: Global, leaf: &LeafNode, kinds: &[u16]) -> Result<b
     if kinds.is_empty() {
         return Ok(true);
     }
-    let codes = rising_codes(alloc, leaf.capabilities.proposals.as_slice())?;
+    let codes = sorted_codes(alloc, leaf.capabilities.proposals.as_slice())?;
     let listed = codes.as_slice();
     Ok(kinds.iter().all(|&kind| supports_proposal(listed, kind)))
 }
@@ -87,7 +87,7 @@ fn supports_credentials(alloc: Global, leaf: &LeafNode, kinds: &[u16]) -> Result
     if kinds.is_empty() {
         return Ok(true);
     }
-    let codes = rising_codes(alloc, leaf.capabilities.credentials.as_slice())?;
+    let codes = sorted_codes(alloc, leaf.capabilities.credentials.as_slice())?;
     let listed = codes.as_slice();
     Ok(kinds.iter().all(|&kind| has_code(listed, kind)))
 }

@@ -61,7 +61,7 @@ impl From<MemberFault> for GroupTreeFault {
 }
 
 /// Checks the tree and its leaf nodes, under required capabilities that were read.
-fn judge_tree<C: SignatureCheck>(
+fn validate_tree_and_leaves<C: SignatureCheck>(
     alloc: Global,
     suite: Suite,
     context: &GroupContext,
@@ -108,7 +108,9 @@ pub fn validate_group_tree<C: SignatureCheck>(
         (λ t. t ≡ plain tree.now)) }
 {
     match requirements(alloc, context) {
-        Ok(required) => match judge_tree(alloc, suite, context, &required, tree, checker) {
+        Ok(required) => match validate_tree_and_leaves(
+            alloc, suite, context, &required, tree, checker,
+        ) {
             Ok(()) => Ok(required),
             Err(fault) => {
                 drop(required);

@@ -2,12 +2,12 @@
 //! than keys.
 
 ghost use Rattle.std.specs.Prelude.{◌≡◌, ◌≢◌, ◌↔◌, IsTrue, AllPairs};
-ghost use Rattle.mls_check.specs.KeyPrefix.{beginning};
+ghost use Rattle.mls_check.specs.KeyPrefix.{key_prefix};
 
 /// Returns the 8-byte prefix of a key as a number, the first byte the highest. A shorter key is followed by zeros. Keys
 /// with equal prefixes have to be compared themselves.
-pub fn beginning(key: &[u8]) -> u64
-    ensures { result ≡ beginning key.now }
+pub fn key_prefix(key: &[u8]) -> u64
+    ensures { result ≡ key_prefix key.now }
 {
     if let Some(front) = key.first_chunk::<8>() {
         return u64::from_be_bytes(*front);

@@ -125,10 +125,10 @@ pub fn first_unmet_requirement(
     ensures { IfOk result
         (FindsFailing (λ _ x. supports_required requirements.now x) tree.now.tree) }
 {
-    let rising = SortedRequirements::new(alloc, requirements)?;
+    let increasing = SortedRequirements::new(alloc, requirements)?;
     for index in 0..tree.leaf_count() {
         if let Some(leaf) = tree.leaf(index) {
-            if !supports_required(alloc, leaf, &rising)? {
+            if !supports_required(alloc, leaf, &increasing)? {
                 return Ok(Some(index));
             }
         }
@@ -166,7 +166,7 @@ fn is_signed_in<C: SignatureCheck>(
     index: u32,
     leaf: &LeafNode,
     checker: &C,
-    room: &mut Vec<u8>,
+    capacity: &mut Vec<u8>,
 ) -> Result<bool, OutOfMemory>
     ensures good { IfOk result
         (λ good. good ≡ is_leaf_signed (C.meaning checker.now) suite group_id.now index leaf.now) }
@@ -177,7 +177,7 @@ fn is_signed_in<C: SignatureCheck>(
     if len > MAX_BODY as u64 {
         return Ok(false);
     }
-    let mut content = replace(room, Vec::new(alloc));
+    let mut content = replace(capacity, Vec::new(alloc));
     content.clear();
     let mut draft = Draft::after(content);
     let label = LEAF_NODE_TBS;
@@ -190,12 +190,12 @@ fn is_signed_in<C: SignatureCheck>(
         len as usize,
         &mut draft,
     ) {
-        Ok(()) => *room = draft.finish(),
+        Ok(()) => *capacity = draft.finish(),
         Err(CodecFault::Wire(_)) => unreachable!(),
         Err(CodecFault::OutOfMemory) => return Err(OutOfMemory),
     }
     let key = leaf.signature_key.as_slice();
-    Ok(checker.good(suite, key, room.as_slice(), leaf.signature.as_slice()))
+    Ok(checker.good(suite, key, capacity.as_slice(), leaf.signature.as_slice()))
 }
 
 /// Returns the smallest leaf index of a leaf whose signature is not good.
@@ -209,10 +209,10 @@ fn first_unsigned_leaf<C: SignatureCheck>(
     ensures { IfOk result
         (FindsFailing (is_leaf_signed (C.meaning checker.now) suite group_id.now) tree.now.tree) }
 {
-    let mut room = Vec::new(alloc);
+    let mut capacity = Vec::new(alloc);
     for index in 0..tree.leaf_count() {
         if let Some(leaf) = tree.leaf(index) {
-            if !is_signed_in(alloc, suite, group_id, index, leaf, checker, &mut room)? {
+            if !is_signed_in(alloc, suite, group_id, index, leaf, checker, &mut capacity)? {
                 return Ok(Some(index));
             }
         }

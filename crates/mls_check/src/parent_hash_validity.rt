@@ -16,9 +16,9 @@ ghost use Rattle.mls_hash.specs.SubtreeHashes.{AreSubtreeHashes};
 ghost use Rattle.mls_check.specs.FirstFailure.{IsFirstFailureIn};
 ghost use Rattle.mls_check.specs.UnmergedLists.{HasStrictlyIncreasingLists, HasConsistentUnmerged};
 ghost use Rattle.mls_check.specs.ParentHashValid.{linked_hash, IsParentHashValidAt, IsParentHashValidHere};
-ghost use Rattle.mls_check.specs.ParentHashMarks.{RisesInLeaves, IsLone, IsChainEnd, IsCandidateIn, HasParentHash, AreSound, AreKept, AreAllMarkedAt, AreAllMarkedUnder, IsMarkedAt};
+ghost use Rattle.mls_check.specs.ParentHashMarks.{RisesInLeaves, IsOnlyUnlisted, IsChainEnd, IsChainPredecessorIn, HasParentHash, AreSound, AreKept, AreAllMarkedAt, AreAllMarkedUnder, IsMarkedAt};
 
-use crate::node_count::place_count;
+use crate::node_count::node_index_count;
 use crate::sorted_leaf_lists::starts_with;
 use mls_hash::{ChildHashes, HashFault, OriginalHashes, Side, SubtreeHashes, Suite};
 use mls_nodes::{LeafSource, Node};
@@ -27,40 +27,40 @@ use std::alloc::{AllocError, Global};
 
 /// Returns the one of the node indices that is not that of a leaf of the list. The list is sorted, and so are the node
 /// indices of leaves: both are walked together.
-fn lone_place(places: &[u32], list: &[u32]) -> Option<u32>
+fn only_unlisted_node(node_indices: &[u32], list: &[u32]) -> Option<u32>
     requires list { IsStrictlyIncreasing list.now }
-    requires places { RisesInLeaves places.now }
-    ensures { MatchOption result ((p : ℕ) → ¬ IsLone list.now places.now p)
-        (λ p. IsLone list.now places.now p) }
+    requires node_indices { RisesInLeaves node_indices.now }
+    ensures { MatchOption result ((p : ℕ) → ¬ IsOnlyUnlisted list.now node_indices.now p)
+        (λ p. IsOnlyUnlisted list.now node_indices.now p) }
 {
     let mut lone = None;
     let mut rest = list;
-    for &place in places {
-        if place % 2 == 0 {
-            rest = split_leaves(rest, place / 2).1;
-            if starts_with(rest, place / 2) {
+    for &node_index in node_indices {
+        if node_index % 2 == 0 {
+            rest = split_leaves(rest, node_index / 2).1;
+            if starts_with(rest, node_index / 2) {
                 continue;
             }
         }
-        if lone == Some(place) {
+        if lone == Some(node_index) {
             continue;
         }
         if lone.is_some() {
             return None;
         }
-        lone = Some(place);
+        lone = Some(node_index);
     }
     lone
 }
 
 /// Returns whether a chain from a leaf leads to the node at a node index: it is a leaf, or marked.
-fn ends_chain(reached: &[bool], place: u32) -> bool
-    ensures { IsTrue result ↔ IsChainEnd reached.now place }
+fn ends_chain(marks: &[bool], node_index: u32) -> bool
+    ensures { IsTrue result ↔ IsChainEnd marks.now node_index }
 {
-    if place % 2 == 0 {
+    if node_index % 2 == 0 {
         return true;
     }
-    match reached.get(place as usize) {
+    match marks.get(node_index as usize) {
         Some(marked) => *marked,
         None => false,
     }
@@ -68,38 +68,38 @@ fn ends_chain(reached: &[bool], place: u32) -> bool
 
 /// Returns the node index of the one node of a child's resolution that a parent with this list does not list, if a
 /// chain leads to it.
-fn candidate(
+fn chain_predecessor(
     alloc: Global,
     tree: &PublicTree,
     list: &[u32],
-    half: u32,
-    reached: &[bool],
+    child: u32,
+    marks: &[bool],
 ) -> Result<Option<u32>, AllocError>
-    requires inside { IsSome (subtree_at 0 tree.now.tree half) }
+    requires inside { IsSome (subtree_at 0 tree.now.tree child) }
     requires list { IsStrictlyIncreasing list.now }
     requires sorted { HasStrictlyIncreasingLists tree.now.tree }
-    requires placed { HasConsistentUnmerged tree.now.tree }
-    ensures { IfOk result (λ o. IsCandidateIn tree.now.tree list.now half reached.now o) }
+    requires consistent { HasConsistentUnmerged tree.now.tree }
+    ensures { IfOk result (λ o. IsChainPredecessorIn tree.now.tree list.now child marks.now o) }
 {
-    let places = match tree.resolution(alloc, half) {
-        Ok(places) => places,
+    let node_indices = match tree.resolution(alloc, child) {
+        Ok(node_indices) => node_indices,
         Err(TreeError::OutOfMemory) => return Err(AllocError),
         Err(_) => unreachable!(),
     };
-    let Some(place) = lone_place(places.as_slice(), list) else {
+    let Some(node_index) = only_unlisted_node(node_indices.as_slice(), list) else {
         return Ok(None);
     };
-    if !ends_chain(reached, place) {
+    if !ends_chain(marks, node_index) {
         return Ok(None);
     }
-    Ok(Some(place))
+    Ok(Some(node_index))
 }
 
 /// Returns the `parent_hash` of the non-blank node at a node index.
-fn linked_hash(tree: &PublicTree, place: u32) -> Option<&[u8]>
-    ensures { option_copied result ≡ linked_hash (node_at tree.now.tree place) }
+fn linked_hash(tree: &PublicTree, node_index: u32) -> Option<&[u8]>
+    ensures { option_copied result ≡ linked_hash (node_at tree.now.tree node_index) }
 {
-    match tree.node(place) {
+    match tree.node(node_index) {
         Some(Node::Leaf(leaf)) => match &leaf.source {
             LeafSource::Commit { parent_hash } => Some(parent_hash.as_slice()),
             LeafSource::KeyPackage(_) => None,
@@ -110,20 +110,20 @@ fn linked_hash(tree: &PublicTree, place: u32) -> Option<&[u8]>
     }
 }
 
-/// Returns whether the node at `below`, if there is one, has the parent hash of the parent at `place` whose child on
-/// the copath is on the given side.
+/// Returns whether the node at `below`, if there is one, has the parent hash of the parent at `node_index` whose child
+/// on the copath is on the given side.
 fn is_linked(
     suite: Suite,
     tree: &PublicTree,
     known: &mut OriginalHashes<'_>,
     children: &ChildHashes,
-    place: u32,
+    node_index: u32,
     side: Side,
     below: Option<u32>,
 ) -> Result<bool, AllocError>
-    requires { AreChildHashes (hash_of suite) tree.now.tree place children.now }
+    requires { AreChildHashes (hash_of suite) tree.now.tree node_index children.now }
     ensures linked { IfOk result
-        (λ b. IsTrue b ↔ HasParentHash (hash_of suite) tree.now.tree place side below) }
+        (λ b. IsTrue b ↔ HasParentHash (hash_of suite) tree.now.tree node_index side below) }
     ensures same { known.new ≡ known.old }
 {
     let Some(below) = below else {
@@ -132,7 +132,7 @@ fn is_linked(
     let Some(linked) = linked_hash(tree, below) else {
         return Ok(false);
     };
-    let expected = known.parent_hash(suite, tree, place, side, children)?;
+    let expected = known.parent_hash(suite, tree, node_index, side, children)?;
     Ok(expected.as_slice() == linked)
 }
 
@@ -142,16 +142,16 @@ fn child_tree_hashes(
     suite: Suite,
     tree: &PublicTree,
     known: &mut OriginalHashes<'_>,
-    place: u32,
+    node_index: u32,
 ) -> Result<ChildHashes, AllocError>
-    requires set { IsSome (parent_at tree.now.tree place) }
+    requires set { IsSome (parent_at tree.now.tree node_index) }
     requires known { AreKnownHashes (hash_of suite) tree.now.tree known.old }
     requires sorted { HasStrictlyIncreasingLists tree.now.tree }
-    requires placed { HasConsistentUnmerged tree.now.tree }
-    ensures hashes { IfOk result (AreChildHashes (hash_of suite) tree.now.tree place) }
+    requires consistent { HasConsistentUnmerged tree.now.tree }
+    ensures hashes { IfOk result (AreChildHashes (hash_of suite) tree.now.tree node_index) }
     ensures known { AreKnownHashes (hash_of suite) tree.now.tree known.new }
 {
-    match known.child_hashes(alloc, suite, tree, place) {
+    match known.child_hashes(alloc, suite, tree, node_index) {
         Ok(children) => Ok(children),
         Err(HashFault::OutOfMemory) => Err(AllocError),
         Err(_) => unreachable!(),
@@ -160,21 +160,21 @@ fn child_tree_hashes(
 
 /// Returns whether the non-blank parent at a node index is parent-hash valid. The parents below it that are must be
 /// marked.
-fn is_reached(
+fn is_parent_hash_valid(
     alloc: Global,
     suite: Suite,
     tree: &PublicTree,
     known: &mut OriginalHashes<'_>,
-    place: u32,
-    reached: &[bool],
+    node_index: u32,
+    marks: &[bool],
 ) -> Result<bool, AllocError>
     requires known { AreKnownHashes (hash_of suite) tree.now.tree known.old }
     requires sorted { HasStrictlyIncreasingLists tree.now.tree }
-    requires placed { HasConsistentUnmerged tree.now.tree }
-    requires sound { AreSound (hash_of suite) tree.now.tree reached.now }
-    requires marked { AreAllMarkedUnder (hash_of suite) tree.now.tree reached.now place }
-    ensures reached { IfOk result
-        (λ b. IsTrue b ↔ IsParentHashValidHere (hash_of suite) tree.now.tree place) }
+    requires consistent { HasConsistentUnmerged tree.now.tree }
+    requires sound { AreSound (hash_of suite) tree.now.tree marks.now }
+    requires marked { AreAllMarkedUnder (hash_of suite) tree.now.tree marks.now node_index }
+    ensures marks { IfOk result
+        (λ b. IsTrue b ↔ IsParentHashValidHere (hash_of suite) tree.now.tree node_index) }
     ensures known { AreKnownHashes (hash_of suite) tree.now.tree known.new }
 {
     let Some(
@@ -184,21 +184,37 @@ fn is_reached(
             right,
             ..
         },
-    ) = tree.part(place)
+    ) = tree.part(node_index)
     else {
         return Ok(false);
     };
     let list = parent.unmerged.as_slice();
-    let from_left = candidate(alloc, tree, list, left, reached)?;
-    let from_right = candidate(alloc, tree, list, right, reached)?;
+    let from_left = chain_predecessor(alloc, tree, list, left, marks)?;
+    let from_right = chain_predecessor(alloc, tree, list, right, marks)?;
     if from_left.is_none() && from_right.is_none() {
         return Ok(false);
     }
-    let halves = child_tree_hashes(alloc, suite, tree, known, place)?;
-    if is_linked(suite, tree, known, &halves, place, Side::Right, from_left)? {
+    let children = child_tree_hashes(alloc, suite, tree, known, node_index)?;
+    if is_linked(
+        suite,
+        tree,
+        known,
+        &children,
+        node_index,
+        Side::Right,
+        from_left,
+    )? {
         return Ok(true);
     }
-    is_linked(suite, tree, known, &halves, place, Side::Left, from_right)
+    is_linked(
+        suite,
+        tree,
+        known,
+        &children,
+        node_index,
+        Side::Left,
+        from_right,
+    )
 }
 
 /// Marks the parents of a subtree that are parent-hash valid, children first.
@@ -207,46 +223,48 @@ fn mark_reached(
     suite: Suite,
     tree: &PublicTree,
     known: &mut OriginalHashes<'_>,
-    place: u32,
-    reached: &mut [bool],
+    node_index: u32,
+    marks: &mut [bool],
 ) -> Result<(), AllocError>
     requires known { AreKnownHashes (hash_of suite) tree.now.tree known.old }
     requires sorted { HasStrictlyIncreasingLists tree.now.tree }
-    requires placed { HasConsistentUnmerged tree.now.tree }
-    requires room { length reached.old + 1 ≡ 2 * leaf_count tree.now.tree }
-    requires sound { AreSound (hash_of suite) tree.now.tree reached.old }
+    requires consistent { HasConsistentUnmerged tree.now.tree }
+    requires capacity { length marks.old + 1 ≡ 2 * leaf_count tree.now.tree }
+    requires sound { AreSound (hash_of suite) tree.now.tree marks.old }
     ensures known { AreKnownHashes (hash_of suite) tree.now.tree known.new }
-    ensures sound { OnOk result (AreSound (hash_of suite) tree.now.tree reached.new) }
-    ensures kept { OnOk result (AreKept reached.old reached.new) }
-    ensures marked { OnOk result (AreAllMarkedAt (hash_of suite) tree.now.tree reached.new place) }
+    ensures sound { OnOk result (AreSound (hash_of suite) tree.now.tree marks.new) }
+    ensures preserved { OnOk result (AreKept marks.old marks.new) }
+    ensures marked { OnOk result (AreAllMarkedAt (hash_of suite) tree.now.tree marks.new node_index) }
 {
-    let Some(Part::Parent { left, right, .. }) = tree.part(place) else {
+    let Some(Part::Parent { left, right, .. }) = tree.part(node_index) else {
         return Ok(());
     };
-    mark_reached(alloc, suite, tree, known, left, reached)?;
-    mark_reached(alloc, suite, tree, known, right, reached)?;
-    reached[place as usize] = is_reached(alloc, suite, tree, known, place, reached)?;
+    mark_reached(alloc, suite, tree, known, left, marks)?;
+    mark_reached(alloc, suite, tree, known, right, marks)?;
+    marks[node_index as usize] = is_parent_hash_valid(
+        alloc, suite, tree, known, node_index, marks,
+    )?;
     Ok(())
 }
 
 /// Returns the first node index of a non-blank parent that is not marked.
-fn first_unmarked(tree: &PublicTree, reached: &[bool]) -> Option<u32>
-    requires { length reached.now + 1 ≡ 2 * leaf_count tree.now.tree }
-    ensures { IsFirstFailureIn (IsMarkedAt tree.now.tree reached.now) result }
+fn first_unmarked(tree: &PublicTree, marks: &[bool]) -> Option<u32>
+    requires { length marks.now + 1 ≡ 2 * leaf_count tree.now.tree }
+    ensures { IsFirstFailureIn (IsMarkedAt tree.now.tree marks.now) result }
 {
-    for place in 0..place_count(tree) {
-        if tree.parent(place).is_none() {
+    for node_index in 0..node_index_count(tree) {
+        if tree.parent(node_index).is_none() {
             continue;
         }
-        if !reached[place as usize] {
-            return Some(place);
+        if !marks[node_index as usize] {
+            return Some(node_index);
         }
     }
     None
 }
 
 /// Returns the first node index of a non-blank parent that is not parent-hash valid.
-pub(crate) fn first_unreached(
+pub(crate) fn first_parent_hash_invalid(
     alloc: Global,
     suite: Suite,
     tree: &PublicTree,
@@ -254,12 +272,12 @@ pub(crate) fn first_unreached(
 ) -> Result<Option<u32>, AllocError>
     requires hashes { AreSubtreeHashes (hash_of suite) tree.now.tree hashes.now }
     requires sorted { HasStrictlyIncreasingLists tree.now.tree }
-    requires placed { HasConsistentUnmerged tree.now.tree }
+    requires consistent { HasConsistentUnmerged tree.now.tree }
     ensures { IfOk result (λ o. IsFirstFailureIn (IsParentHashValidAt (hash_of suite) tree.now.tree) o) }
 {
-    let mut reached = vec![in alloc; false; place_count(tree) as usize]?;
+    let mut marks = vec![in alloc; false; node_index_count(tree) as usize]?;
     let mut known = OriginalHashes::new(alloc, tree, hashes)?;
     let root = tree.leaf_count() - 1;
-    mark_reached(alloc, suite, tree, &mut known, root, reached.as_mut_slice())?;
-    Ok(first_unmarked(tree, reached.as_slice()))
+    mark_reached(alloc, suite, tree, &mut known, root, marks.as_mut_slice())?;
+    Ok(first_unmarked(tree, marks.as_slice()))
 }

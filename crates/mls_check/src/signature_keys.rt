@@ -2,33 +2,33 @@
 
 ghost use Rattle.std.specs.Prelude.{◌≡◌, ℕ, true, IfOk};
 ghost use Rattle.std.specs.Bool.{OnTrue};
-ghost use Rattle.mls_check.specs.LeafValidation.{FindsFailing, all_leaves, has_own_signature_key};
+ghost use Rattle.mls_check.specs.LeafValidation.{FindsFailing, all_leaves, has_unique_signature_key};
 
-use crate::key_prefixes::{all_differ, beginning};
+use crate::key_prefixes::{all_differ, key_prefix};
 use crate::signatures::OutOfMemory;
 use mls_tree::PublicTree;
 use std::alloc::Global;
 use std::collections::BTreeSet;
 
 /// Returns whether the 8-byte prefixes of the leaves' signature keys are distinct. Then so are the keys.
-fn has_distinct_beginnings(alloc: Global, tree: &PublicTree) -> Result<bool, OutOfMemory>
+fn has_distinct_prefixes(alloc: Global, tree: &PublicTree) -> Result<bool, OutOfMemory>
     ensures { IfOk result (λ distinct. OnTrue distinct
-        (all_leaves (has_own_signature_key tree.now.tree) 0 tree.now.tree ≡ true)) }
+        (all_leaves (has_unique_signature_key tree.now.tree) 0 tree.now.tree ≡ true)) }
 {
     let leaves = tree.leaf_count();
-    let mut beginnings = Vec::with_capacity(alloc, leaves as usize)?;
+    let mut prefixes = Vec::with_capacity(alloc, leaves as usize)?;
     for index in 0..leaves {
         if let Some(leaf) = tree.leaf(index) {
-            beginnings.push(beginning(leaf.signature_key.as_slice()))?;
+            prefixes.push(key_prefix(leaf.signature_key.as_slice()))?;
         }
     }
-    Ok(all_differ(beginnings))
+    Ok(all_differ(prefixes))
 }
 
 /// Returns the smallest leaf index of a leaf whose signature key another leaf has. It is the last one found in a walk
 /// from the last leaf down, whose key a later leaf has.
 fn first_repeated_by_set(alloc: Global, tree: &PublicTree) -> Result<Option<u32>, OutOfMemory>
-    ensures { IfOk result (FindsFailing (has_own_signature_key tree.now.tree) tree.now.tree) }
+    ensures { IfOk result (FindsFailing (has_unique_signature_key tree.now.tree) tree.now.tree) }
 {
     let mut later: BTreeSet<&[u8]> = BTreeSet::new(alloc);
     let mut repeated = None;
@@ -48,9 +48,9 @@ pub fn first_repeated_signature_key(
     alloc: Global,
     tree: &PublicTree,
 ) -> Result<Option<u32>, OutOfMemory>
-    ensures { IfOk result (FindsFailing (has_own_signature_key tree.now.tree) tree.now.tree) }
+    ensures { IfOk result (FindsFailing (has_unique_signature_key tree.now.tree) tree.now.tree) }
 {
-    if has_distinct_beginnings(alloc, tree)? {
+    if has_distinct_prefixes(alloc, tree)? {
         return Ok(None);
     }
     first_repeated_by_set(alloc, tree)

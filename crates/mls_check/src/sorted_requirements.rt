@@ -3,7 +3,7 @@
 ghost use Rattle.std.specs.List.Sorted.{IsStrictlyIncreasing};
 
 use crate::signatures::OutOfMemory;
-use crate::sorted_codes::rising_codes;
+use crate::sorted_codes::sorted_codes;
 use mls_nodes::RequiredCapabilities;
 use std::alloc::Global;
 
@@ -17,9 +17,9 @@ pub struct SortedRequirements {
     pub(crate) proposals: Vec<u16>,
     /// Types of credentials.
     pub(crate) credentials: Vec<u16>,
-    ghost rising_extensions: { IsStrictlyIncreasing extensions.items },
-    ghost rising_proposals: { IsStrictlyIncreasing proposals.items },
-    ghost rising_credentials: { IsStrictlyIncreasing credentials.items },
+    ghost sorted_extensions: { IsStrictlyIncreasing extensions.items },
+    ghost sorted_proposals: { IsStrictlyIncreasing proposals.items },
+    ghost sorted_credentials: { IsStrictlyIncreasing credentials.items },
 }
 
 impl SortedRequirements {
@@ -36,11 +36,11 @@ impl SortedRequirements {
         alloc: Global,
         requirements: &RequiredCapabilities,
     ) -> Result<SortedRequirements, OutOfMemory>
-        ensures { IfOk result (λ rising. RequireSame (requirements_of rising) requirements.now) }
+        ensures { IfOk result (λ increasing. RequireSame (requirements_of increasing) requirements.now) }
     {
-        let extensions = rising_codes(alloc, requirements.extensions.as_slice())?;
-        let proposals = rising_codes(alloc, requirements.proposals.as_slice())?;
-        let credentials = rising_codes(alloc, requirements.credentials.as_slice())?;
+        let extensions = sorted_codes(alloc, requirements.extensions.as_slice())?;
+        let proposals = sorted_codes(alloc, requirements.proposals.as_slice())?;
+        let credentials = sorted_codes(alloc, requirements.credentials.as_slice())?;
         Ok(SortedRequirements {
             extensions,
             proposals,

@@ -8,7 +8,7 @@ ghost use Rattle.mls_hash.specs.SubtreeHashes.{AreSubtreeHashes};
 ghost use Rattle.mls_check.specs.ValidTree.{Valid, IsFirstTreeFault};
 
 use crate::distinct_keys::first_repeated;
-use crate::parent_hash_validity::first_unreached;
+use crate::parent_hash_validity::first_parent_hash_invalid;
 use crate::unmerged_consistency::first_inconsistent_unmerged;
 use crate::unmerged_order::first_unsorted;
 use mls_hash::{SubtreeHashes, Suite};
@@ -105,17 +105,17 @@ fn validate_tree_by(
     if !has_hash(tree, hashes, context.tree_hash.as_slice()) {
         return Err(TreeFault::HashDiffers);
     }
-    if let Some(place) = first_unsorted(tree) {
-        return Err(TreeFault::UnmergedUnsorted(place));
+    if let Some(node_index) = first_unsorted(tree) {
+        return Err(TreeFault::UnmergedUnsorted(node_index));
     }
-    if let Some(place) = first_inconsistent_unmerged(tree) {
-        return Err(TreeFault::UnmergedUnsound(place));
+    if let Some(node_index) = first_inconsistent_unmerged(tree) {
+        return Err(TreeFault::UnmergedUnsound(node_index));
     }
-    if let Some(place) = first_repeated(alloc, tree)? {
-        return Err(TreeFault::KeyRepeated(place));
+    if let Some(node_index) = first_repeated(alloc, tree)? {
+        return Err(TreeFault::KeyRepeated(node_index));
     }
-    if let Some(place) = first_unreached(alloc, suite, tree, hashes)? {
-        return Err(TreeFault::ParentHashInvalid(place));
+    if let Some(node_index) = first_parent_hash_invalid(alloc, suite, tree, hashes)? {
+        return Err(TreeFault::ParentHashInvalid(node_index));
     }
     Ok(())
 }

@@ -13,7 +13,7 @@ ghost use Rattle.mls_check.specs.FirstFailure.{IsFirstFailureIn};
 ghost use Rattle.mls_check.specs.UnmergedLists.{HasStrictlyIncreasingLists, HasConsistentUnmergedAt, HasSortedEntries, lists, is_unmerged_in_all};
 ghost use Rattle.mls_check.specs.UnmergedInAll.{is_unmerged_in_all_at};
 
-use crate::node_count::place_count;
+use crate::node_count::node_index_count;
 use crate::sorted_leaf_lists::{are_among, is_only};
 use mls_nodes::ParentNode;
 use mls_tree::{Part, PublicTree, split_leaves};
@@ -21,7 +21,7 @@ use mls_tree::{Part, PublicTree, split_leaves};
 /// Returns whether a parent has each of the leaves in its unmerged list, or is blank.
 fn lists_all(parent: Option<&ParentNode>, leaves: &[u32]) -> bool
     requires sorted { HasSortedEntries (option_copied parent) }
-    requires rising { IsStrictlyIncreasing leaves.now }
+    requires increasing { IsStrictlyIncreasing leaves.now }
     ensures { result ≡ list_all (λ i. lists (option_copied parent.entry) i) leaves.now }
 {
     match parent {
@@ -32,16 +32,16 @@ fn lists_all(parent: Option<&ParentNode>, leaves: &[u32]) -> bool
 
 /// Returns whether each of the leaves is non-blank, in the subtree at a node index, and listed by each non-blank parent
 /// from there down to it.
-fn are_unmerged_in_all(tree: &PublicTree, leaves: &[u32], place: u32) -> bool
+fn are_unmerged_in_all(tree: &PublicTree, leaves: &[u32], node_index: u32) -> bool
     requires sorted { HasStrictlyIncreasingLists tree.now.tree }
-    requires rising { IsStrictlyIncreasing leaves.now }
+    requires increasing { IsStrictlyIncreasing leaves.now }
     ensures { result ≡ list_all
-        (λ i. is_unmerged_in_all_at (subtree_at 0 tree.now.tree place) i) leaves.now }
+        (λ i. is_unmerged_in_all_at (subtree_at 0 tree.now.tree node_index) i) leaves.now }
 {
     if leaves.is_empty() {
         return true;
     }
-    match tree.part(place) {
+    match tree.part(node_index) {
         None => false,
         Some(Part::Leaf { index, node }) => is_only(leaves, index) && node.is_some(),
         Some(
@@ -62,20 +62,20 @@ fn are_unmerged_in_all(tree: &PublicTree, leaves: &[u32], place: u32) -> bool
 }
 
 /// Returns whether the unmerged leaves of the parent at a node index are consistent.
-fn has_consistent_unmerged_at(tree: &PublicTree, place: u32) -> bool
+fn has_consistent_unmerged_at(tree: &PublicTree, node_index: u32) -> bool
     requires { HasStrictlyIncreasingLists tree.now.tree }
-    ensures { IsTrue result ↔ HasConsistentUnmergedAt tree.now.tree place }
+    ensures { IsTrue result ↔ HasConsistentUnmergedAt tree.now.tree node_index }
 {
     let Some(
         Part::Parent {
             node: Some(parent),
             ..
         },
-    ) = tree.part(place)
+    ) = tree.part(node_index)
     else {
         return true;
     };
-    are_unmerged_in_all(tree, parent.unmerged.as_slice(), place)
+    are_unmerged_in_all(tree, parent.unmerged.as_slice(), node_index)
 }
 
 /// Returns the first node index of a parent whose unmerged leaves are not consistent.
@@ -83,9 +83,9 @@ pub(crate) fn first_inconsistent_unmerged(tree: &PublicTree) -> Option<u32>
     requires { HasStrictlyIncreasingLists tree.now.tree }
     ensures { IsFirstFailureIn (HasConsistentUnmergedAt tree.now.tree) result }
 {
-    for place in 0..place_count(tree) {
-        if !has_consistent_unmerged_at(tree, place) {
-            return Some(place);
+    for node_index in 0..node_index_count(tree) {
+        if !has_consistent_unmerged_at(tree, node_index) {
+            return Some(node_index);
         }
     }
     None

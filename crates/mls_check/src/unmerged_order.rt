@@ -5,7 +5,7 @@ ghost use Rattle.std.specs.List.Sorted.{IsStrictlyIncreasing};
 ghost use Rattle.mls_check.specs.FirstFailure.{IsFirstFailureIn};
 ghost use Rattle.mls_check.specs.UnmergedLists.{IsSortedAt};
 
-use crate::node_count::place_count;
+use crate::node_count::node_index_count;
 use mls_tree::PublicTree;
 
 /// Returns whether each number is below the next.
@@ -16,10 +16,10 @@ fn is_strictly_increasing(numbers: &[u32]) -> bool
 }
 
 /// Returns whether the unmerged list of the parent at a node index, if it has one, is strictly increasing.
-fn is_sorted_at(tree: &PublicTree, place: u32) -> bool
-    ensures { IsTrue result ↔ IsSortedAt tree.now.tree place }
+fn is_sorted_at(tree: &PublicTree, node_index: u32) -> bool
+    ensures { IsTrue result ↔ IsSortedAt tree.now.tree node_index }
 {
-    match tree.parent(place) {
+    match tree.parent(node_index) {
         Some(parent) => is_strictly_increasing(parent.unmerged.as_slice()),
         None => true,
     }
@@ -29,9 +29,9 @@ fn is_sorted_at(tree: &PublicTree, place: u32) -> bool
 pub(crate) fn first_unsorted(tree: &PublicTree) -> Option<u32>
     ensures { IsFirstFailureIn (IsSortedAt tree.now.tree) result }
 {
-    for place in 0..place_count(tree) {
-        if !is_sorted_at(tree, place) {
-            return Some(place);
+    for node_index in 0..node_index_count(tree) {
+        if !is_sorted_at(tree, node_index) {
+            return Some(node_index);
         }
     }
     None

@@ -2,7 +2,7 @@
 use Rattle.std.proofs.Common.{◌≡◌, Bool, true, false, Ok, Err, Result, refl}
 use Rattle.std.specs.Prelude.{◌↔◌, ◌≢◌, IfErr}
 use Rattle.mls_cli.specs.Execution.{MeansWrite}
-use Rattle.mls_cli.specs.ReportResult.{Outcome}
+use Rattle.mls_cli.specs.ReportResult.{ReportResult}
 use Rattle.mls_report.specs.declared.verdict.RunFault.{RunFault}
 use Rattle.mls_report.specs.declared.verdict.RunFault.TheVariants.{Read, Write}
 
@@ -20,7 +20,7 @@ pub fault_means : {A : Type 0} (r : Result A RunFault) (fault : RunFault) (b : B
 fault_means r fault b e w = (λ f. w.0 (cc), λ t. let found = w.1 t in cc)
 
 -- the fault that a report returned is that of the command
-pub outcome_means : {A P : Type 0} (r : Result A RunFault) (fault e : RunFault) → r ≡ Err fault → ((r ≡ Err e) ↔ P) → (◌≡◌ {A = Outcome} (Err fault) (Err e)) ↔ P
+pub outcome_means : {A P : Type 0} (r : Result A RunFault) (fault e : RunFault) → r ≡ Err fault → ((r ≡ Err e) ↔ P) → (◌≡◌ {A = ReportResult} (Err fault) (Err e)) ↔ P
 outcome_means r fault e is w = (λ f. w.0 (cc), λ p. let found = w.1 p in cc)
 
 -- a report that ended well read inputs of which none has failed
@@ -30,17 +30,17 @@ unfailed r x e w p =
     absurd cc
 
 -- a report after which no state is stored
-pub means-write : (stores b : Bool) (outcome : Outcome) → ((outcome ≡ Err Write) ↔ (b ≡ true)) → MeansWrite stores b outcome
+pub means-write : (stores b : Bool) (outcome : ReportResult) → ((outcome ≡ Err Write) ↔ (b ≡ true)) → MeansWrite stores b outcome
 means-write stores b outcome w = record { failed = w.1; only = λ none e. w.0 e }
 
 -- ---- the end after a report that was written whole
 
 -- it is no fault of reading
-pub saved-read : {P : Type 0} (outcome : Outcome) → IfErr outcome (λ e. e ≢ Read) → (P → ⊥) → (outcome ≡ Err Read) ↔ P
+pub saved-read : {P : Type 0} (outcome : ReportResult) → IfErr outcome (λ e. e ≢ Read) → (P → ⊥) → (outcome ≡ Err Read) ↔ P
 saved-read (Ok v) h none = (λ e. absurd cc, λ p. absurd (none p))
 saved-read (Err fault) h none = (λ e. absurd (h (cc)), λ p. absurd (none p))
 
 -- and one of writing only if a state is stored
-pub saved-write : (stores : Bool) (outcome : Outcome) (b : Bool) → (stores ≡ false → IfErr outcome (λ e. e ≢ Write)) → b ≡ false → MeansWrite stores b outcome
+pub saved-write : (stores : Bool) (outcome : ReportResult) (b : Bool) → (stores ≡ false → IfErr outcome (λ e. e ≢ Write)) → b ≡ false → MeansWrite stores b outcome
 saved-write stores (Ok v) b h e = record { failed = λ t. absurd cc; only = λ none w. absurd cc }
 saved-write stores (Err fault) b h e = record { failed = λ t. absurd cc; only = λ none w. absurd (h none (cc)) }

@@ -5,7 +5,7 @@ use Rattle.mls_cli.specs.declared.order.CheckerChoice.{CheckerChoice}
 use Rattle.mls_cli.specs.declared.program_checker.CheckerFault.{CheckerFault}
 use Rattle.mls_cli.specs.declared.program_checker.CheckerFault.TheVariants.{Lost, Refused}
 
--- `IsJudgeFault F c fault`: the receipts file cannot be read, or is refused.
-abbrev pub IsJudgeFault : {File : Type 0} → Opener File → CheckerChoice → CheckerFault → Type 0
-IsJudgeFault F c (Lost fault) = CannotReadReceipts F c fault
-IsJudgeFault F c (Refused fault) = RefusesReceipts F c fault
+-- `IsCheckerFault F c fault`: the receipts file cannot be read, or is refused.
+abbrev pub IsCheckerFault : {File : Type 0} → Opener File → CheckerChoice → CheckerFault → Type 0
+IsCheckerFault F c (Lost fault) = CannotReadReceipts F c fault
+IsCheckerFault F c (Refused fault) = RefusesReceipts F c fault

@@ -5,15 +5,15 @@ use Rattle.std.specs.Prelude.{ℕ, List, [], codes, Bool, true, false, Option, S
 use Rattle.std.specs.Io.KnownBytes.{Appends}
 use Rattle.mls_check.specs.Signatures.{VerifyFn}
 use Rattle.mls_cli.specs.Files.{Opener, Opens, OpensNamed, IsOpened, CannotOpen, CannotOpenNamed}
-use Rattle.mls_cli.specs.ProgramCheckers.{IsJudgedBy}
-use Rattle.mls_cli.specs.ReportResult.{Outcome}
-use Rattle.mls_cli.specs.declared.order.CheckedReport.{CheckedReport}
-use Rattle.mls_cli.specs.declared.order.CheckedReport.TheVariants.{ValidateTree, Validate, Replay, Signatures, Gate}
+use Rattle.mls_cli.specs.ProgramCheckers.{RunsWithCheckerOrEnds}
+use Rattle.mls_cli.specs.ReportResult.{ReportResult}
+use Rattle.mls_cli.specs.declared.order.GroupReport.{GroupReport}
+use Rattle.mls_cli.specs.declared.order.GroupReport.TheVariants.{ValidateTree, Validate, Replay, Signatures, Gate}
 use Rattle.mls_cli.specs.declared.order.GroupFiles.{GroupFiles}
 use Rattle.mls_cli.specs.declared.order.GroupFiles.TheVariants.{Info, State}
 use Rattle.mls_cli.specs.declared.order.ReplayFiles.{ReplayFiles}
 use Rattle.mls_cli.specs.declared.order.Order.{Order}
-use Rattle.mls_cli.specs.declared.order.Order.TheVariants.{Show, Judged, Check}
+use Rattle.mls_cli.specs.declared.order.Order.TheVariants.{Show, Group, Check}
 use Rattle.mls_gate.specs.GateReport.{Gates, GatesPart, GatesState, GatesStatePart}
 use Rattle.mls_follow.specs.State as follower
 use Rattle.mls_follow.specs.StoredState.{EncodesState, HasNoFile}
@@ -39,7 +39,7 @@ stdin = codes "-"
 module _ {File : Type 0} (F : Opener File) where
   -- `RunsShow profile k name written0 written1 outcome`: the report `show` of a file of this name.
   pub record RunsShow (profile : Profile) (k : ShowKind) (name : List ℕ) (written0 written1 : Option (List ℕ))
-      (outcome : Outcome) : Type 0 where
+      (outcome : ReportResult) : Type 0 where
     pub opened : File
     pub ended : File
     pub given : F.gives name opened
@@ -49,13 +49,13 @@ module _ {File : Type 0} (F : Opener File) where
     pub failed : (outcome ≡ Err Read) ↔ (F.is_failed ended ≡ true)
 
   -- `CarriesShow profile k name written0 written1 outcome`: the order `show`.
-  abbrev pub CarriesShow : Profile → ShowKind → List ℕ → Option (List ℕ) → Option (List ℕ) → Outcome → Type 0
+  abbrev pub CarriesShow : Profile → ShowKind → List ℕ → Option (List ℕ) → Option (List ℕ) → ReportResult → Type 0
   CarriesShow profile k name written0 written1 outcome =
       CannotOpen F name written0 written1 outcome ⊎ RunsShow profile k name written0 written1 outcome
 
   -- `RunsValidateTree G context tree ..`: the report `validate-tree` of files with these names.
   pub record RunsValidateTree (G : VerifyFn) (context tree : List ℕ)
-      (written0 written1 : Option (List ℕ)) (outcome : Outcome) : Type 0 where
+      (written0 written1 : Option (List ℕ)) (outcome : ReportResult) : Type 0 where
     pub context_opened : File
     pub context_ended : File
     pub tree_opened : File
@@ -72,7 +72,7 @@ module _ {File : Type 0} (F : Opener File) where
 
   -- `CarriesValidateTree G context tree ..`: the command `validate-tree` was executed, or a file cannot be opened.
   abbrev pub CarriesValidateTree : VerifyFn → List ℕ → List ℕ → Option (List ℕ) → Option (List ℕ)
-      → Outcome → Type 0
+      → ReportResult → Type 0
   CarriesValidateTree G context tree written0 written1 outcome =
       CannotOpen F context written0 written1 outcome
       ⊎ ((Opens F context × CannotOpen F tree written0 written1 outcome)
@@ -81,7 +81,7 @@ module _ {File : Type 0} (F : Opener File) where
   -- `RunsValidate profile G info tree ..`: the report `validate` of files with these names, in the profile. That of the tree
   -- is optional.
   pub record RunsValidate (profile : Profile) (G : VerifyFn) (info : List ℕ) (tree : Option (List ℕ))
-      (written0 written1 : Option (List ℕ)) (outcome : Outcome) : Type 0 where
+      (written0 written1 : Option (List ℕ)) (outcome : ReportResult) : Type 0 where
     pub info_opened : File
     pub info_ended : File
     pub tree_opened : Option File
@@ -98,7 +98,7 @@ module _ {File : Type 0} (F : Opener File) where
         ⊎ (has_failed (option_map F.is_failed tree_ended) ≡ true))
 
   -- `RunsValidateState G state ..`: the report `validate` of the file of a state with this name.
-  pub record RunsValidateState (G : VerifyFn) (state : List ℕ) (written0 written1 : Option (List ℕ)) (outcome : Outcome)
+  pub record RunsValidateState (G : VerifyFn) (state : List ℕ) (written0 written1 : Option (List ℕ)) (outcome : ReportResult)
       : Type 0 where
     pub opened : File
     pub ended : File
@@ -109,7 +109,7 @@ module _ {File : Type 0} (F : Opener File) where
     pub failed : (outcome ≡ Err Read) ↔ (F.is_failed ended ≡ true)
 
   -- `CarriesValidate G group ..`: the command `validate` was executed, or a file cannot be opened.
-  abbrev pub CarriesValidate : VerifyFn → GroupFiles → Option (List ℕ) → Option (List ℕ) → Outcome → Type 0
+  abbrev pub CarriesValidate : VerifyFn → GroupFiles → Option (List ℕ) → Option (List ℕ) → ReportResult → Type 0
   CarriesValidate G (Info profile info tree) written0 written1 outcome =
       CannotOpen F info written0 written1 outcome
       ⊎ ((Opens F info × CannotOpenNamed F tree written0 written1 outcome)
@@ -126,7 +126,7 @@ module _ {File : Type 0} (F : Opener File) where
 
   -- `EndsStoring name s verdict outcome`: how a replay with this verdict ends that stores the state `s` under this name.
   -- Its file is stored, or this is a fault of writing, or memory has run out.
-  abbrev pub EndsStoring : List ℕ → follower.State → Verdict → Outcome → Type 0
+  abbrev pub EndsStoring : List ℕ → follower.State → Verdict → ReportResult → Type 0
   EndsStoring name s verdict (Ok found) =
       (found ≡ verdict) × ((bytes : List ℕ) × EncodesState s bytes × F.stores name bytes)
   EndsStoring name s verdict (Err Read) = ⊥
@@ -135,7 +135,7 @@ module _ {File : Type 0} (F : Opener File) where
 
   -- `EndsSaved save last verdict outcome`: how a replay with this verdict ends whose report was written whole. `last` is
   -- the state after the last whole message. It is stored if `--save` names a file and a follower has started.
-  abbrev pub EndsSaved : Option (List ℕ) → Option follower.State → Verdict → Outcome → Type 0
+  abbrev pub EndsSaved : Option (List ℕ) → Option follower.State → Verdict → ReportResult → Type 0
   EndsSaved None last verdict outcome = outcome ≡ Ok verdict
   EndsSaved (Some name) None verdict outcome = outcome ≡ Ok verdict
   EndsSaved (Some name) (Some s) verdict outcome = EndsStoring name s verdict outcome
@@ -143,7 +143,7 @@ module _ {File : Type 0} (F : Opener File) where
   -- `EndsWhole save Whole is_failed outcome`: the report was written whole, and then the state was stored if it has to be.
   -- `is_failed` is whether the output has failed.
   pub record EndsWhole (save : Option (List ℕ)) (Whole : Verdict → Option follower.State → Type 0) (is_failed : Bool)
-      (outcome : Outcome) : Type 0 where
+      (outcome : ReportResult) : Type 0 where
     pub verdict : Verdict
     pub last : Option follower.State
     pub whole : Whole verdict last
@@ -151,7 +151,7 @@ module _ {File : Type 0} (F : Opener File) where
     pub going : is_failed ≡ false
 
   -- `EndsPart Part is_failed outcome`: the report was not written whole. Nothing is stored.
-  pub record EndsPart (Part : RunFault → Type 0) (is_failed : Bool) (outcome : Outcome) : Type 0 where
+  pub record EndsPart (Part : RunFault → Type 0) (is_failed : Bool) (outcome : ReportResult) : Type 0 where
     pub fault : RunFault
     pub outcome_is : outcome ≡ Err fault
     pub part : Part fault
@@ -159,14 +159,14 @@ module _ {File : Type 0} (F : Opener File) where
 
   -- `EndsReplay save Whole Part is_failed outcome`: the report was written whole, or not.
   abbrev pub EndsReplay : Option (List ℕ) → (Verdict → Option follower.State → Type 0) → (RunFault → Type 0) → Bool
-      → Outcome → Type 0
+      → ReportResult → Type 0
   EndsReplay save Whole Part is_failed outcome =
       EndsWhole save Whole is_failed outcome ⊎ EndsPart Part is_failed outcome
 
   -- `RunsReplay profile G info tree files ..`: the report `replay` of files with these names, in the profile. That of the
   -- tree is optional.
   pub record RunsReplay (profile : Profile) (G : VerifyFn) (info : List ℕ) (tree : Option (List ℕ)) (files : ReplayFiles)
-      (written0 written1 : Option (List ℕ)) (is_failed : Bool) (outcome : Outcome) : Type 0 where
+      (written0 written1 : Option (List ℕ)) (is_failed : Bool) (outcome : ReportResult) : Type 0 where
     pub info_opened : File
     pub info_ended : File
     pub tree_opened : Option File
@@ -191,7 +191,7 @@ module _ {File : Type 0} (F : Opener File) where
 
   -- `RunsReplayState G state files ..`: the report `replay` from the file of a state with this name.
   pub record RunsReplayState (G : VerifyFn) (state : List ℕ) (files : ReplayFiles) (written0 written1 : Option (List ℕ))
-      (is_failed : Bool) (outcome : Outcome) : Type 0 where
+      (is_failed : Bool) (outcome : ReportResult) : Type 0 where
     pub state_opened : File
     pub state_ended : File
     pub log_opened : File
@@ -206,7 +206,7 @@ module _ {File : Type 0} (F : Opener File) where
         ↔ ((F.is_failed state_ended ≡ true) ⊎ (F.is_failed log_ended ≡ true))
 
   -- `CarriesReplay G group files ..`: the command `replay` was executed, or a file cannot be opened.
-  abbrev pub CarriesReplay : VerifyFn → GroupFiles → ReplayFiles → Option (List ℕ) → Option (List ℕ) → Bool → Outcome
+  abbrev pub CarriesReplay : VerifyFn → GroupFiles → ReplayFiles → Option (List ℕ) → Option (List ℕ) → Bool → ReportResult
       → Type 0
   CarriesReplay G (Info profile info tree) files written0 written1 is_failed outcome =
       CannotOpen F info written0 written1 outcome
@@ -221,7 +221,7 @@ module _ {File : Type 0} (F : Opener File) where
   -- `RunsSignatures profile G info tree log ..`: the report `signatures` of files with these names, in the profile. Those of
   -- the tree and of the log are optional.
   pub record RunsSignatures (profile : Profile) (G : VerifyFn) (info : List ℕ) (tree log : Option (List ℕ))
-      (written0 written1 : Option (List ℕ)) (outcome : Outcome) : Type 0 where
+      (written0 written1 : Option (List ℕ)) (outcome : ReportResult) : Type 0 where
     pub info_opened : File
     pub info_ended : File
     pub tree_opened : Option File
@@ -231,7 +231,7 @@ module _ {File : Type 0} (F : Opener File) where
     pub info_given : F.gives info info_opened
     pub tree_given : IsOpened F tree tree_opened
     pub log_given : IsOpened F log log_opened
-    pub told : IfOk outcome (signatures.Signatures profile G (F.left info_opened) (F.left info_ended)
+    pub printed : IfOk outcome (signatures.Signatures profile G (F.left info_opened) (F.left info_ended)
         (option_map F.left tree_opened) (option_map F.left tree_ended)
         (option_map F.left log_opened) (option_map F.left log_ended) written0 written1)
     pub part : IfErr outcome (SignaturesPart profile G (F.left info_opened) (F.left info_ended)
@@ -245,7 +245,7 @@ module _ {File : Type 0} (F : Opener File) where
   -- `RunsStateSignatures G state log ..`: the report `signatures` from the file of a state, of files with these names. That
   -- of the log is optional.
   pub record RunsStateSignatures (G : VerifyFn) (state : List ℕ) (log : Option (List ℕ))
-      (written0 written1 : Option (List ℕ)) (outcome : Outcome) : Type 0 where
+      (written0 written1 : Option (List ℕ)) (outcome : ReportResult) : Type 0 where
     pub state_opened : File
     pub state_ended : File
     pub log_opened : Option File
@@ -262,7 +262,7 @@ module _ {File : Type 0} (F : Opener File) where
   -- `CarriesSignatures G group log ..`: the command `signatures` was executed, or a file cannot be opened. G is the
   -- verification function of the receipts.
   abbrev pub CarriesSignatures : VerifyFn → GroupFiles → Option (List ℕ)
-      → Option (List ℕ) → Option (List ℕ) → Outcome → Type 0
+      → Option (List ℕ) → Option (List ℕ) → ReportResult → Type 0
   CarriesSignatures G (Info profile info tree) log written0 written1 outcome =
       CannotOpen F info written0 written1 outcome
       ⊎ ((Opens F info × CannotOpenNamed F tree written0 written1 outcome)
@@ -276,7 +276,7 @@ module _ {File : Type 0} (F : Opener File) where
   -- `RunsGate profile G info tree ..`: the report `gate` of files with these names and of standard input, which has the
   -- records, in the profile. The file of the tree is optional.
   pub record RunsGate (profile : Profile) (G : VerifyFn) (info : List ℕ) (tree : Option (List ℕ))
-      (written0 written1 : Option (List ℕ)) (outcome : Outcome) : Type 0 where
+      (written0 written1 : Option (List ℕ)) (outcome : ReportResult) : Type 0 where
     pub info_opened : File
     pub info_ended : File
     pub tree_opened : Option File
@@ -286,7 +286,7 @@ module _ {File : Type 0} (F : Opener File) where
     pub info_given : F.gives info info_opened
     pub tree_given : IsOpened F tree tree_opened
     pub records_given : F.gives stdin records_opened
-    pub told : IfOk outcome (Gates profile G (F.left info_opened) (F.left info_ended)
+    pub printed : IfOk outcome (Gates profile G (F.left info_opened) (F.left info_ended)
         (option_map F.left tree_opened) (option_map F.left tree_ended)
         (F.left records_opened) (F.left records_ended) written0 written1)
     pub part : IfErr outcome (GatesPart profile G (F.left info_opened) (F.left info_ended)
@@ -298,7 +298,7 @@ module _ {File : Type 0} (F : Opener File) where
         ⊎ (F.is_failed records_ended ≡ true)))
 
   -- `RunsGateState G state ..`: the report `gate` from the file of a state with this name, and of standard input.
-  pub record RunsGateState (G : VerifyFn) (state : List ℕ) (written0 written1 : Option (List ℕ)) (outcome : Outcome)
+  pub record RunsGateState (G : VerifyFn) (state : List ℕ) (written0 written1 : Option (List ℕ)) (outcome : ReportResult)
       : Type 0 where
     pub state_opened : File
     pub state_ended : File
@@ -306,7 +306,7 @@ module _ {File : Type 0} (F : Opener File) where
     pub records_ended : File
     pub state_given : F.gives state state_opened
     pub records_given : F.gives stdin records_opened
-    pub told : IfOk outcome (GatesState G (F.left state_opened) (F.left state_ended)
+    pub printed : IfOk outcome (GatesState G (F.left state_opened) (F.left state_ended)
         (F.left records_opened) (F.left records_ended) written0 written1)
     pub part : IfErr outcome (GatesStatePart G (F.left state_opened) (F.left state_ended)
         (F.left records_opened) (F.left records_ended) written0 written1)
@@ -315,7 +315,7 @@ module _ {File : Type 0} (F : Opener File) where
 
   -- `CarriesGate G group ..`: the command `gate` was executed, or a file cannot be opened. G is the verification function
   -- of what is known to be good at first.
-  abbrev pub CarriesGate : VerifyFn → GroupFiles → Option (List ℕ) → Option (List ℕ) → Outcome → Type 0
+  abbrev pub CarriesGate : VerifyFn → GroupFiles → Option (List ℕ) → Option (List ℕ) → ReportResult → Type 0
   CarriesGate G (Info profile info tree) written0 written1 outcome =
       CannotOpen F info written0 written1 outcome
       ⊎ ((Opens F info × CannotOpenNamed F tree written0 written1 outcome)
@@ -328,7 +328,7 @@ module _ {File : Type 0} (F : Opener File) where
 
   -- `RunsCheck k name ..`: the report `check` of a file with this name.
   pub record RunsCheck (k : CheckKind) (name : List ℕ) (written0 written1 : Option (List ℕ))
-      (outcome : Outcome) : Type 0 where
+      (outcome : ReportResult) : Type 0 where
     pub opened : File
     pub ended : File
     pub given : F.gives name opened
@@ -338,14 +338,14 @@ module _ {File : Type 0} (F : Opener File) where
     pub failed : (outcome ≡ Err Read) ↔ (F.is_failed ended ≡ true)
 
   -- `CarriesCheck k name ..`: the command `check` was executed, or the file cannot be opened.
-  abbrev pub CarriesCheck : CheckKind → List ℕ → Option (List ℕ) → Option (List ℕ) → Outcome
+  abbrev pub CarriesCheck : CheckKind → List ℕ → Option (List ℕ) → Option (List ℕ) → ReportResult
       → Type 0
   CarriesCheck k name written0 written1 outcome =
       CannotOpen F name written0 written1 outcome ⊎ RunsCheck k name written0 written1 outcome
 
   -- `CarriesReport G report ..`: a command was executed with the verification function G. `is_failed` is whether the
   -- output has failed.
-  abbrev pub CarriesReport : VerifyFn → CheckedReport → Option (List ℕ) → Option (List ℕ) → Bool → Outcome
+  abbrev pub CarriesReport : VerifyFn → GroupReport → Option (List ℕ) → Option (List ℕ) → Bool → ReportResult
       → Type 0
   CarriesReport G (ValidateTree context tree) written0 written1 is_failed outcome =
       CarriesValidateTree G context tree written0 written1 outcome
@@ -359,27 +359,27 @@ module _ {File : Type 0} (F : Opener File) where
       CarriesGate G group written0 written1 outcome
 
   -- `ExecutesOrder order ..`: a command was executed.
-  abbrev pub ExecutesOrder : Order → Option (List ℕ) → Option (List ℕ) → Bool → Outcome → Type 0
+  abbrev pub ExecutesOrder : Order → Option (List ℕ) → Option (List ℕ) → Bool → ReportResult → Type 0
   ExecutesOrder (Show profile k name) written0 written1 is_failed outcome =
       CarriesShow profile k name written0 written1 outcome
-  ExecutesOrder (Judged report c) written0 written1 is_failed outcome =
-      IsJudgedBy F c (λ G. CarriesReport G report written0 written1 is_failed outcome)
+  ExecutesOrder (Group report c) written0 written1 is_failed outcome =
+      RunsWithCheckerOrEnds F c (λ G. CarriesReport G report written0 written1 is_failed outcome)
       written0 written1 is_failed outcome
   ExecutesOrder (Check k name) written0 written1 is_failed outcome =
       CarriesCheck k name written0 written1 outcome
 
 -- `report_stores report`: the report stores a state after it.
-abbrev pub report_stores : CheckedReport → Bool
+abbrev pub report_stores : GroupReport → Bool
 report_stores (Replay group files) = is_some files.save
 report_stores _ = false
 
 -- `stores_state order`: the command stores a state after its report.
 abbrev pub stores_state : Order → Bool
-stores_state (Judged report c) = report_stores report
+stores_state (Group report c) = report_stores report
 stores_state _ = false
 
 -- `MeansWrite stores is_failed outcome`: what a fault of writing means. If the output has failed, the outcome is this fault.
 -- If the command stores no state, the outcome is this fault only then; else `EndsStoring` says when it is, too.
-pub record MeansWrite (stores is_failed : Bool) (outcome : Outcome) : Type 0 where
+pub record MeansWrite (stores is_failed : Bool) (outcome : ReportResult) : Type 0 where
   pub failed : is_failed ≡ true → outcome ≡ Err Write
   pub only : stores ≡ false → outcome ≡ Err Write → is_failed ≡ true

@@ -1,7 +1,7 @@
 -- Files that are opened by name and read, or stored. Used by contracts.
 use Rattle.std.specs.Prelude.{ℕ, List, [], Bool, true, Option, Some, None, Err, ◌≡◌, ◌≢◌, ◌↔◌, ◌⊎◌}
 use Rattle.std.specs.Io.KnownBytes.{Appends}
-use Rattle.mls_cli.specs.ReportResult.{Outcome}
+use Rattle.mls_cli.specs.ReportResult.{ReportResult}
 use Rattle.mls_report.specs.ReadAll.{ReadsAll, ReadsSome}
 use Rattle.mls_report.specs.declared.verdict.RunFault.{RunFault}
 use Rattle.mls_report.specs.declared.verdict.RunFault.TheVariants.{Read, Write}
@@ -32,7 +32,7 @@ module _ {File : Type 0} (F : Opener File) where
 
   -- `CannotOpen name ..`: a file with this name cannot be opened, which is a fault of reading. Nothing is written.
   pub record CannotOpen (name : List ℕ) (written0 written1 : Option (List ℕ))
-      (outcome : Outcome) : Type 0 where
+      (outcome : ReportResult) : Type 0 where
     pub lacks : F.lacks name
     pub outcome_is : outcome ≡ Err Read
     pub wrote : Appends written0 written1 []
@@ -57,7 +57,7 @@ module _ {File : Type 0} (F : Opener File) where
   -- `CannotOpenNamed name ..`: there is a name, and the file cannot be opened, which is a fault of reading. Nothing is
   -- written.
   pub record CannotOpenNamed (name : Option (List ℕ)) (written0 written1 : Option (List ℕ))
-      (outcome : Outcome) : Type 0 where
+      (outcome : ReportResult) : Type 0 where
     pub lacks : NamedFileIsMissing name
     pub outcome_is : outcome ≡ Err Read
     pub wrote : Appends written0 written1 []

@@ -8,8 +8,8 @@ use Rattle.mls_vectors.specs.declared.check.CheckKind.{CheckKind}
 use Rattle.mls_vectors.specs.declared.check.CheckKind.TheVariants as checks
 use Rattle.mls_cli.specs.declared.order.CheckerChoice.{CheckerChoice}
 use Rattle.mls_cli.specs.declared.order.CheckerChoice.TheVariants as checker
-use Rattle.mls_cli.specs.declared.order.CheckedReport.{CheckedReport}
-use Rattle.mls_cli.specs.declared.order.CheckedReport.TheVariants as report
+use Rattle.mls_cli.specs.declared.order.GroupReport.{GroupReport}
+use Rattle.mls_cli.specs.declared.order.GroupReport.TheVariants as report
 use Rattle.mls_cli.specs.declared.order.GroupFiles.{GroupFiles}
 use Rattle.mls_cli.specs.declared.order.GroupFiles.TheVariants as groups
 use Rattle.mls_cli.specs.declared.order.ReplayFiles.{ReplayFiles}
@@ -107,8 +107,8 @@ abbrev pub IsNamedProfile : Option Text → Profile → Type 0
 IsNamedProfile None profile = profile ≡ profiles.Members
 IsNamedProfile (Some text) profile = text ≡ profile_text profile
 
--- `IsGroup rows group`: this is what a group is followed from: `--info` with or without `--tree` and `--profile`, or else
--- `--state` without both.
+-- `IsGroup rows group`: this is what a group is followed from: `--info` with or without `--tree` and `--profile`,
+-- otherwise `--state` without both.
 abbrev pub IsGroup : List Row → GroupFiles → Type 0
 IsGroup rows (groups.Info profile info tree) =
     (first_of (codes "info") rows ≡ Some info) × (first_of (codes "tree") rows ≡ tree)
@@ -143,25 +143,25 @@ IsGate rows group c =
     IsGroup rows group × IsFirstChecker (first_of (codes "trust") rows) (first_of (codes "receipts") rows) c
     × (stdin_count rows ≡ 0)
 
--- `IsJudgedReport found report c`: this is the report that clap found, with this choice of a checker.
-abbrev pub IsJudgedReport : Option (Text × List Row) → CheckedReport → CheckerChoice → Type 0
-IsJudgedReport found (report.ValidateTree context tree) c =
+-- `IsGroupReport found report c`: this is the report that clap found, with this choice of a checker.
+abbrev pub IsGroupReport : Option (Text × List Row) → GroupReport → CheckerChoice → Type 0
+IsGroupReport found (report.ValidateTree context tree) c =
     (rows : List Row) × (found ≡ Some (codes "validate-tree", rows))
     × IsValidateTree rows context tree c
-IsJudgedReport found (report.Validate group) c =
+IsGroupReport found (report.Validate group) c =
     (rows : List Row) × (found ≡ Some (codes "validate", rows)) × IsValidate rows group c
-IsJudgedReport found (report.Replay group files) c =
+IsGroupReport found (report.Replay group files) c =
     (rows : List Row) × (found ≡ Some (codes "replay", rows)) × IsReplay rows group files c
-IsJudgedReport found (report.Signatures group log) c =
+IsGroupReport found (report.Signatures group log) c =
     (rows : List Row) × (found ≡ Some (codes "signatures", rows)) × IsSignatures rows group log c
-IsJudgedReport found (report.Gate group) c =
+IsGroupReport found (report.Gate group) c =
     (rows : List Row) × (found ≡ Some (codes "gate", rows)) × IsGate rows group c
 
 -- `IsOrder found order`: this is the command that clap found: a subcommand's name, and the values of its arguments.
 abbrev pub IsOrder : Option (Text × List Row) → Order → Type 0
 IsOrder found (order.Show profile k file) =
     (rows : List Row) × (found ≡ Some (codes "show", rows)) × IsShow rows profile k file
-IsOrder found (order.Judged r c) = IsJudgedReport found r c
+IsOrder found (order.Group r c) = IsGroupReport found r c
 IsOrder found (order.Check k file) =
     (rows : List Row) × (found ≡ Some (codes "check", rows)) × IsCheck rows k file
 
@@ -176,9 +176,9 @@ pub record IsOrderOf (words : List Text) (o : Order) : Type 0 where
   pub passes : fault_of mlscheck_app words ≡ []
   pub found : IsGiven (subcommand_of mlscheck_app words) o
 
--- `Refuses P fault`: a fault other than OutOfMemory comes only if nothing has the property P.
-abbrev pub Refuses : {A : Type 0} → (A → Type 0) → OrderFault → Type 0
-Refuses {A} P e = e ≢ Memory → (x : A) → P x → ⊥
+-- `RefusesArguments P fault`: a fault other than OutOfMemory comes only if nothing has the property P.
+abbrev pub RefusesArguments : {A : Type 0} → (A → Type 0) → OrderFault → Type 0
+RefusesArguments {A} P e = e ≢ Memory → (x : A) → P x → ⊥
 
 -- `IsHelp fault`: the result is help or the version.
 abbrev pub IsHelp : OrderFault → Type 0

@@ -7,8 +7,8 @@ use Rattle.clap.specs.Words.{Text}
 use Rattle.mls_wire.specs.Devices.{AppendsPrefix}
 use Rattle.mls_cli.specs.Execution.{ExecutesOrder, MeansWrite, stores_state}
 use Rattle.mls_cli.specs.Files.{Opener}
-use Rattle.mls_cli.specs.Orders.{IsOrderOf, IsHelp, IsUsage, AsksForHelp, AsksForHelpAlone, Refuses}
-use Rattle.mls_cli.specs.ReportResult.{Outcome}
+use Rattle.mls_cli.specs.Orders.{IsOrderOf, IsHelp, IsUsage, AsksForHelp, AsksForHelpAlone, RefusesArguments}
+use Rattle.mls_cli.specs.ReportResult.{ReportResult}
 use Rattle.mls_cli.specs.FaultStatus.{fault_status}
 use Rattle.mls_cli.specs.declared.order.Order.{Order}
 use Rattle.mls_cli.specs.declared.order.OrderFault.{OrderFault}
@@ -18,22 +18,23 @@ use Rattle.mls_report.specs.declared.verdict.RunFault.TheVariants.{Read, Write, 
 use Rattle.mls_report.specs.declared.verdict.Verdict.TheVariants.{Yes}
 
 -- `fault_note outcome` is what is noted of how a report ended: a fault, by its name.
-abbrev pub fault_note : Outcome → List ℕ
+abbrev pub fault_note : ReportResult → List ℕ
 fault_note (Ok verdict) = []
 fault_note (Err Read) = codes "fault: read\n"
 fault_note (Err Write) = codes "fault: write\n"
 fault_note (Err Memory) = codes "fault: memory\n"
 
--- `Tells written0 written1 is_failed text`: a text was written whole, or a prefix of it and the sink has failed.
-abbrev pub Tells : Option (List ℕ) → Option (List ℕ) → Bool → List ℕ → Type 0
-Tells written0 written1 is_failed text =
+-- `WritesOrFails written0 written1 is_failed text`: a text was written whole, or a prefix of it and the sink has
+-- failed.
+abbrev pub WritesOrFails : Option (List ℕ) → Option (List ℕ) → Bool → List ℕ → Type 0
+WritesOrFails written0 written1 is_failed text =
     (Appends written0 written1 text × (is_failed ≡ false))
     ⊎ (AppendsPrefix written0 written1 text × (is_failed ≡ true))
 
 -- `Ends noted0 noted1 is_failed exit outcome`: a fault is noted, and the exit status is that of the result.
-abbrev pub Ends : Option (List ℕ) → Option (List ℕ) → Bool → ℕ → Outcome → Type 0
+abbrev pub Ends : Option (List ℕ) → Option (List ℕ) → Bool → ℕ → ReportResult → Type 0
 Ends noted0 noted1 has_failed exit outcome =
-    Tells noted0 noted1 has_failed (fault_note outcome) × (exit ≡ status outcome)
+    WritesOrFails noted0 noted1 has_failed (fault_note outcome) × (exit ≡ status outcome)
 
 -- How the program ends without a command: what it has written and noted, whether output and standard error have failed,
 -- and the exit status.
@@ -51,7 +52,7 @@ module _ (written0 written1 : Option (List ℕ)) (is_failed : Bool)
   abbrev pub EndsFault : OrderFault → Type 0
   EndsFault (order.Help text) = EndsHelp (string_bytes text)
   EndsFault (order.Usage text) =
-      Appends written0 written1 [] × Tells noted0 noted1 has_failed_notes (string_bytes text)
+      Appends written0 written1 [] × WritesOrFails noted0 noted1 has_failed_notes (string_bytes text)
       × (exit ≡ fault_status (order.Usage text))
   EndsFault order.Memory =
       Appends written0 written1 [] × Ends noted0 noted1 has_failed_notes exit (Err Memory)
@@ -61,7 +62,7 @@ module _ {File : Type 0} (F : Opener File) (written0 written1 : Option (List ℕ
     (noted0 noted1 : Option (List ℕ)) (has_failed_notes : Bool) (exit : ℕ) where
   -- `EndsOrder o`: a command is executed.
   pub record EndsOrder (o : Order) : Type 0 where
-    pub outcome : Outcome
+    pub outcome : ReportResult
     pub carried : ExecutesOrder F o written0 written1 is_failed outcome
     pub write : MeansWrite (stores_state o) is_failed outcome
     pub ends : Ends noted0 noted1 has_failed_notes exit outcome
@@ -75,7 +76,7 @@ module _ {File : Type 0} (F : Opener File) (written0 written1 : Option (List ℕ
   -- `RunsFault words`: the arguments give no command.
   pub record RunsFault (words : List Text) : Type 0 where
     pub fault : OrderFault
-    pub refused : Refuses (IsOrderOf words) fault
+    pub refused : RefusesArguments (IsOrderOf words) fault
     pub help : IsHelp fault → AsksForHelp words
     pub usage : IsUsage fault → ¬ AsksForHelpAlone words
     pub ends : EndsFault written0 written1 is_failed noted0 noted1 has_failed_notes exit fault

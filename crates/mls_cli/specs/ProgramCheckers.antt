@@ -6,23 +6,23 @@ use Rattle.mls_check.specs.Receipts.{listed, IsReceipts, IsReceiptsFault}
 use Rattle.mls_check.specs.Signatures.{VerifyFn}
 use Rattle.mls_check.specs.declared.receipts.ReceiptsFault.{ReceiptsFault}
 use Rattle.mls_cli.specs.Files.{Opener, ReadsFile, CannotReadFile}
-use Rattle.mls_cli.specs.ReportResult.{Outcome}
+use Rattle.mls_cli.specs.ReportResult.{ReportResult}
 use Rattle.mls_cli.specs.declared.program_checker.ProgramChecker.{ProgramChecker}
-use Rattle.mls_cli.specs.declared.program_checker.ProgramChecker.TheVariants as judge
+use Rattle.mls_cli.specs.declared.program_checker.ProgramChecker.TheVariants as verifier
 use Rattle.mls_cli.specs.declared.order.CheckerChoice.{CheckerChoice}
 use Rattle.mls_cli.specs.declared.order.CheckerChoice.TheVariants as checker
-use Rattle.mls_report.specs.UnreadableReceipts.{TellsReceipts, receipts_line}
+use Rattle.mls_report.specs.UnreadableReceipts.{ReportsReceipts, receipts_line}
 use Rattle.mls_report.specs.declared.verdict.RunFault.{RunFault}
 use Rattle.mls_report.specs.declared.verdict.RunFault.TheVariants.{Read, Write, Memory}
 
 -- `checker_verify c` is the verification function: it accepts each signature, or those that have a receipt.
 abbrev pub checker_verify : ProgramChecker → VerifyFn
-checker_verify judge.All = λ suite key content signature. true
-checker_verify (judge.Known digests) = listed digests
+checker_verify verifier.All = λ suite key content signature. true
+checker_verify (verifier.Known digests) = listed digests
 
 module _ {File : Type 0} (F : Opener File) where
-  -- `IsListed name G`: the receipts file was read, and `G` accepts the signatures that it lists.
-  pub record IsListed (name : List ℕ) (G : VerifyFn) : Type 0 where
+  -- `HasReceipts name G`: the receipts file was read, and `G` accepts the signatures that it lists.
+  pub record HasReceipts (name : List ℕ) (G : VerifyFn) : Type 0 where
     pub bytes : List ℕ
     pub digests : List (List ℕ)
     pub read : ReadsFile F name bytes
@@ -38,7 +38,7 @@ module _ {File : Type 0} (F : Opener File) where
   -- `IsMeaning c G`: `G` is the verification function of a choice on the command line.
   abbrev pub IsMeaning : CheckerChoice → VerifyFn → Type 0
   IsMeaning checker.Trust G = G ≡ (λ suite key content signature. true)
-  IsMeaning (checker.Receipts name) G = IsListed name G
+  IsMeaning (checker.Receipts name) G = HasReceipts name G
   IsMeaning checker.Nobody G = G ≡ listed []
 
   -- `CannotReadReceipts c fault`: the receipts file cannot be read.
@@ -55,7 +55,7 @@ module _ {File : Type 0} (F : Opener File) where
 
   -- `EndsUnread c ..`: there is no report, as the receipts file cannot be read. Nothing is written.
   pub record EndsUnread (c : CheckerChoice) (written0 written1 : Option (List ℕ))
-      (outcome : Outcome) : Type 0 where
+      (outcome : ReportResult) : Type 0 where
     pub fault : RunFault
     pub lost : CannotReadReceipts c fault
     pub outcome_is : outcome ≡ Err fault
@@ -64,25 +64,25 @@ module _ {File : Type 0} (F : Opener File) where
   -- `EndsRefused c ..`: the receipts file is bad, which is all that is reported. `is_failed` is whether the output has
   -- failed.
   pub record EndsRefused (c : CheckerChoice) (written0 written1 : Option (List ℕ)) (is_failed : Bool)
-      (outcome : Outcome) : Type 0 where
+      (outcome : ReportResult) : Type 0 where
     pub fault : ReceiptsFault
     pub refused : RefusesReceipts c fault
-    pub told : IfOk outcome (TellsReceipts fault written0 written1)
+    pub printed : IfOk outcome (ReportsReceipts fault written0 written1)
     pub part : OnErr outcome (AppendsPrefix written0 written1 (receipts_line fault))
     pub memory : outcome ≡ Err Memory → Appends written0 written1 []
     pub own : outcome ≢ Err Read
     pub write : (outcome ≡ Err Write) ↔ (is_failed ≡ true)
 
-  -- `IsJudged c P`: P holds of the verification function of a choice.
-  pub record IsJudged (c : CheckerChoice) (P : VerifyFn → Type 0) : Type 0 where
+  -- `RunsWithChecker c P`: P holds of the verification function of a choice.
+  pub record RunsWithChecker (c : CheckerChoice) (P : VerifyFn → Type 0) : Type 0 where
     pub meaning : VerifyFn
     pub is_meaning : IsMeaning c meaning
     pub report : P meaning
 
-  -- `IsJudgedBy c P ..`: the receipts are read, if there are any, and the report begins if they are good. That they are
-  -- read first, and that no other file is opened if they are bad, is no clause.
-  abbrev pub IsJudgedBy : CheckerChoice → (VerifyFn → Type 0) → Option (List ℕ) → Option (List ℕ)
-      → Bool → Outcome → Type 0
-  IsJudgedBy c P written0 written1 is_failed outcome =
+  -- `RunsWithCheckerOrEnds c P ..`: the receipts are read, if there are any, and the report begins if they are good.
+  -- That they are read first, and that no other file is opened if they are bad, is no clause.
+  abbrev pub RunsWithCheckerOrEnds : CheckerChoice → (VerifyFn → Type 0) → Option (List ℕ) → Option (List ℕ)
+      → Bool → ReportResult → Type 0
+  RunsWithCheckerOrEnds c P written0 written1 is_failed outcome =
       EndsUnread c written0 written1 outcome
-      ⊎ (EndsRefused c written0 written1 is_failed outcome ⊎ IsJudged c P)
+      ⊎ (EndsRefused c written0 written1 is_failed outcome ⊎ RunsWithChecker c P)

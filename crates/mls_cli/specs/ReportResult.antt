@@ -4,5 +4,5 @@ use Rattle.mls_report.specs.declared.verdict.RunFault.{RunFault}
 use Rattle.mls_report.specs.declared.verdict.Verdict.{Verdict}
 
 -- The verdict of a report that was written whole, or why it was not.
-abbrev pub Outcome : Type 0
-Outcome = Result Verdict RunFault
+abbrev pub ReportResult : Type 0
+ReportResult = Result Verdict RunFault

@@ -28,7 +28,7 @@ Example:
 /// The heading of `--trust` and `--receipts` in help.
 const SIGNATURES: &str = "Signatures (give one of these)";
 
-/// The same where neither need be given.
+/// The same if neither need be given.
 const KNOWN_SIGNATURES: &str = "Signatures (give one of these, or none)";
 
 const SHOW_HELP: &str = "\
@@ -86,7 +86,7 @@ Example:
 /// Returns a required positional argument.
 fn word<'a>(alloc: Global, name: &'a str, help: &'a str) -> Arg<'a>
     ensures rule { rule_of result ≡ word_rule name.entry.now }
-    ensures own { result.global ≡ false }
+    ensures never_help { result.global ≡ false }
 {
     Arg::new(alloc, name).required(true).help(help)
 }
@@ -94,7 +94,7 @@ fn word<'a>(alloc: Global, name: &'a str, help: &'a str) -> Arg<'a>
 /// Returns an option that takes one value.
 fn valued<'a>(alloc: Global, name: &'a str, value: &'a str, help: &'a str) -> Arg<'a>
     ensures rule { rule_of result ≡ file_rule name.entry.now }
-    ensures own { result.global ≡ false }
+    ensures never_help { result.global ≡ false }
 {
     Arg::new(alloc, name)
         .long(name)
@@ -105,7 +105,7 @@ fn valued<'a>(alloc: Global, name: &'a str, value: &'a str, help: &'a str) -> Ar
 /// Returns an option that may name a file.
 fn file<'a>(alloc: Global, name: &'a str, help: &'a str) -> Arg<'a>
     ensures rule { rule_of result ≡ file_rule name.entry.now }
-    ensures own { result.global ≡ false }
+    ensures never_help { result.global ≡ false }
 {
     valued(alloc, name, "FILE", help)
 }
@@ -113,7 +113,7 @@ fn file<'a>(alloc: Global, name: &'a str, help: &'a str) -> Arg<'a>
 /// Returns an option that has to name a file.
 fn needed<'a>(alloc: Global, name: &'a str, help: &'a str) -> Arg<'a>
     ensures rule { rule_of result ≡ needed_rule name.entry.now }
-    ensures own { result.global ≡ false }
+    ensures never_help { result.global ≡ false }
 {
     file(alloc, name, help).required(true)
 }
@@ -121,7 +121,7 @@ fn needed<'a>(alloc: Global, name: &'a str, help: &'a str) -> Arg<'a>
 /// Returns an option without a value.
 fn flag<'a>(alloc: Global, name: &'a str, help: &'a str) -> Arg<'a>
     ensures rule { rule_of result ≡ flag_rule name.entry.now }
-    ensures own { result.global ≡ false }
+    ensures never_help { result.global ≡ false }
 {
     Arg::new(alloc, name)
         .long(name)
@@ -132,7 +132,7 @@ fn flag<'a>(alloc: Global, name: &'a str, help: &'a str) -> Arg<'a>
 /// Returns a command with this name, and what help says of it and below it.
 fn titled<'a>(alloc: Global, name: &'a str, about: &'a str, below: &'a str) -> Command<'a>
     ensures app { app_of result ≡ new_app name.entry.now }
-    ensures own { (fields_of result).has_globals ≡ false }
+    ensures never_help { (fields_of result).has_globals ≡ false }
 {
     Command::new(alloc, name).about(about).after_help(below)
 }
@@ -143,7 +143,7 @@ fn with<'a>(command: Command<'a>, arg: Arg<'a>) -> Result<Command<'a>, AllocErro
     requires arg_own { arg.global ≡ false }
     ensures app { IfOk result
         (λ r. app_of r ≡ with_rule (app_of command.entry) (rule_of arg.entry)) }
-    ensures own { IfOk result (λ r. (fields_of r).has_globals ≡ false) }
+    ensures never_help { IfOk result (λ r. (fields_of r).has_globals ≡ false) }
 {
     command.arg(arg)
 }
@@ -158,7 +158,7 @@ fn with_words<'a>(
     ensures app { IfOk result
         (λ r. app_of r ≡ with_rule (with_rule (app_of command.entry)
         (word_rule (codes "KIND"))) (word_rule (codes "FILE"))) }
-    ensures own { IfOk result (λ r. (fields_of r).has_globals ≡ false) }
+    ensures never_help { IfOk result (λ r. (fields_of r).has_globals ≡ false) }
 {
     let command = with(command, word(alloc, "KIND", kind_help))?;
     with(command, word(alloc, "FILE", "The file's path"))
@@ -167,7 +167,7 @@ fn with_words<'a>(
 /// `show KIND FILE [--profile PROFILE]`.
 fn show_command<'a>(alloc: Global) -> Result<Command<'a>, AllocError>
     ensures app { IfOk result (λ c. app_of c ≡ show_app) }
-    ensures own { IfOk result (λ c. (fields_of c).has_globals ≡ false) }
+    ensures never_help { IfOk result (λ c. (fields_of c).has_globals ≡ false) }
 {
     let command = titled(alloc, "show", "Prints what a file holds", SHOW_HELP);
     let command = with_words(alloc, command, "What the file holds: tree, info or message")?;
@@ -183,7 +183,7 @@ fn with_checker<'a>(
 ) -> Result<Command<'a>, AllocError>
     requires { (fields_of command).has_globals ≡ false }
     ensures app { IfOk result (λ r. app_of r ≡ specs.with_checker (app_of command.entry)) }
-    ensures own { IfOk result (λ r. (fields_of r).has_globals ≡ false) }
+    ensures never_help { IfOk result (λ r. (fields_of r).has_globals ≡ false) }
 {
     let trust = flag(alloc, "trust", "Takes every signature as good");
     let command = with(command, trust.help_heading(heading))?;
@@ -194,7 +194,7 @@ fn with_checker<'a>(
 /// `validate-tree --context FILE --tree FILE`, and one of `--trust` and `--receipts FILE`.
 fn validate_tree_command<'a>(alloc: Global) -> Result<Command<'a>, AllocError>
     ensures app { IfOk result (λ c. app_of c ≡ validate_tree_app) }
-    ensures own { IfOk result (λ c. (fields_of c).has_globals ≡ false) }
+    ensures never_help { IfOk result (λ c. (fields_of c).has_globals ≡ false) }
 {
     let about = "Checks a tree against a group context";
     let command = titled(alloc, "validate-tree", about, VALIDATE_TREE_HELP);
@@ -209,7 +209,7 @@ fn validate_tree_command<'a>(alloc: Global) -> Result<Command<'a>, AllocError>
 fn with_group<'a>(alloc: Global, command: Command<'a>) -> Result<Command<'a>, AllocError>
     requires { (fields_of command).has_globals ≡ false }
     ensures app { IfOk result (λ r. app_of r ≡ specs.with_group (app_of command.entry)) }
-    ensures own { IfOk result (λ r. (fields_of r).has_globals ≡ false) }
+    ensures never_help { IfOk result (λ r. (fields_of r).has_globals ≡ false) }
 {
     let info = file(alloc, "info", "The group info's path");
     let command = with(command, info)?;
@@ -233,7 +233,7 @@ fn with_group<'a>(alloc: Global, command: Command<'a>) -> Result<Command<'a>, Al
 /// `--receipts FILE`.
 fn validate_command<'a>(alloc: Global) -> Result<Command<'a>, AllocError>
     ensures app { IfOk result (λ c. app_of c ≡ validate_app) }
-    ensures own { IfOk result (λ c. (fields_of c).has_globals ≡ false) }
+    ensures never_help { IfOk result (λ c. (fields_of c).has_globals ≡ false) }
 {
     let about = "Checks a group as its info or its state shows it";
     let command = titled(alloc, "validate", about, VALIDATE_HELP);
@@ -245,7 +245,7 @@ fn validate_command<'a>(alloc: Global) -> Result<Command<'a>, AllocError>
 /// first three, and one of `--trust` and `--receipts FILE`.
 fn replay_command<'a>(alloc: Global) -> Result<Command<'a>, AllocError>
     ensures app { IfOk result (λ c. app_of c ≡ replay_app) }
-    ensures own { IfOk result (λ c. (fields_of c).has_globals ≡ false) }
+    ensures never_help { IfOk result (λ c. (fields_of c).has_globals ≡ false) }
 {
     let about = "Follows a group through a log of its handshakes";
     let command = titled(alloc, "replay", about, REPLAY_HELP);
@@ -269,7 +269,7 @@ fn replay_command<'a>(alloc: Global) -> Result<Command<'a>, AllocError>
 /// place of the first three.
 fn signatures_command<'a>(alloc: Global) -> Result<Command<'a>, AllocError>
     ensures app { IfOk result (λ c. app_of c ≡ signatures_app) }
-    ensures own { IfOk result (λ c. (fields_of c).has_globals ≡ false) }
+    ensures never_help { IfOk result (λ c. (fields_of c).has_globals ≡ false) }
 {
     let about = "Prints the signatures to verify of a group's start and its handshakes";
     let command = titled(alloc, "signatures", about, SIGNATURES_HELP);
@@ -288,7 +288,7 @@ fn signatures_command<'a>(alloc: Global) -> Result<Command<'a>, AllocError>
 /// `--receipts FILE`.
 fn gate_command<'a>(alloc: Global) -> Result<Command<'a>, AllocError>
     ensures app { IfOk result (λ c. app_of c ≡ gate_app) }
-    ensures own { IfOk result (λ c. (fields_of c).has_globals ≡ false) }
+    ensures never_help { IfOk result (λ c. (fields_of c).has_globals ≡ false) }
 {
     let about = "Follows a group live, and says which signatures to verify";
     let command = titled(alloc, "gate", about, GATE_HELP);
@@ -299,7 +299,7 @@ fn gate_command<'a>(alloc: Global) -> Result<Command<'a>, AllocError>
 /// `check KIND FILE`.
 fn check_command<'a>(alloc: Global) -> Result<Command<'a>, AllocError>
     ensures app { IfOk result (λ c. app_of c ≡ check_app) }
-    ensures own { IfOk result (λ c. (fields_of c).has_globals ≡ false) }
+    ensures never_help { IfOk result (λ c. (fields_of c).has_globals ≡ false) }
 {
     let command = titled(
         alloc,
@@ -323,7 +323,7 @@ fn with_command<'a>(
     requires sub_own { IfOk sub (λ s. (fields_of s).has_globals ≡ false) }
     ensures app { (app : App) → IfOk sub.entry (λ s. app_of s ≡ app)
         → IfOk result (λ r. app_of r ≡ with_subcommand (app_of command.entry) app.top) }
-    ensures own { IfOk result (λ r. (fields_of r).has_globals ≡ false) }
+    ensures never_help { IfOk result (λ r. (fields_of r).has_globals ≡ false) }
 {
     match sub {
         Ok(sub) => command.subcommand(sub),
@@ -337,7 +337,7 @@ fn with_command<'a>(
 /// Returns the program without its subcommands.
 fn bare_command<'a>(alloc: Global) -> Command<'a>
     ensures app { app_of result ≡ bare_app }
-    ensures own { (fields_of result).has_globals ≡ false }
+    ensures never_help { (fields_of result).has_globals ≡ false }
 {
     Command::new(alloc, "mlscheck")
         .about("Checks the public state of MLS groups (RFC 9420)")
@@ -349,7 +349,7 @@ fn bare_command<'a>(alloc: Global) -> Command<'a>
 /// Returns the program with all of its subcommands.
 pub(crate) fn mlscheck_command<'a>(alloc: Global) -> Result<Command<'a>, AllocError>
     ensures app { IfOk result (λ c. app_of c ≡ mlscheck_app) }
-    ensures own { IfOk result (λ c. (fields_of c).has_globals ≡ false) }
+    ensures never_help { IfOk result (λ c. (fields_of c).has_globals ≡ false) }
 {
     let command = with_command(bare_command(alloc), show_command(alloc))?;
     let command = with_command(command, validate_tree_command(alloc))?;

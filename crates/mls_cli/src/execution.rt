@@ -6,14 +6,14 @@ ghost use Rattle.mls_follow.specs.State.{State};
 ghost use Rattle.mls_follow.specs.StoredState.{EncodesState};
 ghost use Rattle.mls_cli.specs.Execution.{ExecutesOrder, EndsStoring, EndsSaved, MeansWrite, report_stores, stores_state, CarriesReport, CarriesShow, CarriesValidateTree, CarriesValidate, CarriesReplay, CarriesSignatures, CarriesGate, CarriesCheck};
 ghost use Rattle.mls_cli.specs.Files.{opener, IsOpened, NamedFileIsMissing};
-ghost use Rattle.mls_cli.specs.ProgramCheckers.{checker_verify, IsJudgedBy, EndsUnread, EndsRefused};
+ghost use Rattle.mls_cli.specs.ProgramCheckers.{checker_verify, RunsWithCheckerOrEnds, EndsUnread, EndsRefused};
 ghost use Rattle.mls_report.specs.StartInputs.{has_failed};
-ghost use Rattle.mls_cli.specs.CheckerFaults.{IsJudgeFault};
+ghost use Rattle.mls_cli.specs.CheckerFaults.{IsCheckerFault};
 
 use crate::file_name::FileName;
 use crate::files::Files;
 use crate::load_checker::read_judge;
-use crate::order::{CheckedReport, CheckerChoice, GroupFiles, Order, ReplayFiles};
+use crate::order::{CheckerChoice, GroupFiles, GroupReport, Order, ReplayFiles};
 use crate::program_checker::{CheckerFault, ProgramChecker};
 use mls_follow::Follower;
 use mls_gate::{run_gate_in, run_gate_state};
@@ -76,14 +76,14 @@ fn validate_tree<F: Files, K: Sink>(
     context: &FileName,
     tree: &FileName,
     files: &F,
-    judge: &ProgramChecker,
+    verifier: &ProgramChecker,
     out: &mut K,
 ) -> Result<Verdict, RunFault>
     requires { K.is_failed out.old ≡ false }
     ensures carried { CarriesValidateTree
         (opener (F.gives files.now) (F.lacks files.now) (F.stores files.now) (F.refuses files.now)
         F.File.left F.File.is_failed)
-        (checker_verify judge.now) context.now tree.now
+        (checker_verify verifier.now) context.now tree.now
         (K.written out.old) (K.written out.new) result }
     ensures write { (result ≡ Err RunFault.Write) ↔ (K.is_failed out.new ≡ true) }
 {
@@ -93,7 +93,7 @@ fn validate_tree<F: Files, K: Sink>(
     let Some(mut tree) = files.open(tree.as_str()) else {
         return Err(RunFault::Read);
     };
-    run_validate_tree(alloc, &mut context, &mut tree, judge, out)
+    run_validate_tree(alloc, &mut context, &mut tree, verifier, out)
 }
 
 /// Opens a file with an optional name.
@@ -120,14 +120,14 @@ fn validate_info<F: Files, K: Sink>(
     info: &FileName,
     tree: &Option<FileName>,
     files: &F,
-    judge: ProgramChecker,
+    verifier: ProgramChecker,
     out: &mut K,
 ) -> Result<Verdict, RunFault>
     requires { K.is_failed out.old ≡ false }
     ensures carried { CarriesValidate
         (opener (F.gives files.now) (F.lacks files.now) (F.stores files.now) (F.refuses files.now)
         F.File.left F.File.is_failed)
-        (checker_verify judge) (GroupFiles.Info profile info.now tree.now)
+        (checker_verify verifier) (GroupFiles.Info profile info.now tree.now)
         (K.written out.old) (K.written out.new) result }
     ensures write { (result ≡ Err RunFault.Write) ↔ (K.is_failed out.new ≡ true) }
 {
@@ -137,7 +137,7 @@ fn validate_info<F: Files, K: Sink>(
     let Some(mut tree) = open_named(tree, files) else {
         return Err(RunFault::Read);
     };
-    run_validate_in(alloc, profile, &mut info, &mut tree, judge, out)
+    run_validate_in(alloc, profile, &mut info, &mut tree, verifier, out)
 }
 
 /// Says whether a follower resumes from the file of a state.
@@ -145,21 +145,21 @@ fn validate_state<F: Files, K: Sink>(
     alloc: Global,
     state: &FileName,
     files: &F,
-    judge: ProgramChecker,
+    verifier: ProgramChecker,
     out: &mut K,
 ) -> Result<Verdict, RunFault>
     requires { K.is_failed out.old ≡ false }
     ensures carried { CarriesValidate
         (opener (F.gives files.now) (F.lacks files.now) (F.stores files.now) (F.refuses files.now)
         F.File.left F.File.is_failed)
-        (checker_verify judge) (GroupFiles.State state.now)
+        (checker_verify verifier) (GroupFiles.State state.now)
         (K.written out.old) (K.written out.new) result }
     ensures write { (result ≡ Err RunFault.Write) ↔ (K.is_failed out.new ≡ true) }
 {
     let Some(mut input) = files.open(state.as_str()) else {
         return Err(RunFault::Read);
     };
-    run_validate_state(alloc, &mut input, judge, out)
+    run_validate_state(alloc, &mut input, verifier, out)
 }
 
 /// Says whether a group can be followed.
@@ -167,14 +167,14 @@ fn validate<F: Files, K: Sink>(
     alloc: Global,
     group: &GroupFiles,
     files: &F,
-    judge: ProgramChecker,
+    verifier: ProgramChecker,
     out: &mut K,
 ) -> Result<Verdict, RunFault>
     requires { K.is_failed out.old ≡ false }
     ensures carried { CarriesValidate
         (opener (F.gives files.now) (F.lacks files.now) (F.stores files.now) (F.refuses files.now)
         F.File.left F.File.is_failed)
-        (checker_verify judge) group.now (K.written out.old) (K.written out.new) result }
+        (checker_verify verifier) group.now (K.written out.old) (K.written out.new) result }
     ensures write { (result ≡ Err RunFault.Write) ↔ (K.is_failed out.new ≡ true) }
 {
     match group {
@@ -182,8 +182,8 @@ fn validate<F: Files, K: Sink>(
             profile,
             info,
             tree,
-        } => validate_info(alloc, *profile, info, tree, files, judge, out),
-        GroupFiles::State(state) => validate_state(alloc, state, files, judge, out),
+        } => validate_info(alloc, *profile, info, tree, files, verifier, out),
+        GroupFiles::State(state) => validate_state(alloc, state, files, verifier, out),
     }
 }
 
@@ -255,14 +255,14 @@ fn replay_info<F: Files, K: Sink>(
     tree: &Option<FileName>,
     replay: &ReplayFiles,
     files: &F,
-    judge: ProgramChecker,
+    verifier: ProgramChecker,
     out: &mut K,
 ) -> Result<Verdict, RunFault>
     requires { K.is_failed out.old ≡ false }
     ensures carried { CarriesReplay
         (opener (F.gives files.now) (F.lacks files.now) (F.stores files.now) (F.refuses files.now)
         F.File.left F.File.is_failed)
-        (checker_verify judge) (GroupFiles.Info profile info.now tree.now) replay.now
+        (checker_verify verifier) (GroupFiles.Info profile info.now tree.now) replay.now
         (K.written out.old) (K.written out.new) (K.is_failed out.new) result }
     ensures write { MeansWrite (is_some replay.now.save) (K.is_failed out.new) result }
 {
@@ -275,7 +275,9 @@ fn replay_info<F: Files, K: Sink>(
     let Some(mut log) = files.open(replay.log.as_str()) else {
         return Err(RunFault::Read);
     };
-    match replay_group_in(alloc, profile, &mut info, &mut tree, &mut log, judge, out) {
+    match replay_group_in(
+        alloc, profile, &mut info, &mut tree, &mut log, verifier, out,
+    ) {
         Ok(replayed) => store_after(&replayed, &replay.save, files),
         Err(fault) => Err(fault),
     }
@@ -287,14 +289,14 @@ fn replay_stored<F: Files, K: Sink>(
     state: &FileName,
     replay: &ReplayFiles,
     files: &F,
-    judge: ProgramChecker,
+    verifier: ProgramChecker,
     out: &mut K,
 ) -> Result<Verdict, RunFault>
     requires { K.is_failed out.old ≡ false }
     ensures carried { CarriesReplay
         (opener (F.gives files.now) (F.lacks files.now) (F.stores files.now) (F.refuses files.now)
         F.File.left F.File.is_failed)
-        (checker_verify judge) (GroupFiles.State state.now) replay.now
+        (checker_verify verifier) (GroupFiles.State state.now) replay.now
         (K.written out.old) (K.written out.new) (K.is_failed out.new) result }
     ensures write { MeansWrite (is_some replay.now.save) (K.is_failed out.new) result }
 {
@@ -304,7 +306,7 @@ fn replay_stored<F: Files, K: Sink>(
     let Some(mut log) = files.open(replay.log.as_str()) else {
         return Err(RunFault::Read);
     };
-    match replay_state(alloc, &mut input, &mut log, judge, out) {
+    match replay_state(alloc, &mut input, &mut log, verifier, out) {
         Ok(replayed) => store_after(&replayed, &replay.save, files),
         Err(fault) => Err(fault),
     }
@@ -316,14 +318,14 @@ fn replay<F: Files, K: Sink>(
     group: &GroupFiles,
     replay: &ReplayFiles,
     files: &F,
-    judge: ProgramChecker,
+    verifier: ProgramChecker,
     out: &mut K,
 ) -> Result<Verdict, RunFault>
     requires { K.is_failed out.old ≡ false }
     ensures carried { CarriesReplay
         (opener (F.gives files.now) (F.lacks files.now) (F.stores files.now) (F.refuses files.now)
         F.File.left F.File.is_failed)
-        (checker_verify judge) group.now replay.now
+        (checker_verify verifier) group.now replay.now
         (K.written out.old) (K.written out.new) (K.is_failed out.new) result }
     ensures write { MeansWrite (is_some replay.now.save) (K.is_failed out.new) result }
 {
@@ -332,8 +334,8 @@ fn replay<F: Files, K: Sink>(
             profile,
             info,
             tree,
-        } => replay_info(alloc, *profile, info, tree, replay, files, judge, out),
-        GroupFiles::State(state) => replay_stored(alloc, state, replay, files, judge, out),
+        } => replay_info(alloc, *profile, info, tree, replay, files, verifier, out),
+        GroupFiles::State(state) => replay_stored(alloc, state, replay, files, verifier, out),
     }
 }
 
@@ -513,7 +515,7 @@ fn gate<F: Files, K: Sink>(
 }
 
 /// Says why there is no checker.
-fn refuse<F: Files, K: Sink>(
+fn write_refusal<F: Files, K: Sink>(
     alloc: Global,
     checker: &CheckerChoice,
     files: &F,
@@ -521,7 +523,7 @@ fn refuse<F: Files, K: Sink>(
     out: &mut K,
 ) -> Result<Verdict, RunFault>
     requires out { K.is_failed out.old ≡ false }
-    requires fault { IsJudgeFault
+    requires fault { IsCheckerFault
         (opener (F.gives files.now) (F.lacks files.now) (F.stores files.now) (F.refuses files.now)
         F.File.left F.File.is_failed)
         checker.now fault }
@@ -541,45 +543,45 @@ fn refuse<F: Files, K: Sink>(
 /// Executes a report with a checker.
 fn report_by<F: Files, K: Sink>(
     alloc: Global,
-    report: &CheckedReport,
+    report: &GroupReport,
     files: &F,
-    judge: ProgramChecker,
+    verifier: ProgramChecker,
     out: &mut K,
 ) -> Result<Verdict, RunFault>
     requires { K.is_failed out.old ≡ false }
     ensures carried { CarriesReport
         (opener (F.gives files.now) (F.lacks files.now) (F.stores files.now) (F.refuses files.now)
         F.File.left F.File.is_failed)
-        (checker_verify judge) report.now (K.written out.old) (K.written out.new)
+        (checker_verify verifier) report.now (K.written out.old) (K.written out.new)
         (K.is_failed out.new) result }
     ensures write { MeansWrite (report_stores report.now) (K.is_failed out.new) result }
 {
     match report {
-        CheckedReport::ValidateTree { context, tree } => {
-            validate_tree(alloc, context, tree, files, &judge, out)
+        GroupReport::ValidateTree { context, tree } => {
+            validate_tree(alloc, context, tree, files, &verifier, out)
         }
-        CheckedReport::Validate(group) => validate(alloc, group, files, judge, out),
-        CheckedReport::Replay {
+        GroupReport::Validate(group) => validate(alloc, group, files, verifier, out),
+        GroupReport::Replay {
             group,
             files: replay_files,
-        } => replay(alloc, group, replay_files, files, judge, out),
-        CheckedReport::Signatures { group, log } => {
-            signatures(alloc, group, log, files, &judge, out)
+        } => replay(alloc, group, replay_files, files, verifier, out),
+        GroupReport::Signatures { group, log } => {
+            signatures(alloc, group, log, files, &verifier, out)
         }
-        CheckedReport::Gate(group) => gate(alloc, group, files, judge, out),
+        GroupReport::Gate(group) => gate(alloc, group, files, verifier, out),
     }
 }
 
 /// Executes a report with the checker of a choice, or says why there is none.
-fn judged<F: Files, K: Sink>(
+fn group_report<F: Files, K: Sink>(
     alloc: Global,
-    report: &CheckedReport,
+    report: &GroupReport,
     checker: &CheckerChoice,
     files: &F,
     out: &mut K,
 ) -> Result<Verdict, RunFault>
     requires { K.is_failed out.old ≡ false }
-    ensures carried { IsJudgedBy
+    ensures carried { RunsWithCheckerOrEnds
         (opener (F.gives files.now) (F.lacks files.now) (F.stores files.now) (F.refuses files.now)
         F.File.left F.File.is_failed)
         checker.now
@@ -591,8 +593,8 @@ fn judged<F: Files, K: Sink>(
     ensures write { MeansWrite (report_stores report.now) (K.is_failed out.new) result }
 {
     match read_judge(alloc, checker, files) {
-        Ok(judge) => report_by(alloc, report, files, judge, out),
-        Err(fault) => refuse(alloc, checker, files, fault, out),
+        Ok(verifier) => report_by(alloc, report, files, verifier, out),
+        Err(fault) => write_refusal(alloc, checker, files, fault, out),
     }
 }
 
@@ -630,7 +632,7 @@ pub fn execute_order<F: Files, K: Sink>(
             kind,
             file,
         } => show(alloc, *profile, *kind, file, files, out),
-        Order::Judged { report, checker } => judged(alloc, report, checker, files, out),
+        Order::Group { report, checker } => group_report(alloc, report, checker, files, out),
         Order::Check { kind, file } => check(alloc, *kind, file, files, out),
     }
 }

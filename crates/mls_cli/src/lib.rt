@@ -22,7 +22,7 @@ pub use mls_report::{
     run_validate, run_validate_in, run_validate_state, run_validate_tree, status_of,
 };
 pub use mls_vectors::{CheckKind, run_check};
-pub use order::{CheckedReport, CheckerChoice, GroupFiles, Order, OrderFault, ReplayFiles};
+pub use order::{CheckerChoice, GroupFiles, GroupReport, Order, OrderFault, ReplayFiles};
 pub use parse_order::order_of;
 pub use program::{run_fault, run_program};
 pub use progress::Progress;

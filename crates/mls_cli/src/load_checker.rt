@@ -2,8 +2,8 @@
 
 ghost use Rattle.std.specs.Prelude.{◌≡◌, ◌↔◌, false, true, IfOk, IfErr};
 ghost use Rattle.mls_cli.specs.Files.{opener, ReadsFile, CannotReadFile};
-ghost use Rattle.mls_cli.specs.ProgramCheckers.{checker_verify, IsMeaning, IsListed, IsUnlisted};
-ghost use Rattle.mls_cli.specs.CheckerFaults.{IsJudgeFault};
+ghost use Rattle.mls_cli.specs.ProgramCheckers.{checker_verify, IsMeaning, HasReceipts, IsUnlisted};
+ghost use Rattle.mls_cli.specs.CheckerFaults.{IsCheckerFault};
 ghost use Rattle.mls_cli.specs.declared.order.CheckerChoice.TheVariants as choices;
 
 use crate::file_name::FileName;
@@ -37,11 +37,11 @@ fn read_listed<F: Files>(
     file: &FileName,
     files: &F,
 ) -> Result<ProgramChecker, CheckerFault>
-    ensures judge { IfOk result (λ judge. IsMeaning
+    ensures verifier { IfOk result (λ verifier. IsMeaning
         (opener (F.gives files.now) (F.lacks files.now) (F.stores files.now) (F.refuses files.now)
         F.File.left F.File.is_failed)
-        (choices.Receipts file.now) (checker_verify judge)) }
-    ensures fault { IfErr result (IsJudgeFault
+        (choices.Receipts file.now) (checker_verify verifier)) }
+    ensures fault { IfErr result (IsCheckerFault
         (opener (F.gives files.now) (F.lacks files.now) (F.stores files.now) (F.refuses files.now)
         F.File.left F.File.is_failed)
         (choices.Receipts file.now)) }
@@ -62,11 +62,11 @@ pub(crate) fn read_judge<F: Files>(
     checker: &CheckerChoice,
     files: &F,
 ) -> Result<ProgramChecker, CheckerFault>
-    ensures judge { IfOk result (λ judge. IsMeaning
+    ensures verifier { IfOk result (λ verifier. IsMeaning
         (opener (F.gives files.now) (F.lacks files.now) (F.stores files.now) (F.refuses files.now)
         F.File.left F.File.is_failed)
-        checker.now (checker_verify judge)) }
-    ensures fault { IfErr result (IsJudgeFault
+        checker.now (checker_verify verifier)) }
+    ensures fault { IfErr result (IsCheckerFault
         (opener (F.gives files.now) (F.lacks files.now) (F.stores files.now) (F.refuses files.now)
         F.File.left F.File.is_failed)
         checker.now) }

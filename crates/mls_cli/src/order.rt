@@ -46,9 +46,9 @@ pub struct ReplayFiles {
     pub save: Option<FileName>,
 }
 
-/// A report with a checker.
+/// A report on a group or a tree, with a checker of signatures.
 #[derive(Debug, Drop)]
-pub enum CheckedReport {
+pub enum GroupReport {
     /// `validate-tree`: say whether a tree is valid for a GroupContext, and its leaf nodes are valid.
     ValidateTree {
         /// The file of the GroupContext.
@@ -89,9 +89,9 @@ pub enum Order {
         file: FileName,
     },
     /// `validate-tree`, `validate`, `replay`, `signatures` or `gate`.
-    Judged {
+    Group {
         /// Which of them, and its files.
-        report: CheckedReport,
+        report: GroupReport,
         /// The choice of a checker. `signatures` leaves out the signatures that it accepts.
         checker: CheckerChoice,
     },
@@ -107,7 +107,7 @@ pub enum Order {
 /// Why a command line has no command to execute.
 #[derive(Debug, Drop, Error)]
 pub enum OrderFault {
-    /// It asks for help or for the version, which is this text.
+    /// It requests help or the version, which is this text.
     #[error("{0}")]
     Help(String),
     /// It is none of the forms that the program knows. The text says why.

@@ -3,12 +3,12 @@
 ghost use Rattle.std.specs.Prelude.{◌≡◌, ◌≢◌, ◌↔◌, ◌⊎◌, IsTrue, IfOk, IfErr, codes, Some, option_map, map, string_bytes};
 ghost use Rattle.clap.specs.Values.{kind_of};
 ghost use Rattle.clap.specs.Words.{first_of, rows_of, found_of, subcommand_rows_of};
-ghost use Rattle.mls_cli.specs.Orders.{IsProfile, IsNamedProfile, IsChecker, IsGroup, IsSave, IsFirstChecker, SelectsReceipts, IsOrder, IsGiven, IsOrderOf, stdin_count, IsHelp, IsUsage, AsksForHelp, AsksForHelpAlone, Refuses, kind_text, check_kind_text};
+ghost use Rattle.mls_cli.specs.Orders.{IsProfile, IsNamedProfile, IsChecker, IsGroup, IsSave, IsFirstChecker, SelectsReceipts, IsOrder, IsGiven, IsOrderOf, stdin_count, IsHelp, IsUsage, AsksForHelp, AsksForHelpAlone, RefusesArguments, kind_text, check_kind_text};
 ghost use Rattle.mls_cli.specs.Orders as specs;
 
 use crate::clap_command::mlscheck_command;
 use crate::file_name::FileName;
-use crate::order::{CheckedReport, CheckerChoice, GroupFiles, Order, OrderFault, ReplayFiles};
+use crate::order::{CheckerChoice, GroupFiles, GroupReport, Order, OrderFault, ReplayFiles};
 use clap::error::ErrorKind;
 use clap::{ArgMatches, Error};
 use mls_msgs::Profile;
@@ -55,8 +55,8 @@ fn value<'a>(matches: &ArgMatches<'a>, id: &str) -> Option<&'a str>
 fn file_of(alloc: Global, matches: &ArgMatches<'_>, id: &str) -> Result<FileName, OrderFault>
     ensures file { IfOk result (λ f. first_of id.now (rows_of (found_of matches.now)) ≡ Some f) }
     ensures refused { IfErr result
-        (Refuses (λ (f : FileName). first_of id.now (rows_of (found_of matches.now)) ≡ Some f)) }
-    ensures own { IfErr result (λ e. IsHelp e → ⊥) }
+        (RefusesArguments (λ (f : FileName). first_of id.now (rows_of (found_of matches.now)) ≡ Some f)) }
+    ensures never_help { IfErr result (λ e. IsHelp e → ⊥) }
 {
     match value(matches, id) {
         Some(text) => Ok(FileName::new(alloc, text)?),
@@ -84,9 +84,9 @@ fn show_kind(alloc: Global, matches: &ArgMatches<'_>) -> Result<ShowKind, OrderF
     ensures kind { IfOk result
         (λ k. first_of (codes "KIND") (rows_of (found_of matches.now)) ≡ Some (kind_text k)) }
     ensures refused { IfErr result
-        (Refuses (λ k. first_of (codes "KIND") (rows_of (found_of matches.now))
+        (RefusesArguments (λ k. first_of (codes "KIND") (rows_of (found_of matches.now))
         ≡ Some (kind_text k))) }
-    ensures own { IfErr result (λ e. IsHelp e → ⊥) }
+    ensures never_help { IfErr result (λ e. IsHelp e → ⊥) }
 {
     match value(matches, "KIND") {
         Some("tree") => Ok(ShowKind::Tree),
@@ -106,8 +106,8 @@ fn show_profile(
     ensures profile { IfOk result
         (IsProfile (first_of (codes "profile") (rows_of (found_of matches.now))) kind) }
     ensures refused { IfErr result
-        (Refuses (IsProfile (first_of (codes "profile") (rows_of (found_of matches.now))) kind)) }
-    ensures own { IfErr result (λ e. IsHelp e → ⊥) }
+        (RefusesArguments (IsProfile (first_of (codes "profile") (rows_of (found_of matches.now))) kind)) }
+    ensures never_help { IfErr result (λ e. IsHelp e → ⊥) }
 {
     match (value(matches, "profile"), kind) {
         (None, _) => Ok(Profile::Members),
@@ -122,8 +122,8 @@ fn show_profile(
 fn show_order(alloc: Global, matches: &ArgMatches<'_>) -> Result<Order, OrderFault>
     ensures order { IfOk result (IsOrder (Some (codes "show", rows_of (found_of matches.now)))) }
     ensures refused { IfErr result
-        (Refuses (IsOrder (Some (codes "show", rows_of (found_of matches.now))))) }
-    ensures own { IfErr result (λ e. IsHelp e → ⊥) }
+        (RefusesArguments (IsOrder (Some (codes "show", rows_of (found_of matches.now))))) }
+    ensures never_help { IfErr result (λ e. IsHelp e → ⊥) }
 {
     let kind = show_kind(alloc, matches)?;
     let profile = show_profile(alloc, matches, kind)?;
@@ -149,9 +149,9 @@ fn chosen_checker(alloc: Global, matches: &ArgMatches<'_>) -> Result<CheckerChoi
         (IsChecker (first_of (codes "trust") (rows_of (found_of matches.now)))
         (first_of (codes "receipts") (rows_of (found_of matches.now)))) }
     ensures refused { IfErr result
-        (Refuses (IsChecker (first_of (codes "trust") (rows_of (found_of matches.now)))
+        (RefusesArguments (IsChecker (first_of (codes "trust") (rows_of (found_of matches.now)))
         (first_of (codes "receipts") (rows_of (found_of matches.now))))) }
-    ensures own { IfErr result (λ e. IsHelp e → ⊥) }
+    ensures never_help { IfErr result (λ e. IsHelp e → ⊥) }
 {
     match (is_trusted(matches), value(matches, "receipts")) {
         (true, None) => Ok(CheckerChoice::Trust),
@@ -165,14 +165,14 @@ fn validate_tree_order(alloc: Global, matches: &ArgMatches<'_>) -> Result<Order,
     ensures order { IfOk result
         (IsOrder (Some (codes "validate-tree", rows_of (found_of matches.now)))) }
     ensures refused { IfErr result
-        (Refuses (IsOrder (Some (codes "validate-tree", rows_of (found_of matches.now))))) }
-    ensures own { IfErr result (λ e. IsHelp e → ⊥) }
+        (RefusesArguments (IsOrder (Some (codes "validate-tree", rows_of (found_of matches.now))))) }
+    ensures never_help { IfErr result (λ e. IsHelp e → ⊥) }
 {
     let checker = chosen_checker(alloc, matches)?;
     let context = file_of(alloc, matches, "context")?;
     let tree = file_of(alloc, matches, "tree")?;
-    let report = CheckedReport::ValidateTree { context, tree };
-    Ok(Order::Judged { report, checker })
+    let report = GroupReport::ValidateTree { context, tree };
+    Ok(Order::Group { report, checker })
 }
 
 /// Returns the profile that a command is given for a group: the members' profile without `--profile`.
@@ -180,8 +180,8 @@ fn group_profile(alloc: Global, matches: &ArgMatches<'_>) -> Result<Profile, Ord
     ensures profile { IfOk result
         (IsNamedProfile (first_of (codes "profile") (rows_of (found_of matches.now)))) }
     ensures refused { IfErr result
-        (Refuses (IsNamedProfile (first_of (codes "profile") (rows_of (found_of matches.now))))) }
-    ensures own { IfErr result (λ e. IsHelp e → ⊥) }
+        (RefusesArguments (IsNamedProfile (first_of (codes "profile") (rows_of (found_of matches.now))))) }
+    ensures never_help { IfErr result (λ e. IsHelp e → ⊥) }
 {
     match value(matches, "profile") {
         None => Ok(Profile::Members),
@@ -195,8 +195,8 @@ fn group_profile(alloc: Global, matches: &ArgMatches<'_>) -> Result<Profile, Ord
 /// names its profile.
 fn group_of(alloc: Global, matches: &ArgMatches<'_>) -> Result<GroupFiles, OrderFault>
     ensures group { IfOk result (IsGroup (rows_of (found_of matches.now))) }
-    ensures refused { IfErr result (Refuses (IsGroup (rows_of (found_of matches.now)))) }
-    ensures own { IfErr result (λ e. IsHelp e → ⊥) }
+    ensures refused { IfErr result (RefusesArguments (IsGroup (rows_of (found_of matches.now)))) }
+    ensures never_help { IfErr result (λ e. IsHelp e → ⊥) }
 {
     match (
         value(matches, "info"),
@@ -231,20 +231,20 @@ fn validate_order(alloc: Global, matches: &ArgMatches<'_>) -> Result<Order, Orde
     ensures order { IfOk result
         (IsOrder (Some (codes "validate", rows_of (found_of matches.now)))) }
     ensures refused { IfErr result
-        (Refuses (IsOrder (Some (codes "validate", rows_of (found_of matches.now))))) }
-    ensures own { IfErr result (λ e. IsHelp e → ⊥) }
+        (RefusesArguments (IsOrder (Some (codes "validate", rows_of (found_of matches.now))))) }
+    ensures never_help { IfErr result (λ e. IsHelp e → ⊥) }
 {
     let checker = chosen_checker(alloc, matches)?;
-    let report = CheckedReport::Validate(group_of(alloc, matches)?);
-    Ok(Order::Judged { report, checker })
+    let report = GroupReport::Validate(group_of(alloc, matches)?);
+    Ok(Order::Group { report, checker })
 }
 
 /// Returns the file under which a state is stored, if one is named. It is not standard input.
 fn save_of(alloc: Global, matches: &ArgMatches<'_>) -> Result<Option<FileName>, OrderFault>
     ensures save { IfOk result (IsSave (first_of (codes "save") (rows_of (found_of matches.now)))) }
     ensures refused { IfErr result
-        (Refuses (IsSave (first_of (codes "save") (rows_of (found_of matches.now))))) }
-    ensures own { IfErr result (λ e. IsHelp e → ⊥) }
+        (RefusesArguments (IsSave (first_of (codes "save") (rows_of (found_of matches.now))))) }
+    ensures never_help { IfErr result (λ e. IsHelp e → ⊥) }
 {
     match value(matches, "save") {
         Some("-") => Err(usage(alloc, "usage: a state is stored in a file with a name\n")),
@@ -259,10 +259,10 @@ fn replay_files(alloc: Global, matches: &ArgMatches<'_>) -> Result<ReplayFiles, 
         first_of (codes "log") (rows_of (found_of matches.now)) ≡ Some files.log) }
     ensures save { IfOk result (λ files.
         IsSave (first_of (codes "save") (rows_of (found_of matches.now))) files.save) }
-    ensures refused { IfErr result (Refuses (λ (files : ReplayFiles).
+    ensures refused { IfErr result (RefusesArguments (λ (files : ReplayFiles).
         (first_of (codes "log") (rows_of (found_of matches.now)) ≡ Some files.log)
         × IsSave (first_of (codes "save") (rows_of (found_of matches.now))) files.save)) }
-    ensures own { IfErr result (λ e. IsHelp e → ⊥) }
+    ensures never_help { IfErr result (λ e. IsHelp e → ⊥) }
 {
     let log = file_of(alloc, matches, "log")?;
     let save = save_of(alloc, matches)?;
@@ -274,14 +274,14 @@ fn replay_order(alloc: Global, matches: &ArgMatches<'_>) -> Result<Order, OrderF
     ensures order { IfOk result
         (IsOrder (Some (codes "replay", rows_of (found_of matches.now)))) }
     ensures refused { IfErr result
-        (Refuses (IsOrder (Some (codes "replay", rows_of (found_of matches.now))))) }
-    ensures own { IfErr result (λ e. IsHelp e → ⊥) }
+        (RefusesArguments (IsOrder (Some (codes "replay", rows_of (found_of matches.now))))) }
+    ensures never_help { IfErr result (λ e. IsHelp e → ⊥) }
 {
     let checker = chosen_checker(alloc, matches)?;
     let group = group_of(alloc, matches)?;
     let files = replay_files(alloc, matches)?;
-    let report = CheckedReport::Replay { group, files };
-    Ok(Order::Judged { report, checker })
+    let report = GroupReport::Replay { group, files };
+    Ok(Order::Group { report, checker })
 }
 
 /// Returns whose signatures are left out: those of the receipts file, if one is given.
@@ -299,14 +299,14 @@ fn signatures_order(alloc: Global, matches: &ArgMatches<'_>) -> Result<Order, Or
     ensures order { IfOk result
         (IsOrder (Some (codes "signatures", rows_of (found_of matches.now)))) }
     ensures refused { IfErr result
-        (Refuses (IsOrder (Some (codes "signatures", rows_of (found_of matches.now))))) }
-    ensures own { IfErr result (λ e. IsHelp e → ⊥) }
+        (RefusesArguments (IsOrder (Some (codes "signatures", rows_of (found_of matches.now))))) }
+    ensures never_help { IfErr result (λ e. IsHelp e → ⊥) }
 {
     let group = group_of(alloc, matches)?;
     let log = optional_file_of(alloc, matches, "log")?;
     let checker = cover(alloc, matches)?;
-    let report = CheckedReport::Signatures { group, log };
-    Ok(Order::Judged { report, checker })
+    let report = GroupReport::Signatures { group, log };
+    Ok(Order::Group { report, checker })
 }
 
 /// Returns the checker of `gate`: that of at most one of the two options, else one that accepts none.
@@ -315,9 +315,9 @@ fn first_checker(alloc: Global, matches: &ArgMatches<'_>) -> Result<CheckerChoic
         (IsFirstChecker (first_of (codes "trust") (rows_of (found_of matches.now)))
         (first_of (codes "receipts") (rows_of (found_of matches.now)))) }
     ensures refused { IfErr result
-        (Refuses (IsFirstChecker (first_of (codes "trust") (rows_of (found_of matches.now)))
+        (RefusesArguments (IsFirstChecker (first_of (codes "trust") (rows_of (found_of matches.now)))
         (first_of (codes "receipts") (rows_of (found_of matches.now))))) }
-    ensures own { IfErr result (λ e. IsHelp e → ⊥) }
+    ensures never_help { IfErr result (λ e. IsHelp e → ⊥) }
 {
     match (is_trusted(matches), value(matches, "receipts")) {
         (true, None) => Ok(CheckerChoice::Trust),
@@ -331,15 +331,15 @@ fn first_checker(alloc: Global, matches: &ArgMatches<'_>) -> Result<CheckerChoic
 fn gate_order(alloc: Global, matches: &ArgMatches<'_>) -> Result<Order, OrderFault>
     ensures order { IfOk result (IsOrder (Some (codes "gate", rows_of (found_of matches.now)))) }
     ensures refused { IfErr result
-        (Refuses (IsOrder (Some (codes "gate", rows_of (found_of matches.now))))) }
-    ensures own { IfErr result (λ e. IsHelp e → ⊥) }
+        (RefusesArguments (IsOrder (Some (codes "gate", rows_of (found_of matches.now))))) }
+    ensures never_help { IfErr result (λ e. IsHelp e → ⊥) }
 {
     if stdin_count(matches) > 0 {
         return Err(usage(alloc, "usage: standard input has the records of the gate\n"));
     }
     let checker = first_checker(alloc, matches)?;
-    let report = CheckedReport::Gate(group_of(alloc, matches)?);
-    Ok(Order::Judged { report, checker })
+    let report = GroupReport::Gate(group_of(alloc, matches)?);
+    Ok(Order::Group { report, checker })
 }
 
 /// Returns the kind of `check`.
@@ -348,9 +348,9 @@ fn check_kind(alloc: Global, matches: &ArgMatches<'_>) -> Result<CheckKind, Orde
         (λ k. first_of (codes "KIND") (rows_of (found_of matches.now))
         ≡ Some (check_kind_text k)) }
     ensures refused { IfErr result
-        (Refuses (λ k. first_of (codes "KIND") (rows_of (found_of matches.now))
+        (RefusesArguments (λ k. first_of (codes "KIND") (rows_of (found_of matches.now))
         ≡ Some (check_kind_text k))) }
-    ensures own { IfErr result (λ e. IsHelp e → ⊥) }
+    ensures never_help { IfErr result (λ e. IsHelp e → ⊥) }
 {
     match value(matches, "KIND") {
         Some("tree-math") => Ok(CheckKind::TreeMath),
@@ -368,8 +368,8 @@ fn check_kind(alloc: Global, matches: &ArgMatches<'_>) -> Result<CheckKind, Orde
 fn check_order(alloc: Global, matches: &ArgMatches<'_>) -> Result<Order, OrderFault>
     ensures order { IfOk result (IsOrder (Some (codes "check", rows_of (found_of matches.now)))) }
     ensures refused { IfErr result
-        (Refuses (IsOrder (Some (codes "check", rows_of (found_of matches.now))))) }
-    ensures own { IfErr result (λ e. IsHelp e → ⊥) }
+        (RefusesArguments (IsOrder (Some (codes "check", rows_of (found_of matches.now))))) }
+    ensures never_help { IfErr result (λ e. IsHelp e → ⊥) }
 {
     let kind = check_kind(alloc, matches)?;
     let file = file_of(alloc, matches, "FILE")?;
@@ -388,8 +388,8 @@ fn subcommand<'m, 'a>(matches: &'m ArgMatches<'a>) -> Option<(&'a str, &'m ArgMa
 fn named_order(alloc: Global, name: &str, matches: &ArgMatches<'_>) -> Result<Order, OrderFault>
     ensures order { IfOk result (IsOrder (Some (name.now, rows_of (found_of matches.now)))) }
     ensures refused { IfErr result
-        (Refuses (IsOrder (Some (name.now, rows_of (found_of matches.now))))) }
-    ensures own { IfErr result (λ e. IsHelp e → ⊥) }
+        (RefusesArguments (IsOrder (Some (name.now, rows_of (found_of matches.now))))) }
+    ensures never_help { IfErr result (λ e. IsHelp e → ⊥) }
 {
     match name {
         "show" => show_order(alloc, matches),
@@ -432,8 +432,8 @@ fn stdin_count(matches: &ArgMatches<'_>) -> u32
 fn given_order(alloc: Global, name: &str, matches: &ArgMatches<'_>) -> Result<Order, OrderFault>
     ensures order { IfOk result (IsGiven (Some (name.now, rows_of (found_of matches.now)))) }
     ensures refused { IfErr result
-        (Refuses (IsGiven (Some (name.now, rows_of (found_of matches.now))))) }
-    ensures own { IfErr result (λ e. IsHelp e → ⊥) }
+        (RefusesArguments (IsGiven (Some (name.now, rows_of (found_of matches.now))))) }
+    ensures never_help { IfErr result (λ e. IsHelp e → ⊥) }
 {
     if stdin_count(matches) > 1 {
         return Err(usage(alloc, "usage: standard input can be given for one file\n"));
@@ -444,8 +444,8 @@ fn given_order(alloc: Global, name: &str, matches: &ArgMatches<'_>) -> Result<Or
 /// Returns the command of clap's matches.
 fn read_order(alloc: Global, matches: &ArgMatches<'_>) -> Result<Order, OrderFault>
     ensures order { IfOk result (IsGiven (subcommand_rows_of matches.now)) }
-    ensures refused { IfErr result (Refuses (IsGiven (subcommand_rows_of matches.now))) }
-    ensures own { IfErr result (λ e. IsHelp e → ⊥) }
+    ensures refused { IfErr result (RefusesArguments (IsGiven (subcommand_rows_of matches.now))) }
+    ensures never_help { IfErr result (λ e. IsHelp e → ⊥) }
 {
     match subcommand(matches) {
         Some((name, inner)) => given_order(alloc, name, inner),
@@ -458,10 +458,10 @@ fn read_order(alloc: Global, matches: &ArgMatches<'_>) -> Result<Order, OrderFau
 ///
 /// # Errors
 ///
-/// `Help` if the arguments ask for help or for the version, `Usage` if they are no command, or `OutOfMemory`.
+/// `Help` if the arguments request help or the version, `Usage` if they are no command, or `OutOfMemory`.
 pub fn order_of(alloc: Global, words: &[String]) -> Result<Order, OrderFault>
     ensures order { IfOk result (IsOrderOf (map string_bytes words.now)) }
-    ensures refused { IfErr result (Refuses (IsOrderOf (map string_bytes words.now))) }
+    ensures refused { IfErr result (RefusesArguments (IsOrderOf (map string_bytes words.now))) }
     ensures help { IfErr result (λ e. IsHelp e → AsksForHelp (map string_bytes words.now)) }
     ensures usage { IfErr result
         (λ e. IsUsage e → ¬ AsksForHelpAlone (map string_bytes words.now)) }

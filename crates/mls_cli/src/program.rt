@@ -2,7 +2,7 @@
 
 ghost use Rattle.std.specs.Prelude.{◌≡◌, false, Err, map, string_bytes};
 ghost use Rattle.mls_cli.specs.Files.{opener};
-ghost use Rattle.mls_cli.specs.Program.{Ends, EndsOrder, EndsHelp, EndsFault, RunsProgram, Tells};
+ghost use Rattle.mls_cli.specs.Program.{Ends, EndsOrder, EndsHelp, EndsFault, RunsProgram, WritesOrFails};
 ghost use Rattle.mls_cli.specs.Program as program;
 
 use crate::execution::execute_order;
@@ -28,7 +28,7 @@ fn fault_note(outcome: &Result<Verdict, RunFault>) -> &'static str
 /// Notes a text. If `notes` fails, that cannot be reported.
 fn note<N: Sink>(notes: &mut N, text: &str)
     requires { N.is_failed notes.old ≡ false }
-    ensures { Tells (N.written notes.old) (N.written notes.new) (N.is_failed notes.new) text.now }
+    ensures { WritesOrFails (N.written notes.old) (N.written notes.new) (N.is_failed notes.new) text.now }
 {
     let _ = write_all(notes, text.as_bytes());
 }

@@ -8,7 +8,7 @@ use std::alloc::Global;
 use std::io::{self, ErrorKind, Read, Write};
 use std::test::Fail;
 
-/// A reader or writer of one byte a call. After so many calls one fails with an error of this kind, or without one
+/// A reader or writer of one byte a call. After this many calls one fails with an error of this kind, or without one
 /// moves nothing; then it goes on.
 #[derive(Drop)]
 struct Flaky {
@@ -82,15 +82,15 @@ fn pulled(alloc: Global, error: ErrorKind) -> Result<String, Fail> {
 #[test]
 fn sources_fail_at_any_error(rt: HostRuntime) -> Result<(), Fail> {
     let alloc = rt.alloc();
-    const WANTED: &str = "1 false, 1 false, fault true, fault true, fault true, ";
+    const EXPECTED: &str = "1 false, 1 false, fault true, fault true, fault true, ";
     const ERRORS: &[(ErrorKind, &str)] = &[
-        (ErrorKind::Interrupted, WANTED),
-        (ErrorKind::WouldBlock, WANTED),
-        (ErrorKind::UnexpectedEof, WANTED),
-        (ErrorKind::OutOfMemory, WANTED),
+        (ErrorKind::Interrupted, EXPECTED),
+        (ErrorKind::WouldBlock, EXPECTED),
+        (ErrorKind::UnexpectedEof, EXPECTED),
+        (ErrorKind::OutOfMemory, EXPECTED),
     ];
-    for (input, wanted) in ERRORS {
-        expect_text(&rt, pulled(alloc, *input)?, wanted);
+    for (input, expected) in ERRORS {
+        expect_text(&rt, pulled(alloc, *input)?, expected);
     }
     Ok(())
 }
@@ -113,15 +113,15 @@ fn pushed(alloc: Global, error: Option<ErrorKind>) -> Result<String, Fail> {
 #[test]
 fn sinks_fail_at_any_error(rt: HostRuntime) -> Result<(), Fail> {
     let alloc = rt.alloc();
-    const WANTED: &str = "1 false, 1 false, fault true, fault true, fault true, ";
+    const EXPECTED: &str = "1 false, 1 false, fault true, fault true, fault true, ";
     const ERRORS: &[(Option<ErrorKind>, &str)] = &[
-        (Some(ErrorKind::Interrupted), WANTED),
-        (Some(ErrorKind::WouldBlock), WANTED),
-        (Some(ErrorKind::BrokenPipe), WANTED),
-        (None, WANTED),
+        (Some(ErrorKind::Interrupted), EXPECTED),
+        (Some(ErrorKind::WouldBlock), EXPECTED),
+        (Some(ErrorKind::BrokenPipe), EXPECTED),
+        (None, EXPECTED),
     ];
-    for (input, wanted) in ERRORS {
-        expect_text(&rt, pushed(alloc, *input)?, wanted);
+    for (input, expected) in ERRORS {
+        expect_text(&rt, pushed(alloc, *input)?, expected);
     }
     Ok(())
 }
@@ -131,7 +131,7 @@ fn nothing_of_nothing_is_taken(rt: HostRuntime) -> Result<(), Fail> {
     let alloc = rt.alloc();
     const ROWS: &[(&[u8], &str)] = &[(b"", "0 false"), (b"m", "fault true")];
     // What a sink answers to no bytes, over a writer that takes none.
-    for (bytes, wanted) in ROWS {
+    for (bytes, expected) in ROWS {
         let bytes = *bytes;
         let mut sink = StdSink::new(Flaky {
             good_calls: 0,
@@ -139,7 +139,7 @@ fn nothing_of_nothing_is_taken(rt: HostRuntime) -> Result<(), Fail> {
         });
         let answered = sink.push(bytes);
         let found = answer(alloc, answered, sink.failed())?;
-        expect_text(&rt, found, wanted);
+        expect_text(&rt, found, expected);
     }
     Ok(())
 }
@@ -154,8 +154,8 @@ fn reports_over_what_fails(rt: HostRuntime) -> Result<(), Fail> {
         ((1_000, 20), "write"),
         ((1_000, 999), "written"),
     ];
-    // How a report ends over a reader and a writer that fail after so many calls.
-    for (good_calls, wanted) in CALLS {
+    // How a report ends over a reader and a writer that fail after this many calls.
+    for (good_calls, expected) in CALLS {
         let good_calls = *good_calls;
         let (reads, writes) = good_calls;
         let info = bytes(alloc, GROUP_INFO)?;
@@ -178,7 +178,7 @@ fn reports_over_what_fails(rt: HostRuntime) -> Result<(), Fail> {
             Ok(_) => String::from_str(alloc, "written")?,
             Err(fault) => format!(in alloc; "{fault}")?,
         };
-        expect_text(&rt, found, wanted);
+        expect_text(&rt, found, expected);
     }
     Ok(())
 }

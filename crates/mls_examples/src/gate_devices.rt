@@ -55,7 +55,7 @@ fn call_of(failing: (Device, usize), device: Device) -> Option<usize> {
     }
 }
 
-/// Runs the gate over the example records, where a device fails at one of its calls.
+/// Runs the gate over the example records while a device fails at one of its calls.
 fn gated(alloc: Global, failing: (Device, usize)) -> Result<Ended, Fail> {
     let info = bytes(alloc, GROUP_INFO)?;
     let records = bytes(alloc, RECORDS)?;
@@ -88,9 +88,9 @@ fn first_lines(count: usize) -> Option<&'static str> {
     REPORT.get(..end)
 }
 
-/// Whether a gate ended as its devices want: by their fault, with what it has to have written, and having read no more than
-/// that.
-fn is_as_wanted(device: Device, ended: &Ended) -> Option<bool> {
+/// Whether a gate ended as its devices make it: by their fault, with what it has to have written, and having read no
+/// more than that.
+fn is_as_expected(device: Device, ended: &Ended) -> Option<bool> {
     let written = ended.written.as_slice();
     match device {
         Device::Info => {
@@ -98,8 +98,8 @@ fn is_as_wanted(device: Device, ended: &Ended) -> Option<bool> {
         }
         Device::Records => {
             let whole = ENDS[..5].iter().filter(|&&end| end <= ended.read).count();
-            let wanted = first_lines(whole)?.as_bytes();
-            Some(ended.fault == Some(RunFault::Read) && written == wanted)
+            let expected = first_lines(whole)?.as_bytes();
+            Some(ended.fault == Some(RunFault::Read) && written == expected)
         }
         Device::Out => {
             let whole = written.iter().filter(|&&byte| byte == b'\n').count().min(5);
@@ -120,7 +120,7 @@ fn each_call_fails(alloc: Global, calls: (Device, usize)) -> Result<String, Fail
             let is_whole = ended.written.as_slice() == REPORT.as_bytes();
             return Ok(format!(in alloc; "{}", call > least && is_whole)?);
         }
-        if is_as_wanted(device, &ended) != Some(true) {
+        if is_as_expected(device, &ended) != Some(true) {
             return Err(Fail::from("what the devices want"));
         }
     }
@@ -137,8 +137,8 @@ fn each_call_of_a_gates_device_fails(rt: HostRuntime) -> Result<(), Fail> {
         ((Device::Records, 13), "true"),
         ((Device::Out, 31), "true"),
     ];
-    for (input, wanted) in CALLS {
-        expect_text(&rt, each_call_fails(alloc, *input)?, wanted);
+    for (input, expected) in CALLS {
+        expect_text(&rt, each_call_fails(alloc, *input)?, expected);
     }
     Ok(())
 }

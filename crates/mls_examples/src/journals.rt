@@ -1,4 +1,4 @@
-//! Changes of a tree that a journal takes back (RFC 9420, 7.7 and 12.1): the tree is then the one before them, node by
+//! Changes of a tree that a journal undoes (RFC 9420, 7.7 and 12.1): the tree is then the one before them, node by
 //! node.
 
 use crate::kept_hashes::{whole_text, whole_text_anew};
@@ -19,11 +19,11 @@ enum Change {
     Leaf(u32),
     /// The parents above a leaf become blank.
     Path(u32),
-    /// A leaf's index enters the lists above it.
+    /// A leaf's index is added to the lists above it.
     Entry(u32),
-    /// The tree is doubled.
+    /// The tree is extended.
     Growth,
-    /// The tree is halved as often as it can be.
+    /// The tree is truncated.
     Halving,
 }
 
@@ -58,7 +58,7 @@ fn comparison(alloc: Global, leaves: u32, before: &str, after: &str) -> Result<S
     Ok(format!(in alloc; "{leaves} {same}")?)
 }
 
-/// How many leaves a tree has after changes, and whether it is the one before them once they are taken back.
+/// How many leaves a tree has after changes, and whether it is the one before them once they are undone.
 fn changed_and_back(
     alloc: Global,
     tree: &mut PublicTree,
@@ -74,7 +74,7 @@ fn changed_and_back(
     if before == changed {
         return Err(Fail::from("a change"));
     }
-    journal.take_back(tree);
+    journal.rollback(tree);
     let after = nodes_text(alloc, tree)?;
     comparison(alloc, leaves, before.as_str(), after.as_str())
 }
@@ -125,21 +125,21 @@ fn changes_are_taken_back(rt: HostRuntime) -> Result<(), Fail> {
             "4 true",
         ),
     ];
-    for (input, wanted) in CHANGES {
-        expect_text(&rt, back(alloc, *input)?, wanted);
+    for (input, expected) in CHANGES {
+        expect_text(&rt, back(alloc, *input)?, expected);
     }
     Ok(())
 }
 
-/// A change that is kept stays when those after it are taken back.
+/// A change that is final remains when those after it are undone.
 fn kept(alloc: Global, changes: (Change, Change)) -> Result<String, Fail> {
     let mut tree = tree_with(alloc, GROWN)?;
     let mut journal = Journal::new(alloc);
     make_change(alloc, &mut tree, &mut journal, changes.0)?;
-    journal.keep();
+    journal.discard();
     let before = nodes_text(alloc, &tree)?;
     make_change(alloc, &mut tree, &mut journal, changes.1)?;
-    journal.take_back(&mut tree);
+    journal.rollback(&mut tree);
     let after = nodes_text(alloc, &tree)?;
     comparison(alloc, tree.leaf_count(), before.as_str(), after.as_str())
 }
@@ -151,25 +151,25 @@ fn kept_changes_stay(rt: HostRuntime) -> Result<(), Fail> {
         ((Change::Growth, Change::Leaf(0)), "8 true"),
         ((Change::Leaf(1), Change::Growth), "4 true"),
     ];
-    for (input, wanted) in CHANGES {
-        expect_text(&rt, kept(alloc, *input)?, wanted);
+    for (input, expected) in CHANGES {
+        expect_text(&rt, kept(alloc, *input)?, expected);
     }
     Ok(())
 }
 
-/// The places that a journal tells of after changes of the tree of four leaves, one of which is unmerged.
+/// The node indices that a journal returns after changes of the tree of four leaves, one of which is unmerged.
 fn told(alloc: Global, changes: &[Change]) -> Result<String, Fail> {
     let mut tree = tree_with(alloc, GROWN)?;
     let mut journal = Journal::new(alloc);
     for step in changes {
         make_change(alloc, &mut tree, &mut journal, *step)?;
     }
-    let places = journal.changed_places(alloc, &tree)?;
-    list_text(alloc, places.as_slice())
+    let node_indices = journal.changed_node_indices(alloc, &tree)?;
+    list_text(alloc, node_indices.as_slice())
 }
 
 #[test]
-fn changed_places_are_told(rt: HostRuntime) -> Result<(), Fail> {
+fn changed_node_indices_are_returned(rt: HostRuntime) -> Result<(), Fail> {
     let alloc = rt.alloc();
     const CHANGES: &[(&[Change], &str)] = &[
         (&[], "[]"),
@@ -189,8 +189,8 @@ fn changed_places_are_told(rt: HostRuntime) -> Result<(), Fail> {
             "[3, 4, 5, 6, 4, 6]",
         ),
     ];
-    for (input, wanted) in CHANGES {
-        expect_text(&rt, told(alloc, *input)?, wanted);
+    for (input, expected) in CHANGES {
+        expect_text(&rt, told(alloc, *input)?, expected);
     }
     Ok(())
 }
@@ -207,7 +207,7 @@ fn items_of(alloc: Global, proposals: &[(u32, Proposal)]) -> Result<Vec<ListItem
     Ok(items)
 }
 
-/// A list of so many Adds by member 0.
+/// A list of this many Adds by member 0.
 fn adds(alloc: Global, count: u32) -> Result<Vec<(u32, Proposal)>, Fail> {
     let mut list = Vec::new(alloc);
     for member in 0..count {
@@ -228,9 +228,9 @@ fn many_adds_are_taken_back(rt: HostRuntime) -> Result<(), Fail> {
         (3, "8 true"),
         (1000, "1024 true"),
     ];
-    // How many leaves a tree of four has after so many Adds, and whether it is the one before them once they are taken
-    // back.
-    for (count, wanted) in COUNTS {
+    // How many leaves a tree of four has after this many Adds, and whether it is the one before them once they are
+    // undone.
+    for (count, expected) in COUNTS {
         let count = *count;
         let proposals = adds(alloc, count)?;
         let list = items_of(alloc, proposals.as_slice())?;
@@ -242,10 +242,10 @@ fn many_adds_are_taken_back(rt: HostRuntime) -> Result<(), Fail> {
         drop(proposals);
         drop(added?);
         let leaves = tree.leaf_count();
-        journal.take_back(&mut tree);
+        journal.rollback(&mut tree);
         let after = nodes_text(alloc, &tree)?;
         let found = comparison(alloc, leaves, before.as_str(), after.as_str())?;
-        expect_text(&rt, found, wanted);
+        expect_text(&rt, found, expected);
     }
     Ok(())
 }
@@ -260,9 +260,9 @@ fn list_of(alloc: Global, proposals: &[&str]) -> Result<Vec<(u32, Proposal)>, Fa
     Ok(list)
 }
 
-/// Fills the hashes of a tree, applies a list that can't be applied to its end, and takes back what was applied: how
+/// Fills the hashes of a tree, applies a list that can't be applied to its end, and undoes what was applied: how
 /// many hashes were filled, why the list is refused, whether the tree is another one then, and whether it has the nodes
-/// and the hashes that it had in the end, as it keeps them and as they are made anew.
+/// and the hashes that it had in the end, as it caches them and as they are computed again.
 fn applied_and_back(
     alloc: Global,
     tree: &mut PublicTree,
@@ -277,7 +277,7 @@ fn applied_and_back(
     drop(list);
     drop(owned);
     let changed = whole_text(alloc, tree);
-    journal.take_back(tree);
+    journal.rollback(tree);
     drop(journal);
     let is_changed = before != changed?;
     let is_same = before == whole_text(alloc, tree)?;
@@ -285,7 +285,7 @@ fn applied_and_back(
     Ok(format!(in alloc; "{filled} {fault:?} {is_changed} {is_same} {is_same_anew}")?)
 }
 
-/// A leaf is removed twice, before and behind other proposals.
+/// A leaf is removed twice, before and after other proposals.
 #[test]
 fn the_front_of_a_list_is_taken_back(rt: HostRuntime) -> Result<(), Fail> {
     let alloc = rt.alloc();

@@ -15,17 +15,17 @@ use std::test::Fail;
 enum Change {
     /// None.
     Nothing,
-    /// A leaf is set, as its key package has it.
+    /// A leaf is replaced, by that of its key package.
     Leaf(u32),
     /// The parents above a leaf become blank.
     Path(u32),
-    /// A leaf's index enters the lists above it.
+    /// A leaf's index is added to the lists above it.
     Entry(u32),
     /// A parent becomes blank.
     Parent(u32),
-    /// The tree is doubled.
+    /// The tree is extended.
     Growth,
-    /// The tree is halved as often as it can be.
+    /// The tree is truncated.
     Halving,
 }
 
@@ -39,7 +39,7 @@ fn make_change(alloc: Global, tree: &mut PublicTree, change: Change) -> Result<(
         }
         Change::Path(index) => Ok(tree.blank_path(index)?),
         Change::Entry(index) => Ok(tree.add_unmerged(alloc, index)?),
-        Change::Parent(place) => Ok(tree.put_parent(place, None)?),
+        Change::Parent(node_index) => Ok(tree.put_parent(node_index, None)?),
         Change::Growth => Ok(tree.extend()?),
         Change::Halving => {
             tree.truncate();
@@ -48,28 +48,29 @@ fn make_change(alloc: Global, tree: &mut PublicTree, change: Change) -> Result<(
     }
 }
 
-/// The places, of a tree of at most 16 leaves, of which it keeps no hash.
-fn empty_places(alloc: Global, tree: &PublicTree) -> Result<String, Fail> {
-    let mut places = Vec::new(alloc);
-    for place in 0..31 {
-        if tree.part(place).is_some() && tree.kept_hash(place).is_none() {
-            places.push(place)?;
+/// The node indices, of a tree of at most 16 leaves, of which it caches no hash.
+fn empty_node_indices(alloc: Global, tree: &PublicTree) -> Result<String, Fail> {
+    let mut node_indices = Vec::new(alloc);
+    for node_index in 0..31 {
+        if tree.part(node_index).is_some() && tree.kept_hash(node_index).is_none() {
+            node_indices.push(node_index)?;
         }
     }
-    list_text(alloc, places.as_slice())
+    list_text(alloc, node_indices.as_slice())
 }
 
-/// How many leaves a tree has after a change, of which places it keeps no hash then, and how many hashes are filled.
+/// How many leaves a tree has after a change, of which node indices it caches no hash then, and how many hashes are
+/// filled.
 fn filled_after(alloc: Global, tree: &mut PublicTree, change: Change) -> Result<String, Fail> {
     make_change(alloc, tree, change)?;
     let leaves = tree.leaf_count();
-    let empty = empty_places(alloc, tree)?;
+    let empty = empty_node_indices(alloc, tree)?;
     let filled = fill_hashes(alloc, suite()?, tree)?;
     Ok(format!(in alloc; "{leaves} {empty} {filled}")?)
 }
 
 #[test]
-fn emptied_places(rt: HostRuntime) -> Result<(), Fail> {
+fn emptied_node_indices(rt: HostRuntime) -> Result<(), Fail> {
     const STEPS: &[(Change, &str)] = &[
         (
             Change::Nothing,
@@ -89,27 +90,27 @@ fn emptied_places(rt: HostRuntime) -> Result<(), Fail> {
     let alloc = rt.alloc();
     let mut tree = PublicTree::blank(alloc, 8)?;
     assert!(rt; tree.hash_kind() == None);
-    for (change, wanted) in STEPS {
+    for (change, expected) in STEPS {
         let found = filled_after(alloc, &mut tree, *change)?;
-        expect_text(&rt, found, wanted);
+        expect_text(&rt, found, expected);
     }
     tree.reserve_hashes(alloc, HashKind::Sha256)?;
     assert!(rt; tree.hash_kind() == Some(HashKind::Sha256));
-    expect_text(&rt, empty_places(alloc, &tree)?, "[]");
+    expect_text(&rt, empty_node_indices(alloc, &tree)?, "[]");
     Ok(())
 }
 
-/// The nodes of a tree, and the tree hash of each place.
+/// The nodes of a tree, and the tree hash of each node index.
 pub(crate) fn whole_text(alloc: Global, tree: &PublicTree) -> Result<String, Fail> {
     let mut all = tree_text(alloc, tree)?;
-    for place in 0..tree.leaf_count().saturating_mul(2).saturating_sub(1) {
-        let hash = tree_hash(alloc, suite()?, tree, place)?;
+    for node_index in 0..tree.leaf_count().saturating_mul(2).saturating_sub(1) {
+        let hash = tree_hash(alloc, suite()?, tree, node_index)?;
         all.push_str(text(alloc, hash.as_slice())?.as_str())?;
     }
     Ok(all)
 }
 
-/// The same of a tree that is made anew of a copy of these nodes, and so keeps no hash.
+/// The same of a tree that is made again of a copy of these nodes, and so caches no hash.
 pub(crate) fn whole_text_anew(alloc: Global, tree: &PublicTree) -> Result<String, Fail> {
     let written = encode_ratchet_tree(alloc, tree.nodes())?;
     match PublicTree::from_nodes(decode_ratchet_tree(alloc, written.as_slice())?) {
@@ -129,8 +130,8 @@ const LONG_ROOT: &str = "1e1db873b4faac7d7014b9786112b266718fb0615bde2fd3715e83d
 const MIDDLE_ROOT: &str = "d37a2bcacca3a77f993562bc222ab9764463662aec6c3fecf5167ee7978a8136711076\
         0c8147e2bb333176ddd518f8c9";
 
-/// How many hashes of a tree of two set leaves are filled by a suite, and then by another one, and the hash of the whole tree that is
-/// read by each of them after that.
+/// How many hashes of a tree of two non-blank leaves are filled by a suite, and then by another one, and the hash of
+/// the whole tree that is read by each of them after that.
 fn filled(alloc: Global, numbers: (u16, u16)) -> Result<String, Fail> {
     let (number, other) = numbers;
     let mut tree = tree_with(alloc, TWO_LEAVES)?;
@@ -149,10 +150,10 @@ fn filled(alloc: Global, numbers: (u16, u16)) -> Result<String, Fail> {
 fn hashes_of_a_kind_are_kept(rt: HostRuntime) -> Result<(), Fail> {
     let alloc = rt.alloc();
     let changed = filled(alloc, (1, 7))?;
-    let wanted = format!(in alloc; "3 3 {TWO_LEAVES_HASH} {MIDDLE_ROOT}")?;
-    expect_text(&rt, changed, wanted.as_str());
+    let expected = format!(in alloc; "3 3 {TWO_LEAVES_HASH} {MIDDLE_ROOT}")?;
+    expect_text(&rt, changed, expected.as_str());
     let stayed = filled(alloc, (4, 6))?;
-    let wanted = format!(in alloc; "3 0 {LONG_ROOT} {LONG_ROOT}")?;
-    expect_text(&rt, stayed, wanted.as_str());
+    let expected = format!(in alloc; "3 0 {LONG_ROOT} {LONG_ROOT}")?;
+    expect_text(&rt, stayed, expected.as_str());
     Ok(())
 }

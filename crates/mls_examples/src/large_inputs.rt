@@ -10,7 +10,7 @@ use mls_wire::{MemorySink, Opaque, StdSource, Writer};
 use std::alloc::Global;
 use std::test::Fail;
 
-/// Some bytes with one byte again and again behind them, so many in all.
+/// Some bytes with one byte again and again after them, this many in all.
 fn filled(alloc: Global, first: &[u8], filler: u8, size: usize) -> Result<Vec<u8>, Fail> {
     let fillers = vec![in alloc; filler; 65536]?;
     let mut input = Vec::with_capacity(alloc, size)?;
@@ -22,7 +22,7 @@ fn filled(alloc: Global, first: &[u8], filler: u8, size: usize) -> Result<Vec<u8
     Ok(input)
 }
 
-/// A private message with a body of zeros, so many bytes in all.
+/// A private message with a body of zeros, this many bytes in all.
 fn private_message(alloc: Global, size: usize) -> Result<Vec<u8>, Fail> {
     filled(alloc, &[0, 1, 0, 2], 0, size)
 }
@@ -43,8 +43,8 @@ fn message_of(alloc: Global, size: usize) -> Result<String, Fail> {
 fn messages_at_the_limit(rt: HostRuntime) -> Result<(), Fail> {
     let alloc = rt.alloc();
     const SIZES: &[(usize, &str)] = &[(268435456, "2 268435452"), (268435457, "TooLong at 0")];
-    for (input, wanted) in SIZES {
-        expect_text(&rt, message_of(alloc, *input)?, wanted);
+    for (input, expected) in SIZES {
+        expect_text(&rt, message_of(alloc, *input)?, expected);
     }
     Ok(())
 }
@@ -76,21 +76,21 @@ fn other_inputs_over_the_limit(rt: HostRuntime) -> Result<(), Fail> {
 }
 
 #[test]
-fn a_message_over_the_limit_is_told(rt: HostRuntime) -> Result<(), Fail> {
+fn a_message_over_the_limit_is_reported(rt: HostRuntime) -> Result<(), Fail> {
     let alloc = rt.alloc();
     const SIZES: &[(usize, &str)] = &[
         (268435456, "private 268435452\n"),
         (268435457, "unreadable TooLong 0\n"),
     ];
     // What `show message` writes of a message of such a size.
-    for (size, wanted) in SIZES {
+    for (size, expected) in SIZES {
         let size = *size;
         let input = private_message(alloc, size)?;
         let mut out = MemorySink::new(alloc, 100, 100, None)?;
         let mut source = StdSource::new(input.as_slice());
         run_show(alloc, ShowKind::Message, &mut source, &mut out)?;
         let found = String::from_utf8(Vec::from_slice(alloc, out.bytes())?)?;
-        expect_text(&rt, found, wanted);
+        expect_text(&rt, found, expected);
     }
     Ok(())
 }
@@ -98,8 +98,8 @@ fn a_message_over_the_limit_is_told(rt: HostRuntime) -> Result<(), Fail> {
 #[test]
 fn arguments_over_a_vector(rt: HostRuntime) -> Result<(), Fail> {
     let alloc = rt.alloc();
-    // What a checker that trusts everyone answers of a content of so many zeros, what a copy of them answers, and what a
-    // writer does.
+    // What a checker that trusts everyone answers of a content of this many zeros, what a copy of them answers, and
+    // what a writer does.
     let size = 1073741824;
     let zeros = vec![in alloc; 0u8; size]?;
     let is_signed = signed(
@@ -121,21 +121,21 @@ fn arguments_over_a_vector(rt: HostRuntime) -> Result<(), Fail> {
 }
 
 #[test]
-fn vectors_over_the_limit_are_told(rt: HostRuntime) -> Result<(), Fail> {
+fn vectors_over_the_limit_are_reported(rt: HostRuntime) -> Result<(), Fail> {
     let alloc = rt.alloc();
     const SIZES: &[(usize, &str)] = &[
         (268435456, "passed 0 failed 0 skipped 0\n"),
         (268435457, "vectors unreadable\n"),
     ];
-    // What `check` writes of no vectors with blanks behind them, so many bytes in all.
-    for (size, wanted) in SIZES {
+    // What `check` writes of no vectors with blanks after them, this many bytes in all.
+    for (size, expected) in SIZES {
         let size = *size;
         let input = filled(alloc, b"[]", b' ', size)?;
         let mut out = MemorySink::new(alloc, 100, 100, None)?;
         let mut source = StdSource::new(input.as_slice());
         run_check(alloc, CheckKind::TreeMath, &mut source, &mut out)?;
         let found = String::from_utf8(Vec::from_slice(alloc, out.bytes())?)?;
-        expect_text(&rt, found, wanted);
+        expect_text(&rt, found, expected);
     }
     Ok(())
 }

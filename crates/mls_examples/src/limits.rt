@@ -21,8 +21,8 @@ const JOINING_MESSAGE: &str =
     01000002000103202c8eee82830dd44bbbffaeffae38f629547698198b39cd9280b00999cee948770001c10701d10401aa01bb01c6\
     01e1";
 
-/// A tree with the most leaves, all of them set but for the last ones. A leaf has no keys here, which no list asks
-/// for.
+/// A tree with the most leaves, all of them non-blank except the last ones. A leaf has no keys here, which no list
+/// needs.
 fn tree_without(alloc: Global, blank: u32) -> Result<PublicTree, Fail> {
     let leaf = bytes(alloc, "00000001000000000000020000")?;
     let mut tree = PublicTree::blank(alloc, MOST)?;
@@ -102,8 +102,9 @@ fn at_the_limit(alloc: Global, blank: u32, rows: &[(&str, &[u32])]) -> Result<St
     Ok(all)
 }
 
-/// In a full group an Add takes the leaf of a member that the list removes; where there is none, or one too few, the list
-/// is refused. One that removes a leaf twice is refused for that, however many Adds it has; leaves 5 and 65,541 are two.
+/// In a full group an Add takes the leaf of a member that the list removes; if there is none, or one too few, the list
+/// is refused. One that removes a leaf twice is refused for that, however many Adds it has; leaves 5 and 65,541 are
+/// two.
 #[test]
 fn a_full_group_adds_whom_it_has_room_for(rt: HostRuntime) -> Result<(), Fail> {
     let remove = "01000300000005";
@@ -115,10 +116,10 @@ fn a_full_group_adds_whom_it_has_room_for(rt: HostRuntime) -> Result<(), Fail> {
         ("0100030000000501000300000005", &[1, 2, 3]),
     ];
     let too_many = "a tree has at most 1,048,576 leaves";
-    let wanted = format!(in rt.alloc();
+    let expected = format!(in rt.alloc();
         "{too_many}; 1048576 1048576 [5]; {too_many}; {too_many}; a leaf is not set; "
     )?;
-    expect_text(&rt, at_the_limit(rt.alloc(), 0, &rows)?, wanted.as_str());
+    expect_text(&rt, at_the_limit(rt.alloc(), 0, &rows)?, expected.as_str());
     Ok(())
 }
 
@@ -179,8 +180,8 @@ fn full_follower(alloc: Global) -> Result<Follower<Trusting>, Fail> {
     }
 }
 
-/// A follower of the largest group refuses an Add and an external commit for want of leaves (own limit), and is as it was: it
-/// refuses them again.
+/// A follower of the largest group refuses an Add and an external commit since it has no leaf left (own limit), and is
+/// as it was: it refuses them again.
 #[test]
 fn a_full_group_refuses_new_members(rt: HostRuntime) -> Result<(), Fail> {
     let message = adding_message(rt.alloc())?;
@@ -199,8 +200,8 @@ fn a_full_group_refuses_new_members(rt: HostRuntime) -> Result<(), Fail> {
 fn a_group_is_filled(rt: HostRuntime) -> Result<(), Fail> {
     let rows = [("", [1].as_slice()), ("", &[1, 2])];
     let too_many = "a tree has at most 1,048,576 leaves";
-    let wanted = format!(in rt.alloc(); "1048576 1048576 [1048575]; {too_many}; ")?;
-    expect_text(&rt, at_the_limit(rt.alloc(), 1, &rows)?, wanted.as_str());
+    let expected = format!(in rt.alloc(); "1048576 1048576 [1048575]; {too_many}; ")?;
+    expect_text(&rt, at_the_limit(rt.alloc(), 1, &rows)?, expected.as_str());
     Ok(())
 }
 

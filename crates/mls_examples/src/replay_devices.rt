@@ -18,7 +18,7 @@ pub(crate) const LOG: &str =
     000001000000000003220220419afc0a88fe171b793b00410d11c8121fb96fdfde7b5ced43d5912144a3a9f90001c601\
     e101c50600010002abcd050001";
 
-/// What is told of it.
+/// What is reported of it.
 const TOLD: &str = "no: \
     1 accepted proposal 419afc0a88fe171b793b00410d11c8121fb96fdfde7b5ced43d5912144a3a9f9\n\
     2 accepted commit 1 3dd545ada09b9e9be453de8b5c20702e810685eca3710882583a67d8a3eddd8b \
@@ -146,7 +146,7 @@ fn replayed(alloc: Global, failing: Failing) -> Result<Ended, Fail> {
     })
 }
 
-/// The front of the report that has so many lines: line 4 and the last one are decided together, by the log's end.
+/// The front of the report that has this many lines: line 4 and the last one are decided together, by the log's end.
 fn first_lines(count: usize) -> Option<&'static str> {
     let all = report()?;
     let mut end = 0;
@@ -157,9 +157,9 @@ fn first_lines(count: usize) -> Option<&'static str> {
     all.get(..end)
 }
 
-/// Whether a replay ended as its devices want: by their fault, with what it has to have written, and having read no
+/// Whether a replay ended as its devices make it: by their fault, with what it has to have written, and having read no
 /// more than that.
-fn is_as_wanted(device: Device, ended: &Ended) -> Option<bool> {
+fn is_as_expected(device: Device, ended: &Ended) -> Option<bool> {
     let written = ended.written.as_slice();
     match device {
         Device::Info => {
@@ -167,8 +167,8 @@ fn is_as_wanted(device: Device, ended: &Ended) -> Option<bool> {
         }
         Device::Log => {
             let whole = ENDS[..3].iter().filter(|&&end| end <= ended.read).count();
-            let wanted = first_lines(whole)?.as_bytes();
-            Some(ended.fault == Some(RunFault::Read) && written == wanted)
+            let expected = first_lines(whole)?.as_bytes();
+            Some(ended.fault == Some(RunFault::Read) && written == expected)
         }
         Device::Out | Device::Writer => {
             let whole = written.iter().filter(|&&byte| byte == b'\n').count().min(3);
@@ -187,7 +187,7 @@ fn each_call_fails(alloc: Global, calls: (Device, usize)) -> Result<String, Fail
         if ended.fault.is_none() {
             return Ok(format!(in alloc; "{}", call > least)?);
         }
-        if is_as_wanted(device, &ended) != Some(true) {
+        if is_as_expected(device, &ended) != Some(true) {
             return Err(Fail::from("what the devices want"));
         }
     }
@@ -195,7 +195,7 @@ fn each_call_fails(alloc: Global, calls: (Device, usize)) -> Result<String, Fail
 }
 
 /// The info has 107 bytes and the log 151, and then comes the end. The report has lines of 85, 150 and 12 bytes, and 47
-/// behind them.
+/// after them.
 #[test]
 fn each_call_of_a_device_fails(rt: HostRuntime) -> Result<(), Fail> {
     let alloc = rt.alloc();
@@ -205,8 +205,8 @@ fn each_call_of_a_device_fails(rt: HostRuntime) -> Result<(), Fail> {
         ((Device::Out, 24), "true"),
         ((Device::Writer, 24), "true"),
     ];
-    for (input, wanted) in CALLS {
-        expect_text(&rt, each_call_fails(alloc, *input)?, wanted);
+    for (input, expected) in CALLS {
+        expect_text(&rt, each_call_fails(alloc, *input)?, expected);
     }
     Ok(())
 }

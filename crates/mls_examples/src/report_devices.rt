@@ -15,7 +15,7 @@ use std::test::Fail;
 const CONTEXT: &str = "000100010147000000000000000020e32ab6a0a711ec8a732c3fad9263ed5f\
     a61caf53fdf9b9690dc57271d8f110d70000";
 
-/// What a sink holds, behind `no: ` where a verdict is No, and before the fault where there is no verdict.
+/// What a sink holds, after `no: ` where a verdict is No, and before the fault where there is no verdict.
 fn said(
     alloc: Global,
     outcome: Result<Verdict, RunFault>,
@@ -39,7 +39,7 @@ fn inputs_are_read_whole(rt: HostRuntime) -> Result<(), Fail> {
         ((10, Some(3)), "read"),
     ];
     // How many bytes are read from a source of 20,000 that gives pieces of a size and fails at a call, or the fault.
-    for (source, wanted) in SOURCES {
+    for (source, expected) in SOURCES {
         let (piece, fails_at) = *source;
         let bytes = vec![in alloc; 7u8; 20000]?;
         let mut input = MemorySource::new(bytes.as_slice(), piece.max(1), fails_at);
@@ -47,7 +47,7 @@ fn inputs_are_read_whole(rt: HostRuntime) -> Result<(), Fail> {
             Ok(read) => format!(in alloc; "{}", read.len())?,
             Err(fault) => format!(in alloc; "{fault}")?,
         };
-        expect_text(&rt, found, wanted);
+        expect_text(&rt, found, expected);
     }
     Ok(())
 }
@@ -59,43 +59,43 @@ fn devices_of_show_that_fail(rt: HostRuntime) -> Result<(), Fail> {
         ((None, 10), "0 leaf 0 a: write"),
         ((Some(9), 100), ": read"),
     ];
-    // What `show` of the tree writes where its input fails at a call, or its output has room for so many bytes; and the
-    // fault.
-    for (end, wanted) in ENDS {
-        let (fails_at, room) = *end;
+    // What `show` of the tree writes if its input fails at a call, or its output has capacity for this many bytes; and
+    // the fault.
+    for (end, expected) in ENDS {
+        let (fails_at, capacity) = *end;
         let tree = bytes(alloc, TREE)?;
         let mut input = MemorySource::new(tree.as_slice(), 5, fails_at);
-        let mut out = MemorySink::new(alloc, room, 4, None)?;
+        let mut out = MemorySink::new(alloc, capacity, 4, None)?;
         let outcome = run_show(alloc, ShowKind::Tree, &mut input, &mut out);
         let fault = outcome.err().ok_or("a fault")?;
         let written = String::from_utf8(Vec::from_slice(alloc, out.bytes())?)?;
         let found = format!(in alloc; "{written}: {fault}")?;
-        expect_text(&rt, found, wanted);
+        expect_text(&rt, found, expected);
     }
     Ok(())
 }
 
-/// What `replay` writes of a group info and a log, in pieces of this size, where the log fails at a call, and the
-/// output has this room; and how many bytes of the log are left.
+/// What `replay` writes of a GroupInfo and a log, in pieces of this size, if the log fails at a call, and the output
+/// has this capacity; and how many bytes of the log are left.
 fn replayed(
     alloc: Global,
     inputs: (&str, &str),
     ends: (usize, Option<usize>, usize),
 ) -> Result<(String, usize), Fail> {
-    let (piece, log_fails, room) = ends;
+    let (piece, log_fails, capacity) = ends;
     let piece = piece.max(1);
     let info = bytes(alloc, inputs.0)?;
     let log = bytes(alloc, inputs.1)?;
     let mut info = MemorySource::new(info.as_slice(), piece, None);
     let mut tree: Option<MemorySource> = None;
     let mut log = MemorySource::new(log.as_slice(), piece, log_fails);
-    let mut out = MemorySink::new(alloc, room, piece, None)?;
+    let mut out = MemorySink::new(alloc, capacity, piece, None)?;
     let outcome = run_replay(alloc, &mut info, &mut tree, &mut log, Trusting, &mut out);
     Ok((said(alloc, outcome, &out)?, log.left().len()))
 }
 
-/// The output fails in line 1: nothing is read behind message 1, which is 77 of the 151 bytes. The log fails inside
-/// message 2: line 1 is told.
+/// The output fails in line 1: nothing is read after message 1, which is 77 of the 151 bytes. The log fails inside
+/// message 2: line 1 is printed.
 #[test]
 fn devices_of_replay_that_fail(rt: HostRuntime) -> Result<(), Fail> {
     let alloc = rt.alloc();
@@ -106,11 +106,11 @@ fn devices_of_replay_that_fail(rt: HostRuntime) -> Result<(), Fail> {
             "1 accepted proposal 419afc0a88fe171b793b00410d11c8121fb96fdfde7b5ced43d5912144a3a9f9\n: read",
         ),
     ];
-    // What it writes of the example log, where the log or the output fails.
-    for (ends, wanted) in ENDS {
+    // What it writes of the example log, if the log or the output fails.
+    for (ends, expected) in ENDS {
         let ends = *ends;
         let (found, _) = replayed(alloc, (GROUP_INFO, LOG), ends)?;
-        expect_text(&rt, found, wanted);
+        expect_text(&rt, found, expected);
     }
     // How many bytes of the example log are left then.
     let ends = (10, None, 10);
@@ -120,7 +120,7 @@ fn devices_of_replay_that_fail(rt: HostRuntime) -> Result<(), Fail> {
     Ok(())
 }
 
-/// What `validate-tree` writes of the bytes of a context and a tree, where each and the output fail at a call.
+/// What `validate-tree` writes of the bytes of a context and a tree, if each and the output fail at a call.
 fn tree_report(
     alloc: Global,
     context: &str,
@@ -145,25 +145,25 @@ fn devices_of_validate_tree_that_fail(rt: HostRuntime) -> Result<(), Fail> {
         ([None, Some(1), None], ": read"),
         ([None, None, Some(3)], "valid e32ab6: write"),
     ];
-    // What it writes where devices fail.
-    for (fails_at, wanted) in ENDS {
+    // What it writes if devices fail.
+    for (fails_at, expected) in ENDS {
         let fails_at = *fails_at;
         let found = tree_report(alloc, CONTEXT, TREE, fails_at)?;
-        expect_text(&rt, found, wanted);
+        expect_text(&rt, found, expected);
     }
     Ok(())
 }
 
-/// What is told of receipts that can't be read, where there is room for so many bytes.
+/// What is reported of receipts that can't be read, if there is capacity for this many bytes.
 fn unreadable(alloc: Global, receipts: (ReceiptsFault, usize)) -> Result<String, Fail> {
-    let (fault, room) = receipts;
-    let mut out = MemorySink::new(alloc, room, 5, None)?;
+    let (fault, capacity) = receipts;
+    let mut out = MemorySink::new(alloc, capacity, 5, None)?;
     let outcome = run_unreadable_receipts(alloc, fault, &mut out);
     said(alloc, outcome, &out)
 }
 
 #[test]
-fn unreadable_receipts_are_told(rt: HostRuntime) -> Result<(), Fail> {
+fn unreadable_receipts_are_reported(rt: HostRuntime) -> Result<(), Fail> {
     let alloc = rt.alloc();
     const FAULTS: &[((ReceiptsFault, usize), &str)] = &[
         (
@@ -177,8 +177,8 @@ fn unreadable_receipts_are_told(rt: HostRuntime) -> Result<(), Fail> {
         ((ReceiptsFault::TooLong, 8), "receipts: write"),
         ((ReceiptsFault::OutOfMemory, 100), ": memory"),
     ];
-    for (input, wanted) in FAULTS {
-        expect_text(&rt, unreadable(alloc, *input)?, wanted);
+    for (input, expected) in FAULTS {
+        expect_text(&rt, unreadable(alloc, *input)?, expected);
     }
     Ok(())
 }
@@ -206,12 +206,12 @@ fn devices_of_check_that_fail(rt: HostRuntime) -> Result<(), Fail> {
         ([Some(1), None], ": read"),
         ([None, Some(2)], "passed 0 failed 0 sk: write"),
     ];
-    for (ends, wanted) in ENDS {
+    for (ends, expected) in ENDS {
         let [input_fails, out_fails] = *ends;
         let mut input = MemorySource::new(b"[]", 100, input_fails);
         let mut out = MemorySink::new(alloc, 1000, 20, out_fails)?;
         let outcome = run_check(alloc, CheckKind::TreeMath, &mut input, &mut out);
-        expect_text(&rt, said(alloc, outcome, &out)?, wanted);
+        expect_text(&rt, said(alloc, outcome, &out)?, expected);
     }
     Ok(())
 }
@@ -247,7 +247,7 @@ impl<'a> Files for OneFile<'a> {
     }
 }
 
-/// The words of a line, behind the program's name.
+/// The words of a line, after the program's name.
 fn words(alloc: Global, line: &str) -> Result<Vec<String>, Fail> {
     let mut words = Vec::new(alloc);
     words.push(String::from_str(alloc, "mlscheck")?)?;
@@ -284,8 +284,8 @@ fn outputs_fail(rt: HostRuntime) -> Result<(), Fail> {
         ),
         ("--help", "3 Checks the public state of MLS| fault: write\n"),
     ];
-    // What a line gives where the output fails at its second call.
-    for (line, wanted) in ROWS {
+    // What a line gives if the output fails at its second call.
+    for (line, expected) in ROWS {
         let line = *line;
         let tree = bytes(alloc, TREE)?;
         let files = OneFile {
@@ -293,7 +293,7 @@ fn outputs_fail(rt: HostRuntime) -> Result<(), Fail> {
             bytes: tree.as_slice(),
         };
         let found = run_over(alloc, line, &files, Some(2))?;
-        expect_text(&rt, found, wanted);
+        expect_text(&rt, found, expected);
     }
     Ok(())
 }
@@ -311,7 +311,7 @@ fn runs_have_statuses(rt: HostRuntime) {
     }
 }
 
-/// What a call told.
+/// What a call returned.
 fn name_of(step: LogStep) -> &'static str {
     match step {
         LogStep::Record => "record",
@@ -327,7 +327,7 @@ fn logs_that_fail(rt: HostRuntime) -> Result<(), Fail> {
     let alloc = rt.alloc();
     const CALLS: &[(usize, &str)] = &[(1, "fault, over"), (2, "fault, over"), (3, "fault, over")];
     // What two calls answer over a source that fails at one of its calls.
-    for (fails_at, wanted) in CALLS {
+    for (fails_at, expected) in CALLS {
         let fails_at = *fails_at;
         let log = [3, 0xab, 0xcd, 0xef];
         let mut source = MemorySource::new(&log, 1, Some(fails_at));
@@ -335,7 +335,7 @@ fn logs_that_fail(rt: HostRuntime) -> Result<(), Fail> {
         let first = reader.next(&mut source).map(name_of).unwrap_or("fault");
         let second = reader.next(&mut source).map(name_of).unwrap_or("fault");
         let found = format!(in alloc; "{first}, {second}")?;
-        expect_text(&rt, found, wanted);
+        expect_text(&rt, found, expected);
     }
     Ok(())
 }

@@ -108,9 +108,13 @@ fn states_are_resumed(rt: HostRuntime) -> Result<(), Fail> {
     for (count, size) in [(1, 251), (2, 237)] {
         let mut state = state_after(alloc, count)?;
         assert!(rt; state.len() == size);
-        let wanted = text(alloc, state.as_slice())?;
-        expect_text(&rt, stored_again(alloc, state.as_slice())?, wanted.as_str());
-        assert!(rt; count == 1 || wanted.as_str().starts_with(FRONT));
+        let expected = text(alloc, state.as_slice())?;
+        expect_text(
+            &rt,
+            stored_again(alloc, state.as_slice())?,
+            expected.as_str(),
+        );
+        assert!(rt; count == 1 || expected.as_str().starts_with(FRONT));
         if let Some(byte) = state.get_mut(3) {
             *byte ^= 1;
         }

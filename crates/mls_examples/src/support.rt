@@ -51,9 +51,9 @@ pub(crate) const GROWN: &str =
     0101a201b2000101420200010200010000020001010000000000000000ffffffffffffffff0001c200010101a301b3000101\
     430200010200010000020001010000000000000000ffffffffffffffff0001c3";
 
-/// Asserts that a text is the wanted one.
-pub(crate) fn expect_text(rt: &impl Abort, found: String, wanted: &str) {
-    assert_eq!(rt; found.as_str(), wanted);
+/// Asserts that a text is the expected one.
+pub(crate) fn expect_text(rt: &impl Abort, found: String, expected: &str) {
+    assert_eq!(rt; found.as_str(), expected);
 }
 
 /// The bytes that hexadecimal text stands for.

@@ -24,13 +24,13 @@ fn updated(alloc: Global, is_accepted: bool) -> Result<String, Fail> {
         return Err(Fail::from("a leaf 1"));
     }
     journal.set_leaf(&mut tree, 1, Some(leaf))?;
-    index.enter(&tree, &[2])?;
+    index.stage(&tree, &[2])?;
     let entered = both(alloc, &index, &tree)?;
     if is_accepted {
         index.accept(&tree, &[2]);
     } else {
-        journal.take_back(&mut tree);
-        index.refuse();
+        journal.rollback(&mut tree);
+        index.revert();
     }
     let settled = both(alloc, &index, &tree)?;
     Ok(format!(in alloc; "{entered}, {settled}")?)
@@ -45,7 +45,7 @@ fn keys_that_come_and_go(rt: HostRuntime) -> Result<(), Fail> {
 }
 
 /// Whose keys are their own once the blank leaf 3 gets the keys of member 1, and leaf 1 is removed or not: those of
-/// leaf 3, of leaf 1, and of the places 0 and 6.
+/// leaf 3, of leaf 1, and of the node indices 0 and 6.
 fn moved(alloc: Global, is_removed: bool) -> Result<String, Fail> {
     let mut tree = tree_with(alloc, PATH)?;
     let mut index = TreeIndex::of(alloc, &tree)?;
@@ -54,12 +54,12 @@ fn moved(alloc: Global, is_removed: bool) -> Result<String, Fail> {
     if is_removed {
         tree.set_leaf(1, None)?;
     }
-    index.enter(&tree, &[2, 6, 2])?;
-    let encryption = index.has_own_key(&tree, KeyKind::Encryption, 6);
-    let signature = index.has_own_key(&tree, KeyKind::Signature, 6);
-    let other = index.has_own_key(&tree, KeyKind::Signature, 2);
-    let both = index.have_own_keys(&tree, KeyKind::Encryption, &[0, 6]);
-    let parent = index.have_own_keys(&tree, KeyKind::Signature, &[0, 1]);
+    index.stage(&tree, &[2, 6, 2])?;
+    let encryption = index.has_unique_key(&tree, KeyKind::Encryption, 6);
+    let signature = index.has_unique_key(&tree, KeyKind::Signature, 6);
+    let other = index.has_unique_key(&tree, KeyKind::Signature, 2);
+    let both = index.have_unique_keys(&tree, KeyKind::Encryption, &[0, 6]);
+    let parent = index.have_unique_keys(&tree, KeyKind::Signature, &[0, 1]);
     Ok(format!(in alloc; "{encryption} {signature} {other} {both} {parent}")?)
 }
 

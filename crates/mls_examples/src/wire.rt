@@ -20,7 +20,7 @@ fn fields_are_read(rt: HostRuntime) -> Result<(), Fail> {
     ];
     // The fields of a `uint8`, a `uint16`, a `uint32`, a `uint64`, a vector, the byte before an optional value, and a vector
     // that is read for itself; and what is left.
-    for (input, wanted) in FIELDS {
+    for (input, expected) in FIELDS {
         let input = *input;
         let input = bytes(alloc, input)?;
         let mut reader = Reader::new(input.as_slice());
@@ -30,12 +30,12 @@ fn fields_are_read(rt: HostRuntime) -> Result<(), Fail> {
         let is_present = reader.read_optional()?;
         let mut inner = reader.read_sub()?;
         let first = inner.read_u8()?;
-        let (at, is_whole) = (inner.place(), inner.at_end());
-        let (end, is_end) = (reader.place(), reader.at_end());
+        let (at, is_whole) = (inner.position(), inner.at_end());
+        let (end, is_end) = (reader.position(), reader.at_end());
         let found = format!(in alloc;
             "{byte} {short} {word} {long} {body} {is_present}, {first} {at} {is_whole}, {end} {is_end}"
         )?;
-        expect_text(&rt, found, wanted);
+        expect_text(&rt, found, expected);
     }
     Ok(())
 }

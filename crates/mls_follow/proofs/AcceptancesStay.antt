@@ -34,14 +34,14 @@ use Rattle.mls_msgs.specs.declared.proposal.ProposalOrRef.TheVariants as entries
 use Rattle.mls_apply.specs.declared.list_item.ListItem.{ListItem}
 use Rattle.mls_apply.specs.ResolvedList.{resolved}
 use Rattle.mls_apply.specs.ListRules.{list_rules}
-use Rattle.mls_apply.specs.AppliedList.{Grown, outcome}
+use Rattle.mls_apply.specs.AppliedList.{AppliedTree, outcome}
 use Rattle.mls_apply.specs.ContextExtensions as extensions
 use Rattle.mls_apply.specs.ProposalRules.{fits_group, is_package_signed, is_valid_add, fits_leaf, is_valid_update, is_valid_update_by, valid_if_add, valid_if_update, holds_if_by_value, all_inline}
 use Rattle.mls_apply.specs.JoinRules.{path_of_join, join_items}
-use Rattle.mls_apply.specs.RuleLists.{Rule, rule, first_failing, renamed}
+use Rattle.mls_apply.specs.RuleLists.{Rule, rule, first_failing, map_refusals}
 use Rattle.mls_apply.proofs.RuleLists.{AreKept, first_failing-right, passed, passed_both, refused}
 use Rattle.mls_follow.specs.State.{State}
-use Rattle.mls_follow.specs.MessageRules.{refusal_of, is_frame_signed, proposal_message_rules, member_rules, tree_rules, Placed, placed, resulting, path_rules_of, placed_rules, required_after, rules_under, inline_rules, items_rules, commit_rules, content_rules, leaf_rules, signed_proposal_rules, outside_content_rules, outside_rules, external_commit_rules, signed_commit_rules, joiner_rules, if_full, sender_rules, frame_rules, message_rules}
+use Rattle.mls_follow.specs.MessageRules.{refusal_of, is_frame_signed, proposal_message_rules, member_rules, tree_rules, CommitterTree, committer_tree, resulting, path_rules_of, committer_tree_rules, required_after, rules_with_requirements, inline_rules, proposal_list_rules, commit_rules, content_rules, leaf_rules, signed_proposal_rules, outside_content_rules, outside_rules, external_commit_rules, signed_commit_rules, joiner_rules, if_full, sender_rules, frame_rules, message_rules}
 use Rattle.mls_follow.specs.Start.{is_info_signed}
 use Rattle.mls_follow.specs.RisingRuns.{AcceptancesStay, StartsStay}
 use Rattle.mls_follow.proofs.SignatureAgreement.{text_stays, leaf_stays, members_stay}
@@ -168,18 +168,18 @@ module _ (G K : VerifyFn) (more : Extends G K) (s : State) where
       first_stays (λ e. e)
       (faultless_stays (member_fault G suite group_id required t) (member_fault K suite group_id required t) faultless) h
 
-  places_stay : (required : RequiredCapabilities) (path : Option UpdatePath) (o : Option Placed)
-      → AreKept (placed_rules G s required path o) → AreKept (placed_rules K s required path o)
-  places_stay required path None h = h
-  places_stay required path (Some q) h =
-      let of_path = path_rules_of (hash_of s.context.cipher_suite) q.grown q.leaf path in
-      let t = resulting (hash_of s.context.cipher_suite) q.grown q.leaf path in
+  committer_stays : (required : RequiredCapabilities) (path : Option UpdatePath) (o : Option CommitterTree)
+      → AreKept (committer_tree_rules G s required path o) → AreKept (committer_tree_rules K s required path o)
+  committer_stays required path None h = h
+  committer_stays required path (Some q) h =
+      let of_path = path_rules_of (hash_of s.context.cipher_suite) q.applied_tree q.leaf path in
+      let t = resulting (hash_of s.context.cipher_suite) q.applied_tree q.leaf path in
       lists_stay of_path (tree_rules G s required t) of_path (tree_rules K s required t) (λ e. e) (trees_stay required t) h
 
-  unders_stay : (committer : Sender) (path : Option UpdatePath) (o : Option Grown) (required : Option RequiredCapabilities)
-      → AreKept (rules_under G s committer path o required) → AreKept (rules_under K s committer path o required)
+  unders_stay : (committer : Sender) (path : Option UpdatePath) (o : Option AppliedTree) (required : Option RequiredCapabilities)
+      → AreKept (rules_with_requirements G s committer path o required) → AreKept (rules_with_requirements K s committer path o required)
   unders_stay committer path o None h = h
-  unders_stay committer path o (Some required) h = places_stay required path (option_and_then (placed committer) o) h
+  unders_stay committer path o (Some required) h = committer_stays required path (option_and_then (committer_tree committer) o) h
 
   inlines_stay : (i : ℕ) (c : Commit) → AreKept (inline_rules G s i c) → AreKept (inline_rules K s i c)
   inlines_stay i c =
@@ -189,13 +189,13 @@ module _ (G K : VerifyFn) (more : Extends G K) (s : State) where
       (updates_stay G K more s.context s.tree (senders.Member i)) c.proposals) (λ h. h))
 
   module _ (required : RequiredCapabilities) where
-    items_stay : (i : ℕ) (c : Commit) (o : Option (List ListItem)) → AreKept (items_rules G s required i c o) → AreKept (items_rules K s required i c o)
+    items_stay : (i : ℕ) (c : Commit) (o : Option (List ListItem)) → AreKept (proposal_list_rules G s required i c o) → AreKept (proposal_list_rules K s required i c o)
     items_stay i c None h = h
     items_stay i c (Some items) h =
-        let of_list = renamed refusal_of (list_rules (senders.Member i) items (is_some c.path)) in
-        let after = required_after required (extensions.brought items) in
-        let under_G = rules_under G s (senders.Member i) c.path (outcome items s.tree) after in
-        let under_K = rules_under K s (senders.Member i) c.path (outcome items s.tree) after in
+        let of_list = map_refusals refusal_of (list_rules (senders.Member i) items (is_some c.path)) in
+        let after = required_after required (extensions.proposed_extensions items) in
+        let under_G = rules_with_requirements G s (senders.Member i) c.path (outcome items s.tree) after in
+        let under_K = rules_with_requirements K s (senders.Member i) c.path (outcome items s.tree) after in
         lists_stay (inline_rules G s i c) (of_list ++ under_G) (inline_rules K s i c) (of_list ++ under_K) (inlines_stay i c)
         (lists_stay of_list under_G of_list under_K (λ e. e) (unders_stay (senders.Member i) c.path (outcome items s.tree) after)) h
 
@@ -205,10 +205,10 @@ module _ (G K : VerifyFn) (more : Extends G K) (s : State) where
     externals_stay : (c : Commit) → AreKept (external_commit_rules G s required c) → AreKept (external_commit_rules K s required c)
     externals_stay c =
         let items = join_items c.proposals in
-        let of_list = renamed refusal_of (path_of_join s.context s.tree c.proposals c.path) in
-        let after = required_after required (extensions.brought items) in
-        let under_G = rules_under G s senders.NewMemberCommit c.path (outcome items s.tree) after in
-        let under_K = rules_under K s senders.NewMemberCommit c.path (outcome items s.tree) after in
+        let of_list = map_refusals refusal_of (path_of_join s.context s.tree c.proposals c.path) in
+        let after = required_after required (extensions.proposed_extensions items) in
+        let under_G = rules_with_requirements G s senders.NewMemberCommit c.path (outcome items s.tree) after in
+        let under_K = rules_with_requirements K s senders.NewMemberCommit c.path (outcome items s.tree) after in
         first_stays (λ e. e)
         (lists_stay of_list under_G of_list under_K (λ e. e) (unders_stay senders.NewMemberCommit c.path (outcome items s.tree) after))
 
@@ -276,14 +276,14 @@ kept_stays G K s required m more h = (messages_stay G K more s required m (recor
 pub acceptance_stays : AcceptancesStay
 acceptance_stays G K s bytes more h = record {
   message = h.message;
-  spelled = h.spelled;
+  encoded = h.encoded;
   required = h.required;
   requires = h.requires;
   kept = kept_stays G K s h.required h.message more h.kept;
 }
 
 pub start_stays : StartsStay
-start_stays profile G K info handed s more h =
+start_stays profile G K info supplied s more h =
     let member = h.has_signer.has_members in
     record {
       tree = h.tree;

@@ -9,7 +9,7 @@ use Rattle.mls_check.specs.Signatures.{VerifyFn}
 use Rattle.mls_apply.specs.RuleLists.{first_failing}
 use Rattle.mls_follow.specs.State.{State, EncodesMessage}
 use Rattle.mls_follow.specs.MessageRules.{message_rules}
-use Rattle.mls_follow.specs.NextState.{Step, next}
+use Rattle.mls_follow.specs.NextState.{Transition, next}
 use Rattle.mls_follow.specs.Acceptance.{IsAcceptable, IsNext, IsFirstRefusal}
 use Rattle.mls_follow.specs.Runs.{IsAnswer}
 use Rattle.mls_follow.specs.declared.refusal.Refusal.{Refusal}
@@ -18,28 +18,28 @@ use Rattle.mls_follow.specs.declared.taken.Taken.{Taken}
 
 -- bytes spell one message
 pub one_message : {profile : Profile} (m n : Message) (bytes : List ℕ) → EncodesMessage profile m bytes → EncodesMessage profile n bytes → m ≡ n
-one_message m n bytes a b = same_Some m n (sym (message_again m bytes a.spelled) ∙ message_again n bytes b.spelled)
+one_message m n bytes a b = same_Some m n (sym (message_again m bytes a.encoded) ∙ message_again n bytes b.encoded)
 
 module _ (G : VerifyFn) (s : State) (bytes : List ℕ) where
-  one_step : (x y : Step) → IsNext s bytes x → IsNext s bytes y → x ≡ y
+  one_step : (x y : Transition) → IsNext s bytes x → IsNext s bytes y → x ≡ y
   one_step x y a b =
-      same_Some x y (sym a.after ∙ ap (next s) (one_message a.message b.message bytes a.spelled b.spelled) ∙ b.after)
+      same_Some x y (sym a.after ∙ ap (next s) (one_message a.message b.message bytes a.encoded b.encoded) ∙ b.after)
 
   -- what is acceptable fails no rule
   never_both : (e : Refusal) → IsAcceptable G s bytes → IsFirstRefusal G s bytes e → ⊥
-  never_both e a (inl none) = none.1 a.message a.spelled
+  never_both e a (inl none) = none.1 a.message a.encoded
   never_both e a (inr f) =
       none-some e (sym a.kept
-      ∙ (λ i. first_failing (message_rules G s (Requires-one s.context a.required f.required a.requires f.requires i) (one_message a.message f.message bytes a.spelled f.spelled i)))
+      ∙ (λ i. first_failing (message_rules G s (Requires-one s.context a.required f.required a.requires f.requires i) (one_message a.message f.message bytes a.encoded f.encoded i)))
       ∙ f.fails)
 
   one_refusal : (e f : Refusal) → IsFirstRefusal G s bytes e → IsFirstRefusal G s bytes f → e ≡ f
   one_refusal e f (inl a) (inl b) = a.0 ∙ sym b.0
-  one_refusal e f (inl a) (inr b) = absurd (a.1 b.message b.spelled)
-  one_refusal e f (inr a) (inl b) = absurd (b.1 a.message a.spelled)
+  one_refusal e f (inl a) (inr b) = absurd (a.1 b.message b.encoded)
+  one_refusal e f (inr a) (inl b) = absurd (b.1 a.message a.encoded)
   one_refusal e f (inr a) (inr b) =
       same_Some e f (sym a.fails
-      ∙ (λ i. first_failing (message_rules G s (Requires-one s.context a.required b.required a.requires b.requires i) (one_message a.message b.message bytes a.spelled b.spelled i)))
+      ∙ (λ i. first_failing (message_rules G s (Requires-one s.context a.required b.required a.requires b.requires i) (one_message a.message b.message bytes a.encoded b.encoded i)))
       ∙ b.fails)
 
   own : (e : Refusal) → (◌≡◌ {A = Result Taken Refusal} (Err e) (Err OutOfMemory) → ⊥) → e ≢ OutOfMemory

@@ -15,18 +15,18 @@ use Rattle.mls_apply.specs.Senders.{member_index}
 use Rattle.mls_msgs.specs.declared.proposal.Proposal.TheVariants.{Add, Update, Remove, ContextExtensions, PreSharedKey, ReInit, ExternalInit}
 use Rattle.mls_tree.specs.Tree.{Tree, leaf, branch, height, leaf_count, leaf_at, member_count}
 use Rattle.mls_tree.specs.BlankLeaves.{first_blank_leaf, IsFirstBlank, AllLeavesSet}
-use Rattle.mls_tree.specs.TreeOperations.{put_leaf, clear_path, update, remove, grow, add, add_at, added_leaf, grown_for, number_or, blank_tree, is_overfilled_above}
+use Rattle.mls_tree.specs.TreeOperations.{put_leaf, blank_path, update, remove, extend, add, add_at, added_leaf, grown_for, number_or, blank_tree, is_overfilled_above}
 use Rattle.mls_tree.proofs.Choices.{below, from as past}
 use Rattle.mls_tree.proofs.Added.{leaf_at-add_at_other}
 use Rattle.mls_tree.proofs.FirstBlanks.{first_blank_leaf-leftmost}
-use Rattle.mls_tree.proofs.Kept.{leaf_at-shrink, leaf_at-grow}
+use Rattle.mls_tree.proofs.Kept.{leaf_at-truncate, leaf_at-extend}
 use Rattle.mls_tree.proofs.Trees.{leaf_count-positive}
 use Rattle.mls_check.proofs.Elements.{contains-head, contains-tail}
 use Rattle.mls_check.proofs.Leaves.{leaf_at-leaf, leaf_at-left, leaf_at-right}
 use Rattle.mls_apply.specs.declared.list_item.ListItem.{ListItem}
 use Rattle.mls_apply.specs.ListRules.{replaced_leaf}
-use Rattle.mls_apply.specs.MergePath.{Handed, handed, merged_from}
-use Rattle.mls_apply.specs.AppliedList.{Grown, grown, outcome, with_members, new_members, without_adds, after_leaf, after_adds, updated_at, after_update, after_updates, after_remove, after_removes}
+use Rattle.mls_apply.specs.MergePath.{PathStep, path_step_at, merged_from}
+use Rattle.mls_apply.specs.AppliedList.{AppliedTree, applied_tree, outcome, with_members, new_members, without_adds, after_leaf, after_adds, updated_at, after_update, after_updates, after_remove, after_removes}
 use Rattle.mls_apply.specs.PathRules.{node_keys}
 use Rattle.mls_apply.proofs.Leaves.{kept_beside, put_there}
 use Rattle.mls_apply.proofs.Merging.{came_from}
@@ -98,8 +98,8 @@ module _ (j : ℕ) where
     removed (ExternalInit es) t u e set = same_tree t u (same_Some t u e) set
     removed (Remove k) t u e set =
         let parts = cond_some (is_some (leaf_at 0 t k)) (remove t k) u e in
-        let at : Stood (clear_path (put_leaf 0 t k None) k) =
-        sym (leaf_at-shrink 0 (clear_path (put_leaf 0 t k None) k) j) ∙ same_tree (remove t k) u parts.1 set in
+        let at : Stood (blank_path (put_leaf 0 t k None) k) =
+        sym (leaf_at-truncate 0 (blank_path (put_leaf 0 t k None) k) j) ∙ same_tree (remove t k) u parts.1 set in
         elim (cases_eq j k) [
           | inl same ↦ absurd (none-some x (sym (put_there t k j None parts.0 same) ∙ at))
           | inr away ↦ sym (kept_beside t k j None parts.0 away) ∙ at
@@ -116,7 +116,7 @@ module _ (j : ℕ) where
     beside : (t : Tree) (y : LeafNode) (o : Option ℕ) → MatchOption o (AllLeavesSet t) (λ k. IsFirstBlank t k) → j ≢ number_or (leaf_count t) o
         → leaf_at 0 (add_at (grown_for o t) (number_or (leaf_count t) o) y) j ≡ leaf_at 0 t j
     beside t y None h away =
-        leaf_at-add_at_other (grow t) (leaf_count t) j y (omega (arith, leaf_count-positive (blank_tree (height t)))) away ∙ leaf_at-grow t j
+        leaf_at-add_at_other (extend t) (leaf_count t) j y (omega (arith, leaf_count-positive (blank_tree (height t)))) away ∙ leaf_at-extend t j
     beside t y (Some k) h away = leaf_at-add_at_other t k j y h.inside away
 
     added : (t : Tree) (y : LeafNode) → Stood (add t y) → (added_leaf t ≡ j) ⊎ Stood t
@@ -126,22 +126,22 @@ module _ (j : ℕ) where
           | inr away ↦ inr (sym (beside t y (first_blank_leaf 0 t) (first_blank_leaf-leftmost t) away) ∙ set)
         ]
 
-    adds : (ys : List LeafNode) (t : Tree) (g : Grown) → after_adds ys t ≡ Some g → Stood g.tree → Contains g.added j ⊎ Stood t
+    adds : (ys : List LeafNode) (t : Tree) (g : AppliedTree) → after_adds ys t ≡ Some g → Stood g.tree → Contains g.added j ⊎ Stood t
     unfolding after_adds
-    adds [] t g e set = inr (same_tree t g.tree (ap (λ (v : Grown). v.tree) (same_Some (grown t []) g e)) set)
+    adds [] t g e set = inr (same_tree t g.tree (ap (λ (v : AppliedTree). v.tree) (same_Some (applied_tree t []) g e)) set)
     adds (y ∷ ys) t g e set =
         let m = came_from (after_leaf (added_leaf t)) (after_adds ys (add t y)) g
         (unless (is_overfilled_above 0 (grown_for (first_blank_leaf 0 t) t) (added_leaf t)) (option_map (after_leaf (added_leaf t)) (after_adds ys (add t y))) g e) in
-        elim (adds ys (add t y) m.0 m.1 (same_tree m.0.tree g.tree (ap (λ (v : Grown). v.tree) m.2) set)) [
-          | inl c ↦ inl (subst (λ (v : Grown). Contains v.added j) m.2 (contains-tail (added_leaf t) m.0.added j c))
+        elim (adds ys (add t y) m.0 m.1 (same_tree m.0.tree g.tree (ap (λ (v : AppliedTree). v.tree) m.2) set)) [
+          | inl c ↦ inl (subst (λ (v : AppliedTree). Contains v.added j) m.2 (contains-tail (added_leaf t) m.0.added j c))
           | inr f ↦ elim (added t y f) [
-            | inl s ↦ inl (subst (λ (v : Grown). Contains v.added j) m.2 (index_here (added_leaf t) m.0.added s))
+            | inl s ↦ inl (subst (λ (v : AppliedTree). Contains v.added j) m.2 (index_here (added_leaf t) m.0.added s))
             | inr w ↦ inr w
           ]
         ]
 
     -- after a whole list
-    pub listed : (items : List ListItem) (t : Tree) (g : Grown) → outcome items t ≡ Some g → Stood g.tree → Contains (new_leaves items g) j ⊎ Stood t
+    pub listed : (items : List ListItem) (t : Tree) (g : AppliedTree) → outcome items t ≡ Some g → Stood g.tree → Contains (new_leaves items g) j ⊎ Stood t
     unfolding outcome with_members
     listed items t g e set =
         option_and_then_some (with_members (new_members items)) (without_adds items t) g e
@@ -196,18 +196,18 @@ module _ (j : ℕ) where
           subst (λ v. IsPathed i y first (leaf z) v) (same_Some (leaf (Some y)) u e)
           (record { count = refl; stood = λ set. let at = leaf_at-leaf first (Some y) j x set in inl (omega (arith, at.0), same_Some y x at.1) })
       pathed first (branch l n r) u hash keys from low e =
-          let by_left : Handed → Option Tree = λ h. option_map (λ v. branch v h.parent r) (merged_from H leaves first l i y h.hash h.keys) in
-          let by_right : Handed → Option Tree = λ h. option_map (λ v. branch l h.parent v) (merged_from H leaves (first + leaf_count l) r i y h.hash h.keys) in
-          let left : Option Tree = option_and_then by_left (handed H leaves (first + leaf_count l) r hash keys) in
-          let right : Option Tree = option_and_then by_right (handed H leaves first l hash keys) in
+          let by_left : PathStep → Option Tree = λ h. option_map (λ v. branch v h.parent r) (merged_from H leaves first l i y h.hash h.keys) in
+          let by_right : PathStep → Option Tree = λ h. option_map (λ v. branch l h.parent v) (merged_from H leaves (first + leaf_count l) r i y h.hash h.keys) in
+          let left : Option Tree = option_and_then by_left (path_step_at H leaves (first + leaf_count l) r hash keys) in
+          let right : Option Tree = option_and_then by_right (path_step_at H leaves first l hash keys) in
           elim (cases_lt i (first + leaf_count l)) [
             | inl less ↦
-                option_and_then_some by_left (handed H leaves (first + leaf_count l) r hash keys) u (sym (below i (first + leaf_count l) left right less) ∙ e)
+                option_and_then_some by_left (path_step_at H leaves (first + leaf_count l) r hash keys) u (sym (below i (first + leaf_count l) left right less) ∙ e)
                 (λ h a b.
                 let w = came_from (λ v. branch v h.parent r) (merged_from H leaves first l i y h.hash h.keys) u b in
                 subst (λ v. IsPathed i y first (branch l n r) v) w.2 (pathed_left i y first l w.0 r n h.parent (pathed first l w.0 h.hash h.keys from less w.1)))
             | inr more ↦
-                option_and_then_some by_right (handed H leaves first l hash keys) u (sym (past i (first + leaf_count l) left right more) ∙ e)
+                option_and_then_some by_right (path_step_at H leaves first l hash keys) u (sym (past i (first + leaf_count l) left right more) ∙ e)
                 (λ h a b.
                 let w = came_from (λ v. branch l h.parent v) (merged_from H leaves (first + leaf_count l) r i y h.hash h.keys) u b in
                 subst (λ v. IsPathed i y first (branch l n r) v) w.2
@@ -220,8 +220,8 @@ module _ (j : ℕ) where
     IsPathLeaf i (Some path) = (i ≡ j) × (path.leaf_node ≡ x)
 
     -- after the path of a commit of the client at leaf i, which is one of the tree after the list
-    pub brought : (H : List ℕ → List ℕ) (g : Grown) (i : ℕ) (path : Option UpdatePath) (u : Tree)
+    pub new_leaf_is : (H : List ℕ → List ℕ) (g : AppliedTree) (i : ℕ) (path : Option UpdatePath) (u : Tree)
         → i < leaf_count g.tree → resulting H g i path ≡ Some u → Stood u → IsPathLeaf i path ⊎ Stood g.tree
-    brought H g i None u inside e set = inr (same_tree g.tree u (same_Some g.tree u e) set)
-    brought H g i (Some path) u inside e set =
+    new_leaf_is H g i None u inside e set = inr (same_tree g.tree u (same_Some g.tree u e) set)
+    new_leaf_is H g i (Some path) u inside e set =
         (pathed H (leaf_count g.tree) i path.leaf_node 0 g.tree u [] (reverse (node_keys path)) (omega arith) (omega (arith, inside)) e).stood set

@@ -29,20 +29,20 @@ use Rattle.mls_apply.specs.Senders.{is_present}
 use Rattle.mls_apply.specs.declared.fault.ApplyFault.{ApplyFault}
 use Rattle.mls_apply.specs.declared.fault.ApplyFault.TheVariants.{PathMissing}
 use Rattle.mls_apply.specs.declared.list_item.ListItem.{ListItem}
-use Rattle.mls_apply.specs.ContextExtensions.{brought}
+use Rattle.mls_apply.specs.ContextExtensions.{proposed_extensions}
 use Rattle.mls_apply.specs.ResolvedList.{resolved}
 use Rattle.mls_apply.specs.JoinRules.{path_of_join, join_items, join_refusal}
 use Rattle.mls_apply.specs.ListRules.{list_rules, list_refusal}
-use Rattle.mls_apply.specs.AppliedList.{Grown, grown, outcome, without_adds, with_members, new_members}
+use Rattle.mls_apply.specs.AppliedList.{AppliedTree, applied_tree, outcome, without_adds, with_members, new_members}
 use Rattle.mls_apply.specs.PathRules.{path_rules, path_refusal}
 use Rattle.mls_apply.specs.ProposalRules.{proposal_rules, checked_refusal}
-use Rattle.mls_apply.specs.RuleLists.{Rule, rule, first_failing, renamed}
+use Rattle.mls_apply.specs.RuleLists.{Rule, rule, first_failing, map_refusals}
 use Rattle.mls_apply.proofs.RepeatedAdds.{repeated_adds_repeat_keys}
-use Rattle.mls_apply.proofs.RuleLists.{first_failing-left, first_failing-right, first_failing-renamed}
+use Rattle.mls_apply.proofs.RuleLists.{first_failing-left, first_failing-right, first_failing-map_refusals}
 use Rattle.mls_follow.specs.State.{State, last_epoch}
-use Rattle.mls_follow.specs.MessageRules.{refusal_of, is_new_proposal, proposal_message_rules, commit_refusal, handshake_refusal, items_rules, inline_rules, outcome_rules, required_after, rules_under, path_rules_of, Placed, seated, placed, placed_rules, external_commit_refusal, member_refusal, member_rules, tree_rules, resulting, changed_tree}
-use Rattle.mls_follow.specs.CommitTree.{place_rules, change_rules}
-use Rattle.mls_follow.specs.Acceptance.{Refuses}
+use Rattle.mls_follow.specs.MessageRules.{refusal_of, is_new_proposal, proposal_message_rules, commit_refusal, handshake_refusal, proposal_list_rules, inline_rules, applied_tree_rules, required_after, rules_with_requirements, path_rules_of, CommitterTree, seated, committer_tree, committer_tree_rules, external_commit_refusal, member_refusal, member_rules, tree_rules, resulting, changed_tree}
+use Rattle.mls_follow.specs.CommitTree.{committer_rules, change_rules}
+use Rattle.mls_follow.specs.Acceptance.{FailsWithRule}
 use Rattle.mls_follow.specs.declared.refusal.Refusal.{Refusal}
 use Rattle.mls_follow.specs.declared.refusal.Refusal.TheVariants as refusals
 
@@ -56,13 +56,13 @@ module _ (G : VerifyFn) (s : State) (required : RequiredCapabilities) (i : ℕ) 
     (items : List ListItem) (r : resolved (Member i) s.known c.proposals ≡ Some items) where
   -- the rules for the list, and for what follows it
   of_list : List (Rule Refusal)
-  of_list = renamed refusal_of (list_rules (Member i) items (is_some c.path))
+  of_list = map_refusals refusal_of (list_rules (Member i) items (is_some c.path))
 
   of_outcome : List (Rule Refusal)
-  of_outcome = rules_under G s (Member i) c.path (outcome items s.tree) (required_after required (brought items))
+  of_outcome = rules_with_requirements G s (Member i) c.path (outcome items s.tree) (required_after required (proposed_extensions items))
 
   -- its rules are those for its list
-  whole : commit_refusal G s required i c ≡ first_failing (items_rules G s required i c (Some items))
+  whole : commit_refusal G s required i c ≡ first_failing (proposal_list_rules G s required i c (Some items))
   unfolding commit_refusal
   whole = rw (later, r) refl
 
@@ -81,15 +81,15 @@ module _ (G : VerifyFn) (s : State) (required : RequiredCapabilities) (i : ℕ) 
     unfolding of_list list_refusal
     list_failed e f =
         past_inline
-        ∙ first_failing-left of_list of_outcome (refusal_of e) (first_failing-renamed refusal_of (list_rules (Member i) items (is_some c.path)) ∙ ap (option_map refusal_of) f)
+        ∙ first_failing-left of_list of_outcome (refusal_of e) (first_failing-map_refusals refusal_of (list_rules (Member i) items (is_some c.path)) ∙ ap (option_map refusal_of) f)
 
     module _ (kept : list_refusal (Member i) items (is_some c.path) ≡ None) where
       -- what is left is what follows the list
-      pub past_list : commit_refusal G s required i c ≡ first_failing (rules_under G s (Member i) c.path (outcome items s.tree) (required_after required (brought items)))
+      pub past_list : commit_refusal G s required i c ≡ first_failing (rules_with_requirements G s (Member i) c.path (outcome items s.tree) (required_after required (proposed_extensions items)))
       unfolding of_list of_outcome list_refusal
       past_list =
           past_inline
-          ∙ first_failing-right of_list of_outcome (first_failing-renamed refusal_of (list_rules (Member i) items (is_some c.path)) ∙ ap (option_map refusal_of) kept)
+          ∙ first_failing-right of_list of_outcome (first_failing-map_refusals refusal_of (list_rules (Member i) items (is_some c.path)) ∙ ap (option_map refusal_of) kept)
 
 -- an external commit with a path is judged by the rules for its list, and what follows them
 module _ (context : GroupContext) (t : Tree) (es : List ProposalOrRef) where
@@ -102,11 +102,11 @@ module _ (context : GroupContext) (t : Tree) (es : List ProposalOrRef) where
 module _ (G : VerifyFn) (s : State) (required : RequiredCapabilities) (c : Commit) (has : IsSome c.path) (later : nat_lt s.context.epoch last_epoch ≡ true) where
   -- the rules for its list, and for what follows it
   of_join : List (Rule Refusal)
-  of_join = renamed refusal_of (path_of_join s.context s.tree c.proposals c.path)
+  of_join = map_refusals refusal_of (path_of_join s.context s.tree c.proposals c.path)
 
   of_joined : List (Rule Refusal)
   of_joined =
-      rules_under G s NewMemberCommit c.path (outcome (join_items c.proposals) s.tree) (required_after required (brought (join_items c.proposals)))
+      rules_with_requirements G s NewMemberCommit c.path (outcome (join_items c.proposals) s.tree) (required_after required (proposed_extensions (join_items c.proposals)))
 
   past_epoch : external_commit_refusal G s required c ≡ first_failing (of_join ++ of_joined)
   unfolding external_commit_refusal of_join of_joined
@@ -122,65 +122,65 @@ module _ (G : VerifyFn) (s : State) (required : RequiredCapabilities) (c : Commi
   join_failed e f =
       past_epoch
       ∙ first_failing-left of_join of_joined (refusal_of e)
-      (first_failing-renamed refusal_of (path_of_join s.context s.tree c.proposals c.path) ∙ ap (option_map refusal_of) (sym join_word ∙ f))
+      (first_failing-map_refusals refusal_of (path_of_join s.context s.tree c.proposals c.path) ∙ ap (option_map refusal_of) (sym join_word ∙ f))
 
   -- what is left is what follows the list
   pub past_join : join_refusal s.context s.tree c ≡ None → external_commit_refusal G s required c
-      ≡ first_failing (rules_under G s NewMemberCommit c.path (outcome (join_items c.proposals) s.tree) (required_after required (brought (join_items c.proposals))))
+      ≡ first_failing (rules_with_requirements G s NewMemberCommit c.path (outcome (join_items c.proposals) s.tree) (required_after required (proposed_extensions (join_items c.proposals))))
   unfolding of_join of_joined
   past_join kept =
       past_epoch
       ∙ first_failing-right of_join of_joined
-      (first_failing-renamed refusal_of (path_of_join s.context s.tree c.proposals c.path) ∙ ap (option_map refusal_of) (sym join_word ∙ kept))
+      (first_failing-map_refusals refusal_of (path_of_join s.context s.tree c.proposals c.path) ∙ ap (option_map refusal_of) (sym join_word ∙ kept))
 
 -- what follows the list of a commit
 module _ (G : VerifyFn) (s : State) (required : RequiredCapabilities) (committer : Sender) (path : Option UpdatePath) where
-  place_failed : (q : Option Placed) (e : Refusal) → first_failing (place_rules (hash_of s.context.cipher_suite) path q) ≡ Some e
-      → first_failing (placed_rules G s required path q) ≡ Some e
-  place_failed None e f = f
-  place_failed (Some q) e f =
-      first_failing-left (path_rules_of (hash_of s.context.cipher_suite) q.grown q.leaf path) (tree_rules G s required (resulting (hash_of s.context.cipher_suite) q.grown q.leaf path)) e f
+  committer_failed : (q : Option CommitterTree) (e : Refusal) → first_failing (committer_rules (hash_of s.context.cipher_suite) path q) ≡ Some e
+      → first_failing (committer_tree_rules G s required path q) ≡ Some e
+  committer_failed None e f = f
+  committer_failed (Some q) e f =
+      first_failing-left (path_rules_of (hash_of s.context.cipher_suite) q.applied_tree q.leaf path) (tree_rules G s required (resulting (hash_of s.context.cipher_suite) q.applied_tree q.leaf path)) e f
 
-  place_kept : (q : Option Placed) (t : Tree) → first_failing (place_rules (hash_of s.context.cipher_suite) path q) ≡ None
-      → option_and_then (λ q. resulting (hash_of s.context.cipher_suite) q.grown q.leaf path) q ≡ Some t
-      → first_failing (placed_rules G s required path q) ≡ first_failing (tree_rules G s required (Some t))
-  place_kept None t f e = absurd (none-some t e)
-  place_kept (Some q) t f e =
-      first_failing-right (path_rules_of (hash_of s.context.cipher_suite) q.grown q.leaf path) (tree_rules G s required (resulting (hash_of s.context.cipher_suite) q.grown q.leaf path)) f
+  committer_kept : (q : Option CommitterTree) (t : Tree) → first_failing (committer_rules (hash_of s.context.cipher_suite) path q) ≡ None
+      → option_and_then (λ q. resulting (hash_of s.context.cipher_suite) q.applied_tree q.leaf path) q ≡ Some t
+      → first_failing (committer_tree_rules G s required path q) ≡ first_failing (tree_rules G s required (Some t))
+  committer_kept None t f e = absurd (none-some t e)
+  committer_kept (Some q) t f e =
+      first_failing-right (path_rules_of (hash_of s.context.cipher_suite) q.applied_tree q.leaf path) (tree_rules G s required (resulting (hash_of s.context.cipher_suite) q.applied_tree q.leaf path)) f
       ∙ ap (λ (x : Option Tree). first_failing (tree_rules G s required x)) e
 
   -- the list has no outcome, the committer no leaf, or the path fails a rule
-  pub change_failed : (o : Option Grown) (e : Refusal) → first_failing (change_rules (hash_of s.context.cipher_suite) committer path o) ≡ Some e
-      → first_failing (outcome_rules G s required committer path o) ≡ Some e
-  change_failed o e f = place_failed (option_and_then (placed committer) o) e f
+  pub change_failed : (o : Option AppliedTree) (e : Refusal) → first_failing (change_rules (hash_of s.context.cipher_suite) committer path o) ≡ Some e
+      → first_failing (applied_tree_rules G s required committer path o) ≡ Some e
+  change_failed o e f = committer_failed (option_and_then (committer_tree committer) o) e f
 
   -- what is left is to judge the tree
-  pub change_kept : (o : Option Grown) (t : Tree) → first_failing (change_rules (hash_of s.context.cipher_suite) committer path o) ≡ None
-      → changed_tree (hash_of s.context.cipher_suite) committer path o ≡ Some t → first_failing (outcome_rules G s required committer path o) ≡ first_failing (tree_rules G s required (Some t))
-  change_kept o t f e = place_kept (option_and_then (placed committer) o) t f e
+  pub change_kept : (o : Option AppliedTree) (t : Tree) → first_failing (change_rules (hash_of s.context.cipher_suite) committer path o) ≡ None
+      → changed_tree (hash_of s.context.cipher_suite) committer path o ≡ Some t → first_failing (applied_tree_rules G s required committer path o) ≡ first_failing (tree_rules G s required (Some t))
+  change_kept o t f e = committer_kept (option_and_then (committer_tree committer) o) t f e
 
 -- a client that joins takes the leaf of the next new member, or there is none
-pub placed_there : (g : Grown) (t : Tree) (j : ℕ) (js : List ℕ) → member_count g.tree < leaf_limit → t ≡ (seat g.tree).tree → j ≡ (seat g.tree).leaf → js ≡ []
-    → placed NewMemberCommit g ≡ Some (record { grown = grown t js; leaf = j })
-placed_there g t j js room tree leaf none =
-    let some : placed NewMemberCommit g ≡ Some (seated g) = rw (is_less (member_count g.tree) leaf_limit room) refl in
-    some ∙ (λ i. Some (record { grown = grown (sym tree i) (sym none i); leaf = sym leaf i }))
+pub placed_there : (g : AppliedTree) (t : Tree) (j : ℕ) (js : List ℕ) → member_count g.tree < leaf_limit → t ≡ (seat g.tree).tree → j ≡ (seat g.tree).leaf → js ≡ []
+    → committer_tree NewMemberCommit g ≡ Some (record { applied_tree = applied_tree t js; leaf = j })
+placed_there g t j js capacity tree leaf none =
+    let some : committer_tree NewMemberCommit g ≡ Some (seated g) = rw (is_less (member_count g.tree) leaf_limit capacity) refl in
+    some ∙ (λ i. Some (record { applied_tree = applied_tree (sym tree i) (sym none i); leaf = sym leaf i }))
 
-pub placed_nowhere : (g : Grown) → leaf_limit ≤ member_count g.tree → placed NewMemberCommit g ≡ None
-placed_nowhere g full = rw (not_less (member_count g.tree) leaf_limit full) refl
+pub no_committer_tree : (g : AppliedTree) → leaf_limit ≤ member_count g.tree → committer_tree NewMemberCommit g ≡ None
+no_committer_tree g full = rw (not_less (member_count g.tree) leaf_limit full) refl
 
 -- the committer has a leaf in the tree after its list
-module _ (H : List ℕ → List ℕ) (committer : Sender) (path : Option UpdatePath) (o : Option Grown) (g : Grown) (q : Placed)
-    (made : o ≡ Some g) (at : placed committer g ≡ Some q) where
-  pub change_placed : first_failing (change_rules H committer path o) ≡ first_failing (path_rules_of H q.grown q.leaf path)
-  change_placed =
-      ap (λ (p : Option Grown). first_failing (change_rules H committer path p)) made
-      ∙ ap (λ (p : Option Placed). first_failing (place_rules H path p)) at
+module _ (H : List ℕ → List ℕ) (committer : Sender) (path : Option UpdatePath) (o : Option AppliedTree) (g : AppliedTree) (q : CommitterTree)
+    (made : o ≡ Some g) (at : committer_tree committer g ≡ Some q) where
+  pub change_committer_tree : first_failing (change_rules H committer path o) ≡ first_failing (path_rules_of H q.applied_tree q.leaf path)
+  change_committer_tree =
+      ap (λ (p : Option AppliedTree). first_failing (change_rules H committer path p)) made
+      ∙ ap (λ (p : Option CommitterTree). first_failing (committer_rules H path p)) at
 
-  pub changed_placed : changed_tree H committer path o ≡ resulting H q.grown q.leaf path
-  changed_placed =
-      ap (λ (p : Option Grown). changed_tree H committer path p) made
-      ∙ ap (λ (p : Option Placed). option_and_then (λ (r : Placed). resulting H r.grown r.leaf path) p) at
+  pub changed_committer_tree : changed_tree H committer path o ≡ resulting H q.applied_tree q.leaf path
+  changed_committer_tree =
+      ap (λ (p : Option AppliedTree). changed_tree H committer path p) made
+      ∙ ap (λ (p : Option CommitterTree). option_and_then (λ (r : CommitterTree). resulting H r.applied_tree r.leaf path) p) at
 
 -- a commit is judged by the rules for commits
 pub of_commit : (G : VerifyFn) (s : State) (required : RequiredCapabilities) (a : AuthenticatedParts) (i : ℕ) (c : Commit)
@@ -192,13 +192,13 @@ of_commit G s required a i c = refl
 pub offer_word : (G : VerifyFn) (s : State) (a : AuthenticatedParts) (sender : Sender) (p : Proposal) → is_new_proposal s a ≡ true → is_present s.tree sender ≡ true
     → first_failing (proposal_message_rules G s a sender p) ≡ option_map refusal_of (checked_refusal G s.context s.tree sender p)
 unfolding checked_refusal
-offer_word G s a sender p new set = rw new (first_failing-renamed refusal_of (proposal_rules G s.context s.tree sender p) ∙ rw set refl)
+offer_word G s a sender p new set = rw new (first_failing-map_refusals refusal_of (proposal_rules G s.context s.tree sender p) ∙ rw set refl)
 
 -- a path of a leaf of the tree is judged by its rules alone
-pub path_word : (H : List ℕ → List ℕ) (g : Grown) (i : ℕ) (path : UpdatePath) → nat_lt i (leaf_count g.tree) ≡ true
+pub path_word : (H : List ℕ → List ℕ) (g : AppliedTree) (i : ℕ) (path : UpdatePath) → nat_lt i (leaf_count g.tree) ≡ true
     → first_failing (path_rules_of H g i (Some path)) ≡ option_map refusal_of (path_refusal H g i path)
 unfolding path_refusal
-path_word H g i path inside = first_failing-renamed refusal_of (path_rules H g i path) ∙ rw inside refl
+path_word H g i path inside = first_failing-map_refusals refusal_of (path_rules H g i path) ∙ rw inside refl
 
 -- the tree after a commit, whose keys are distinct
 module _ (G : VerifyFn) (s : State) (required : RequiredCapabilities) (t : Tree) (distinct : has_distinct_keys t ≡ true) where
@@ -217,7 +217,7 @@ module _ (G : VerifyFn) (s : State) (required : RequiredCapabilities) (t : Tree)
       ∙ ap (λ (o : Option MemberFault). first_failing (member_rules o)) ((fault-first G s.context.cipher_suite s.context.group_id required t f own).0 h)
 
   pub tree_failed : (f : MemberFault) → IsMemberFault G s.context.cipher_suite s.context.group_id required t f
-      → Refuses (first_failing (tree_rules G s required (Some t))) (member_refusal f)
+      → FailsWithRule (first_failing (tree_rules G s required (Some t))) (member_refusal f)
   tree_failed (members.ExtensionUnlisted i) h = λ _. stranger (members.ExtensionUnlisted i) (λ e. cc) h
   tree_failed (members.RequirementUnmet i) h = λ _. stranger (members.RequirementUnmet i) (λ e. cc) h
   tree_failed (members.CredentialUnsupported i) h = λ _. stranger (members.CredentialUnsupported i) (λ e. cc) h
@@ -229,18 +229,18 @@ module _ (G : VerifyFn) (s : State) (required : RequiredCapabilities) (t : Tree)
 
 module _ (items : List ListItem) (t : Tree) (repeated : have_distinct_added_keys items ≡ false)
     (G : VerifyFn) (s : State) (required : RequiredCapabilities) (i : ℕ) where
-  key_repeated : (g : Grown) → outcome items t ≡ Some g → first_failing (outcome_rules G s required (Member i) None (Some g)) ≡ Some refusals.KeyRepeated
+  key_repeated : (g : AppliedTree) → outcome items t ≡ Some g → first_failing (applied_tree_rules G s required (Member i) None (Some g)) ≡ Some refusals.KeyRepeated
   key_repeated g e = rw (repeated_adds_repeat_keys items t g e repeated) refl
 
-  by_outcome : (o : Option Grown) → outcome items t ≡ o → IsSome o → first_failing (outcome_rules G s required (Member i) None o) ≡ Some refusals.KeyRepeated
+  by_outcome : (o : Option AppliedTree) → outcome items t ≡ o → IsSome o → first_failing (applied_tree_rules G s required (Member i) None o) ≡ Some refusals.KeyRepeated
   by_outcome None e set = absurd (false≢true set)
   by_outcome (Some g) e set = key_repeated g e
 
   -- its list can be applied
-  pub repeated_refused : IsSome (outcome items t) → first_failing (outcome_rules G s required (Member i) None (outcome items t)) ≡ Some refusals.KeyRepeated
+  pub repeated_refused : IsSome (outcome items t) → first_failing (applied_tree_rules G s required (Member i) None (outcome items t)) ≡ Some refusals.KeyRepeated
   repeated_refused set = by_outcome (outcome items t) refl set
 
 -- its list cannot be applied
 pub unfit_refused : (items : List ListItem) (t : Tree) (G : VerifyFn) (s : State) (required : RequiredCapabilities) (i : ℕ) → outcome items t ≡ None
-    → first_failing (outcome_rules G s required (Member i) None (outcome items t)) ≡ Some refusals.TooManyLeaves
-unfit_refused items t G s required i none = ap (λ (o : Option Grown). first_failing (outcome_rules G s required (Member i) None o)) none
+    → first_failing (applied_tree_rules G s required (Member i) None (outcome items t)) ≡ Some refusals.TooManyLeaves
+unfit_refused items t G s required i none = ap (λ (o : Option AppliedTree). first_failing (applied_tree_rules G s required (Member i) None o)) none

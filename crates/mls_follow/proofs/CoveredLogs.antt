@@ -21,7 +21,7 @@ use Rattle.mls_follow.specs.State.{State, EncodesMessage}
 use Rattle.mls_follow.specs.MessageRules.{message_rules}
 use Rattle.mls_follow.specs.Acceptance.{IsFirstRefusal}
 use Rattle.mls_follow.specs.Start.{IsStart}
-use Rattle.mls_follow.specs.Runs.{Call, Takes, IsAnswer}
+use Rattle.mls_follow.specs.Runs.{Call, IsTransition, IsAnswer}
 use Rattle.mls_follow.specs.Validity.{IsValidState}
 use Rattle.mls_signatures.specs.Agreement.{Agrees, AgreeOn}
 use Rattle.mls_signatures.specs.SignaturesToVerify.{sign_content_signatures, labeled_signatures, leaf_signatures, tree_signatures, start_signatures}
@@ -96,20 +96,20 @@ module _ (G K : VerifyFn) (s : State) (bytes : List ℕ)
   refused_alike e (inr f) =
       inr (record {
         message = f.message;
-        spelled = f.spelled;
+        encoded = f.encoded;
         required = f.required;
         requires = f.requires;
-        fails = sym (same f.required f.message f.spelled) ∙ f.fails;
+        fails = sym (same f.required f.message f.encoded) ∙ f.fails;
       })
 
-  takes_alike : (answer : Result Taken Refusal) (new : State) → Takes G s bytes answer new → Takes K s bytes answer new
+  takes_alike : (answer : Result Taken Refusal) (new : State) → IsTransition G s bytes answer new → IsTransition K s bytes answer new
   takes_alike (Ok taken) new h = (
     record {
       message = h.0.message;
-      spelled = h.0.spelled;
+      encoded = h.0.encoded;
       required = h.0.required;
       requires = h.0.requires;
-      kept = sym (same h.0.required h.0.message h.0.spelled) ∙ h.0.kept;
+      kept = sym (same h.0.required h.0.message h.0.encoded) ∙ h.0.kept;
     },
     h.1,
   )
@@ -121,15 +121,15 @@ module _ (G K : VerifyFn) (s : State) (bytes : List ℕ)
 module _ (R : VerifyFn) (s : State) (bytes : List ℕ) (v : IsValidState R s) (covers : CoversMessage R s bytes) where
   refusals_alike : (required : RequiredCapabilities) (m : Message) → EncodesMessage s.profile m bytes
       → first_failing (message_rules R s required m) ≡ first_failing (message_rules all_good s required m)
-  refusals_alike required m spelled =
+  refusals_alike required m encoded =
       decide_refusals R all_good s required m
-      (covered R (message_signatures s m) (covers (message_signatures s m) (record { message = m; spelled = spelled; same = refl }))) (state_covered R s v)
+      (covered R (message_signatures s m) (covers (message_signatures s m) (record { message = m; encoded = encoded; same = refl }))) (state_covered R s v)
 
   to_trusted : (answer : Result Taken Refusal) (new : State) → IsAnswer R s bytes answer new → IsAnswer all_good s bytes answer new
   to_trusted = answers_alike R all_good s bytes refusals_alike
 
   from_trusted : (answer : Result Taken Refusal) (new : State) → IsAnswer all_good s bytes answer new → IsAnswer R s bytes answer new
-  from_trusted = answers_alike all_good R s bytes (λ required m spelled. sym (refusals_alike required m spelled))
+  from_trusted = answers_alike all_good R s bytes (λ required m encoded. sym (refusals_alike required m encoded))
 
 pub covered_answers : CoveredAnswersAreTrusted
 covered_answers R s bytes answer new v covers = (to_trusted R s bytes v covers answer new, from_trusted R s bytes v covers answer new)
@@ -158,30 +158,30 @@ covered_runs R s calls new v covers = (run_to_trusted R s calls new v covers, ru
 
 -- ---- starts
 
-start_covered : (R : VerifyFn) (info : GroupInfo) (handed : Option RatchetTree) → CoversStart R info handed → AgreeOnStart R all_good info handed
-start_covered R info handed covers t uses = covered R (start_signatures info t.tree) (covers t uses)
+start_covered : (R : VerifyFn) (info : GroupInfo) (supplied : Option RatchetTree) → CoversStart R info supplied → AgreeOnStart R all_good info supplied
+start_covered R info supplied covers t uses = covered R (start_signatures info t.tree) (covers t uses)
 
-start_flipped : (R : VerifyFn) (info : GroupInfo) (handed : Option RatchetTree) → CoversStart R info handed → AgreeOnStart all_good R info handed
-start_flipped R info handed covers t uses = flipped R all_good (start_signatures info t.tree) (covered R (start_signatures info t.tree) (covers t uses))
+start_flipped : (R : VerifyFn) (info : GroupInfo) (supplied : Option RatchetTree) → CoversStart R info supplied → AgreeOnStart all_good R info supplied
+start_flipped R info supplied covers t uses = flipped R all_good (start_signatures info t.tree) (covered R (start_signatures info t.tree) (covers t uses))
 
 pub covered_starts : CoveredStartsAreTrusted
-covered_starts profile R info handed s covers = (
-  decide_starts profile R all_good info handed s (start_covered R info handed covers),
-  decide_starts profile all_good R info handed s (start_flipped R info handed covers),
+covered_starts profile R info supplied s covers = (
+  decide_starts profile R all_good info supplied s (start_covered R info supplied covers),
+  decide_starts profile all_good R info supplied s (start_flipped R info supplied covers),
 )
 
 pub covered_faults : CoveredFaultsAreTrusted
-covered_faults R info handed fault covers = (
-  decide_faults R all_good info handed fault (start_covered R info handed covers),
-  decide_faults all_good R info handed fault (start_flipped R info handed covers),
+covered_faults R info supplied fault covers = (
+  decide_faults R all_good info supplied fault (start_covered R info supplied covers),
+  decide_faults all_good R info supplied fault (start_flipped R info supplied covers),
 )
 
 -- ---- both
 
 pub recipe_right : RecipeIsRight
-recipe_right profile R info handed first last calls start log =
-    let starts = covered_starts profile R info handed first start in
-    let valid : IsStart profile R info handed first → IsValidState R first = start_valid profile R info handed first in (
+recipe_right profile R info supplied first last calls start log =
+    let starts = covered_starts profile R info supplied first start in
+    let valid : IsStart profile R info supplied first → IsValidState R first = start_valid profile R info supplied first in (
       λ h. (starts.0 h.0, run_to_trusted R first calls last (valid h.0) log h.1),
       λ h. (let s = starts.1 h.0 in (s, run_from_trusted R first calls last (valid s) log h.1)),
     )

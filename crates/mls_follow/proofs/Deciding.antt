@@ -16,7 +16,7 @@ use Rattle.mls_nodes.specs.Requirements.{Requires}
 use Rattle.mls_follow.specs.State.{State, EncodesMessage}
 use Rattle.mls_follow.specs.MessageRules.{message_rules}
 use Rattle.mls_follow.specs.Acceptance.{EncodesNoMessage}
-use Rattle.mls_follow.specs.Runs.{IsAnswered, IsWellFormed, AnswerExists}
+use Rattle.mls_follow.specs.Runs.{HasAnswer, IsWellFormed, AnswerExists}
 use Rattle.mls_follow.specs.declared.refusal.Refusal.{Refusal}
 use Rattle.mls_follow.specs.declared.refusal.Refusal.TheVariants.{Malformed, OutOfMemory}
 use Rattle.mls_follow.specs.declared.taken.Taken.{Taken}
@@ -25,7 +25,7 @@ use Rattle.mls_follow.proofs.Advancing.{next_there}
 
 module _ (G : VerifyFn) (s : State) (required : RequiredCapabilities) (bytes : List ℕ) (held : IsWellFormed s) (requires : Requires s.context required) where
   abbrev Answered : Type 0
-  Answered = IsAnswered G s bytes
+  Answered = HasAnswer G s bytes
 
   same_error : (e f : Refusal) → ◌≡◌ {A = Result Taken Refusal} (Err e) (Err f) → e ≡ f
   same_error e f h = cc
@@ -42,33 +42,33 @@ module _ (G : VerifyFn) (s : State) (required : RequiredCapabilities) (bytes : L
   )
 
   -- they spell this one
-  judged : (m : Message) → EncodesMessage s.profile m bytes → (o : Option Refusal) → first_failing (message_rules G s required m) ≡ o → Answered
-  judged m spelled None kept =
-      let step = next_there s held G required requires m (bytes, spelled) kept in (
+  checked : (m : Message) → EncodesMessage s.profile m bytes → (o : Option Refusal) → first_failing (message_rules G s required m) ≡ o → Answered
+  checked m encoded None kept =
+      let step = next_there s held G required requires m (bytes, encoded) kept in (
         Ok step.step.taken,
         step.step.state,
         record {
-          takes = (record { message = m; spelled = spelled; required = required; requires = requires; kept = kept }, record { message = m; spelled = spelled; after = step.is });
+          takes = (record { message = m; encoded = encoded; required = required; requires = requires; kept = kept }, record { message = m; encoded = encoded; after = step.is });
           memory = λ e. absurd cc;
         },
       )
-  judged m spelled (Some e) fails = (
+  checked m encoded (Some e) fails = (
     Err e,
     s,
     record {
-      takes = (refl, λ own. inr (record { message = m; spelled = spelled; required = required; requires = requires; fails = fails }));
+      takes = (refl, λ own. inr (record { message = m; encoded = encoded; required = required; requires = requires; fails = fails }));
       memory = λ h. (of_message G s required m).never (fails ∙ ap Some (same_error e OutOfMemory h));
     },
   )
 
   of_profile : (m : Message) → message_at bytes ≡ Some m → nat_le (length bytes) input_limit ≡ true → (b : Bool) → is_in s.profile (is_members_message m) ≡ b → Answered
   of_profile m e f true members =
-      judged m (record { spelled = message_takes bytes m e; allowed = members; bounded = grind (arith, nat_tests) }) (first_failing (message_rules G s required m)) refl
+      checked m (record { encoded = message_takes bytes m e; allowed = members; bounded = grind (arith, nat_tests) }) (first_failing (message_rules G s required m)) refl
   of_profile m e f false foreign =
-      malformed (λ n h. false≢true (sym foreign ∙ ap (λ (k : Message). is_in s.profile (is_members_message k)) (same_Some m n (sym e ∙ message_again n bytes h.spelled)) ∙ h.allowed))
+      malformed (λ n h. false≢true (sym foreign ∙ ap (λ (k : Message). is_in s.profile (is_members_message k)) (same_Some m n (sym e ∙ message_again n bytes h.encoded)) ∙ h.allowed))
 
   read : (o : Option Message) → message_at bytes ≡ o → (b : Bool) → nat_le (length bytes) input_limit ≡ b → Answered
-  read None e b f = malformed (λ m h. none-some m (sym e ∙ message_again m bytes h.spelled))
+  read None e b f = malformed (λ m h. none-some m (sym e ∙ message_again m bytes h.encoded))
   read (Some m) e false f =
       malformed (λ n h. let le = h.bounded in let t : nat_le (length bytes) input_limit ≡ true = grind (arith, nat_tests) in false≢true (sym f ∙ t))
   read (Some m) e true f = of_profile m e f (is_in s.profile (is_members_message m)) refl

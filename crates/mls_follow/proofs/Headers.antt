@@ -11,7 +11,7 @@ use Rattle.mls_wire.specs.ExactTheorems.{one_reading}
 use Rattle.mls_wire.specs.IntegersExact.{wide16, number_exact}
 use Rattle.mls_wire.specs.OptionBind.{some_is, allowed}
 use Rattle.mls_wire.specs.Parsing.{number_at}
-use Rattle.mls_wire.specs.ReadContracts.{Takes, Nothing, ReadIsDeterministic}
+use Rattle.mls_wire.specs.ReadContracts.{IsEncodedAt, Nothing, ReadIsDeterministic}
 use Rattle.mls_msgs.specs.Layout.{key_package, group_info}
 use Rattle.mls_msgs.specs.Message.{header, is_unread, message}
 use Rattle.mls_msgs.specs.MessageExact.{header_exact}
@@ -49,7 +49,7 @@ one_header m n bytes a b =
 one_number : ReadIsDeterministic (number w16)
 one_number = one_reading (number w16) (number_at w16) (number_exact w16 wide16)
 
-pub header_read : (n : ℕ) (bytes : List ℕ) (i j : Input) → Takes (number w16) 1 (at 0 bytes) i → Takes (number w16) n i j → HasHeader n bytes
+pub header_read : (n : ℕ) (bytes : List ℕ) (i j : Input) → IsEncodedAt (number w16) 1 (at 0 bytes) i → IsEncodedAt (number w16) n i j → HasHeader n bytes
 unfolding header
 header_read n bytes i j a b = (
   j.left,
@@ -57,7 +57,7 @@ header_read n bytes i j a b = (
       ∙ ap (λ (t : List ℕ). Some t) (append_assoc a.0 b.0 j.left ∙ sym (a.2 ∙ ap (λ (t : List ℕ). a.0 ++ t) b.2)),
 )
 
-numbers_of : (n : ℕ) (bytes : List ℕ) → HasHeader n bytes → (i j : Input) × Takes (number w16) 1 (at 0 bytes) i × Takes (number w16) n i j
+numbers_of : (n : ℕ) (bytes : List ℕ) → HasHeader n bytes → (i j : Input) × IsEncodedAt (number w16) 1 (at 0 bytes) i × IsEncodedAt (number w16) n i j
 unfolding header
 numbers_of n bytes h =
     let p = joined (header n) (Some h.0) bytes h.1 in
@@ -74,23 +74,23 @@ no_version bytes none n known h =
     let t = numbers_of n bytes h in
     none 1 t.2.0 t.0.left t.2.1 t.2.2
 
-pub other_version : (version : ℕ) (bytes : List ℕ) (i : Input) → Takes (number w16) version (at 0 bytes) i → version ≢ 1 → HasNoHeader bytes
+pub other_version : (version : ℕ) (bytes : List ℕ) (i : Input) → IsEncodedAt (number w16) version (at 0 bytes) i → version ≢ 1 → HasNoHeader bytes
 other_version version bytes i a other n known h =
     let t = numbers_of n bytes h in
     other (one_number version 1 (at 0 bytes) i t.0 a t.2).0
 
-module _ (bytes : List ℕ) (i : Input) (first : Takes (number w16) 1 (at 0 bytes) i) where
-  behind_first : (n : ℕ) → HasHeader n bytes → (j : Input) × Takes (number w16) n i j
+module _ (bytes : List ℕ) (i : Input) (first : IsEncodedAt (number w16) 1 (at 0 bytes) i) where
+  behind_first : (n : ℕ) → HasHeader n bytes → (j : Input) × IsEncodedAt (number w16) n i j
   behind_first n h =
       let t = numbers_of n bytes h in
-      (t.1, subst (λ (k : Input). Takes (number w16) n k t.1) (one_number 1 1 (at 0 bytes) t.0 i t.2 first).1 t.3)
+      (t.1, subst (λ (k : Input). IsEncodedAt (number w16) n k t.1) (one_number 1 1 (at 0 bytes) t.0 i t.2 first).1 t.3)
 
   pub no_format : Nothing (number w16) i → HasNoHeader bytes
   no_format none n known h =
       let t = behind_first n h in
       none n t.1.0 t.0.left t.1.1 t.1.2
 
-  pub other_format : (m : ℕ) (j : Input) → Takes (number w16) m i j → (IsWireFormat m → ⊥) → HasNoHeader bytes
+  pub other_format : (m : ℕ) (j : Input) → IsEncodedAt (number w16) m i j → (IsWireFormat m → ⊥) → HasNoHeader bytes
   other_format m j second other n known h =
       let t = behind_first n h in
       other (subst IsWireFormat (one_number n m i t.0 j t.1 second).0 known)
@@ -117,7 +117,7 @@ no_message_of bytes none (messages.GroupInfo g) e = none 4 (omega arith, omega a
 no_message_of bytes none (messages.KeyPackage k) e = none 5 (omega arith, omega arith) (has_header 5 (key_package k) bytes e)
 
 pub no_message : (profile : Profile) (bytes : List ℕ) → HasNoHeader bytes → EncodesNoMessage profile bytes
-no_message profile bytes none m is = no_message_of bytes none m is.spelled
+no_message profile bytes none m is = no_message_of bytes none m is.encoded
 
 -- nor do more bytes than an input has encode a message
 pub over_limit : (profile : Profile) (bytes : List ℕ) → input_limit < length bytes → EncodesNoMessage profile bytes
@@ -132,7 +132,7 @@ always_in Full = refl
 pub encodes_unread : (profile : Profile) (bytes : List ℕ) (u : IsUnreadMessage bytes) → EncodesMessage profile (messages.Unread u.wire_format u.header.0) bytes
 unfolding message
 encodes_unread profile bytes u = record {
-  spelled = ap (λ (b : Bool). if b then header u.wire_format ⊕ Some u.header.0 else None) u.unread ∙ u.header.1;
+  encoded = ap (λ (b : Bool). if b then header u.wire_format ⊕ Some u.header.0 else None) u.unread ∙ u.header.1;
   allowed = always_in profile;
   bounded = u.bounded;
 }
@@ -143,7 +143,7 @@ no_signatures false e = e
 
 -- and has no signatures
 has_no_signatures : (s : State) (bytes : List ℕ) (list : List SignatureToVerify) → list ≡ [] → IsUnreadMessage bytes → AreSignaturesOf s bytes list
-has_no_signatures s bytes list empty u = record { message = messages.Unread u.wire_format u.header.0; spelled = encodes_unread s.profile bytes u; same = no_signatures s.ended empty }
+has_no_signatures s bytes list empty u = record { message = messages.Unread u.wire_format u.header.0; encoded = encodes_unread s.profile bytes u; same = no_signatures s.ended empty }
 
 pub none_listed : (s : State) (bytes : List ℕ) (list : List SignatureToVerify) → list ≡ []
     → (NotPublic ≢ OutOfMemory → ((NotPublic ≡ Malformed) × EncodesNoMessage s.profile bytes) ⊎ ((NotPublic ≡ NotPublic) × IsUnreadMessage bytes))
@@ -156,7 +156,7 @@ none_listed s bytes list empty h = elim (h (λ e. absurd cc)) [
 -- it is the first rule that a PrivateMessage and a Welcome fail
 module _ (G : VerifyFn) (s : State) (required : RequiredCapabilities) (requires : Requires s.context required) (bytes : List ℕ) where
   not_public : IsUnreadMessage bytes → FailsRule G s bytes NotPublic
-  not_public u = record { message = messages.Unread u.wire_format u.header.0; spelled = encodes_unread s.profile bytes u; required = required; requires = requires; fails = refl }
+  not_public u = record { message = messages.Unread u.wire_format u.header.0; encoded = encodes_unread s.profile bytes u; required = required; requires = requires; fails = refl }
 
   pub header_refused : (e : Refusal)
       → (e ≢ OutOfMemory → ((e ≡ Malformed) × EncodesNoMessage s.profile bytes) ⊎ ((e ≡ NotPublic) × IsUnreadMessage bytes))

@@ -12,16 +12,16 @@ use Rattle.mls_msgs.specs.Layout.{proposal}
 use Rattle.mls_msgs.specs.declared.group_info.GroupInfo.{GroupInfo}
 use Rattle.mls_msgs.specs.declared.profile.Profile.{Profile}
 use Rattle.mls_follow.specs.State.{State}
-use Rattle.mls_follow.specs.NextState.{Step, next}
+use Rattle.mls_follow.specs.NextState.{Transition, next}
 use Rattle.mls_follow.specs.Acceptance.{IsAcceptable, IsNext}
-use Rattle.mls_follow.specs.Runs.{Takes, Call, IsRun, IsWellFormed, RunsAreAnswered}
+use Rattle.mls_follow.specs.Runs.{IsTransition, Call, IsRun, IsWellFormed, RunsAreAnswered}
 use Rattle.mls_follow.specs.Start.{IsStart}
 use Rattle.mls_follow.specs.declared.refusal.Refusal.{Refusal}
 use Rattle.mls_follow.specs.declared.taken.Taken.{Taken}
 use Rattle.mls_follow.proofs.Advancing.{Leads, next_there}
 use Rattle.mls_follow.proofs.Answering.{one_message}
 use Rattle.mls_follow.proofs.Deciding.{an_answer}
-use Rattle.mls_apply.proofs.Spellings.{put_back}
+use Rattle.mls_apply.proofs.Encodings.{put_back}
 
 -- a state that a follower may hold, whose group's requirements can be read
 pub record IsSteady (s : State) : Type 0 where
@@ -30,8 +30,8 @@ pub record IsSteady (s : State) : Type 0 where
   pub requires : Requires s.context required
 
 -- it starts in one
-pub start_steady : (profile : Profile) (G : VerifyFn) (info : GroupInfo) (handed : Option RatchetTree) (s : State) → IsStart profile G info handed s → IsSteady s
-start_steady profile G info handed s h =
+pub start_steady : (profile : Profile) (G : VerifyFn) (info : GroupInfo) (supplied : Option RatchetTree) (s : State) → IsStart profile G info supplied s → IsSteady s
+start_steady profile G info supplied s h =
     let valid = h.has_signer.has_members.valid_tree in
     subst IsSteady (sym h.state) (record {
       held = record {
@@ -45,13 +45,13 @@ start_steady profile G info handed s h =
 
 module _ (G : VerifyFn) (s : State) (steady : IsSteady s) (bytes : List ℕ) where
   -- what is accepted leads to one
-  accepted_steady : (step : Step) → IsAcceptable G s bytes → IsNext s bytes step → IsSteady step.state
+  accepted_steady : (step : Transition) → IsAcceptable G s bytes → IsNext s bytes step → IsSteady step.state
   accepted_steady step a n =
-      let l : Leads s steady.held (next s a.message) = next_there s steady.held G a.required a.requires a.message (bytes, a.spelled) a.kept in
-      let same = same_Some l.step step (sym l.is ∙ ap (next s) (one_message a.message n.message bytes a.spelled n.spelled) ∙ n.after) in
-      subst (λ (t : Step). IsSteady t.state) same (record { held = l.still; required = l.required; requires = l.requires })
+      let l : Leads s steady.held (next s a.message) = next_there s steady.held G a.required a.requires a.message (bytes, a.encoded) a.kept in
+      let same = same_Some l.step step (sym l.is ∙ ap (next s) (one_message a.message n.message bytes a.encoded n.encoded) ∙ n.after) in
+      subst (λ (t : Transition). IsSteady t.state) same (record { held = l.still; required = l.required; requires = l.requires })
 
-  taken_steady : (answer : Result Taken Refusal) (new : State) → Takes G s bytes answer new → IsSteady new
+  taken_steady : (answer : Result Taken Refusal) (new : State) → IsTransition G s bytes answer new → IsSteady new
   taken_steady (Ok taken) new h = accepted_steady (record { taken = taken; state = new }) h.0 h.1
   taken_steady (Err e) new h = subst IsSteady (sym h.0) steady
 
@@ -61,6 +61,6 @@ run_steady G s (call ∷ calls) new steady h =
     run_steady G h.0 calls new (taken_steady G s steady call.bytes call.answer h.0 h.1) h.2
 
 pub run_answered : RunsAreAnswered
-run_answered profile G info handed first last calls bytes start run =
-    let steady = run_steady G first calls last (start_steady profile G info handed first start) run in
+run_answered profile G info supplied first last calls bytes start run =
+    let steady = run_steady G first calls last (start_steady profile G info supplied first start) run in
     an_answer G last steady.required bytes steady.held steady.requires

@@ -112,16 +112,16 @@ module _ (G : VerifyFn) (context : GroupContext) (t : Tree) (committer : Sender)
   both_own : (v : Validity) → both_valid all_valid v ≡ v
   both_own v = refl
 
-  pub judged_first : (es rest : List ProposalOrRef) (first : Validity) → rest ≡ es → first ≡ all_valid
+  pub checked_first : (es rest : List ProposalOrRef) (first : Validity) → rest ≡ es → first ≡ all_valid
       → list_validity G context t committer es ≡ both_valid first (list_validity G context t committer rest)
-  judged_first es rest first same all =
+  checked_first es rest first same all =
       sym (both_own (list_validity G context t committer es))
       ∙ (λ i. both_valid (sym all i) (list_validity G context t committer (sym same i)))
 
-  pub judged_more : (whole so_far now new : Validity) (e : ProposalOrRef) (rest tail : List ProposalOrRef) → rest ≡ e ∷ tail
+  pub checked_more : (whole so_far now new : Validity) (e : ProposalOrRef) (rest tail : List ProposalOrRef) → rest ≡ e ∷ tail
       → whole ≡ both_valid so_far (list_validity G context t committer rest) → now ≡ entry_validity G context t committer e → new ≡ both_valid so_far now
       → whole ≡ both_valid new (list_validity G context t committer tail)
-  judged_more whole so_far now new e rest tail split known here more =
+  checked_more whole so_far now new e rest tail split known here more =
       known
       ∙ ap (λ es. both_valid so_far (list_validity G context t committer es)) split
       ∙ ap (both_valid so_far) (list_step e tail)
@@ -130,10 +130,10 @@ module _ (G : VerifyFn) (context : GroupContext) (t : Tree) (committer : Sender)
       ∙ ap (λ v. both_valid v (list_validity G context t committer tail)) (sym more)
 
   -- the first rule that fails, where none is left
-  pub judged_all : (es : List ProposalOrRef) (so_far : Validity) (rest : List ProposalOrRef) → rest ≡ []
+  pub checked_all : (es : List ProposalOrRef) (so_far : Validity) (rest : List ProposalOrRef) → rest ≡ []
       → list_validity G context t committer es ≡ both_valid so_far (list_validity G context t committer rest)
       → first_failing (validity_rules (list_validity G context t committer es)) ≡ first_failing (validity_rules so_far)
-  judged_all es so_far rest none known =
+  checked_all es so_far rest none known =
       ap (λ v. first_failing (validity_rules v))
       (known
       ∙ ap (λ ys. both_valid so_far (list_validity G context t committer ys)) none

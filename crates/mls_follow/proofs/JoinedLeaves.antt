@@ -9,14 +9,14 @@ use Rattle.mls_nodes.specs.declared.leaf.LeafNode.{LeafNode}
 use Rattle.mls_tree.specs.Tree.{Tree, leaf_at, member_count}
 use Rattle.mls_tree.specs.BlankLeaves.{first_blank_leaf}
 use Rattle.mls_tree.specs.TreeOperations.{grown_for, seat}
-use Rattle.mls_tree.proofs.Kept.{leaf_at-grow}
+use Rattle.mls_tree.proofs.Kept.{leaf_at-extend}
 use Rattle.mls_check.proofs.Elements.{and-left, and-right, contains-nil}
 use Rattle.mls_msgs.specs.declared.framed_content.Sender.TheVariants.{NewMemberCommit}
 use Rattle.mls_msgs.specs.declared.proposal.Proposal.{Proposal}
 use Rattle.mls_msgs.specs.declared.proposal.Proposal.TheVariants.{Add, Update, Remove, ContextExtensions, PreSharedKey, ReInit, ExternalInit}
 use Rattle.mls_msgs.specs.declared.proposal.ProposalOrRef.{ProposalOrRef}
 use Rattle.mls_msgs.specs.declared.proposal.ProposalOrRef.TheVariants as entries
-use Rattle.mls_apply.specs.AppliedList.{Grown, grown, outcome, with_members, new_members, added_to, without_adds, after_adds}
+use Rattle.mls_apply.specs.AppliedList.{AppliedTree, applied_tree, outcome, with_members, new_members, added_to, without_adds, after_adds}
 use Rattle.mls_apply.specs.JoinRules.{is_join_proposal, is_external_init, is_remove, is_value, value_count, is_join_list, join_items}
 use Rattle.mls_apply.specs.ListRules.{replaced_leaf}
 use Rattle.mls_apply.proofs.SoundOutcomes.{where_so}
@@ -65,17 +65,17 @@ all_values es e =
     let c = nat_le (value_count is_remove es) 1 in
     and-left a b (and-left (a && b) c e)
 
-none_added : (es : List ProposalOrRef) (t : Tree) (g : Grown) → is_join_list es ≡ true → outcome (join_items es) t ≡ Some g → g.added ≡ []
+none_added : (es : List ProposalOrRef) (t : Tree) (g : AppliedTree) → is_join_list es ≡ true → outcome (join_items es) t ≡ Some g → g.added ≡ []
 unfolding outcome with_members after_adds
 none_added es t g list e =
     option_and_then_some (with_members (new_members (join_items es))) (without_adds (join_items es) t) g e
     (λ w a b.
     let none : with_members [] w ≡ Some g = ap (λ (xs : List LeafNode). with_members xs w) (sym (no_members es (all_values es list))) ∙ b in
-    let whole : grown w [] ≡ g = same_Some (grown w []) g (where_so (nat_le (member_count w + length {A = LeafNode} []) leaf_limit) (after_adds [] w) g none) in
-    sym (ap (λ (v : Grown). v.added) whole))
+    let whole : applied_tree w [] ≡ g = same_Some (applied_tree w []) g (where_so (nat_le (member_count w + length {A = LeafNode} []) leaf_limit) (after_adds [] w) g none) in
+    sym (ap (λ (v : AppliedTree). v.added) whole))
 
 -- each set leaf of the tree after it was set before
-pub join_stood : (es : List ProposalOrRef) (t : Tree) (g : Grown) (j : ℕ) (x : LeafNode) → is_join_list es ≡ true → outcome (join_items es) t ≡ Some g
+pub join_stood : (es : List ProposalOrRef) (t : Tree) (g : AppliedTree) (j : ℕ) (x : LeafNode) → is_join_list es ≡ true → outcome (join_items es) t ≡ Some g
     → leaf_at 0 g.tree j ≡ Some x → leaf_at 0 t j ≡ Some x
 join_stood es t g j x list made at =
     let none : new_leaves (join_items es) g ≡ [] = (λ i. none_replaced es i ++ none_added es t g list made i) in
@@ -87,7 +87,7 @@ join_stood es t g j x list made at =
 -- ---- its sender's leaf
 
 for_blank : (t : Tree) (o : Option ℕ) (j : ℕ) → leaf_at 0 (grown_for o t) j ≡ leaf_at 0 t j
-for_blank t None j = leaf_at-grow t j
+for_blank t None j = leaf_at-extend t j
 for_blank t (Some k) j = refl
 
 -- the tree in which it is has the same leaves

@@ -26,7 +26,7 @@ use Rattle.mls_msgs.specs.declared.proposal.ProposalOrRef.{ProposalOrRef}
 use Rattle.mls_msgs.specs.declared.proposal.ProposalOrRef.TheVariants as entries
 use Rattle.mls_apply.specs.declared.list_item.ListItem.{ListItem}
 use Rattle.mls_apply.specs.declared.list_item.KnownProposal.{KnownProposal}
-use Rattle.mls_apply.specs.ContextExtensions.{brought, brought_before, extensions_of}
+use Rattle.mls_apply.specs.ContextExtensions.{proposed_extensions, first_some, extensions_of}
 use Rattle.mls_apply.specs.JoinRules.{join_items}
 use Rattle.mls_apply.specs.ResolvedList.{find_known, item_of, entry_item, with_first, resolved}
 use Rattle.mls_apply.specs.ProposalRules.{all_inline, holds_if_by_value, valid_if_extensions, are_valid_extensions}
@@ -36,12 +36,12 @@ use Rattle.mls_apply.proofs.RuleLists.{AreKept, passed, refused}
 use Rattle.mls_follow.specs.State.{State}
 use Rattle.mls_follow.specs.ReadableExtensions.{AreReadable, FollowersKnowReadable, CommitsAreReadable}
 use Rattle.mls_follow.specs.MessageRules.{required_after, proposal_message_rules, content_rules, leaf_rules, signed_proposal_rules, outside_content_rules, outside_rules, if_full, sender_rules, frame_rules, message_rules, reference_of}
-use Rattle.mls_follow.specs.NextState.{Step, after_proposal, committed, after_tree, commit_tree, with_list, after_commit, after_content, after_join, after_outside, after_sender, next}
+use Rattle.mls_follow.specs.NextState.{Transition, after_proposal, committed, after_tree, commit_tree, with_list, after_commit, after_content, after_join, after_outside, after_sender, next}
 use Rattle.mls_follow.specs.Transcript.{confirmed_hash, interim_hash}
 use Rattle.mls_tree.specs.TreeHash.{tree_hash}
 use Rattle.mls_hash.specs.SuiteHash.{hash_of}
 use Rattle.mls_follow.specs.Acceptance.{IsAcceptable, IsNext}
-use Rattle.mls_follow.specs.Runs.{Takes, Call, IsRun}
+use Rattle.mls_follow.specs.Runs.{IsTransition, Call, IsRun}
 use Rattle.mls_follow.specs.declared.refusal.Refusal.{Refusal}
 use Rattle.mls_follow.specs.declared.taken.Taken.{Taken}
 use Rattle.mls_follow.proofs.Answering.{one_message}
@@ -72,11 +72,11 @@ item_readable committer known (entries.Reference reference) x all h e = found_re
 
 -- what an item brings, and the rest
 brought_readable : (required : RequiredCapabilities) (x : ListItem) (rest : Option (List Rattle.mls_nodes.specs.declared.extension.Extension.Extension)) → IsReadable x
-    → IsSome (required_after required rest) → IsSome (required_after required (brought_before (extensions_of x.proposal) rest))
+    → IsSome (required_after required rest) → IsSome (required_after required (first_some (extensions_of x.proposal) rest))
 unfolding are_valid_extensions
 brought_readable required x rest h later = go x.proposal h
   where
-    go : (p : Proposal) → valid_if_extensions p ≡ true → IsSome (required_after required (brought_before (extensions_of p) rest))
+    go : (p : Proposal) → valid_if_extensions p ≡ true → IsSome (required_after required (first_some (extensions_of p) rest))
     go (Add k) h = later
     go (Update y) h = later
     go (Remove j) h = later
@@ -87,7 +87,7 @@ brought_readable required x rest h later = go x.proposal h
 
 pub commit_readable : CommitsAreReadable
 unfolding all_inline
-commit_readable committer known [] items required all inline e = subst (λ (xs : List ListItem). IsSome (required_after required (brought xs))) (same_Some [] items e) refl
+commit_readable committer known [] items required all inline e = subst (λ (xs : List ListItem). IsSome (required_after required (proposed_extensions xs))) (same_Some [] items e) refl
 commit_readable committer known (entry ∷ es) items required all inline e =
     let b = both_true (holds_if_by_value valid_if_extensions entry) (all_inline valid_if_extensions es) inline in
     go (entry_item committer known entry) (resolved committer known es)
@@ -95,18 +95,18 @@ commit_readable committer known (entry ∷ es) items required all inline e =
     (λ xs f. commit_readable committer known es xs required all b.1 f) e
   where
     go : (o : Option ListItem) (p : Option (List ListItem)) → ((x : ListItem) → o ≡ Some x → IsReadable x)
-        → ((xs : List ListItem) → p ≡ Some xs → IsSome (required_after required (brought xs)))
-        → with_first o p ≡ Some items → IsSome (required_after required (brought items))
+        → ((xs : List ListItem) → p ≡ Some xs → IsSome (required_after required (proposed_extensions xs)))
+        → with_first o p ≡ Some items → IsSome (required_after required (proposed_extensions items))
     go None p one more e = absurd (none-some items e)
     go (Some x) None one more e = absurd (none-some items e)
     go (Some x) (Some xs) one more e =
-        subst (λ (ys : List ListItem). IsSome (required_after required (brought ys))) (same_Some (x ∷ xs) items e)
-        (brought_readable required x (brought xs) (one x refl) (more xs refl))
+        subst (λ (ys : List ListItem). IsSome (required_after required (proposed_extensions ys))) (same_Some (x ∷ xs) items e)
+        (brought_readable required x (proposed_extensions xs) (one x refl) (more xs refl))
 
 -- ---- the known proposals
 
 -- a commit leaves none
-tree-forgets : (u : State) (a : AuthenticatedParts) (t : Tree) (step : Step) → after_tree u a t ≡ Some step → step.state.known ≡ []
+tree-forgets : (u : State) (a : AuthenticatedParts) (t : Tree) (step : Transition) → after_tree u a t ≡ Some step → step.state.known ≡ []
 tree-forgets u a t step e =
     option_and_then_some (λ hash.
     option_and_then (λ confirmed. option_map (committed u t hash confirmed) (interim_hash (hash_of u.context.cipher_suite) confirmed a.confirmation_tag))
@@ -117,15 +117,15 @@ tree-forgets u a t step e =
     (confirmed_hash (hash_of u.context.cipher_suite) u.interim a) step g
     (λ confirmed k l.
     (let w = came_from (committed u t hash confirmed) (interim_hash (hash_of u.context.cipher_suite) confirmed a.confirmation_tag) step l in
-    sym (ap (λ (v : Step). v.state.known) w.2))))
+    sym (ap (λ (v : Transition). v.state.known) w.2))))
 
-pub commit-forgets : (s : State) (a : AuthenticatedParts) (committer : Sender) (c : Commit) (items : Option (List ListItem)) (step : Step)
+pub commit-forgets : (s : State) (a : AuthenticatedParts) (committer : Sender) (c : Commit) (items : Option (List ListItem)) (step : Transition)
     → after_commit s a committer c items ≡ Some step → step.state.known ≡ []
 commit-forgets s a committer c items step e =
     option_and_then_some (after_tree (with_list s items) a) (commit_tree s committer c items) step e
     (λ t f g. tree-forgets (with_list s items) a t step g)
 
-pub join-forgets : (s : State) (a : AuthenticatedParts) (content : Content) (step : Step) → after_join s a content ≡ Some step → step.state.known ≡ []
+pub join-forgets : (s : State) (a : AuthenticatedParts) (content : Content) (step : Transition) → after_join s a content ≡ Some step → step.state.known ≡ []
 join-forgets s a (contents.Application sent) step e = absurd (none-some step e)
 join-forgets s a (contents.Proposal p) step e = absurd (none-some step e)
 join-forgets s a (contents.Commit c) step e = commit-forgets s a senders.NewMemberCommit c (Some (join_items c.proposals)) step e
@@ -143,14 +143,14 @@ module _ (G : VerifyFn) (s : State) (all : AreReadable s.known) (required : Requ
       let e = passed d.1 in
       (passed e.1).0
 
-  proposal-readable : (sender : Sender) (p : Proposal) (o : Option (List ℕ)) (step : Step) → valid_if_extensions p ≡ true → option_map (after_proposal s sender p) o ≡ Some step
+  proposal-readable : (sender : Sender) (p : Proposal) (o : Option (List ℕ)) (step : Transition) → valid_if_extensions p ≡ true → option_map (after_proposal s sender p) o ≡ Some step
       → AreReadable step.state.known
   proposal-readable sender p o step h e =
       let w = came_from (after_proposal s sender p) o step e in
-      subst (λ (u : Step). AreReadable u.state.known) w.2
+      subst (λ (u : Transition). AreReadable u.state.known) w.2
       (All-push (λ k. valid_if_extensions k.proposal ≡ true) s.known (record { reference = w.0; sender = sender; proposal = p }) all h)
 
-  module _ (a : AuthenticatedParts) (step : Step) where
+  module _ (a : AuthenticatedParts) (step : Transition) where
     content-readable : (i : ℕ) (x : LeafNode) (content : Content) → AreKept (content_rules G s required a i x content) → after_content s a i content ≡ Some step
         → AreReadable step.state.known
     content-readable i x (contents.Application sent) kept e = absurd (refused kept)
@@ -185,7 +185,7 @@ module _ (G : VerifyFn) (s : State) (all : AreReadable s.known) (required : Requ
     sender-readable senders.NewMemberProposal kept e = outside-readable s.profile senders.NewMemberProposal kept e
     sender-readable senders.NewMemberCommit kept e = knows_none step.state.known (join-forgets s a a.content.content step e)
 
-  step-readable : (m : Message) (step : Step) → first_failing (message_rules G s required m) ≡ None → next s m ≡ Some step → AreReadable step.state.known
+  step-readable : (m : Message) (step : Transition) → first_failing (message_rules G s required m) ≡ None → next s m ≡ Some step → AreReadable step.state.known
   step-readable (messages.Public p) step kept e =
       let frame : AreKept (frame_rules G s required p.auth) = record { none = kept } in
       sender-readable p.auth step p.auth.content.sender (passed (passed (passed frame).1).1).1 e
@@ -194,11 +194,11 @@ module _ (G : VerifyFn) (s : State) (all : AreReadable s.known) (required : Requ
   step-readable (messages.KeyPackage k) step kept e = absurd (none-some step e)
 
 module _ (G : VerifyFn) (s : State) (all : AreReadable s.known) (bytes : List ℕ) where
-  accepted-readable : (step : Step) → IsAcceptable G s bytes → IsNext s bytes step → AreReadable step.state.known
+  accepted-readable : (step : Transition) → IsAcceptable G s bytes → IsNext s bytes step → AreReadable step.state.known
   accepted-readable step a n =
-      step-readable G s all a.required a.message step a.kept (ap (next s) (one_message a.message n.message bytes a.spelled n.spelled) ∙ n.after)
+      step-readable G s all a.required a.message step a.kept (ap (next s) (one_message a.message n.message bytes a.encoded n.encoded) ∙ n.after)
 
-  taken-readable : (answer : Result Taken Refusal) (new : State) → Takes G s bytes answer new → AreReadable new.known
+  taken-readable : (answer : Result Taken Refusal) (new : State) → IsTransition G s bytes answer new → AreReadable new.known
   taken-readable (Ok taken) new h = accepted-readable (record { taken = taken; state = new }) h.0 h.1
   taken-readable (Err e) new h = subst (λ (u : State). AreReadable u.known) (sym h.0) all
 
@@ -207,5 +207,5 @@ run-readable G s [] new all h = subst (λ (u : State). AreReadable u.known) (sym
 run-readable G s (call ∷ calls) new all h = run-readable G h.0 calls new (taken-readable G s all call.bytes call.answer h.0 h.1) h.2
 
 pub followers_readable : FollowersKnowReadable
-followers_readable profile G info handed first last calls start run =
+followers_readable profile G info supplied first last calls start run =
     run-readable G first calls last (knows_none first.known (ap (λ (s : State). s.known) start.state)) run

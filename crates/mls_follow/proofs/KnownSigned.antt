@@ -26,9 +26,9 @@ use Rattle.mls_apply.proofs.RuleLists.{AreKept, passed, refused}
 use Rattle.mls_follow.specs.State.{State}
 use Rattle.mls_follow.specs.ProposalSignatures.{IsKnownSigned, AreKnownSigned, FollowersKnowSigned}
 use Rattle.mls_follow.specs.MessageRules.{content_rules, leaf_rules, signed_proposal_rules, outside_content_rules, outside_rules, if_full, sender_rules, frame_rules, message_rules, reference_of}
-use Rattle.mls_follow.specs.NextState.{Step, after_proposal, after_content, after_outside, after_sender, next}
+use Rattle.mls_follow.specs.NextState.{Transition, after_proposal, after_content, after_outside, after_sender, next}
 use Rattle.mls_follow.specs.Acceptance.{IsAcceptable, IsNext}
-use Rattle.mls_follow.specs.Runs.{Takes, Call, IsRun}
+use Rattle.mls_follow.specs.Runs.{IsTransition, Call, IsRun}
 use Rattle.mls_follow.specs.declared.refusal.Refusal.{Refusal}
 use Rattle.mls_follow.specs.declared.taken.Taken.{Taken}
 use Rattle.mls_follow.proofs.Answering.{one_message}
@@ -41,30 +41,30 @@ knows_none G s none =
     (All-nil (IsKnownSigned G s.context s.tree))
 
 module _ (G : VerifyFn) (s : State) (all : AreKnownSigned G s) (required : RequiredCapabilities) where
-  proposal-signed : (sender : Sender) (p : Proposal) (o : Option (List ℕ)) (step : Step)
+  proposal-signed : (sender : Sender) (p : Proposal) (o : Option (List ℕ)) (step : Transition)
       → ((reference : List ℕ) → o ≡ Some reference
       → IsKnownSigned G s.context s.tree (record { reference = reference; sender = sender; proposal = p }))
       → option_map (after_proposal s sender p) o ≡ Some step → AreKnownSigned G step.state
   proposal-signed sender p o step one e =
       let w = came_from (after_proposal s sender p) o step e in
-      subst (λ (u : Step). AreKnownSigned G u.state) w.2
+      subst (λ (u : Transition). AreKnownSigned G u.state) w.2
       (All-push (IsKnownSigned G s.context s.tree) s.known (record { reference = w.0; sender = sender; proposal = p }) all (one w.0 w.1))
 
-  module _ (a : AuthenticatedParts) (step : Step) where
+  module _ (a : AuthenticatedParts) (step : Transition) where
     content-signed : (i : ℕ) (x : LeafNode) (content : Content)
         → a.content.sender ≡ senders.Member i → leaf_at 0 s.tree i ≡ Some x → a.content.content ≡ content
         → AreKept (content_rules G s required a i x content) → after_content s a i content ≡ Some step → AreKnownSigned G step.state
     content-signed i x (contents.Application sent) sender set is kept e = absurd (refused kept)
     content-signed i x (contents.Proposal p) sender set is kept e =
         proposal-signed (senders.Member i) p (reference_of s.context a) step
-        (λ reference told. record {
+        (λ reference reported. record {
           frame = a;
           key = x.signature_key;
           signer = ap leaf_key set;
           allowed = refl;
           sender = sender;
           content = is;
-          reference = told;
+          reference = reported;
           signed = (passed kept).0;
         }) e
     content-signed i x (contents.Commit c) sender set is kept e = knows_none G step.state
@@ -82,14 +82,14 @@ module _ (G : VerifyFn) (s : State) (all : AreKnownSigned G s) (required : Requi
     signed-signed sender p None is content allowed has kept e = absurd (refused kept)
     signed-signed sender p (Some key) is content allowed has kept e =
         proposal-signed sender p (reference_of s.context a) step
-        (λ reference told. record {
+        (λ reference reported. record {
           frame = a;
           key = key;
           signer = has;
           allowed = allowed;
           sender = is;
           content = content;
-          reference = told;
+          reference = reported;
           signed = (passed kept).0;
         }) e
 
@@ -115,7 +115,7 @@ module _ (G : VerifyFn) (s : State) (all : AreKnownSigned G s) (required : Requi
     sender-signed senders.NewMemberProposal is kept e = outside-signed s.profile senders.NewMemberProposal is refl kept e
     sender-signed senders.NewMemberCommit is kept e = knows_none G step.state (join-forgets s a a.content.content step e)
 
-  step-signed : (m : Message) (step : Step) → first_failing (message_rules G s required m) ≡ None → next s m ≡ Some step
+  step-signed : (m : Message) (step : Transition) → first_failing (message_rules G s required m) ≡ None → next s m ≡ Some step
       → AreKnownSigned G step.state
   step-signed (messages.Public p) step kept e =
       let frame : AreKept (frame_rules G s required p.auth) = record { none = kept } in
@@ -125,12 +125,12 @@ module _ (G : VerifyFn) (s : State) (all : AreKnownSigned G s) (required : Requi
   step-signed (messages.KeyPackage k) step kept e = absurd (none-some step e)
 
 module _ (G : VerifyFn) (s : State) (all : AreKnownSigned G s) (bytes : List ℕ) where
-  accepted-signed : (step : Step) → IsAcceptable G s bytes → IsNext s bytes step → AreKnownSigned G step.state
+  accepted-signed : (step : Transition) → IsAcceptable G s bytes → IsNext s bytes step → AreKnownSigned G step.state
   accepted-signed step a n =
       step-signed G s all a.required a.message step a.kept
-      (ap (next s) (one_message a.message n.message bytes a.spelled n.spelled) ∙ n.after)
+      (ap (next s) (one_message a.message n.message bytes a.encoded n.encoded) ∙ n.after)
 
-  taken-signed : (answer : Result Taken Refusal) (new : State) → Takes G s bytes answer new → AreKnownSigned G new
+  taken-signed : (answer : Result Taken Refusal) (new : State) → IsTransition G s bytes answer new → AreKnownSigned G new
   taken-signed (Ok taken) new h = accepted-signed (record { taken = taken; state = new }) h.0 h.1
   taken-signed (Err e) new h = subst (AreKnownSigned G) (sym h.0) all
 
@@ -139,5 +139,5 @@ run-signed G s [] new all h = subst (AreKnownSigned G) (sym h) all
 run-signed G s (call ∷ calls) new all h = run-signed G h.0 calls new (taken-signed G s all call.bytes call.answer h.0 h.1) h.2
 
 pub followers_signed : FollowersKnowSigned
-followers_signed profile G info handed first last calls start run =
+followers_signed profile G info supplied first last calls start run =
     run-signed G first calls last (knows_none G first (ap (λ (s : State). s.known) start.state)) run

@@ -4,7 +4,7 @@ use Rattle.std.specs.Prelude.{OnOk, OnErr}
 use Rattle.mls_check.specs.ReceiptSets.{with_receipt}
 use Rattle.mls_check.specs.Signatures.{VerifyFn, Extends}
 use Rattle.mls_check.proofs.ReceiptSets.{with_receipt_extends}
-use Rattle.mls_follow.specs.FollowerInvariant.{IsJudged}
+use Rattle.mls_follow.specs.FollowerInvariant.{HasUniqueKeysAndValidLeaves}
 use Rattle.mls_follow.specs.State.{State}
 use Rattle.mls_follow.proofs.SignatureAgreement.{members_stay}
 
@@ -14,8 +14,8 @@ learns G K digest (Ok u) more same = subst (λ (M : VerifyFn). Extends G M) (sym
 learns G K digest (Err e) more same = subst (λ (M : VerifyFn). Extends G M) (sym same) (λ suite key content signature good. good)
 
 -- a state that was judged stays judged where more signatures are good
-pub judged_stays : (G K : VerifyFn) (s : State) → Extends G K → IsJudged G s → IsJudged K s
-judged_stays G K s more j = record {
+pub checked_stays : (G K : VerifyFn) (s : State) → Extends G K → HasUniqueKeysAndValidLeaves G s → HasUniqueKeysAndValidLeaves K s
+checked_stays G K s more j = record {
   distinct = j.distinct;
   members = λ required requires. members_stay G K s.context.cipher_suite s.context.group_id required s.tree more (j.members required requires);
 }

@@ -36,8 +36,8 @@ use Rattle.mls_msgs.specs.declared.proposal.ProposalOrRef.{ProposalOrRef}
 use Rattle.mls_msgs.specs.declared.proposal.ProposalOrRef.TheVariants as entries
 use Rattle.mls_apply.specs.declared.list_item.ListItem.{ListItem}
 use Rattle.mls_apply.specs.declared.list_item.KnownProposal.{KnownProposal}
-use Rattle.mls_apply.specs.AppliedList.{Grown, outcome}
-use Rattle.mls_apply.specs.ContextExtensions.{brought}
+use Rattle.mls_apply.specs.AppliedList.{AppliedTree, outcome}
+use Rattle.mls_apply.specs.ContextExtensions.{proposed_extensions}
 use Rattle.mls_apply.specs.ListRules.{is_reinit, has_reinit, is_reinit_alone}
 use Rattle.mls_apply.specs.OutcomeItems.{is_members_item}
 use Rattle.mls_apply.specs.ProposalRules.{checked_refusal, valid_if_psk, valid_if_reinit, is_no_external_init, holds_if_by_value, all_inline}
@@ -49,8 +49,8 @@ use Rattle.mls_apply.proofs.RuleLists.{AreKept, passed, refused}
 use Rattle.mls_signatures.specs.SigningKeys.{may_propose}
 use Rattle.mls_follow.specs.State.{State}
 use Rattle.mls_follow.specs.MembersProfile.{IsOfMember, IsMembersState, is_members_rule, MembersRulesDecide, MembersStatesStay, MembersStart, MembersResume}
-use Rattle.mls_follow.specs.MessageRules.{reference_of, proposal_message_rules, member_rules, tree_rules, Placed, placed, resulting, path_rules_of, placed_rules, required_after, rules_under, items_rules, commit_rules, content_rules, leaf_rules, is_followed, is_known_external, if_full, sender_rules, frame_rules, message_rules}
-use Rattle.mls_follow.specs.NextState.{Step, after_proposal, committed, after_tree, commit_tree, with_list, is_over_after, after_content, after_sender, next}
+use Rattle.mls_follow.specs.MessageRules.{reference_of, proposal_message_rules, member_rules, tree_rules, CommitterTree, committer_tree, resulting, path_rules_of, committer_tree_rules, required_after, rules_with_requirements, proposal_list_rules, commit_rules, content_rules, leaf_rules, is_sender_supported, is_known_external, if_full, sender_rules, frame_rules, message_rules}
+use Rattle.mls_follow.specs.NextState.{Transition, after_proposal, committed, after_tree, commit_tree, with_list, is_over_after, after_content, after_sender, next}
 use Rattle.mls_follow.specs.RefusalNumbers.{number_of}
 use Rattle.mls_follow.specs.Resumption.{Holds, can_hold, is_receivable, with_pending, base_state, is_over, profile_of}
 use Rattle.mls_follow.specs.Transcript.{confirmed_hash, interim_hash}
@@ -216,23 +216,23 @@ module _ (G : VerifyFn) (s : State) (h : IsMembersState s) (required : RequiredC
   of_tree needed None = pass_none
   of_tree needed (Some t) = pass_kept refl (of_members _)
 
-  of_path_then : (H : List ℕ → List ℕ) (g : Grown) (i : ℕ) (o : Option UpdatePath) (rs : List (Rule Refusal)) → Passes rs → Passes (path_rules_of H g i o ++ rs)
+  of_path_then : (H : List ℕ → List ℕ) (g : AppliedTree) (i : ℕ) (o : Option UpdatePath) (rs : List (Rule Refusal)) → Passes rs → Passes (path_rules_of H g i o ++ rs)
   of_path_then H g i None rs k = k
   of_path_then H g i (Some path) rs k = pass_kept refl (pass_kept refl (pass_kept refl (pass_kept refl (pass_kept refl k))))
 
-  of_placed : (needed : RequiredCapabilities) (path : Option UpdatePath) (o : Option Placed) → Passes (placed_rules G s needed path o)
-  of_placed needed path None = pass_kept refl pass_none
-  of_placed needed path (Some q) =
-      of_path_then (hash_of s.context.cipher_suite) q.grown q.leaf path (tree_rules G s needed (resulting (hash_of s.context.cipher_suite) q.grown q.leaf path))
-      (of_tree needed (resulting (hash_of s.context.cipher_suite) q.grown q.leaf path))
+  of_committer_tree : (needed : RequiredCapabilities) (path : Option UpdatePath) (o : Option CommitterTree) → Passes (committer_tree_rules G s needed path o)
+  of_committer_tree needed path None = pass_kept refl pass_none
+  of_committer_tree needed path (Some q) =
+      of_path_then (hash_of s.context.cipher_suite) q.applied_tree q.leaf path (tree_rules G s needed (resulting (hash_of s.context.cipher_suite) q.applied_tree q.leaf path))
+      (of_tree needed (resulting (hash_of s.context.cipher_suite) q.applied_tree q.leaf path))
 
-  of_under : (committer : Sender) (path : Option UpdatePath) (o : Option Grown) (needed : Option RequiredCapabilities)
-      → Passes (rules_under G s committer path o needed)
+  of_under : (committer : Sender) (path : Option UpdatePath) (o : Option AppliedTree) (needed : Option RequiredCapabilities)
+      → Passes (rules_with_requirements G s committer path o needed)
   of_under committer path o None = pass_kept refl pass_none
-  of_under committer path o (Some needed) = of_placed needed path (option_and_then (placed committer) o)
+  of_under committer path o (Some needed) = of_committer_tree needed path (option_and_then (committer_tree committer) o)
 
   of_items : (i : ℕ) (c : Commit) → are_members_entries c.proposals ≡ true → (o : Option (List ListItem)) → resolved (senders.Member i) s.known c.proposals ≡ o
-      → Passes (items_rules G s required i c o)
+      → Passes (proposal_list_rules G s required i c o)
   of_items i c members None e = pass_kept refl pass_none
   of_items i c members (Some items) e =
       let all = resolved_members (senders.Member i) s.known c.proposals items h.known members e in
@@ -242,7 +242,7 @@ module _ (G : VerifyFn) (s : State) (h : IsMembersState s) (required : RequiredC
       (pass_full refl (inline_holds is_no_external_init external_holds c.proposals members)
       (pass_kept refl (pass_kept refl (pass_kept refl (pass_kept refl
       (pass_full refl (psks_hold items all) (pass_full refl (alone_holds items all)
-      (pass_kept refl (of_under (senders.Member i) c.path (outcome items s.tree) (required_after required (brought items))))))))))))))))
+      (pass_kept refl (of_under (senders.Member i) c.path (outcome items s.tree) (required_after required (proposed_extensions items))))))))))))))))
 
   of_offer : (a : AuthenticatedParts) (sender : Sender) (p : Proposal) → IsMembers p → Passes (proposal_message_rules G s a sender p)
   of_offer a sender p members =
@@ -292,7 +292,7 @@ record Clears (s t : State) : Type 0 where
   ended : t.ended ≡ s.ended
   known : t.known ≡ []
 
-tree-clears : (u : State) (a : AuthenticatedParts) (t : Tree) (step : Step) → after_tree u a t ≡ Some step → Clears u step.state
+tree-clears : (u : State) (a : AuthenticatedParts) (t : Tree) (step : Transition) → after_tree u a t ≡ Some step → Clears u step.state
 tree-clears u a t step e =
     option_and_then_some (λ hash.
     option_and_then (λ confirmed. option_map (committed u t hash confirmed) (interim_hash (hash_of u.context.cipher_suite) confirmed a.confirmation_tag))
@@ -304,7 +304,7 @@ tree-clears u a t step e =
     (λ confirmed k l.
     (let w = came_from (committed u t hash confirmed) (interim_hash (hash_of u.context.cipher_suite) confirmed a.confirmation_tag) step l in
     let clears : Clears u (committed u t hash confirmed w.0).state = record { profile = refl; ended = refl; known = refl } in
-    subst (λ (v : Step). Clears u v.state) w.2 clears)))
+    subst (λ (v : Transition). Clears u v.state) w.2 clears)))
 
 module _ (G : VerifyFn) (s : State) (h : IsMembersState s) (required : RequiredCapabilities) where
   over_after : (o : Option (List ListItem)) → ((items : List ListItem) → o ≡ Some items → AreMembers items) → is_over_after o ≡ false
@@ -318,7 +318,7 @@ module _ (G : VerifyFn) (s : State) (h : IsMembersState s) (required : RequiredC
     known = subst (All IsOfMember) (sym c.known) (All-nil IsOfMember);
   }
 
-  commit-members : (a : AuthenticatedParts) (i : ℕ) (c : Commit) (step : Step) → are_members_entries c.proposals ≡ true → after_content s a i (contents.Commit c) ≡ Some step
+  commit-members : (a : AuthenticatedParts) (i : ℕ) (c : Commit) (step : Transition) → are_members_entries c.proposals ≡ true → after_content s a i (contents.Commit c) ≡ Some step
       → IsMembersState step.state
   commit-members a i c step members e =
       let o = resolved (senders.Member i) s.known c.proposals in
@@ -326,7 +326,7 @@ module _ (G : VerifyFn) (s : State) (h : IsMembersState s) (required : RequiredC
       (λ t f g. cleared o step.state (over_after o (λ items is. resolved_members (senders.Member i) s.known c.proposals items h.known members is))
       (tree-clears (with_list s o) a t step g))
 
-  proposal-members : (i : ℕ) (p : Proposal) (o : Option (List ℕ)) (step : Step) → IsMembers p → option_map (after_proposal s (senders.Member i) p) o ≡ Some step
+  proposal-members : (i : ℕ) (p : Proposal) (o : Option (List ℕ)) (step : Transition) → IsMembers p → option_map (after_proposal s (senders.Member i) p) o ≡ Some step
       → IsMembersState step.state
   proposal-members i p o step members e =
       let w = came_from (after_proposal s (senders.Member i) p) o step e in
@@ -335,9 +335,9 @@ module _ (G : VerifyFn) (s : State) (h : IsMembersState s) (required : RequiredC
         going = h.going;
         known = All-push IsOfMember s.known (record { reference = w.0; sender = senders.Member i; proposal = p }) h.known (record { proposal = members; sender = refl });
       } in
-      subst (λ (u : Step). IsMembersState u.state) w.2 pushed
+      subst (λ (u : Transition). IsMembersState u.state) w.2 pushed
 
-  module _ (a : AuthenticatedParts) (step : Step) where
+  module _ (a : AuthenticatedParts) (step : Transition) where
     content-members : (i : ℕ) (content : Content) → is_members_content content ≡ true → after_content s a i content ≡ Some step → IsMembersState step.state
     content-members i (contents.Application sent) members e = absurd (none-some step e)
     content-members i (contents.Proposal p) members e = proposal-members i p (reference_of s.context a) step members e
@@ -354,7 +354,7 @@ module _ (G : VerifyFn) (s : State) (h : IsMembersState s) (required : RequiredC
     sender-members senders.NewMemberProposal members kept e = absurd (no_full s.profile h.profile _ kept)
     sender-members senders.NewMemberCommit members kept e = absurd (no_full s.profile h.profile _ kept)
 
-  step-members : (m : Message) (step : Step) → is_members_message m ≡ true → first_failing (message_rules G s required m) ≡ None → next s m ≡ Some step
+  step-members : (m : Message) (step : Transition) → is_members_message m ≡ true → first_failing (message_rules G s required m) ≡ None → next s m ≡ Some step
       → IsMembersState step.state
   step-members (messages.Public p) step members kept e =
       let frame : AreKept (frame_rules G s required p.auth) = record { none = kept } in
@@ -370,15 +370,15 @@ in_members Full b e i = absurd (cc)
 
 pub states_stay : MembersStatesStay
 states_stay G s bytes step h a n =
-    step-members G s h a.required a.message step (in_members s.profile (is_members_message a.message) h.profile a.spelled.allowed) a.kept
-    (ap (next s) (one_message a.message n.message bytes a.spelled n.spelled) ∙ n.after)
+    step-members G s h a.required a.message step (in_members s.profile (is_members_message a.message) h.profile a.encoded.allowed) a.kept
+    (ap (next s) (one_message a.message n.message bytes a.encoded n.encoded) ∙ n.after)
 
 -- ---- first states
 
 pub members_start : MembersStart
-members_start G info handed s h = subst IsMembersState (sym h.state) (record { profile = refl; going = refl; known = All-nil IsOfMember })
+members_start G info supplied s h = subst IsMembersState (sym h.state) (record { profile = refl; going = refl; known = All-nil IsOfMember })
 
-followed_member : (profile : Profile) (sender : Sender) → profile ≡ Members → is_followed profile sender ≡ true → is_member sender ≡ true
+followed_member : (profile : Profile) (sender : Sender) → profile ≡ Members → is_sender_supported profile sender ≡ true → is_member sender ≡ true
 followed_member Members (senders.Member i) e f = refl
 followed_member Members (senders.External k) e f = absurd (false≢true f)
 followed_member Members senders.NewMemberProposal e f = absurd (false≢true f)
@@ -400,7 +400,7 @@ module _ (G : VerifyFn) (s : State) (h : IsMembersState s) (k : KnownProposal) (
   of_member =
       let going = not s.ended in
       let allowed = is_in s.profile (is_members_proposal k.proposal) in
-      let followed = is_followed s.profile k.sender in
+      let followed = is_sender_supported s.profile k.sender in
       let known = is_known_external s.context.extensions k.sender in
       let may = may_propose k.sender k.proposal in
       let first = and-left (going && allowed && followed) known (and-left (going && allowed && followed && known) may receives) in

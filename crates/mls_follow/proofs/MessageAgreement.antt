@@ -39,14 +39,14 @@ use Rattle.mls_apply.specs.declared.list_item.ListItem.{ListItem}
 use Rattle.mls_apply.specs.ResolvedList.{resolved}
 use Rattle.mls_apply.specs.JoinRules.{path_of_join, is_join_list, join_items, join_item_rules}
 use Rattle.mls_apply.specs.ListRules.{list_rules, list_refusal}
-use Rattle.mls_apply.specs.AppliedList.{Grown, outcome}
+use Rattle.mls_apply.specs.AppliedList.{AppliedTree, outcome}
 use Rattle.mls_apply.specs.ContextExtensions as extensions
 use Rattle.mls_apply.specs.ProposalRules.{fits_group, is_valid_add, fits_leaf, is_valid_update, is_valid_update_by, valid_if_add, valid_if_update, valid_if_remove, valid_if_extensions, valid_if_psk, valid_if_reinit, is_no_external_init, holds_if_by_value, all_inline}
-use Rattle.mls_apply.specs.RuleLists.{Rule, rule, first_failing, renamed}
+use Rattle.mls_apply.specs.RuleLists.{Rule, rule, first_failing, map_refusals}
 use Rattle.mls_apply.proofs.Leaves.{leaf_inside}
-use Rattle.mls_apply.proofs.RuleLists.{AreKept, first_failing-renamed, passed}
+use Rattle.mls_apply.proofs.RuleLists.{AreKept, first_failing-map_refusals, passed}
 use Rattle.mls_follow.specs.State.{State, last_epoch}
-use Rattle.mls_follow.specs.MessageRules.{refusal_of, is_new_proposal, is_frame_signed, proposal_message_rules, member_rules, tree_rules, Placed, seated, resulting, path_rules_of, placed_rules, outcome_rules, required_after, rules_under, inline_rules, items_rules, commit_rules, content_rules, leaf_rules, is_known_external, signed_proposal_rules, outside_content_rules, outside_rules, external_commit_rules, signed_commit_rules, joiner_rules, if_full, sender_rules, frame_rules, message_rules}
+use Rattle.mls_follow.specs.MessageRules.{refusal_of, is_new_proposal, is_frame_signed, proposal_message_rules, member_rules, tree_rules, CommitterTree, seated, resulting, path_rules_of, committer_tree_rules, applied_tree_rules, required_after, rules_with_requirements, inline_rules, proposal_list_rules, commit_rules, content_rules, leaf_rules, is_known_external, signed_proposal_rules, outside_content_rules, outside_rules, external_commit_rules, signed_commit_rules, joiner_rules, if_full, sender_rules, frame_rules, message_rules}
 use Rattle.mls_signatures.specs.Agreement.{AgreeOn}
 use Rattle.mls_signatures.specs.SignaturesToVerify.{leaf_signatures, package_signatures, framed_content_signatures, tree_signatures, signatures_at, proposal_signatures, entries_signatures, new_leaves, path_signatures, applied_list_signatures, commit_signatures, update_signatures, content_signatures, member_signatures, outside_content_signatures, outside_signatures, seated_signatures, join_list_signatures, join_signatures, join_content_signatures, in_full, sender_signatures, all_message_signatures, message_signatures}
 use Rattle.mls_follow.specs.MessageSignatures.{SignaturesDetermineRefusal}
@@ -56,9 +56,9 @@ use Rattle.mls_signatures.specs.declared.signature_to_verify.SignatureToVerify.{
 use Rattle.mls_follow.proofs.Staying.{committer_stays}
 use Rattle.mls_signatures.proofs.Agreement.{front, back, from_deduplicated}
 use Rattle.mls_follow.proofs.SignatureAgreement.{leaf_alike, package_alike, frame_alike, tree_leaf, listed_leaf, fault_alike}
-use Rattle.mls_follow.proofs.CommitLeaves.{IsPathLeaf, brought, listed}
+use Rattle.mls_follow.proofs.CommitLeaves.{IsPathLeaf, new_leaf_is, listed}
 use Rattle.mls_follow.proofs.JoinedLeaves.{join_stood, seat_leaves}
-use Rattle.mls_follow.proofs.SpelledCommits.{added_inside}
+use Rattle.mls_follow.proofs.EncodedCommits.{added_inside}
 
 -- ---- rules in a list
 
@@ -79,11 +79,11 @@ no_image f None e = refl
 no_image f (Some x) e = absurd (none-some (f x) (sym e))
 
 -- the rules for a list hold under other names
-list_kept : (committer : Sender) (items : List ListItem) (has_path : Bool) → first_failing (renamed refusal_of (list_rules committer items has_path)) ≡ None
+list_kept : (committer : Sender) (items : List ListItem) (has_path : Bool) → first_failing (map_refusals refusal_of (list_rules committer items has_path)) ≡ None
     → list_refusal committer items has_path ≡ None
 unfolding list_refusal
 list_kept committer items has_path e =
-    no_image refusal_of (first_failing (list_rules committer items has_path)) (sym (first_failing-renamed refusal_of (list_rules committer items has_path)) ∙ e)
+    no_image refusal_of (first_failing (list_rules committer items has_path)) (sym (first_failing-map_refusals refusal_of (list_rules committer items has_path)) ∙ e)
 
 -- the first of some rules that hold
 first_kept : (e : Refusal) (b : Bool) (rs : List (Rule Refusal)) → first_failing (rule e b ∷ rs) ≡ None → b ≡ true
@@ -180,7 +180,7 @@ module _ (G K : VerifyFn) where
     offers_alike a sender p h =
         let adds = adds_alike s.context sender p h in
         let updates = updates_alike s.context s.tree sender p h in
-        λ k. first_failing (rule KnownProposal (is_new_proposal s a) ∷ renamed refusal_of (
+        λ k. first_failing (rule KnownProposal (is_new_proposal s a) ∷ map_refusals refusal_of (
         rule faults.AddInvalid (adds k) ∷ rule faults.UpdateInvalid (updates k) ∷ rule faults.RemoveInvalid (valid_if_remove s.tree p) ∷
         rule faults.ContextExtensionsInvalid (valid_if_extensions p) ∷ rule faults.PskInvalid (valid_if_psk s.context sender p) ∷
         rule faults.ReInitInvalid (valid_if_reinit s.context p) ∷ rule faults.ExternalInitMisplaced (is_no_external_init p) ∷ []))
@@ -195,33 +195,33 @@ module _ (G K : VerifyFn) where
         subst (λ (y : LeafNode). AgreeOn G K (leaf_signatures s.context.cipher_suite s.context.group_id j y)) c.1 moved
 
     -- the leaves of the tree after a commit: that of its path, and the others of the tree in which the committer has its leaf
-    module _ (q : Placed) (path : Option UpdatePath) (inside : q.leaf < leaf_count q.grown.tree)
-        (said : (j : ℕ) (x : LeafNode) → leaf_at 0 q.grown.tree j ≡ Some x → AgreeOn G K (leaf_signatures s.context.cipher_suite s.context.group_id j x))
+    module _ (q : CommitterTree) (path : Option UpdatePath) (inside : q.leaf < leaf_count q.applied_tree.tree)
+        (said : (j : ℕ) (x : LeafNode) → leaf_at 0 q.applied_tree.tree j ≡ Some x → AgreeOn G K (leaf_signatures s.context.cipher_suite s.context.group_id j x))
         (asked : AgreeOn G K (path_signatures s.context q.leaf path)) where
-      leaves_say : (t : Tree) → resulting (hash_of s.context.cipher_suite) q.grown q.leaf path ≡ Some t → (j : ℕ) (x : LeafNode) → leaf_at 0 t j ≡ Some x
+      leaves_say : (t : Tree) → resulting (hash_of s.context.cipher_suite) q.applied_tree q.leaf path ≡ Some t → (j : ℕ) (x : LeafNode) → leaf_at 0 t j ≡ Some x
           → is_leaf_signed G s.context.cipher_suite s.context.group_id j x ≡ is_leaf_signed K s.context.cipher_suite s.context.group_id j x
       leaves_say t e j x set =
           leaf_alike G K s.context.cipher_suite s.context.group_id j x
-          (elim (brought j x (hash_of s.context.cipher_suite) q.grown q.leaf path t inside e set) [
+          (elim (new_leaf_is j x (hash_of s.context.cipher_suite) q.applied_tree q.leaf path t inside e set) [
             | inl c ↦ path_leaf q.leaf path j x c asked
             | inr at ↦ said j x at
           ])
 
-      trees_alike : (o : Option Tree) → resulting (hash_of s.context.cipher_suite) q.grown q.leaf path ≡ o
+      trees_alike : (o : Option Tree) → resulting (hash_of s.context.cipher_suite) q.applied_tree q.leaf path ≡ o
           → first_failing (tree_rules G s required o) ≡ first_failing (tree_rules K s required o)
       trees_alike None e = refl
       trees_alike (Some t) e =
           ap (λ (f : Option MemberFault). first_failing (rule KeyRepeated (has_distinct_keys t) ∷ member_rules f))
           (fault_alike G K s.context.cipher_suite s.context.group_id required t (leaves_say t e))
 
-      places_alike : first_failing (placed_rules G s required path (Some q)) ≡ first_failing (placed_rules K s required path (Some q))
-      places_alike =
+      committer_alike : first_failing (committer_tree_rules G s required path (Some q)) ≡ first_failing (committer_tree_rules K s required path (Some q))
+      committer_alike =
           let H = hash_of s.context.cipher_suite in
-          behind_alike (path_rules_of H q.grown q.leaf path) (tree_rules G s required (resulting H q.grown q.leaf path)) (tree_rules K s required (resulting H q.grown q.leaf path))
-          (λ _. trees_alike (resulting H q.grown q.leaf path) refl)
+          behind_alike (path_rules_of H q.applied_tree q.leaf path) (tree_rules G s required (resulting H q.applied_tree q.leaf path)) (tree_rules K s required (resulting H q.applied_tree q.leaf path))
+          (λ _. trees_alike (resulting H q.applied_tree q.leaf path) refl)
 
     -- the leaves that the list of a member's commit brings into the tree, and the others
-    module _ (i : ℕ) (path : Option UpdatePath) (items : List ListItem) (g : Grown) (made : outcome items s.tree ≡ Some g)
+    module _ (i : ℕ) (path : Option UpdatePath) (items : List ListItem) (g : AppliedTree) (made : outcome items s.tree ≡ Some g)
         (h : AgreeOn G K (applied_list_signatures s.context i path items (Some g))) where
       listed_asked : AgreeOn G K (signatures_at s.context.cipher_suite s.context.group_id g.tree (new_leaves items g))
       listed_asked = front G K (signatures_at s.context.cipher_suite s.context.group_id g.tree (new_leaves items g)) (path_signatures s.context i path) h
@@ -236,46 +236,46 @@ module _ (G K : VerifyFn) where
             | inr stood ↦ tree_leaf G K s.context.cipher_suite s.context.group_id 0 s.tree old j x stood
           ]
 
-    outcomes_alike : (i : ℕ) (path : Option UpdatePath) (items : List ListItem) (o : Option Grown) → outcome items s.tree ≡ o
+    outcomes_alike : (i : ℕ) (path : Option UpdatePath) (items : List ListItem) (o : Option AppliedTree) → outcome items s.tree ≡ o
         → list_refusal (senders.Member i) items (is_some path) ≡ None → IsSome (leaf_at 0 s.tree i)
         → AgreeOn G K (applied_list_signatures s.context i path items o)
-        → first_failing (outcome_rules G s required (senders.Member i) path o) ≡ first_failing (outcome_rules K s required (senders.Member i) path o)
+        → first_failing (applied_tree_rules G s required (senders.Member i) path o) ≡ first_failing (applied_tree_rules K s required (senders.Member i) path o)
     outcomes_alike i path items None e kept set h = refl
     outcomes_alike i path items (Some g) e kept set h =
         let there = committer_stays i items (is_some path) s.tree g kept e set in
-        places_alike (record { grown = g; leaf = i }) path (leaf_inside g.tree i there) (listed_say i path items g e h) (path_asked i path items g e h)
+        committer_alike (record { applied_tree = g; leaf = i }) path (leaf_inside g.tree i there) (listed_say i path items g e h) (path_asked i path items g e h)
 
     -- the leaves of the tree in which a client that joins has its leaf
     module _ (es : List ProposalOrRef) (list : is_join_list es ≡ true) (path : UpdatePath) where
-      joined_say : (g : Grown) → outcome (join_items es) s.tree ≡ Some g → (j : ℕ) (x : LeafNode) → leaf_at 0 (seat g.tree).tree j ≡ Some x
+      joined_say : (g : AppliedTree) → outcome (join_items es) s.tree ≡ Some g → (j : ℕ) (x : LeafNode) → leaf_at 0 (seat g.tree).tree j ≡ Some x
           → AgreeOn G K (leaf_signatures s.context.cipher_suite s.context.group_id j x)
       joined_say g made j x at =
           tree_leaf G K s.context.cipher_suite s.context.group_id 0 s.tree old j x
           (join_stood es s.tree g j x list made (sym (seat_leaves g.tree j) ∙ at))
 
-      joins_alike : (o : Option Grown) → outcome (join_items es) s.tree ≡ o → AgreeOn G K (seated_signatures s.context path o)
-          → first_failing (outcome_rules G s required senders.NewMemberCommit (Some path) o)
-          ≡ first_failing (outcome_rules K s required senders.NewMemberCommit (Some path) o)
+      joins_alike : (o : Option AppliedTree) → outcome (join_items es) s.tree ≡ o → AgreeOn G K (seated_signatures s.context path o)
+          → first_failing (applied_tree_rules G s required senders.NewMemberCommit (Some path) o)
+          ≡ first_failing (applied_tree_rules K s required senders.NewMemberCommit (Some path) o)
       joins_alike None made h = refl
       joins_alike (Some g) made h = if_room (nat_lt (member_count g.tree) leaf_limit)
         where
-          if_room : (b : Bool) → first_failing (placed_rules G s required (Some path) (if b then Some (seated g) else None))
-              ≡ first_failing (placed_rules K s required (Some path) (if b then Some (seated g) else None))
+          if_room : (b : Bool) → first_failing (committer_tree_rules G s required (Some path) (if b then Some (seated g) else None))
+              ≡ first_failing (committer_tree_rules K s required (Some path) (if b then Some (seated g) else None))
           if_room false = refl
           if_room true =
-              places_alike (seated g) (Some path) (added_inside g.tree (first_blank_leaf 0 g.tree) refl) (joined_say g made) h
+              committer_alike (seated g) (Some path) (added_inside g.tree (first_blank_leaf 0 g.tree) refl) (joined_say g made) h
 
   -- the rest of the rules, in a state with what it requires
   module _ (s : State) (required : RequiredCapabilities) (old : AgreeOn G K (tree_signatures s.context.cipher_suite s.context.group_id 0 s.tree)) where
-    unders_alike : (i : ℕ) (path : Option UpdatePath) (items : List ListItem) (o : Option Grown) → outcome items s.tree ≡ o
+    unders_alike : (i : ℕ) (path : Option UpdatePath) (items : List ListItem) (o : Option AppliedTree) → outcome items s.tree ≡ o
         → list_refusal (senders.Member i) items (is_some path) ≡ None → IsSome (leaf_at 0 s.tree i)
         → AgreeOn G K (applied_list_signatures s.context i path items o) → (after : Option RequiredCapabilities)
-        → first_failing (rules_under G s (senders.Member i) path o after) ≡ first_failing (rules_under K s (senders.Member i) path o after)
+        → first_failing (rules_with_requirements G s (senders.Member i) path o after) ≡ first_failing (rules_with_requirements K s (senders.Member i) path o after)
     unders_alike i path items o e kept set h None = refl
     unders_alike i path items o e kept set h (Some r) = outcomes_alike s r old i path items o e kept set h
 
     lists_alike : (i : ℕ) (c : Commit) (o : Option (List ListItem)) → IsSome (leaf_at 0 s.tree i) → AgreeOn G K (commit_signatures s.context s.tree i c o)
-        → first_failing (items_rules G s required i c o) ≡ first_failing (items_rules K s required i c o)
+        → first_failing (proposal_list_rules G s required i c o) ≡ first_failing (proposal_list_rules K s required i c o)
     lists_alike i c None set h = refl
     lists_alike i c (Some items) set h =
         let inline = front G K (entries_signatures s.context (senders.Member i) c.proposals) (applied_list_signatures s.context i c.path items (outcome items s.tree)) h in
@@ -287,15 +287,15 @@ module _ (G K : VerifyFn) where
         rule AddInvalid (adds k) ∷ rule UpdateInvalid (updates k) ∷ rule RemoveInvalid (all_inline (valid_if_remove s.tree) c.proposals) ∷
         rule ContextExtensionsInvalid (all_inline valid_if_extensions c.proposals) ∷ rule PskInvalid (all_inline (valid_if_psk s.context (senders.Member i)) c.proposals) ∷
         rule ReInitInvalid (all_inline (valid_if_reinit s.context) c.proposals) ∷ rule ExternalInitMisplaced (all_inline is_no_external_init c.proposals) ∷ [] in
-        let of_list = renamed refusal_of (list_rules (senders.Member i) items (is_some c.path)) in
-        let under_G = rules_under G s (senders.Member i) c.path (outcome items s.tree) (required_after required (extensions.brought items)) in
-        let under_K = rules_under K s (senders.Member i) c.path (outcome items s.tree) (required_after required (extensions.brought items)) in
+        let of_list = map_refusals refusal_of (list_rules (senders.Member i) items (is_some c.path)) in
+        let under_G = rules_with_requirements G s (senders.Member i) c.path (outcome items s.tree) (required_after required (extensions.proposed_extensions items)) in
+        let under_K = rules_with_requirements K s (senders.Member i) c.path (outcome items s.tree) (required_after required (extensions.proposed_extensions items)) in
         let rest_G = of_list ++ under_G in
         let rest_K = of_list ++ under_K in
         ap (λ (rs : List (Rule Refusal)). first_failing (rs ++ rest_G)) own
         ∙ behind_alike (inline_rules K s i c) rest_G rest_K
         (λ _. behind_alike of_list under_G under_K
-        (λ e. unders_alike i c.path items (outcome items s.tree) refl (list_kept (senders.Member i) items (is_some c.path) e) set after (required_after required (extensions.brought items))))
+        (λ e. unders_alike i c.path items (outcome items s.tree) refl (list_kept (senders.Member i) items (is_some c.path) e) set after (required_after required (extensions.proposed_extensions items))))
 
     commits_alike : (i : ℕ) (c : Commit) → IsSome (leaf_at 0 s.tree i) → AgreeOn G K (commit_signatures s.context s.tree i c (resolved (senders.Member i) s.known c.proposals))
         → first_failing (commit_rules G s required i c) ≡ first_failing (commit_rules K s required i c)
@@ -307,29 +307,29 @@ module _ (G K : VerifyFn) where
     module _ (c : Commit) (path : UpdatePath) where
       joins_under_alike : (p : Option UpdatePath) → p ≡ Some path → is_join_list c.proposals ≡ true
           → AgreeOn G K (seated_signatures s.context path (outcome (join_items c.proposals) s.tree)) → (after : Option RequiredCapabilities)
-          → first_failing (rules_under G s senders.NewMemberCommit p (outcome (join_items c.proposals) s.tree) after)
-          ≡ first_failing (rules_under K s senders.NewMemberCommit p (outcome (join_items c.proposals) s.tree) after)
+          → first_failing (rules_with_requirements G s senders.NewMemberCommit p (outcome (join_items c.proposals) s.tree) after)
+          ≡ first_failing (rules_with_requirements K s senders.NewMemberCommit p (outcome (join_items c.proposals) s.tree) after)
       joins_under_alike p e list h None = refl
       joins_under_alike p e list h (Some r) =
-          subst (λ (v : Option UpdatePath). first_failing (outcome_rules G s r senders.NewMemberCommit v (outcome (join_items c.proposals) s.tree))
-          ≡ first_failing (outcome_rules K s r senders.NewMemberCommit v (outcome (join_items c.proposals) s.tree))) (sym e)
+          subst (λ (v : Option UpdatePath). first_failing (applied_tree_rules G s r senders.NewMemberCommit v (outcome (join_items c.proposals) s.tree))
+          ≡ first_failing (applied_tree_rules K s r senders.NewMemberCommit v (outcome (join_items c.proposals) s.tree))) (sym e)
           (joins_alike s r old c.proposals list path (outcome (join_items c.proposals) s.tree) refl h)
 
       -- its list satisfies its rules
-      join_kept : (p : Option UpdatePath) → p ≡ Some path → first_failing (renamed refusal_of (path_of_join s.context s.tree c.proposals p)) ≡ None
+      join_kept : (p : Option UpdatePath) → p ≡ Some path → first_failing (map_refusals refusal_of (path_of_join s.context s.tree c.proposals p)) ≡ None
           → is_join_list c.proposals ≡ true
       join_kept None e kept = absurd (none-some path e)
       join_kept (Some other) e kept =
-          first_kept (refusal_of faults.JoinList) (is_join_list c.proposals) (renamed refusal_of (join_item_rules s.context s.tree other.leaf_node (join_items c.proposals))) kept
+          first_kept (refusal_of faults.JoinList) (is_join_list c.proposals) (map_refusals refusal_of (join_item_rules s.context s.tree other.leaf_node (join_items c.proposals))) kept
 
       externals_alike : c.path ≡ Some path → AgreeOn G K (join_list_signatures s.context s.tree c path)
           → first_failing (external_commit_rules G s required c) ≡ first_failing (external_commit_rules K s required c)
       externals_alike e h =
           let items = join_items c.proposals in
-          let after = required_after required (extensions.brought items) in
-          let of_list = renamed refusal_of (path_of_join s.context s.tree c.proposals c.path) in
-          let under_G = rules_under G s senders.NewMemberCommit c.path (outcome items s.tree) after in
-          let under_K = rules_under K s senders.NewMemberCommit c.path (outcome items s.tree) after in
+          let after = required_after required (extensions.proposed_extensions items) in
+          let of_list = map_refusals refusal_of (path_of_join s.context s.tree c.proposals c.path) in
+          let under_G = rules_with_requirements G s senders.NewMemberCommit c.path (outcome items s.tree) after in
+          let under_K = rules_with_requirements K s senders.NewMemberCommit c.path (outcome items s.tree) after in
           passing LastEpoch (nat_lt s.context.epoch last_epoch) (first_failing (of_list ++ under_G)) (first_failing (of_list ++ under_K))
           (λ _. behind_alike of_list under_G under_K
           (λ kept. let list = join_kept c.path e kept in
@@ -442,7 +442,7 @@ module _ (G K : VerifyFn) where
     messages_alike (messages.KeyPackage k) h = refl
 
 pub decide_refusals : SignaturesDetermineRefusal
-decide_refusals G K s required m wanted old =
+decide_refusals G K s required m needed old =
     messages_alike G K s required old m
     (λ going. from_deduplicated G K (all_message_signatures s.profile s.context s.known s.tree m)
-    (while_open G K s.ended (message_signatures s.profile s.context s.known s.tree m) going wanted))
+    (while_open G K s.ended (message_signatures s.profile s.context s.known s.tree m) going needed))

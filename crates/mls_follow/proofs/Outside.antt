@@ -6,7 +6,7 @@ use Rattle.mls_msgs.specs.declared.authenticated.AuthenticatedParts.{Authenticat
 use Rattle.mls_msgs.specs.declared.framed_content.Sender.{Sender}
 use Rattle.mls_msgs.specs.declared.framed_content.Sender.TheVariants as senders
 use Rattle.mls_apply.specs.RuleLists.{first_failing}
-use Rattle.mls_follow.specs.Acceptance.{Refuses}
+use Rattle.mls_follow.specs.Acceptance.{FailsWithRule}
 use Rattle.mls_follow.specs.State.{State}
 use Rattle.mls_follow.specs.MessageRules.{if_full, joiner_rules, outside_rules, sender_refusal}
 use Rattle.mls_follow.specs.declared.refusal.Refusal.{Refusal}
@@ -49,13 +49,13 @@ module _ (G : VerifyFn) (s : State) (required : RequiredCapabilities) (a : Authe
     pub outside_kept : OnOk r (Outside ≡ None) → OnOk r (whole ≡ None)
     outside_kept h = subst (λ (o : Option Refusal). OnOk r (o ≡ None)) (sym (header ∙ own)) h
 
-    pub outside_refused : IfErr r (Refuses Outside) → IfErr r (Refuses whole)
-    outside_refused h = subst (λ (o : Option Refusal). IfErr r (Refuses o)) (sym (header ∙ own)) h
+    pub outside_refused : IfErr r (FailsWithRule Outside) → IfErr r (FailsWithRule whole)
+    outside_refused h = subst (λ (o : Option Refusal). IfErr r (FailsWithRule o)) (sym (header ∙ own)) h
 
   -- and what is found by the rules for a client that joins with a commit
   module _ (whole : Option Refusal) (header : whole ≡ sender_refusal G s required a sender) (own : sender_refusal G s required a sender ≡ Joiner) (r : Result Taken Refusal) where
     pub joiner_kept : OnOk r (Joiner ≡ None) → OnOk r (whole ≡ None)
     joiner_kept h = subst (λ (o : Option Refusal). OnOk r (o ≡ None)) (sym (header ∙ own)) h
 
-    pub joiner_refused : IfErr r (Refuses Joiner) → IfErr r (Refuses whole)
-    joiner_refused h = subst (λ (o : Option Refusal). IfErr r (Refuses o)) (sym (header ∙ own)) h
+    pub joiner_refused : IfErr r (FailsWithRule Joiner) → IfErr r (FailsWithRule whole)
+    joiner_refused h = subst (λ (o : Option Refusal). IfErr r (FailsWithRule o)) (sym (header ∙ own)) h

@@ -22,14 +22,14 @@ use Rattle.mls_msgs.specs.declared.proposal.Proposal.{Proposal}
 use Rattle.mls_msgs.specs.declared.proposal.ProposalOrRef.{ProposalOrRef}
 use Rattle.mls_signatures.specs.SigningKeys.{outside_key}
 use Rattle.mls_apply.specs.declared.list_item.ListItem.{ListItem}
-use Rattle.mls_apply.specs.ContextExtensions.{brought}
+use Rattle.mls_apply.specs.ContextExtensions.{proposed_extensions}
 use Rattle.mls_apply.specs.ResolvedList.{resolved}
-use Rattle.mls_apply.specs.AppliedList.{Grown, outcome}
+use Rattle.mls_apply.specs.AppliedList.{AppliedTree, outcome}
 use Rattle.mls_apply.specs.JoinRules.{path_of_join, join_items}
-use Rattle.mls_apply.specs.RuleLists.{Rule, renamed}
+use Rattle.mls_apply.specs.RuleLists.{Rule, map_refusals}
 use Rattle.mls_apply.proofs.RuleLists.{AreOthers, no_rules, one_more, others_both}
 use Rattle.mls_follow.specs.State.{State}
-use Rattle.mls_follow.specs.MessageRules.{refusal_of, proposal_message_rules, member_rules, tree_rules, Placed, placed, resulting, path_rules_of, placed_rules, outcome_rules, required_after, rules_under, items_rules, commit_rules, content_rules, leaf_rules, signed_proposal_rules, outside_content_rules, outside_rules, external_commit_rules, signed_commit_rules, joiner_rules, if_full, sender_rules, frame_rules, message_rules}
+use Rattle.mls_follow.specs.MessageRules.{refusal_of, proposal_message_rules, member_rules, tree_rules, CommitterTree, committer_tree, resulting, path_rules_of, committer_tree_rules, applied_tree_rules, required_after, rules_with_requirements, proposal_list_rules, commit_rules, content_rules, leaf_rules, signed_proposal_rules, outside_content_rules, outside_rules, external_commit_rules, signed_commit_rules, joiner_rules, if_full, sender_rules, frame_rules, message_rules}
 use Rattle.mls_follow.specs.declared.refusal.Refusal.{Refusal}
 use Rattle.mls_follow.specs.declared.refusal.Refusal.TheVariants.{OutOfMemory}
 
@@ -46,32 +46,32 @@ module _ (G : VerifyFn) (s : State) (required : RequiredCapabilities) where
   of_tree None = no_rules
   of_tree (Some t) = one_more (λ e. cc) (of_members _)
 
-  of_path : (H : List ℕ → List ℕ) (g : Grown) (i : ℕ) (o : Option UpdatePath) → AreOwn (path_rules_of H g i o)
+  of_path : (H : List ℕ → List ℕ) (g : AppliedTree) (i : ℕ) (o : Option UpdatePath) → AreOwn (path_rules_of H g i o)
   of_path H g i None = no_rules
   of_path H g i (Some path) =
       one_more (λ e. cc) (one_more (λ e. cc) (one_more (λ e. cc) (one_more (λ e. cc) (one_more (λ e. cc) no_rules))))
 
-  of_placed : (path : Option UpdatePath) (q : Option Placed) → AreOwn (placed_rules G s required path q)
-  of_placed path None = one_more (λ e. cc) no_rules
-  of_placed path (Some q) =
-      others_both (path_rules_of (hash_of s.context.cipher_suite) q.grown q.leaf path) (tree_rules G s required (resulting (hash_of s.context.cipher_suite) q.grown q.leaf path))
-      (of_path (hash_of s.context.cipher_suite) q.grown q.leaf path) (of_tree (resulting (hash_of s.context.cipher_suite) q.grown q.leaf path))
+  of_committer_tree : (path : Option UpdatePath) (q : Option CommitterTree) → AreOwn (committer_tree_rules G s required path q)
+  of_committer_tree path None = one_more (λ e. cc) no_rules
+  of_committer_tree path (Some q) =
+      others_both (path_rules_of (hash_of s.context.cipher_suite) q.applied_tree q.leaf path) (tree_rules G s required (resulting (hash_of s.context.cipher_suite) q.applied_tree q.leaf path))
+      (of_path (hash_of s.context.cipher_suite) q.applied_tree q.leaf path) (of_tree (resulting (hash_of s.context.cipher_suite) q.applied_tree q.leaf path))
 
-  of_outcome : (committer : Sender) (path : Option UpdatePath) (o : Option Grown) → AreOwn (outcome_rules G s required committer path o)
-  of_outcome committer path o = of_placed path (option_and_then (placed committer) o)
+  of_outcome : (committer : Sender) (path : Option UpdatePath) (o : Option AppliedTree) → AreOwn (applied_tree_rules G s required committer path o)
+  of_outcome committer path o = of_committer_tree path (option_and_then (committer_tree committer) o)
 
-of_under : (G : VerifyFn) (s : State) (committer : Sender) (path : Option UpdatePath) (o : Option Grown) (required : Option RequiredCapabilities)
-    → AreOwn (rules_under G s committer path o required)
+of_under : (G : VerifyFn) (s : State) (committer : Sender) (path : Option UpdatePath) (o : Option AppliedTree) (required : Option RequiredCapabilities)
+    → AreOwn (rules_with_requirements G s committer path o required)
 of_under G s committer path o None = one_more (λ e. cc) no_rules
 of_under G s committer path o (Some required) = of_outcome G s required committer path o
 
 module _ (G : VerifyFn) (s : State) (required : RequiredCapabilities) where
-  of_items : (i : ℕ) (c : Commit) (o : Option (List ListItem)) → AreOwn (items_rules G s required i c o)
+  of_items : (i : ℕ) (c : Commit) (o : Option (List ListItem)) → AreOwn (proposal_list_rules G s required i c o)
   of_items i c None = one_more (λ e. cc) no_rules
   of_items i c (Some items) =
       one_more (λ e. cc) (one_more (λ e. cc) (one_more (λ e. cc) (one_more (λ e. cc) (one_more (λ e. cc) (one_more (λ e. cc) (one_more (λ e. cc)
       (one_more (λ e. cc) (one_more (λ e. cc) (one_more (λ e. cc) (one_more (λ e. cc) (one_more (λ e. cc) (one_more (λ e. cc) (one_more (λ e. cc)
-      (of_under G s (senders.Member i) c.path (outcome items s.tree) (required_after required (brought items))))))))))))))))
+      (of_under G s (senders.Member i) c.path (outcome items s.tree) (required_after required (proposed_extensions items))))))))))))))))
 
   of_offer : (a : AuthenticatedParts) (sender : Sender) (p : Proposal) → AreOwn (proposal_message_rules G s a sender p)
   of_offer a sender p =
@@ -81,7 +81,7 @@ module _ (G : VerifyFn) (s : State) (required : RequiredCapabilities) where
   of_commit : (i : ℕ) (c : Commit) → AreOwn (commit_rules G s required i c)
   of_commit i c = one_more (λ e. cc) (of_items i c (resolved (senders.Member i) s.known c.proposals))
 
-  of_join_list : (es : List ProposalOrRef) (o : Option UpdatePath) → AreOwn (renamed refusal_of (path_of_join s.context s.tree es o))
+  of_join_list : (es : List ProposalOrRef) (o : Option UpdatePath) → AreOwn (map_refusals refusal_of (path_of_join s.context s.tree es o))
   of_join_list es None = no_rules
   of_join_list es (Some path) =
       one_more (λ e. cc) (one_more (λ e. cc) (one_more (λ e. cc) (one_more (λ e. cc) (one_more (λ e. cc) no_rules))))
@@ -89,10 +89,10 @@ module _ (G : VerifyFn) (s : State) (required : RequiredCapabilities) where
   of_external_commit : (c : Commit) → AreOwn (external_commit_rules G s required c)
   of_external_commit c =
       let under =
-      rules_under G s senders.NewMemberCommit c.path (outcome (join_items c.proposals) s.tree) (required_after required (brought (join_items c.proposals))) in
+      rules_with_requirements G s senders.NewMemberCommit c.path (outcome (join_items c.proposals) s.tree) (required_after required (proposed_extensions (join_items c.proposals))) in
       one_more (λ e. cc)
-      (others_both (renamed refusal_of (path_of_join s.context s.tree c.proposals c.path)) under (of_join_list c.proposals c.path)
-      (of_under G s senders.NewMemberCommit c.path (outcome (join_items c.proposals) s.tree) (required_after required (brought (join_items c.proposals)))))
+      (others_both (map_refusals refusal_of (path_of_join s.context s.tree c.proposals c.path)) under (of_join_list c.proposals c.path)
+      (of_under G s senders.NewMemberCommit c.path (outcome (join_items c.proposals) s.tree) (required_after required (proposed_extensions (join_items c.proposals)))))
 
   module _ (a : AuthenticatedParts) where
     of_signed_commit : (c : Commit) (o : Option UpdatePath) → AreOwn (signed_commit_rules G s required a c o)

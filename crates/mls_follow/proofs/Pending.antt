@@ -40,16 +40,16 @@ module _ (G : VerifyFn) where
 
   -- ---- one of the two there is
 
-  abbrev Judged : State → List KnownEntry → Type 0
-  Judged s es = ((new : State) × Holds G s es new) ⊎ ((n : ℕ) × FailsEntry G s es n)
+  abbrev HoldsOrFails : State → List KnownEntry → Type 0
+  HoldsOrFails s es = ((new : State) × Holds G s es new) ⊎ ((n : ℕ) × FailsEntry G s es n)
 
   by_rest : (s : State) (e : KnownEntry) (es : List KnownEntry) (k : KnownProposal) → e ≡ stored_entry k → can_hold G s k ≡ true
-      → Judged (with_pending s k) es → Judged s (e ∷ es)
+      → HoldsOrFails (with_pending s k) es → HoldsOrFails s (e ∷ es)
   by_rest s e es k is can (inl h) = inl (h.0, (k, is, can, h.1))
   by_rest s e es k is can (inr f) = inr (suc f.0, (k, is, can, f.1))
 
-  by_test : (s : State) (e : KnownEntry) (es : List KnownEntry) (k : KnownProposal) → e ≡ stored_entry k → Judged (with_pending s k) es
-      → (b : Bool) → can_hold G s k ≡ b → Judged s (e ∷ es)
+  by_test : (s : State) (e : KnownEntry) (es : List KnownEntry) (k : KnownProposal) → e ≡ stored_entry k → HoldsOrFails (with_pending s k) es
+      → (b : Bool) → can_hold G s k ≡ b → HoldsOrFails s (e ∷ es)
   by_test s e es k is rest true can = by_rest s e es k is can rest
   by_test s e es k is rest false not =
       inr (zero, λ l same can. false≢true (sym not ∙ ap (can_hold G s) (one_held s e k l is same) ∙ can))
@@ -58,7 +58,7 @@ module _ (G : VerifyFn) where
   abbrev of_entry : KnownEntry → KnownProposal
   of_entry e = record { reference = e.reference; sender = e.sender; proposal = e.proposal }
 
-  pub held_or_not : (s : State) (es : List KnownEntry) → Judged s es
+  pub held_or_not : (s : State) (es : List KnownEntry) → HoldsOrFails s es
   held_or_not s [] = inl (s, refl)
   held_or_not s (e ∷ es) = by_test s e es (of_entry e) refl (held_or_not (with_pending s (of_entry e)) es) (can_hold G s (of_entry e)) refl
 

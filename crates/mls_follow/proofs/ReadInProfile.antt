@@ -19,10 +19,10 @@ unfolding message_in
 encodes profile m bytes h = go (is_in profile (is_members_message m)) refl h
   where
     go : (b : Bool) → is_in profile (is_members_message m) ≡ b → ((if b then message m else None) ≡ Some bytes) × (length bytes ≤ input_limit) → EncodesMessage profile m bytes
-    go true e k = record { spelled = k.0; allowed = e; bounded = k.1 }
+    go true e k = record { encoded = k.0; allowed = e; bounded = k.1 }
     go false e k = absurd (none-some bytes k.0)
 
 -- none that can be read
 pub encodes_none : (profile : Profile) (bytes : List ℕ) (fault : WireFault) → DecodesInput (message_in profile) bytes (Err (faults.Wire fault)) → EncodesNoMessage profile bytes
 unfolding message_in
-encodes_none profile bytes fault h m is = h m (ap (λ (b : Bool). if b then message m else None) is.allowed ∙ is.spelled) is.bounded
+encodes_none profile bytes fault h m is = h m (ap (λ (b : Bool). if b then message m else None) is.allowed ∙ is.encoded) is.bounded

@@ -71,12 +71,12 @@ tree_or_not bytes = go (tree_at bytes) refl (fits_or_not bytes)
   where
     go : (o : Option (List (Option NodeValue))) → tree_at bytes ≡ o → (length bytes ≤ input_limit) ⊎ (length bytes ≤ input_limit → ⊥)
         → ((t : RatchetTree) × IsTreeOf bytes t) ⊎ IsNoTree bytes
-    go None e fits = inr (λ nodes h. none-some nodes (sym e ∙ tree_again bytes nodes h.spelled))
+    go None e fits = inr (λ nodes h. none-some nodes (sym e ∙ tree_again bytes nodes h.encoded))
     go (Some nodes) e (inr over) = inr (λ others h. over h.bounded)
     go (Some nodes) e (inl le) =
-        let spelled = tree_takes bytes nodes e in
-        let listed = filled_listing nodes bytes (map entry_of (filled nodes)) spelled (entries-of (filled nodes)) in
-        inl (listed.0, record { nodes = nodes; is_tree = record { spelled = spelled; bounded = le }; full = listed.1 ∙ entries-of (filled nodes) })
+        let encoded = tree_takes bytes nodes e in
+        let listed = filled_listing nodes bytes (map entry_of (filled nodes)) encoded (entries-of (filled nodes)) in
+        inl (listed.0, record { nodes = nodes; is_tree = record { encoded = encoded; bounded = le }; full = listed.1 ∙ entries-of (filled nodes) })
 
 -- ---- numbers
 

@@ -5,37 +5,37 @@ use Rattle.mls_wire.specs.Parsing.{Finds}
 use Rattle.mls_wire.specs.declared.fault.CodecFault.{CodecFault}
 use Rattle.mls_wire.specs.declared.fault.CodecFault.TheVariants as faults
 use Rattle.mls_wire.specs.declared.fault.WireFault.{WireFault}
-use Rattle.mls_nodes.proofs.RequiredOnce.{required_by-tells, required_by-told, required_by-found}
+use Rattle.mls_nodes.proofs.RequiredOnce.{required_by-determines, required_by-determined, required_by-found}
 use Rattle.mls_nodes.specs.Requirements.{FindsRequirements, Requires, RequiresBy, extension_of, required_by}
 use Rattle.mls_nodes.specs.declared.context.GroupContext.{GroupContext}
 use Rattle.mls_nodes.specs.declared.extension.Extension.{Extension}
 use Rattle.mls_nodes.specs.declared.required_capabilities.RequiredCapabilities.{RequiredCapabilities}
-use Rattle.mls_apply.specs.ContextExtensions.{brought, new_extensions}
+use Rattle.mls_apply.specs.ContextExtensions.{proposed_extensions, new_extensions}
 use Rattle.mls_apply.specs.declared.list_item.ListItem.{ListItem}
 use Rattle.mls_follow.specs.MessageRules.{required_after}
 
 module _ (context : GroupContext) (required : RequiredCapabilities) (items : List ListItem) (requires : Requires context required) where
   -- it is what the extensions of the next context require
-  required_by-new : required_by (new_extensions context.extensions items) ≡ required_after required (brought items)
-  required_by-new = go (brought items)
+  required_by-new : required_by (new_extensions context.extensions items) ≡ required_after required (proposed_extensions items)
+  required_by-new = go (proposed_extensions items)
     where
       go : (o : Option (List Extension)) → required_by (unwrap_or o context.extensions) ≡ required_after required o
-      go None = required_by-told context.extensions required requires
+      go None = required_by-determined context.extensions required requires
       go (Some es) = refl
 
-  pub required_after-requires : (new : RequiredCapabilities) → required_after required (brought items) ≡ Some new → RequiresBy (new_extensions context.extensions items) new
-  required_after-requires new e = required_by-tells (new_extensions context.extensions items) new (required_by-new ∙ e)
+  pub required_after-requires : (new : RequiredCapabilities) → required_after required (proposed_extensions items) ≡ Some new → RequiresBy (new_extensions context.extensions items) new
+  required_after-requires new e = required_by-determines (new_extensions context.extensions items) new (required_by-new ∙ e)
 
   -- what is found of those extensions says so
   found : (extensions : List Extension) (result : Result RequiredCapabilities CodecFault)
-      → extensions ≡ new_extensions context.extensions items → FindsRequirements (extension_of 3 extensions) result → Finds (required_after required (brought items)) result
+      → extensions ≡ new_extensions context.extensions items → FindsRequirements (extension_of 3 extensions) result → Finds (required_after required (proposed_extensions items)) result
   found extensions result e h =
       subst (λ (o : Option RequiredCapabilities). Finds o result) (ap required_by e ∙ required_by-new) (required_by-found extensions result h)
 
   pub required_after_read : (extensions : List Extension) (r : RequiredCapabilities) → extensions ≡ new_extensions context.extensions items
-      → FindsRequirements (extension_of 3 extensions) (Ok r) → required_after required (brought items) ≡ Some r
+      → FindsRequirements (extension_of 3 extensions) (Ok r) → required_after required (proposed_extensions items) ≡ Some r
   required_after_read extensions r e h = found extensions (Ok r) e h
 
   pub required_after_unread : (extensions : List Extension) (f : WireFault) → extensions ≡ new_extensions context.extensions items
-      → FindsRequirements (extension_of 3 extensions) (Err (faults.Wire f)) → required_after required (brought items) ≡ None
+      → FindsRequirements (extension_of 3 extensions) (Err (faults.Wire f)) → required_after required (proposed_extensions items) ≡ None
   required_after_unread extensions f e h = found extensions (Err (faults.Wire f)) e h

@@ -37,17 +37,17 @@ use Rattle.mls_apply.specs.ResolvedList.{find_known, resolved}
 use Rattle.mls_apply.specs.Senders.{is_present}
 use Rattle.mls_apply.specs.declared.list_item.ListItem.{ListItem}
 use Rattle.mls_signatures.specs.SigningKeys.{outside_key, may_propose}
-use Rattle.mls_apply.specs.RuleLists.{Rule, first_failing, renamed}
+use Rattle.mls_apply.specs.RuleLists.{Rule, first_failing, map_refusals}
 use Rattle.mls_apply.specs.declared.fault.ApplyFault.{ApplyFault}
 use Rattle.mls_apply.specs.declared.list_item.KnownProposal.{KnownProposal}
 use Rattle.mls_apply.proofs.Merging.{came_from}
-use Rattle.mls_apply.proofs.RuleLists.{AreKept, passed, refused, first_failing-renamed}
+use Rattle.mls_apply.proofs.RuleLists.{AreKept, passed, refused, first_failing-map_refusals}
 use Rattle.mls_follow.specs.State.{State}
-use Rattle.mls_follow.specs.MessageRules.{refusal_of, reference_of, is_known_reference, is_new_proposal, proposal_message_rules, content_rules, leaf_rules, is_followed, is_known_external, signed_proposal_rules, outside_content_rules, outside_rules, if_full, sender_rules, frame_rules, message_rules}
-use Rattle.mls_follow.specs.NextState.{Step, after_proposal, committed, after_tree, commit_tree, with_list, after_commit, after_content, after_join, after_outside, after_sender, next}
+use Rattle.mls_follow.specs.MessageRules.{refusal_of, reference_of, is_known_reference, is_new_proposal, proposal_message_rules, content_rules, leaf_rules, is_sender_supported, is_known_external, signed_proposal_rules, outside_content_rules, outside_rules, if_full, sender_rules, frame_rules, message_rules}
+use Rattle.mls_follow.specs.NextState.{Transition, after_proposal, committed, after_tree, commit_tree, with_list, after_commit, after_content, after_join, after_outside, after_sender, next}
 use Rattle.mls_follow.specs.Transcript.{confirmed_hash, interim_hash}
 use Rattle.mls_follow.specs.Acceptance.{IsAcceptable, IsNext}
-use Rattle.mls_follow.specs.Runs.{Takes, Call, IsRun}
+use Rattle.mls_follow.specs.Runs.{IsTransition, Call, IsRun}
 use Rattle.mls_follow.specs.Start.{IsStart}
 use Rattle.mls_follow.specs.Validity.{IsValidState}
 use Rattle.mls_follow.specs.StoredState.{stored_entry}
@@ -91,7 +91,7 @@ length-reference s a reference e =
 
 -- a proposal that is processed
 received : (s : State) (sender : Sender) (p : Proposal) (reference : List ℕ) → not s.ended ≡ true → is_in s.profile (is_members_proposal p) ≡ true
-    → is_followed s.profile sender ≡ true → is_known_external s.context.extensions sender ≡ true → may_propose sender p ≡ true
+    → is_sender_supported s.profile sender ≡ true → is_known_external s.context.extensions sender ≡ true → may_propose sender p ≡ true
     → is_receivable s (record { reference = reference; sender = sender; proposal = p }) ≡ true
 unfolding is_receivable
 received s sender p reference going allowed followed known may = rw (going, allowed, followed, known, may) refl
@@ -107,12 +107,12 @@ module _ (G : VerifyFn) (s : State) (a : AuthenticatedParts) (sender : Sender) (
   no_refusal (Some f) e = absurd (none-some (refusal_of f) (sym e))
 
   -- it satisfies its rules
-  is_valid : is_present s.tree sender ≡ true → AreKept (renamed refusal_of (proposal_rules G s.context s.tree sender p))
+  is_valid : is_present s.tree sender ≡ true → AreKept (map_refusals refusal_of (proposal_rules G s.context s.tree sender p))
       → not (is_some (checked_refusal G s.context s.tree sender p)) ≡ true
   unfolding checked_refusal
   is_valid set kept =
       let none : first_failing (proposal_rules G s.context s.tree sender p) ≡ None =
-      no_refusal (first_failing (proposal_rules G s.context s.tree sender p)) (sym (first_failing-renamed refusal_of (proposal_rules G s.context s.tree sender p)) ∙ kept.none) in
+      no_refusal (first_failing (proposal_rules G s.context s.tree sender p)) (sym (first_failing-map_refusals refusal_of (proposal_rules G s.context s.tree sender p)) ∙ kept.none) in
       rw (set, none) refl
 
   pub holds_offer : (reference : List ℕ) → is_receivable s (record { reference = reference; sender = sender; proposal = p }) ≡ true
@@ -134,7 +134,7 @@ record Renews (s t : State) : Type 0 where
   hashed : length t.interim ≡ hash_length s.context.cipher_suite
   known : t.known ≡ []
 
-tree-renews : (s : State) (items : Option (List ListItem)) (a : AuthenticatedParts) (t : Tree) (step : Step) → after_tree (with_list s items) a t ≡ Some step → Renews s step.state
+tree-renews : (s : State) (items : Option (List ListItem)) (a : AuthenticatedParts) (t : Tree) (step : Transition) → after_tree (with_list s items) a t ≡ Some step → Renews s step.state
 tree-renews s items a t step e =
     let u = with_list s items in
     option_and_then_some (λ hash.
@@ -152,14 +152,14 @@ tree-renews s items a t step e =
       hashed = length-interim s.context.cipher_suite confirmed a.confirmation_tag w.0 w.1;
       known = refl;
     } in
-    subst (λ (v : Step). Renews s v.state) w.2 renewed)))
+    subst (λ (v : Transition). Renews s v.state) w.2 renewed)))
 
-commit-renews : (s : State) (a : AuthenticatedParts) (committer : Sender) (c : Commit) (items : Option (List ListItem)) (step : Step)
+commit-renews : (s : State) (a : AuthenticatedParts) (committer : Sender) (c : Commit) (items : Option (List ListItem)) (step : Transition)
     → after_commit s a committer c items ≡ Some step → Renews s step.state
 commit-renews s a committer c items step e =
     option_and_then_some (after_tree (with_list s items) a) (commit_tree s committer c items) step e (λ t f g. tree-renews s items a t step g)
 
-join-renews : (s : State) (a : AuthenticatedParts) (content : Content) (step : Step) → after_join s a content ≡ Some step → Renews s step.state
+join-renews : (s : State) (a : AuthenticatedParts) (content : Content) (step : Transition) → after_join s a content ≡ Some step → Renews s step.state
 join-renews s a (contents.Application sent) step e = absurd (none-some step e)
 join-renews s a (contents.Proposal p) step e = absurd (none-some step e)
 join-renews s a (contents.Commit c) step e = commit-renews s a senders.NewMemberCommit c (Some (join_items c.proposals)) step e
@@ -188,14 +188,14 @@ module _ (G : VerifyFn) (s : State) (rests : Rests G s) (required : RequiredCapa
         (held_more G (record s { known = [] }) (map stored_entry s.known) s k rests.held can);
   }
 
-  proposal-rests : (sender : Sender) (p : Proposal) (o : Option (List ℕ)) (step : Step)
+  proposal-rests : (sender : Sender) (p : Proposal) (o : Option (List ℕ)) (step : Transition)
       → ((reference : List ℕ) → o ≡ Some reference → can_hold G s (record { reference = reference; sender = sender; proposal = p }) ≡ true)
       → option_map (after_proposal s sender p) o ≡ Some step → Rests G step.state
   proposal-rests sender p o step can e =
       let w = came_from (after_proposal s sender p) o step e in
-      subst (λ (u : Step). Rests G u.state) w.2 (pending_rests (record { reference = w.0; sender = sender; proposal = p }) (can w.0 w.1))
+      subst (λ (u : Transition). Rests G u.state) w.2 (pending_rests (record { reference = w.0; sender = sender; proposal = p }) (can w.0 w.1))
 
-  module _ (a : AuthenticatedParts) (step : Step) (going : not s.ended ≡ true) where
+  module _ (a : AuthenticatedParts) (step : Transition) (going : not s.ended ≡ true) where
     content-rests : (i : ℕ) (x : LeafNode) (content : Content) → leaf_at 0 s.tree i ≡ Some x → is_in s.profile (is_members_content content) ≡ true
         → AreKept (content_rules G s required a i x content) → after_content s a i content ≡ Some step → Rests G step.state
     content-rests i x (contents.Application sent) set allowed kept e = absurd (refused kept)
@@ -215,7 +215,7 @@ module _ (G : VerifyFn) (s : State) (rests : Rests G s) (required : RequiredCapa
     full_followed Members rs kept = absurd (refused kept)
     full_followed Full rs kept = (refl, kept)
 
-    module _ (sender : Sender) (followed : is_followed s.profile sender ≡ true) (set : is_present s.tree sender ≡ true)
+    module _ (sender : Sender) (followed : is_sender_supported s.profile sender ≡ true) (set : is_present s.tree sender ≡ true)
         (known : is_known_external s.context.extensions sender ≡ true) where
       signed-rests : (p : Proposal) (o : Option (List ℕ)) → is_in s.profile (is_members_proposal p) ≡ true → may_propose sender p ≡ true
           → AreKept (signed_proposal_rules G s a sender p o) → option_map (after_proposal s sender p) (reference_of s.context a) ≡ Some step → Rests G step.state
@@ -230,7 +230,7 @@ module _ (G : VerifyFn) (s : State) (rests : Rests G s) (required : RequiredCapa
       outside-content-rests o (contents.Proposal p) allowed kept e = let k = passed kept in signed-rests p o allowed k.0 k.1 e
       outside-content-rests o (contents.Commit c) allowed kept e = absurd (refused kept)
 
-    outside-rests : (sender : Sender) → is_followed s.profile sender ≡ true → is_present s.tree sender ≡ true → is_in s.profile (is_members_content a.content.content) ≡ true
+    outside-rests : (sender : Sender) → is_sender_supported s.profile sender ≡ true → is_present s.tree sender ≡ true → is_in s.profile (is_members_content a.content.content) ≡ true
         → AreKept (outside_rules G s a sender) → after_outside s a sender a.content.content ≡ Some step → Rests G step.state
     outside-rests sender followed set allowed kept e =
         let k = passed kept in
@@ -247,7 +247,7 @@ module _ (G : VerifyFn) (s : State) (rests : Rests G s) (required : RequiredCapa
         outside-rests senders.NewMemberProposal k.0 refl allowed k.1 e
     sender-rests senders.NewMemberCommit allowed kept e = renewed_rests G s step.state rests (join-renews s a a.content.content step e)
 
-  step-rests : (m : Message) (step : Step) → is_in s.profile (is_members_message m) ≡ true → first_failing (message_rules G s required m) ≡ None → next s m ≡ Some step
+  step-rests : (m : Message) (step : Transition) → is_in s.profile (is_members_message m) ≡ true → first_failing (message_rules G s required m) ≡ None → next s m ≡ Some step
       → Rests G step.state
   step-rests (messages.Public p) step allowed kept e =
       let frame : AreKept (frame_rules G s required p.auth) = record { none = kept } in
@@ -266,13 +266,13 @@ module _ (G : VerifyFn) (s : State) (h : IsResumable G s) (bytes : List ℕ) whe
   rests : Rests G s
   rests = record { followed = h.followed; hashed = h.hashed; held = h.held }
 
-  accepted_resumable : (step : Step) → IsAcceptable G s bytes → IsNext s bytes step → IsResumable G step.state
+  accepted_resumable : (step : Transition) → IsAcceptable G s bytes → IsNext s bytes step → IsResumable G step.state
   accepted_resumable step a n =
-      let after : next s a.message ≡ Some step = ap (next s) (one_message a.message n.message bytes a.spelled n.spelled) ∙ n.after in
+      let after : next s a.message ≡ Some step = ap (next s) (one_message a.message n.message bytes a.encoded n.encoded) ∙ n.after in
       resumable G step.state (step_valid G s a.required a.message step h.valid a.requires a.kept after)
-      (step-rests G s rests a.required a.message step a.spelled.allowed a.kept after)
+      (step-rests G s rests a.required a.message step a.encoded.allowed a.kept after)
 
-  taken_resumable : (answer : Result Taken Refusal) (new : State) → Takes G s bytes answer new → IsResumable G new
+  taken_resumable : (answer : Result Taken Refusal) (new : State) → IsTransition G s bytes answer new → IsResumable G new
   taken_resumable (Ok taken) new t = accepted_resumable (record { taken = taken; state = new }) t.0 t.1
   taken_resumable (Err e) new t = subst (IsResumable G) (sym t.0) h
 
@@ -283,9 +283,9 @@ run_resumable G s (call ∷ calls) new h run =
 
 -- ---- first states
 
-pub start_resumable : (profile : Profile) (G : VerifyFn) (info : GroupInfo) (handed : Option RatchetTree) (s : State) → IsStart profile G info handed s → IsResumable G s
-start_resumable profile G info handed s h =
-    resumable G s (start_valid profile G info handed s h)
+pub start_resumable : (profile : Profile) (G : VerifyFn) (info : GroupInfo) (supplied : Option RatchetTree) (s : State) → IsStart profile G info supplied s → IsResumable G s
+start_resumable profile G info supplied s h =
+    resumable G s (start_valid profile G info supplied s h)
     (subst (Rests G) (sym h.state) (record {
       followed = h.has_signer.has_members.valid_tree.readable.has_tree.followed;
       hashed = length-interim info.context.cipher_suite info.context.confirmed (Some info.confirmation_tag) h.interim h.hashed;

@@ -134,7 +134,7 @@ fileless bytes none f t h = none f h.encoded h.bounded
 -- a fault of a body is one of the bytes
 pub unreadable_fault : (G : VerifyFn) (bytes : List ℕ) (fault : NodeFault) → (fault ≢ nodes.OutOfMemory → IsUnreadable bytes) → IsResumeFault G bytes (unreadable fault)
 unreadable_fault G bytes (nodes.Wire f) h = h (λ e. cc)
-unreadable_fault G bytes (nodes.WrongNodeKind place) h = h (λ e. cc)
+unreadable_fault G bytes (nodes.WrongNodeKind node_index) h = h (λ e. cc)
 unreadable_fault G bytes nodes.LastBlank h = h (λ e. cc)
 unreadable_fault G bytes nodes.EmptyTree h = h (λ e. cc)
 unreadable_fault G bytes nodes.TooManyLeaves h = h (λ e. cc)
@@ -170,18 +170,18 @@ content_bytes G bytes c t OutOfMemory i h = tt
 
 -- ---- results
 
-pub told_true : {P : Type 0} (b : Bool) → b ≡ true → OnTrue b P → P
-told_true true e h = h
-told_true false e h = absurd (cc)
+pub known_true : {P : Type 0} (b : Bool) → b ≡ true → OnTrue b P → P
+known_true true e h = h
+known_true false e h = absurd (cc)
 
-pub told_false : {P : Type 0} (b : Bool) → b ≡ false → OnFalse b P → P
-told_false true e h = absurd (cc)
-told_false false e h = h
+pub known_false : {P : Type 0} (b : Bool) → b ≡ false → OnFalse b P → P
+known_false true e h = absurd (cc)
+known_false false e h = h
 
 -- a body that can't be read has no tree
 pub no_tree_read : (body : List ℕ) (e : NodeFault) → ReadsTreeBody body (Err e) → e ≢ nodes.OutOfMemory → HasNoTree body
 no_tree_read body (nodes.Wire f) h own = h
-no_tree_read body (nodes.WrongNodeKind place) h own = h
+no_tree_read body (nodes.WrongNodeKind node_index) h own = h
 no_tree_read body nodes.LastBlank h own = h
 no_tree_read body nodes.EmptyTree h own = h
 no_tree_read body nodes.TooManyLeaves h own = h

@@ -5,9 +5,9 @@ use Rattle.std.specs.Prelude.{map, is_ok, All}
 use Rattle.std.proofs.lemmas.List.Elements.{All-nil, All-cons, All-head, All-tail}
 use Rattle.mls_check.specs.Signatures.{VerifyFn, Extends}
 use Rattle.mls_follow.specs.State.{State}
-use Rattle.mls_follow.specs.NextState.{Step}
+use Rattle.mls_follow.specs.NextState.{Transition}
 use Rattle.mls_follow.specs.Acceptance.{IsAcceptable, IsNext}
-use Rattle.mls_follow.specs.Runs.{Call, Takes, IsRun, IsFold, accepted, accepted_before}
+use Rattle.mls_follow.specs.Runs.{Call, IsTransition, IsRun, IsFold, accepted, accepted_before}
 use Rattle.mls_follow.specs.Validity.{IsValidState}
 use Rattle.mls_follow.specs.RisingRuns.{Event, IsRisingRun, last_meaning, received, AcceptsAll, IsAccepted, HasMemory, RisingRunsExtend, RisingRunsAreFolds, RisingRunsAreAccepted, AcceptedMakeRuns, RecoveriesAccept, RisingRunsKeepValidity, RisingFollowersAreValid, RisingFollowersKnowSigned, RisingRunsAreAnswered}
 use Rattle.mls_follow.specs.RisingRuns.Event.{Received, Learned}
@@ -37,7 +37,7 @@ rising_extends G s (Learned K ∷ events) new h =
 
 -- a message before others that are accepted
 accepts_before : (G K : VerifyFn) (s mid : State) (bytes : List ℕ) (answer : Result Taken Refusal) (messages : List (List ℕ)) (new : State) → Extends G K
-    → Takes G s bytes answer mid → AcceptsAll K mid messages new → AcceptsAll K s (accepted_before bytes answer messages) new
+    → IsTransition G s bytes answer mid → AcceptsAll K mid messages new → AcceptsAll K s (accepted_before bytes answer messages) new
 accepts_before G K s mid bytes (Ok taken) messages new more h rest =
     (record { taken = taken; state = mid }, acceptance_stays G K s bytes more h.0, h.1, rest)
 accepts_before G K s mid bytes (Err e) messages new more h rest = subst (λ (t : State). AcceptsAll K t messages new) h.0 rest
@@ -72,8 +72,8 @@ accepted_run G s (bytes ∷ messages) new h =
     )
 
 -- one message that is acceptable has this answer, where memory suffices
-answered_so : (G : VerifyFn) (s mid : State) (call : Call) (step : Step) → IsAcceptable G s call.bytes → IsNext s call.bytes step
-    → (call.answer ≡ Err OutOfMemory → ⊥) → Takes G s call.bytes call.answer mid → (call.answer ≡ Ok step.taken) × (mid ≡ step.state)
+answered_so : (G : VerifyFn) (s mid : State) (call : Call) (step : Transition) → IsAcceptable G s call.bytes → IsNext s call.bytes step
+    → (call.answer ≡ Err OutOfMemory → ⊥) → IsTransition G s call.bytes call.answer mid → (call.answer ≡ Ok step.taken) × (mid ≡ step.state)
 answered_so G s mid call step acceptable next memory takes =
     only_answer G s call.bytes call.answer (Ok step.taken) mid step.state (record { takes = takes; memory = memory })
     (record { takes = (acceptable, next); memory = λ e. absurd cc })
@@ -117,17 +117,17 @@ rising_valid G s events new v h =
     run_valid (last_meaning G events) s r.calls new (valid_stays G (last_meaning G events) s (rising_extends G s events new h) v) r.run
 
 pub rising_follower_valid : RisingFollowersAreValid
-rising_follower_valid profile G info handed first last events start h =
-    rising_valid G first events last (start_valid profile G info handed first start) h
+rising_follower_valid profile G info supplied first last events start h =
+    rising_valid G first events last (start_valid profile G info supplied first start) h
 
 pub rising_signed : RisingFollowersKnowSigned
-rising_signed profile G info handed first last events start h =
+rising_signed profile G info supplied first last events start h =
     let r = as_run G first events last h in
-    followers_signed profile (last_meaning G events) info handed first last r.calls
-    (start_stays profile G (last_meaning G events) info handed first (rising_extends G first events last h) start) r.run
+    followers_signed profile (last_meaning G events) info supplied first last r.calls
+    (start_stays profile G (last_meaning G events) info supplied first (rising_extends G first events last h) start) r.run
 
 pub rising_answered : RisingRunsAreAnswered
-rising_answered profile G info handed first last events bytes start h =
+rising_answered profile G info supplied first last events bytes start h =
     let r = as_run G first events last h in
-    run_answered profile (last_meaning G events) info handed first last r.calls bytes
-    (start_stays profile G (last_meaning G events) info handed first (rising_extends G first events last h) start) r.run
+    run_answered profile (last_meaning G events) info supplied first last r.calls bytes
+    (start_stays profile G (last_meaning G events) info supplied first (rising_extends G first events last h) start) r.run

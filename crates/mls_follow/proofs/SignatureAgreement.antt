@@ -11,7 +11,7 @@ use Rattle.mls_nodes.specs.declared.required_capabilities.RequiredCapabilities.{
 use Rattle.mls_nodes.specs.LeafNodeTBS.{leaf_tbs}
 use Rattle.mls_tree.specs.Tree.{Tree, leaf, branch, leaf_count, leaf_at}
 use Rattle.mls_tree.specs.BlankLeaves.{first_of}
-use Rattle.mls_check.specs.LeafValidation.{member_rule, is_leaf_signed, first_failing_leaf, first_fault, member_fault, LeavesAreValid, IsMemberFault, supports_own_extensions, supports_required, supports_used_credentials, has_own_signature_key}
+use Rattle.mls_check.specs.LeafValidation.{member_rule, is_leaf_signed, first_failing_leaf, first_fault, member_fault, LeavesAreValid, IsMemberFault, supports_own_extensions, supports_required, supports_used_credentials, has_unique_signature_key}
 use Rattle.mls_check.specs.Signatures.{VerifyFn, Extends, sign_content, is_good, is_signed_text}
 use Rattle.mls_check.specs.declared.members.MemberFault.{MemberFault}
 use Rattle.mls_check.specs.declared.members.MemberFault.TheVariants.{ExtensionUnlisted, RequirementUnmet, CredentialUnsupported, SignatureKeyRepeated, LeafSignature, OutOfMemory}
@@ -108,7 +108,7 @@ module _ (G K : VerifyFn) where
           ap (λ (b : Bool). if k == 1 then supports_own_extensions x
           else if k == 2 then supports_required required x
           else if k == 3 then supports_used_credentials t x
-          else if k == 4 then has_own_signature_key t i x
+          else if k == 4 then has_unique_signature_key t i x
           else if k == 5 then b
           else true) e
 
@@ -180,8 +180,8 @@ module _ (G K : VerifyFn) (more : Extends G K) where
       let signed_K = is_leaf_signed K suite group_id i x in
       let five_G = if k == 5 then signed_G else true in
       let five_K = if k == 5 then signed_K else true in
-      let four_G = if k == 4 then has_own_signature_key t i x else five_G in
-      let four_K = if k == 4 then has_own_signature_key t i x else five_K in
+      let four_G = if k == 4 then has_unique_signature_key t i x else five_G in
+      let four_K = if k == 4 then has_unique_signature_key t i x else five_K in
       let three_G = if k == 3 then supports_used_credentials t x else four_G in
       let three_K = if k == 3 then supports_used_credentials t x else four_K in
       let two_G = if k == 2 then supports_required required x else three_G in
@@ -189,7 +189,7 @@ module _ (G K : VerifyFn) (more : Extends G K) where
       else_stays (k == 1) (supports_own_extensions x) two_G two_K
       (else_stays (k == 2) (supports_required required x) three_G three_K
       (else_stays (k == 3) (supports_used_credentials t x) four_G four_K
-      (else_stays (k == 4) (has_own_signature_key t i x) five_G five_K
+      (else_stays (k == 4) (has_unique_signature_key t i x) five_G five_K
       (then_stays (k == 5) signed_G signed_K (leaf_stays suite group_id i x))))) e
 
 pub members_stay : (G K : VerifyFn) (suite : ℕ) (group_id : List ℕ) (required : RequiredCapabilities) (t : Tree) → Extends G K

@@ -33,8 +33,8 @@ pub all_asked : (G K : VerifyFn) (b : Bool) (qs : List SignatureToVerify) → b 
 all_asked G K true qs e h = h
 all_asked G K false qs e h = absurd (cc)
 
-module _ (G K : VerifyFn) (info : GroupInfo) (handed : Option RatchetTree) (agree : AgreeOnStart G K info handed) where
-  module _ (t : RatchetTree) (required : RequiredCapabilities) (valid : HasValidTree info.context (UsesTree handed info.extensions) t required) where
+module _ (G K : VerifyFn) (info : GroupInfo) (supplied : Option RatchetTree) (agree : AgreeOnStart G K info supplied) where
+  module _ (t : RatchetTree) (required : RequiredCapabilities) (valid : HasValidTree info.context (UsesTree supplied info.extensions) t required) where
     asked : AgreeOn G K (info_signatures info (leaf_at 0 t.tree info.signer) ++ tree_signatures info.context.cipher_suite info.context.group_id 0 t.tree)
     asked =
         all_asked G K (is_supported info) (info_signatures info (leaf_at 0 t.tree info.signer) ++ tree_signatures info.context.cipher_suite info.context.group_id 0 t.tree)
@@ -48,24 +48,24 @@ module _ (G K : VerifyFn) (info : GroupInfo) (handed : Option RatchetTree) (agre
         (tree_leaf G K info.context.cipher_suite info.context.group_id 0 t.tree
         (back G K (info_signatures info (leaf_at 0 t.tree info.signer)) (tree_signatures info.context.cipher_suite info.context.group_id 0 t.tree) asked) i x e)
 
-  members_move : (t : RatchetTree) (required : RequiredCapabilities) → HasMembers G info.context (UsesTree handed info.extensions) t required → HasMembers K info.context (UsesTree handed info.extensions) t required
+  members_move : (t : RatchetTree) (required : RequiredCapabilities) → HasMembers G info.context (UsesTree supplied info.extensions) t required → HasMembers K info.context (UsesTree supplied info.extensions) t required
   members_move t required m = record {
     valid_tree = m.valid_tree;
     members = members_alike G K info.context.cipher_suite info.context.group_id required t.tree (leaves_say t required m.valid_tree) m.members;
   }
 
-  signer_moves : (t : RatchetTree) (signer : LeafNode) → HasSigner G info handed t signer → HasSigner K info handed t signer
+  signer_moves : (t : RatchetTree) (signer : LeafNode) → HasSigner G info supplied t signer → HasSigner K info supplied t signer
   signer_moves t signer h = record { required = h.required; has_members = members_move t h.required h.has_members; set = h.set }
 
   -- the group info's signature is judged alike
-  signed_alike : (t : RatchetTree) (signer : LeafNode) → HasSigner G info handed t signer → is_info_signed G info signer ≡ is_info_signed K info signer
+  signed_alike : (t : RatchetTree) (signer : LeafNode) → HasSigner G info supplied t signer → is_info_signed G info signer ≡ is_info_signed K info signer
   signed_alike t signer h =
       info_alike G K info signer
       (subst (λ (o : Option LeafNode). AgreeOn G K (info_signatures info o)) h.set
       (front G K (info_signatures info (leaf_at 0 t.tree info.signer)) (tree_signatures info.context.cipher_suite info.context.group_id 0 t.tree)
       (asked t h.required h.has_members.valid_tree)))
 
-  start_moves : (profile : Profile) (s : State) → IsStart profile G info handed s → IsStart profile K info handed s
+  start_moves : (profile : Profile) (s : State) → IsStart profile G info supplied s → IsStart profile K info supplied s
   start_moves profile s h = record {
     tree = h.tree;
     signer = h.signer;
@@ -76,7 +76,7 @@ module _ (G K : VerifyFn) (info : GroupInfo) (handed : Option RatchetTree) (agre
     state = h.state;
   }
 
-  fault_moves : (fault : StartFault) → IsStartFault G info handed fault → IsStartFault K info handed fault
+  fault_moves : (fault : StartFault) → IsStartFault G info supplied fault → IsStartFault K info supplied fault
   fault_moves starts.UnsupportedVersion h = h
   fault_moves starts.UnsupportedSuite h = h
   fault_moves starts.NoTree h = h
@@ -106,7 +106,7 @@ module _ (G K : VerifyFn) (info : GroupInfo) (handed : Option RatchetTree) (agre
   fault_moves starts.OutOfMemory h = h
 
 pub decide_starts : SignaturesDetermineStart
-decide_starts profile G K info handed s agree h = start_moves G K info handed agree profile s h
+decide_starts profile G K info supplied s agree h = start_moves G K info supplied agree profile s h
 
 pub decide_faults : SignaturesDetermineStartFault
-decide_faults G K info handed fault agree h = fault_moves G K info handed agree fault h
+decide_faults G K info supplied fault agree h = fault_moves G K info supplied agree fault h

@@ -16,21 +16,21 @@ use Rattle.mls_follow.specs.declared.start_fault.StartFault.{StartFault}
 use Rattle.mls_follow.specs.declared.start_fault.StartFault.TheVariants.{UnsupportedVersion, UnsupportedSuite, SignerNotMember, InfoSignature}
 
 -- a later fault of an info that is followed is neither of the first two
-module _ (G : VerifyFn) (info : GroupInfo) (handed : Option RatchetTree) (fault : StartFault) (followed : IsSupportedContext info.context) (h : IsStartFault G info handed fault) where
+module _ (G : VerifyFn) (info : GroupInfo) (supplied : Option RatchetTree) (fault : StartFault) (followed : IsSupportedContext info.context) (h : IsStartFault G info supplied fault) where
   pub version_followed : (fault ≡ UnsupportedVersion) ↔ (info.context.version ≢ 1)
-  version_followed = (λ e. subst (λ (f : StartFault). IsStartFault G info handed f) e h, λ other. absurd (other followed.version))
+  version_followed = (λ e. subst (λ (f : StartFault). IsStartFault G info supplied f) e h, λ other. absurd (other followed.version))
 
   pub suite_followed : (fault ≡ UnsupportedSuite) ↔ FailsSuite info.context
-  suite_followed = (λ e. subst (λ (f : StartFault). IsStartFault G info handed f) e h, λ fails. absurd (fails.unsupported followed.suite))
+  suite_followed = (λ e. subst (λ (f : StartFault). IsStartFault G info supplied f) e h, λ fails. absurd (fails.unsupported followed.suite))
 
 -- the signer's leaf isn't set
 pub unset : (G : VerifyFn) (info : GroupInfo) (t : RatchetTree) → leaf_at 0 t.tree info.signer ≡ None → FailsSigned G info t SignerNotMember
-unset G info t blank handed required h = record { tree = t; required = required; has_members = h; blank = blank }
+unset G info t blank supplied required h = record { tree = t; required = required; has_members = h; blank = blank }
 
 -- it has not signed
 pub unsigned : (G : VerifyFn) (info : GroupInfo) (t : RatchetTree) (signer : LeafNode) → leaf_at 0 t.tree info.signer ≡ Some signer
     → is_info_signed G info signer ≡ false → FailsSigned G info t InfoSignature
-unsigned G info t signer set bad handed required h = record {
+unsigned G info t signer set bad supplied required h = record {
   tree = t;
   signer = signer;
   has_signer = record { required = required; has_members = h; set = set };
@@ -38,33 +38,33 @@ unsigned G info t signer set bad handed required h = record {
 }
 
 module _ (G : VerifyFn) (info : GroupInfo) (t : RatchetTree) where
-  module _ (handed : Option RatchetTree) (uses : UsesTree handed info.extensions t) where
+  module _ (supplied : Option RatchetTree) (uses : UsesTree supplied info.extensions t) where
     -- a tree that is this one is the info's
-    too : (u : RatchetTree) → u ≡ t → UsesTree handed info.extensions u
-    too u e = subst (UsesTree handed info.extensions) (sym e) uses
+    too : (u : RatchetTree) → u ≡ t → UsesTree supplied info.extensions u
+    too u e = subst (UsesTree supplied info.extensions) (sym e) uses
 
   -- the tree isn't the group's, or its leaves are no members
   pub tree_fails : (fault : GroupTreeFault) → IsGroupTreeFault G info.context (λ u. u ≡ t) fault → FailsWith G info t (start_fault_of fault)
-  tree_fails groups.RequirementsUnreadable h handed uses =
-      requirements_too G info.context (λ u. u ≡ t) (UsesTree handed info.extensions) (too handed uses) h
-  tree_fails (groups.Tree fault) h handed uses = invalid_too G info.context (λ u. u ≡ t) (UsesTree handed info.extensions) (too handed uses) fault h
-  tree_fails (groups.Member fault) h handed uses = strangers_too G info.context (λ u. u ≡ t) (UsesTree handed info.extensions) (too handed uses) fault h
-  tree_fails groups.OutOfMemory h handed uses = tt
+  tree_fails groups.RequirementsUnreadable h supplied uses =
+      requirements_too G info.context (λ u. u ≡ t) (UsesTree supplied info.extensions) (too supplied uses) h
+  tree_fails (groups.Tree fault) h supplied uses = invalid_too G info.context (λ u. u ≡ t) (UsesTree supplied info.extensions) (too supplied uses) fault h
+  tree_fails (groups.Member fault) h supplied uses = strangers_too G info.context (λ u. u ≡ t) (UsesTree supplied info.extensions) (too supplied uses) fault h
+  tree_fails groups.OutOfMemory h supplied uses = tt
 
   module _ (required : RequiredCapabilities) (h : HasMembers G info.context (λ u. u ≡ t) t required) where
-    have_members : (handed : Option RatchetTree) → UsesTree handed info.extensions t → HasMembers G info.context (UsesTree handed info.extensions) t required
-    have_members handed uses = members_too G info.context (λ u. u ≡ t) (UsesTree handed info.extensions) (too handed uses) t required h
+    have_members : (supplied : Option RatchetTree) → UsesTree supplied info.extensions t → HasMembers G info.context (UsesTree supplied info.extensions) t required
+    have_members supplied uses = members_too G info.context (λ u. u ≡ t) (UsesTree supplied info.extensions) (too supplied uses) t required h
 
     -- the signer has not signed
     pub signature_fails : (fault : StartFault) → FailsSigned G info t fault → FailsWith G info t fault
-    signature_fails fault fails handed uses = fails handed required (have_members handed uses)
+    signature_fails fault fails supplied uses = fails supplied required (have_members supplied uses)
 
     -- all is in order
     pub starts : (interim : List ℕ) → IsSignedIn G info t → info_interim info ≡ Some interim → StartsWith G info t interim
-    starts interim signed hashed profile handed uses = record {
+    starts interim signed hashed profile supplied uses = record {
       tree = t;
       signer = signed.signer;
-      has_signer = record { required = required; has_members = have_members handed uses; set = signed.set };
+      has_signer = record { required = required; has_members = have_members supplied uses; set = signed.set };
       signed = signed.signed;
       interim = interim;
       hashed = hashed;
@@ -79,6 +79,6 @@ pub fails_again : (G : VerifyFn) (info : GroupInfo) (t u : RatchetTree) (fault :
 fails_again G info t u fault e h = subst (λ (v : RatchetTree). FailsWith G info v fault) e h
 
 -- a start in a tree is one in any that is equal to it
-pub start_again : (profile : Profile) (G : VerifyFn) (info : GroupInfo) (handed : Option RatchetTree) (t u : RatchetTree) (interim : List ℕ) → u ≡ t
-    → IsStart profile G info handed (initial_state profile info t interim) → IsStart profile G info handed (initial_state profile info u interim)
-start_again profile G info handed t u interim e h = subst (λ v. IsStart profile G info handed (initial_state profile info v interim)) (sym e) h
+pub start_again : (profile : Profile) (G : VerifyFn) (info : GroupInfo) (supplied : Option RatchetTree) (t u : RatchetTree) (interim : List ℕ) → u ≡ t
+    → IsStart profile G info supplied (initial_state profile info t interim) → IsStart profile G info supplied (initial_state profile info u interim)
+start_again profile G info supplied t u interim e h = subst (λ v. IsStart profile G info supplied (initial_state profile info v interim)) (sym e) h

@@ -27,20 +27,20 @@ use Rattle.mls_msgs.specs.declared.profile.Profile.{Profile}
 use Rattle.mls_msgs.specs.declared.profile.Profile.TheVariants.{Members, Full}
 use Rattle.mls_msgs.specs.declared.proposal.Proposal.{Proposal}
 use Rattle.mls_apply.specs.declared.list_item.ListItem.{ListItem}
-use Rattle.mls_apply.specs.ContextExtensions.{brought, new_extensions}
+use Rattle.mls_apply.specs.ContextExtensions.{proposed_extensions, new_extensions}
 use Rattle.mls_apply.specs.ResolvedList.{resolved}
 use Rattle.mls_apply.specs.JoinRules.{path_of_join, join_items}
 use Rattle.mls_apply.specs.ListRules.{list_rules, has_reinit}
-use Rattle.mls_apply.specs.AppliedList.{Grown, outcome}
-use Rattle.mls_apply.specs.RuleLists.{first_failing, renamed}
+use Rattle.mls_apply.specs.AppliedList.{AppliedTree, outcome}
+use Rattle.mls_apply.specs.RuleLists.{first_failing, map_refusals}
 use Rattle.mls_apply.proofs.Merging.{came_from}
 use Rattle.mls_apply.proofs.RuleLists.{AreKept, passed, passed_both, refused}
 use Rattle.mls_follow.specs.State.{State}
 use Rattle.mls_follow.specs.Transcript.{confirmed_hash, interim_hash}
-use Rattle.mls_follow.specs.MessageRules.{refusal_of, reference_of, inline_rules, member_rules, tree_rules, Placed, placed, resulting, changed_tree, path_rules_of, placed_rules, outcome_rules, required_after, rules_under, items_rules, commit_rules, content_rules, leaf_rules, external_commit_rules, signed_commit_rules, joiner_rules, if_full, sender_rules, frame_rules, message_rules}
-use Rattle.mls_follow.specs.NextState.{Step, after_proposal, committed, after_tree, commit_tree, with_extensions, with_list, after_content, after_join, after_outside, after_sender, next}
+use Rattle.mls_follow.specs.MessageRules.{refusal_of, reference_of, inline_rules, member_rules, tree_rules, CommitterTree, committer_tree, resulting, changed_tree, path_rules_of, committer_tree_rules, applied_tree_rules, required_after, rules_with_requirements, proposal_list_rules, commit_rules, content_rules, leaf_rules, external_commit_rules, signed_commit_rules, joiner_rules, if_full, sender_rules, frame_rules, message_rules}
+use Rattle.mls_follow.specs.NextState.{Transition, after_proposal, committed, after_tree, commit_tree, with_extensions, with_list, after_content, after_join, after_outside, after_sender, next}
 use Rattle.mls_follow.specs.Acceptance.{IsAcceptable, IsNext}
-use Rattle.mls_follow.specs.Runs.{Takes}
+use Rattle.mls_follow.specs.Runs.{IsTransition}
 use Rattle.mls_follow.specs.declared.refusal.Refusal.{Refusal}
 use Rattle.mls_follow.specs.declared.taken.Taken.{Taken}
 use Rattle.mls_follow.proofs.Answering.{one_message}
@@ -60,30 +60,30 @@ pub record Moves (G : VerifyFn) (s t : State) : Type 0 where
   pub hashed : tree_hash (hash_of s.context.cipher_suite) 0 t.tree ≡ Some t.context.tree_hash
   pub tree_kept : AreKept (tree_rules G s required (Some t.tree))
   pub items : List ListItem
-  pub grown : Grown
-  pub made : outcome items s.tree ≡ Some grown
+  pub applied_tree : AppliedTree
+  pub made : outcome items s.tree ≡ Some applied_tree
   pub committer : Sender
-  pub place : Placed
-  pub placed_at : placed committer grown ≡ Some place
+  pub node_index : CommitterTree
+  pub committer_tree_at : committer_tree committer applied_tree ≡ Some node_index
   pub path : Option UpdatePath
-  pub path_kept : AreKept (path_rules_of (hash_of s.context.cipher_suite) place.grown place.leaf path)
-  pub merged : resulting (hash_of s.context.cipher_suite) place.grown place.leaf path ≡ Some t.tree
+  pub path_kept : AreKept (path_rules_of (hash_of s.context.cipher_suite) node_index.applied_tree node_index.leaf path)
+  pub merged : resulting (hash_of s.context.cipher_suite) node_index.applied_tree node_index.leaf path ≡ Some t.tree
 
 module _ (G : VerifyFn) (s : State) (required : RequiredCapabilities) (requires : Requires s.context required) where
   -- either of these
   abbrev Leads : State → Type 0
   Leads t = Stays s t ⊎ Moves G s t
 
-  module _ (a : AuthenticatedParts) (committer : Sender) (c : Commit) (step : Step) where
+  module _ (a : AuthenticatedParts) (committer : Sender) (c : Commit) (step : Transition) where
     -- after a commit with a list that has an outcome, whose committer has a leaf, under what the next context requires
     module _ (es : List Extension) (ended : Bool) (new : RequiredCapabilities) (by : RequiresBy es new) (items : List ListItem)
-        (g : Grown) (made : outcome items s.tree ≡ Some g) (q : Placed) (at : placed committer g ≡ Some q)
-        (kept : AreKept (placed_rules G s new c.path (Some q)))
-        (t : Tree) (merged : resulting (hash_of s.context.cipher_suite) q.grown q.leaf c.path ≡ Some t) where
+        (g : AppliedTree) (made : outcome items s.tree ≡ Some g) (q : CommitterTree) (at : committer_tree committer g ≡ Some q)
+        (kept : AreKept (committer_tree_rules G s new c.path (Some q)))
+        (t : Tree) (merged : resulting (hash_of s.context.cipher_suite) q.applied_tree q.leaf c.path ≡ Some t) where
       moved : (hash confirmed interim : List ℕ) → tree_hash (hash_of s.context.cipher_suite) 0 t ≡ Some hash
           → Moves G s (committed (with_extensions s es ended) t hash confirmed interim).state
       moved hash confirmed interim hashed =
-          let k = passed_both (path_rules_of (hash_of s.context.cipher_suite) q.grown q.leaf c.path) (tree_rules G s new (resulting (hash_of s.context.cipher_suite) q.grown q.leaf c.path)) kept in
+          let k = passed_both (path_rules_of (hash_of s.context.cipher_suite) q.applied_tree q.leaf c.path) (tree_rules G s new (resulting (hash_of s.context.cipher_suite) q.applied_tree q.leaf c.path)) kept in
           record {
             suite = refl;
             group_id = refl;
@@ -92,11 +92,11 @@ module _ (G : VerifyFn) (s : State) (required : RequiredCapabilities) (requires 
             hashed = hashed;
             tree_kept = subst (λ (o : Option Tree). AreKept (tree_rules G s new o)) merged k.1;
             items = items;
-            grown = g;
+            applied_tree = g;
             made = made;
             committer = committer;
-            place = q;
-            placed_at = at;
+            node_index = q;
+            committer_tree_at = at;
             path = c.path;
             path_kept = k.0;
             merged = merged;
@@ -113,24 +113,24 @@ module _ (G : VerifyFn) (s : State) (required : RequiredCapabilities) (requires 
           (confirmed_hash (hash_of s.context.cipher_suite) s.interim a) step g
           (λ confirmed k l.
           (let w = came_from (committed (with_extensions s es ended) t hash confirmed) (interim_hash (hash_of s.context.cipher_suite) confirmed a.confirmation_tag) step l in
-          subst (λ (u : Step). Leads u.state) w.2 (inr (moved hash confirmed w.0 f)))))
+          subst (λ (u : Transition). Leads u.state) w.2 (inr (moved hash confirmed w.0 f)))))
 
     by_place : (es : List Extension) (ended : Bool) (new : RequiredCapabilities) → RequiresBy es new → (items : List ListItem)
-        → (g : Grown) → outcome items s.tree ≡ Some g → (p : Option Placed) → placed committer g ≡ p → AreKept (placed_rules G s new c.path p) → (t : Tree)
-        → option_and_then (λ q. resulting (hash_of s.context.cipher_suite) q.grown q.leaf c.path) p ≡ Some t
+        → (g : AppliedTree) → outcome items s.tree ≡ Some g → (p : Option CommitterTree) → committer_tree committer g ≡ p → AreKept (committer_tree_rules G s new c.path p) → (t : Tree)
+        → option_and_then (λ q. resulting (hash_of s.context.cipher_suite) q.applied_tree q.leaf c.path) p ≡ Some t
         → after_tree (with_extensions s es ended) a t ≡ Some step → Leads step.state
     by_place es ended new by items g made None at kept t e f = absurd (refused kept)
     by_place es ended new by items g made (Some q) at kept t e f = by_tree es ended new by items g made q at kept t e f
 
     by_outcome : (es : List Extension) (ended : Bool) (new : RequiredCapabilities) → RequiresBy es new → (items : List ListItem)
-        → (o : Option Grown) → outcome items s.tree ≡ o → AreKept (outcome_rules G s new committer c.path o) → (t : Tree)
+        → (o : Option AppliedTree) → outcome items s.tree ≡ o → AreKept (applied_tree_rules G s new committer c.path o) → (t : Tree)
         → changed_tree (hash_of s.context.cipher_suite) committer c.path o ≡ Some t
         → after_tree (with_extensions s es ended) a t ≡ Some step → Leads step.state
     by_outcome es ended new by items None is kept t e f = absurd (refused kept)
-    by_outcome es ended new by items (Some g) is kept t e f = by_place es ended new by items g is (placed committer g) refl kept t e f
+    by_outcome es ended new by items (Some g) is kept t e f = by_place es ended new by items g is (committer_tree committer g) refl kept t e f
 
-    by_terms : (items : List ListItem) (o : Option RequiredCapabilities) → required_after required (brought items) ≡ o
-        → AreKept (rules_under G s committer c.path (outcome items s.tree) o) → (t : Tree)
+    by_terms : (items : List ListItem) (o : Option RequiredCapabilities) → required_after required (proposed_extensions items) ≡ o
+        → AreKept (rules_with_requirements G s committer c.path (outcome items s.tree) o) → (t : Tree)
         → changed_tree (hash_of s.context.cipher_suite) committer c.path (outcome items s.tree) ≡ Some t
         → after_tree (with_list s (Some items)) a t ≡ Some step → Leads step.state
     by_terms items None is kept t e f = absurd (refused kept)
@@ -138,15 +138,15 @@ module _ (G : VerifyFn) (s : State) (required : RequiredCapabilities) (requires 
         by_outcome (new_extensions s.context.extensions items) (has_reinit items) new (required_after-requires s.context required items requires new is) items (outcome items s.tree) refl kept t e f
 
   -- after a member's commit
-  module _ (a : AuthenticatedParts) (i : ℕ) (c : Commit) (step : Step) where
-    by_items : (o : Option (List ListItem)) → AreKept (items_rules G s required i c o) → (t : Tree)
+  module _ (a : AuthenticatedParts) (i : ℕ) (c : Commit) (step : Transition) where
+    by_items : (o : Option (List ListItem)) → AreKept (proposal_list_rules G s required i c o) → (t : Tree)
         → commit_tree s (senders.Member i) c o ≡ Some t
         → after_tree (with_list s o) a t ≡ Some step → Leads step.state
     by_items None kept t e f = absurd (refused kept)
     by_items (Some items) kept t e f =
-        let of_list = renamed refusal_of (list_rules (senders.Member i) items (is_some c.path)) in
-        let under = rules_under G s (senders.Member i) c.path (outcome items s.tree) (required_after required (brought items)) in
-        by_terms a (senders.Member i) c step items (required_after required (brought items)) refl (passed_both of_list under (passed_both (inline_rules G s i c) (of_list ++ under) kept).1).1 t e f
+        let of_list = map_refusals refusal_of (list_rules (senders.Member i) items (is_some c.path)) in
+        let under = rules_with_requirements G s (senders.Member i) c.path (outcome items s.tree) (required_after required (proposed_extensions items)) in
+        by_terms a (senders.Member i) c step items (required_after required (proposed_extensions items)) refl (passed_both of_list under (passed_both (inline_rules G s i c) (of_list ++ under) kept).1).1 t e f
 
     by_commit : AreKept (commit_rules G s required i c) → after_content s a i (contents.Commit c) ≡ Some step → Leads step.state
     by_commit kept e =
@@ -155,27 +155,27 @@ module _ (G : VerifyFn) (s : State) (required : RequiredCapabilities) (requires 
         (λ t f g. by_items (resolved (senders.Member i) s.known c.proposals) (passed kept).1 t f g)
 
   -- after an external commit
-  module _ (a : AuthenticatedParts) (c : Commit) (step : Step) where
+  module _ (a : AuthenticatedParts) (c : Commit) (step : Transition) where
     by_external : AreKept (external_commit_rules G s required c) → after_join s a (contents.Commit c) ≡ Some step → Leads step.state
     by_external kept e =
         let items = join_items c.proposals in
-        let of_list = renamed refusal_of (path_of_join s.context s.tree c.proposals c.path) in
-        let under = rules_under G s senders.NewMemberCommit c.path (outcome items s.tree) (required_after required (brought items)) in
+        let of_list = map_refusals refusal_of (path_of_join s.context s.tree c.proposals c.path) in
+        let under = rules_with_requirements G s senders.NewMemberCommit c.path (outcome items s.tree) (required_after required (proposed_extensions items)) in
         option_and_then_some (after_tree (with_list s (Some items)) a) (commit_tree s senders.NewMemberCommit c (Some items)) step e
         (λ t f g.
-        by_terms a senders.NewMemberCommit c step items (required_after required (brought items)) refl (passed_both of_list under (passed kept).1).1 t f g)
+        by_terms a senders.NewMemberCommit c step items (required_after required (proposed_extensions items)) refl (passed_both of_list under (passed kept).1).1 t f g)
 
     by_path : (o : Option UpdatePath) → AreKept (signed_commit_rules G s required a c o) → after_join s a (contents.Commit c) ≡ Some step → Leads step.state
     by_path None kept e = absurd (refused kept)
     by_path (Some path) kept e = by_external (passed kept).1 e
 
-  by_proposal : (sender : Sender) (p : Proposal) (o : Option (List ℕ)) (step : Step) → option_map (after_proposal s sender p) o ≡ Some step → Leads step.state
+  by_proposal : (sender : Sender) (p : Proposal) (o : Option (List ℕ)) (step : Transition) → option_map (after_proposal s sender p) o ≡ Some step → Leads step.state
   by_proposal sender p o step e =
       let w = came_from (after_proposal s sender p) o step e in
       let still : Stays s (after_proposal s sender p w.0).state = record { context = refl; tree = refl } in
-      subst (λ (u : Step). Leads u.state) w.2 (inl still)
+      subst (λ (u : Transition). Leads u.state) w.2 (inl still)
 
-  module _ (a : AuthenticatedParts) (step : Step) where
+  module _ (a : AuthenticatedParts) (step : Transition) where
     by_content : (i : ℕ) (x : LeafNode) (content : Content) → AreKept (content_rules G s required a i x content) → after_content s a i content ≡ Some step → Leads step.state
     by_content i x (contents.Application sent) kept e = absurd (refused kept)
     by_content i x (contents.Proposal p) kept e = by_proposal (senders.Member i) p (reference_of s.context a) step e
@@ -211,7 +211,7 @@ module _ (G : VerifyFn) (s : State) (required : RequiredCapabilities) (requires 
     by_frame : AreKept (frame_rules G s required a) → after_sender s a a.content.sender ≡ Some step → Leads step.state
     by_frame kept e = by_sender a.content.sender (passed (passed (passed kept).1).1).1 e
 
-  pub stays_or_moves : (m : Message) (step : Step) → first_failing (message_rules G s required m) ≡ None → next s m ≡ Some step
+  pub stays_or_moves : (m : Message) (step : Transition) → first_failing (message_rules G s required m) ≡ None → next s m ≡ Some step
       → Stays s step.state ⊎ Moves G s step.state
   stays_or_moves (messages.Public p) step kept e = by_frame p.auth step (record { none = kept }) e
   stays_or_moves (messages.Unread w b) step kept e = absurd (none-some step e)
@@ -219,12 +219,12 @@ module _ (G : VerifyFn) (s : State) (required : RequiredCapabilities) (requires 
   stays_or_moves (messages.KeyPackage k) step kept e = absurd (none-some step e)
 
 -- whatever is answered to some bytes
-pub taken : (G : VerifyFn) (s : State) (bytes : List ℕ) (answer : Result Taken Refusal) (new : State) → Takes G s bytes answer new → Stays s new ⊎ Moves G s new
+pub taken : (G : VerifyFn) (s : State) (bytes : List ℕ) (answer : Result Taken Refusal) (new : State) → IsTransition G s bytes answer new → Stays s new ⊎ Moves G s new
 taken G s bytes (Ok t) new h =
     let a : IsAcceptable G s bytes = h.0 in
     let n : IsNext s bytes (record { taken = t; state = new }) = h.1 in
     stays_or_moves G s a.required a.requires a.message (record { taken = t; state = new }) a.kept
-    (ap (next s) (one_message a.message n.message bytes a.spelled n.spelled) ∙ n.after)
+    (ap (next s) (one_message a.message n.message bytes a.encoded n.encoded) ∙ n.after)
 taken G s bytes (Err e) new h = inl (record { context = ap (λ (t : State). t.context) h.0; tree = ap (λ (t : State). t.tree) h.0 })
 
 -- ---- of the tree that a commit moved to

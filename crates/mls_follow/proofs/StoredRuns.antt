@@ -19,7 +19,7 @@ use Rattle.mls_state.specs.declared.state.FollowerState.{FollowerState}
 use Rattle.mls_state.specs.declared.state.GroupMode.{GroupMode}
 use Rattle.mls_state.specs.declared.state.GroupMode.TheVariants as modes
 use Rattle.mls_apply.specs.declared.list_item.KnownProposal.{KnownProposal}
-use Rattle.mls_apply.proofs.Spellings.{put_back, right_spelled}
+use Rattle.mls_apply.proofs.Encodings.{put_back, right_encoded}
 use Rattle.mls_follow.specs.State.{State}
 use Rattle.mls_follow.specs.StoredState.{IsIntact, Stores, stored_entry, stored_mode}
 use Rattle.mls_follow.specs.Resumption.{Holds, IsStateOf, IsResumed, base_state, is_over, profile_of}
@@ -28,7 +28,7 @@ use Rattle.mls_follow.proofs.Deciding.{an_answer}
 use Rattle.mls_follow.proofs.Holding.{IsSteady, run_steady}
 use Rattle.mls_follow.proofs.Pending.{held_entries}
 use Rattle.mls_follow.proofs.Resumable.{followers_resumable, resumed_resumable}
-use Rattle.mls_follow.proofs.Spellings.{list_each}
+use Rattle.mls_follow.proofs.Encodings.{list_each}
 use Rattle.mls_follow.proofs.Validity.{run_valid}
 
 -- ---- a stored state is resumed
@@ -98,36 +98,36 @@ resumed_run_valid G bytes first last calls h run = run_valid G first calls last 
 -- ---- answers
 
 -- each entry of a content that has an encoding has one
-entries_spelled : (c : FollowerState) (body : List ℕ) → follower_state c ≡ Some body → All (λ e. IsSome (known_entry e)) c.known
+entries_encoded : (c : FollowerState) (body : List ℕ) → follower_state c ≡ Some body → All (λ e. IsSome (known_entry e)) c.known
 unfolding follower_state
-entries_spelled c body e =
+entries_encoded c body e =
     let whole = put_back (follower_state c) body e in
-    let b = right_spelled (group_mode c.mode) (group_context c.context ⊕ vector c.interim ⊕ vector c.tree ⊕ list known_entry c.known) whole in
-    let d = right_spelled (group_context c.context) (vector c.interim ⊕ vector c.tree ⊕ list known_entry c.known) b in
-    let f = right_spelled (vector c.interim) (vector c.tree ⊕ list known_entry c.known) d in
-    list_each known_entry c.known (right_spelled (vector c.tree) (list known_entry c.known) f)
+    let b = right_encoded (group_mode c.mode) (group_context c.context ⊕ vector c.interim ⊕ vector c.tree ⊕ list known_entry c.known) whole in
+    let d = right_encoded (group_context c.context) (vector c.interim ⊕ vector c.tree ⊕ list known_entry c.known) b in
+    let f = right_encoded (vector c.interim) (vector c.tree ⊕ list known_entry c.known) d in
+    list_each known_entry c.known (right_encoded (vector c.tree) (list known_entry c.known) f)
 
 entry_proposal : (e : KnownEntry) → IsSome (known_entry e) → IsSome (proposal e.proposal)
 unfolding known_entry
-entry_proposal e h = right_spelled (sender e.sender) (proposal e.proposal) (right_spelled (vector e.reference) (sender e.sender ⊕ proposal e.proposal) h)
+entry_proposal e h = right_encoded (sender e.sender) (proposal e.proposal) (right_encoded (vector e.reference) (sender e.sender ⊕ proposal e.proposal) h)
 
-known_spelled : (ks : List KnownProposal) → All (λ e. IsSome (known_entry e)) (map stored_entry ks) → All (λ k. IsSome (proposal k.proposal)) ks
-known_spelled [] h = All-nil (λ k. IsSome (proposal k.proposal))
-known_spelled (k ∷ ks) h =
+known_encoded : (ks : List KnownProposal) → All (λ e. IsSome (known_entry e)) (map stored_entry ks) → All (λ k. IsSome (proposal k.proposal)) ks
+known_encoded [] h = All-nil (λ k. IsSome (proposal k.proposal))
+known_encoded (k ∷ ks) h =
     All-cons (λ k. IsSome (proposal k.proposal)) k ks
     (entry_proposal (stored_entry k) (All-head (λ e. IsSome (known_entry e)) (stored_entry k) (map stored_entry ks) h))
-    (known_spelled ks (All-tail (λ e. IsSome (known_entry e)) (stored_entry k) (map stored_entry ks) h))
+    (known_encoded ks (All-tail (λ e. IsSome (known_entry e)) (stored_entry k) (map stored_entry ks) h))
 
 content_steady : (G : VerifyFn) (bytes : List ℕ) (c : FollowerState) (t : RatchetTree) (s : State) → IsIntact bytes c t → IsStateOf G c t s → IsSteady s
 content_steady G bytes c t s i h =
     let w = held_entries G (base_state c t) c.known s h.held in
     let member = h.has_interim.has_members in
-    let spelled = entries_spelled c i.file.checked.body (subst (λ (d : FollowerState). follower_state d ≡ Some i.file.checked.body) i.file.state i.file.checked.encoded) in
+    let encoded = entries_encoded c i.file.checked.body (subst (λ (d : FollowerState). follower_state d ≡ Some i.file.checked.body) i.file.state i.file.checked.encoded) in
     subst IsSteady (sym w.2) (record {
       held = record {
         shape = t.shape;
         tree = put_back (tree_hash (hash_of c.context.cipher_suite) 0 t.tree) c.context.tree_hash member.valid_tree.valid.hashed;
-        known = known_spelled w.0 (subst (λ (es : List KnownEntry). All (λ e. IsSome (known_entry e)) es) w.1 spelled);
+        known = known_encoded w.0 (subst (λ (es : List KnownEntry). All (λ e. IsSome (known_entry e)) es) w.1 encoded);
       };
       required = h.has_interim.required;
       requires = member.valid_tree.readable.requires;

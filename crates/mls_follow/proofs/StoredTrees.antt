@@ -20,7 +20,7 @@ use Rattle.mls_follow.specs.StoredState.{IsTreeBody}
 
 pub one_tree_of : (bytes : List ℕ) (t u : RatchetTree) → IsTreeOf bytes t → IsTreeOf bytes u → t ≡ u
 one_tree_of bytes t u a b =
-    let same : a.nodes ≡ b.nodes = ratchet_tree_unambiguous.once a.nodes b.nodes bytes a.is_tree.spelled b.is_tree.spelled in
+    let same : a.nodes ≡ b.nodes = ratchet_tree_unambiguous.once a.nodes b.nodes bytes a.is_tree.encoded b.is_tree.encoded in
     RatchetTree-listing t u (a.full ∙ ap filled same ∙ sym b.full)
 
 pub one_tree : (body : List ℕ) (t u : RatchetTree) → IsTreeBody body t → IsTreeBody body u → t ≡ u
@@ -32,10 +32,10 @@ one_tree body t u a b =
 
 -- the nodes of a tree are those of its encoding
 nodes_of : (bytes : List ℕ) (t : RatchetTree) (h : IsTreeOf bytes t) → trimmed (listing t.tree) ≡ h.nodes
-nodes_of bytes t h = ap trimmed h.full ∙ tree_again_trimmed h.nodes bytes h.is_tree.spelled
+nodes_of bytes t h = ap trimmed h.full ∙ tree_again_trimmed h.nodes bytes h.is_tree.encoded
 
 pub encoded_tree : (bytes : List ℕ) (t : RatchetTree) → IsTreeOf bytes t → ratchet_tree (trimmed (listing t.tree)) ≡ Some bytes
-encoded_tree bytes t h = ap ratchet_tree (nodes_of bytes t h) ∙ h.is_tree.spelled
+encoded_tree bytes t h = ap ratchet_tree (nodes_of bytes t h) ∙ h.is_tree.encoded
 
 pub one_encoding : (a b : List ℕ) (t : RatchetTree) → IsTreeOf a t → IsTreeOf b t → a ≡ b
 one_encoding a b t p q = same_Some a b (sym (encoded_tree a t p) ∙ encoded_tree b t q)
@@ -71,7 +71,7 @@ same_long front xs ys j k p q same =
 pub decoded_same : (bytes : List ℕ) (t u : RatchetTree) → ratchet_tree (trimmed (listing t.tree)) ≡ Some bytes → IsTreeOf bytes u
     → leaf_count u.tree ≡ leaf_count t.tree → u ≡ t
 decoded_same bytes t u e h count =
-    let same : h.nodes ≡ trimmed (listing t.tree) = ratchet_tree_unambiguous.once h.nodes (trimmed (listing t.tree)) bytes h.is_tree.spelled e in
+    let same : h.nodes ≡ trimmed (listing t.tree) = ratchet_tree_unambiguous.once h.nodes (trimmed (listing t.tree)) bytes h.is_tree.encoded e in
     let back = trimmed-back (listing t.tree) in
     let long : length (listing u.tree) ≡ length (listing t.tree) = omega (arith, length-listing u.tree, length-listing t.tree, count) in
     RatchetTree-listing u t

@@ -65,7 +65,7 @@ module _ (bytes : List ℕ) (t : RatchetTree) (e : ratchet_tree (trimmed (listin
 -- bytes that can't be decoded are no tree
 pub unread_tree : (bytes : List ℕ) (f : NodeFault) → ReadsTree bytes (Err f) → f ≢ nodes.OutOfMemory → (t : RatchetTree) → IsTreeOf bytes t → ⊥
 unread_tree bytes (nodes.Wire f) h own t i = h i.nodes i.is_tree
-unread_tree bytes (nodes.WrongNodeKind place) h own t i = h i.nodes i.is_tree
+unread_tree bytes (nodes.WrongNodeKind node_index) h own t i = h i.nodes i.is_tree
 unread_tree bytes nodes.LastBlank h own t i = h i.nodes i.is_tree
 unread_tree bytes nodes.EmptyTree h own t i = h i.nodes i.is_tree
 unread_tree bytes nodes.TooManyLeaves h own t i = h i.nodes i.is_tree
@@ -74,7 +74,7 @@ unread_tree bytes nodes.OutOfMemory h own t i = own refl
 -- entries that have no encoding are those of no tree with a body
 pub unencoded_tree : (t : RatchetTree) (f : NodeFault) → EncodesTree (listing t.tree) (Err f) → f ≢ nodes.OutOfMemory → (body : List ℕ) → IsTreeBody body t → ⊥
 unencoded_tree t (nodes.Wire f) h own body i = none-some i.bytes (sym h ∙ encoded_tree i.bytes t i.tree)
-unencoded_tree t (nodes.WrongNodeKind place) h own body i = none-some i.bytes (sym h ∙ encoded_tree i.bytes t i.tree)
+unencoded_tree t (nodes.WrongNodeKind node_index) h own body i = none-some i.bytes (sym h ∙ encoded_tree i.bytes t i.tree)
 unencoded_tree t nodes.LastBlank h own body i = none-some i.bytes (sym h ∙ encoded_tree i.bytes t i.tree)
 unencoded_tree t nodes.EmptyTree h own body i = none-some i.bytes (sym h ∙ encoded_tree i.bytes t i.tree)
 unencoded_tree t nodes.TooManyLeaves h own body i = none-some i.bytes (sym h ∙ encoded_tree i.bytes t i.tree)
@@ -84,7 +84,7 @@ unencoded_tree t nodes.OutOfMemory h own body i = own refl
 
 pub unstorable_tree : (t : RatchetTree) (f : NodeFault) → EncodesTree (listing t.tree) (Err f) → storing_fault f ≢ codec.OutOfMemory → HasNoTreeBody t
 unstorable_tree t (nodes.Wire f) h own = unencoded_tree t (nodes.Wire f) h (λ e. cc)
-unstorable_tree t (nodes.WrongNodeKind place) h own = unencoded_tree t (nodes.WrongNodeKind place) h (λ e. cc)
+unstorable_tree t (nodes.WrongNodeKind node_index) h own = unencoded_tree t (nodes.WrongNodeKind node_index) h (λ e. cc)
 unstorable_tree t nodes.LastBlank h own = unencoded_tree t nodes.LastBlank h (λ e. cc)
 unstorable_tree t nodes.EmptyTree h own = unencoded_tree t nodes.EmptyTree h (λ e. cc)
 unstorable_tree t nodes.TooManyLeaves h own = unencoded_tree t nodes.TooManyLeaves h (λ e. cc)

@@ -12,8 +12,8 @@ use Rattle.mls_nodes.specs.Requirements.{Requires}
 use Rattle.mls_follow.specs.State.{State, EncodesMessage}
 use Rattle.mls_follow.specs.MessageRules.{frame_refusal, frame_rules, message_rules}
 use Rattle.mls_follow.specs.NextState.{after_sender}
-use Rattle.mls_follow.specs.Acceptance.{IsAcceptable, IsNext, IsFirstRefusal, Refuses}
-use Rattle.mls_follow.specs.Runs.{Takes}
+use Rattle.mls_follow.specs.Acceptance.{IsAcceptable, IsNext, IsFirstRefusal, FailsWithRule}
+use Rattle.mls_follow.specs.Runs.{IsTransition}
 use Rattle.mls_follow.specs.declared.refusal.Refusal.{Refusal}
 use Rattle.mls_follow.specs.declared.refusal.Refusal.TheVariants.{NotPublic, OutOfMemory}
 use Rattle.mls_follow.specs.declared.taken.Taken.{Taken}
@@ -32,14 +32,14 @@ module _ (G : VerifyFn) (s : State) (required : RequiredCapabilities) (requires 
     pub frame_taken : (r : Result Taken Refusal) (new : State)
         → OnOk r (frame_refusal G s required a ≡ None)
         → IfOk r (λ taken. after_sender s a a.content.sender ≡ Some (record { taken = taken; state = new }))
-        → IfErr r (Refuses (frame_refusal G s required a)) → OnErr r (new ≡ s)
-        → (bytes : List ℕ) → EncodesMessage s.profile (messages.Public p) bytes → Takes G s bytes r new
-    frame_taken (Ok taken) new kept next refused stays bytes spelled = (
-      record { message = messages.Public p; spelled = spelled; required = required; requires = requires; kept = word ∙ kept },
-      record { message = messages.Public p; spelled = spelled; after = ap (λ (x : AuthenticatedParts). after_sender s x x.content.sender) (sym same) ∙ next },
+        → IfErr r (FailsWithRule (frame_refusal G s required a)) → OnErr r (new ≡ s)
+        → (bytes : List ℕ) → EncodesMessage s.profile (messages.Public p) bytes → IsTransition G s bytes r new
+    frame_taken (Ok taken) new kept next refused stays bytes encoded = (
+      record { message = messages.Public p; encoded = encoded; required = required; requires = requires; kept = word ∙ kept },
+      record { message = messages.Public p; encoded = encoded; after = ap (λ (x : AuthenticatedParts). after_sender s x x.content.sender) (sym same) ∙ next },
     )
-    frame_taken (Err e) new kept next refused stays bytes spelled =
-        (stays, λ own. inr (record { message = messages.Public p; spelled = spelled; required = required; requires = requires; fails = word ∙ refused own }))
+    frame_taken (Err e) new kept next refused stays bytes encoded =
+        (stays, λ own. inr (record { message = messages.Public p; encoded = encoded; required = required; requires = requires; fails = word ∙ refused own }))
 
   -- a message that is not in the open
   not_public : (m : Message) → ((p : PublicParts) → m ≢ messages.Public p) → first_failing (message_rules G s required m) ≡ Some NotPublic
@@ -48,24 +48,24 @@ module _ (G : VerifyFn) (s : State) (required : RequiredCapabilities) (requires 
   not_public (messages.GroupInfo g) other = refl
   not_public (messages.KeyPackage k) other = refl
 
-  pub other_refused : (m : Message) → ((p : PublicParts) → m ≢ messages.Public p) → (bytes : List ℕ) → EncodesMessage s.profile m bytes → Takes G s bytes (Err NotPublic) s
-  other_refused m other bytes spelled =
-      (refl, λ own. inr (record { message = m; spelled = spelled; required = required; requires = requires; fails = not_public m other }))
+  pub other_refused : (m : Message) → ((p : PublicParts) → m ≢ messages.Public p) → (bytes : List ℕ) → EncodesMessage s.profile m bytes → IsTransition G s bytes (Err NotPublic) s
+  other_refused m other bytes encoded =
+      (refl, λ own. inr (record { message = m; encoded = encoded; required = required; requires = requires; fails = not_public m other }))
 
 module _ (G : VerifyFn) (s : State) (bytes : List ℕ) where
   -- the clauses, one by one
-  pub is_accepted : (r : Result Taken Refusal) (new : State) → Takes G s bytes r new → OnOk r (IsAcceptable G s bytes)
+  pub is_accepted : (r : Result Taken Refusal) (new : State) → IsTransition G s bytes r new → OnOk r (IsAcceptable G s bytes)
   is_accepted (Ok taken) new h = h.0
   is_accepted (Err e) new h = tt
 
-  pub is_next : (r : Result Taken Refusal) (new : State) → Takes G s bytes r new → IfOk r (λ taken. IsNext s bytes (record { taken = taken; state = new }))
+  pub is_next : (r : Result Taken Refusal) (new : State) → IsTransition G s bytes r new → IfOk r (λ taken. IsNext s bytes (record { taken = taken; state = new }))
   is_next (Ok taken) new h = h.1
   is_next (Err e) new h = tt
 
-  pub is_refused : (r : Result Taken Refusal) (new : State) → Takes G s bytes r new → IfErr r (λ e. e ≢ OutOfMemory → IsFirstRefusal G s bytes e)
+  pub is_refused : (r : Result Taken Refusal) (new : State) → IsTransition G s bytes r new → IfErr r (λ e. e ≢ OutOfMemory → IsFirstRefusal G s bytes e)
   is_refused (Ok taken) new h = tt
   is_refused (Err e) new h = h.1
 
-  pub stays_same : (r : Result Taken Refusal) (new : State) → Takes G s bytes r new → OnErr r (new ≡ s)
+  pub stays_same : (r : Result Taken Refusal) (new : State) → IsTransition G s bytes r new → OnErr r (new ≡ s)
   stays_same (Ok taken) new h = tt
   stays_same (Err e) new h = h.0

@@ -12,7 +12,7 @@ use Rattle.mls_apply.specs.RuleLists.{first_failing}
 use Rattle.mls_nodes.specs.Requirements.{Requires}
 use Rattle.mls_follow.specs.State.{State, EncodesMessage, HasEncoding}
 use Rattle.mls_follow.specs.MessageRules.{message_rules, reference_of}
-use Rattle.mls_follow.specs.NextState.{Step, next}
+use Rattle.mls_follow.specs.NextState.{Transition, next}
 use Rattle.mls_follow.specs.declared.refusal.Refusal.{Refusal}
 use Rattle.mls_follow.specs.declared.refusal.Refusal.TheVariants.{Malformed, OutOfMemory}
 
@@ -20,22 +20,22 @@ use Rattle.mls_follow.specs.declared.refusal.Refusal.TheVariants.{Malformed, Out
 -- 12.4).
 pub record IsAcceptable (G : VerifyFn) (s : State) (bytes : List ℕ) : Type 0 where
   pub message : Message
-  pub spelled : EncodesMessage s.profile message bytes
+  pub encoded : EncodesMessage s.profile message bytes
   pub required : RequiredCapabilities
   pub requires : Requires s.context required
   pub kept : first_failing (message_rules G s required message) ≡ None
 
 -- `IsNext s bytes step`: the step is the one after the message of these bytes.
-pub record IsNext (s : State) (bytes : List ℕ) (step : Step) : Type 0 where
+pub record IsNext (s : State) (bytes : List ℕ) (step : Transition) : Type 0 where
   pub message : Message
-  pub spelled : EncodesMessage s.profile message bytes
+  pub encoded : EncodesMessage s.profile message bytes
   pub after : next s message ≡ Some step
 
 -- `FailsRule G s bytes e`: the bytes are the encoding of a message, and the first rule that it fails is that of this
 -- refusal.
 pub record FailsRule (G : VerifyFn) (s : State) (bytes : List ℕ) (e : Refusal) : Type 0 where
   pub message : Message
-  pub spelled : EncodesMessage s.profile message bytes
+  pub encoded : EncodesMessage s.profile message bytes
   pub required : RequiredCapabilities
   pub requires : Requires s.context required
   pub fails : first_failing (message_rules G s required message) ≡ Some e
@@ -55,6 +55,6 @@ ReferencesExist =
     (profile : Profile) (context : GroupContext) (m : PublicParts) → HasEncoding profile (messages.Public m)
     → IsSome (reference_of context m.auth)
 
--- `Refuses failing e`: a refusal other than OutOfMemory is that of the rule that fails.
-abbrev pub Refuses : Option Refusal → Refusal → Type 0
-Refuses failing e = e ≢ OutOfMemory → failing ≡ Some e
+-- `FailsWithRule failing e`: a refusal other than OutOfMemory is that of the rule that fails.
+abbrev pub FailsWithRule : Option Refusal → Refusal → Type 0
+FailsWithRule failing e = e ≢ OutOfMemory → failing ≡ Some e

@@ -10,12 +10,12 @@ use Rattle.mls_msgs.specs.declared.group_info.GroupInfo.{GroupInfo}
 use Rattle.mls_msgs.specs.declared.profile.Profile.{Profile}
 use Rattle.mls_msgs.specs.declared.profile.Profile.TheVariants as profiles
 use Rattle.mls_apply.specs.ListRules.{list_refusal}
-use Rattle.mls_apply.specs.AppliedList.{Grown}
+use Rattle.mls_apply.specs.AppliedList.{AppliedTree}
 use Rattle.mls_apply.specs.RuleLists.{Rule}
 use Rattle.mls_apply.specs.contracts.fault.ApplyFault as fault
 use Rattle.mls_apply.specs.declared.list_item.ListItem.{ListItem}
 use Rattle.mls_follow.specs.State.{State}
-use Rattle.mls_follow.specs.MessageRules.{Placed, placed, refuse, path_rules_of}
+use Rattle.mls_follow.specs.MessageRules.{CommitterTree, committer_tree, fail_with, path_rules_of}
 use Rattle.mls_follow.specs.declared.refusal.Refusal.{Refusal}
 use Rattle.mls_follow.specs.declared.refusal.Refusal.TheVariants.{TooManyLeaves}
 
@@ -30,7 +30,8 @@ in_context context = record {
   ended = false;
 }
 
--- `IsListed committer items path`: the list of a commit satisfies its rules, if its committer is a member (RFC 9420, 12.2).
+-- `IsListed committer items path`: the proposal list satisfies its rules, if its committer is a member (RFC 9420,
+-- 12.2).
 abbrev pub IsListed : Sender → List ListItem → Option UpdatePath → Type 0
 IsListed (senders.Member i) items path = list_refusal (senders.Member i) items (is_some path) ≡ None
 IsListed (senders.External _) items path = Unit {0}
@@ -45,14 +46,14 @@ IsListed-prop (senders.External _) items path = Unit-prop
 IsListed-prop senders.NewMemberProposal items path = Unit-prop
 IsListed-prop senders.NewMemberCommit items path = Unit-prop
 
--- `place_rules H path q` is the rules for a path, once its committer has a leaf (RFC 9420, 12.3 and 12.4.2).
-abbrev pub place_rules : (List ℕ → List ℕ) → Option UpdatePath → Option Placed → List (Rule Refusal)
-place_rules H path None = refuse TooManyLeaves
-place_rules H path (Some q) = path_rules_of H q.grown q.leaf path
+-- `committer_rules H path q` is the rules for a path, once its committer has a leaf (RFC 9420, 12.3 and 12.4.2).
+abbrev pub committer_rules : (List ℕ → List ℕ) → Option UpdatePath → Option CommitterTree → List (Rule Refusal)
+committer_rules H path None = fail_with TooManyLeaves
+committer_rules H path (Some q) = path_rules_of H q.applied_tree q.leaf path
 
 -- `change_rules H committer path o` is the rules for a path, in the tree after the list, if there is one.
-abbrev pub change_rules : (List ℕ → List ℕ) → Sender → Option UpdatePath → Option Grown → List (Rule Refusal)
-change_rules H committer path o = place_rules H path (option_and_then (placed committer) o)
+abbrev pub change_rules : (List ℕ → List ℕ) → Sender → Option UpdatePath → Option AppliedTree → List (Rule Refusal)
+change_rules H committer path o = committer_rules H path (option_and_then (committer_tree committer) o)
 
 -- `state_in profile info t interim` is the state of a GroupInfo, a tree and an interim transcript hash, with no pending
 -- proposals.

@@ -23,19 +23,19 @@ use Rattle.mls_signatures.specs.declared.signature_to_verify.SignatureToVerify.{
 abbrev pub all_good : VerifyFn
 all_good suite key content signature = true
 
--- `Covers R wanted`: `R` accepts each of these signatures.
+-- `Covers R needed`: `R` accepts each of these signatures.
 abbrev pub Covers : VerifyFn → List SignatureToVerify → Type 0
-Covers R wanted = All (λ q. R q.suite q.key q.content q.signature ≡ true) wanted
+Covers R needed = All (λ q. R q.suite q.key q.content q.signature ≡ true) needed
 
--- `CoversStart R info handed`: `R` accepts each signature of the start, for each tree that the start may use.
+-- `CoversStart R info supplied`: `R` accepts each signature of the start, for each tree that the start may use.
 abbrev pub CoversStart : VerifyFn → GroupInfo → Option RatchetTree → Type 0
-CoversStart R info handed =
-    (t : RatchetTree) → UsesTree handed info.extensions t → Covers R (start_signatures info t.tree)
+CoversStart R info supplied =
+    (t : RatchetTree) → UsesTree supplied info.extensions t → Covers R (start_signatures info t.tree)
 
 -- `CoversMessage R s bytes`: `R` accepts each signature of the message in the state. Bytes that are no message have
 -- none.
 abbrev pub CoversMessage : VerifyFn → State → List ℕ → Type 0
-CoversMessage R s bytes = (wanted : List SignatureToVerify) → AreSignaturesOf s bytes wanted → Covers R wanted
+CoversMessage R s bytes = (needed : List SignatureToVerify) → AreSignaturesOf s bytes needed → Covers R needed
 
 -- `CoversLog R s messages`: `R` accepts each signature of each message, in the state to which the messages before it
 -- lead if every signature is good.
@@ -51,19 +51,19 @@ IsAnsweredRun G s [] new = new ≡ s
 IsAnsweredRun G s (call ∷ calls) new =
     (mid : State) × IsAnswer G s call.bytes call.answer mid × IsAnsweredRun G mid calls new
 
--- `HaveReceipts digests wanted`: each of these signatures has a receipt, which is in the list.
+-- `HaveReceipts digests needed`: each of these signatures has a receipt, which is in the list.
 abbrev pub HaveReceipts : List (List ℕ) → List SignatureToVerify → Type 0
-HaveReceipts digests wanted =
+HaveReceipts digests needed =
     All (λ q. (digest : List ℕ)
     × (option_map sha256 (receipt_input q.suite q.key q.content q.signature) ≡ Some digest)
-    × (has_digest digests digest ≡ true)) wanted
+    × (has_digest digests digest ≡ true)) needed
 
 -- ---- theorems
 
 -- Receipts cover the signatures whose receipts they are.
 abbrev pub ReceiptsCover : Type 0
 ReceiptsCover =
-    (digests : List (List ℕ)) (wanted : List SignatureToVerify) → HaveReceipts digests wanted → Covers (listed digests) wanted
+    (digests : List (List ℕ)) (needed : List SignatureToVerify) → HaveReceipts digests needed → Covers (listed digests) needed
 
 -- Two runs from one state over the same messages, which do not run out of memory, are equal.
 abbrev pub AnsweredRunsAreOne : Type 0
@@ -76,14 +76,14 @@ AnsweredRunsAreOne =
 -- good.
 abbrev pub CoveredStartsAreTrusted : Type 0
 CoveredStartsAreTrusted =
-    (profile : Profile) (R : VerifyFn) (info : GroupInfo) (handed : Option RatchetTree) (s : State) → CoversStart R info handed
-    → IsStart profile R info handed s ↔ IsStart profile all_good info handed s
+    (profile : Profile) (R : VerifyFn) (info : GroupInfo) (supplied : Option RatchetTree) (s : State) → CoversStart R info supplied
+    → IsStart profile R info supplied s ↔ IsStart profile all_good info supplied s
 
 -- If each signature of the start is good, a start has the same faults as if every signature were good.
 abbrev pub CoveredFaultsAreTrusted : Type 0
 CoveredFaultsAreTrusted =
-    (R : VerifyFn) (info : GroupInfo) (handed : Option RatchetTree) (fault : StartFault) → CoversStart R info handed
-    → IsStartFault R info handed fault ↔ IsStartFault all_good info handed fault
+    (R : VerifyFn) (info : GroupInfo) (supplied : Option RatchetTree) (fault : StartFault) → CoversStart R info supplied
+    → IsStartFault R info supplied fault ↔ IsStartFault all_good info supplied fault
 
 -- If each signature of a message is good, its result and the state after it are those as if every signature were good.
 -- The state before it is valid by `R`.
@@ -104,8 +104,8 @@ CoveredRunsAreTrusted =
 -- follower that accepts every signature.
 abbrev pub RecipeIsRight : Type 0
 RecipeIsRight =
-    (profile : Profile) (R : VerifyFn) (info : GroupInfo) (handed : Option RatchetTree) (first last : State)
+    (profile : Profile) (R : VerifyFn) (info : GroupInfo) (supplied : Option RatchetTree) (first last : State)
     (calls : List Call)
-    → CoversStart R info handed → CoversLog R first (map (λ call. call.bytes) calls)
-    → (IsStart profile R info handed first × IsAnsweredRun R first calls last)
-    ↔ (IsStart profile all_good info handed first × IsAnsweredRun all_good first calls last)
+    → CoversStart R info supplied → CoversLog R first (map (λ call. call.bytes) calls)
+    → (IsStart profile R info supplied first × IsAnsweredRun R first calls last)
+    ↔ (IsStart profile all_good info supplied first × IsAnsweredRun all_good first calls last)

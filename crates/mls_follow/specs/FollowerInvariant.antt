@@ -8,9 +8,9 @@ use Rattle.mls_check.specs.LeafValidation.{LeavesAreValid, all_leaves, member_ru
 use Rattle.mls_check.specs.Signatures.{VerifyFn}
 use Rattle.mls_follow.specs.State.{State}
 
--- `IsJudged G s`: the state's tree has distinct encryption keys, and its leaf nodes are valid under what the context
--- requires, by the checker's verification function G.
-pub record IsJudged (G : VerifyFn) (s : State) : Type 0 where
+-- `HasUniqueKeysAndValidLeaves G s`: the state's tree has distinct encryption keys, and its leaf nodes are valid under
+-- what the context requires, by the checker's verification function G.
+pub record HasUniqueKeysAndValidLeaves (G : VerifyFn) (s : State) : Type 0 where
   pub distinct : has_distinct_keys s.tree ≡ true
   pub members : (required : RequiredCapabilities) → Requires s.context required
       → LeavesAreValid G s.context.cipher_suite s.context.group_id required s.tree
@@ -18,9 +18,9 @@ pub record IsJudged (G : VerifyFn) (s : State) : Type 0 where
 bool_set : (x y : Bool) → IsProp (x ≡ y)
 bool_set x y = Coded-set coded_bool x y
 
--- `IsJudged` has at most one proof.
-pub IsJudged-prop : (G : VerifyFn) (s : State) → IsProp (IsJudged G s)
-IsJudged-prop G s x y = λ i. record {
+-- `HasUniqueKeysAndValidLeaves` has at most one proof.
+pub HasUniqueKeysAndValidLeaves-prop : (G : VerifyFn) (s : State) → IsProp (HasUniqueKeysAndValidLeaves G s)
+HasUniqueKeysAndValidLeaves-prop G s x y = λ i. record {
   distinct = bool_set (has_distinct_keys s.tree) true x.distinct y.distinct i;
   members = λ required requires. record {
     rules = λ k. bool_set (all_leaves (member_rule G s.context.cipher_suite s.context.group_id required s.tree k) 0 s.tree) true

@@ -1,6 +1,6 @@
 -- The members' profile: without the proposals psk, reinit and external_init, and without senders outside the group (own
--- rule). A follower with this profile never meets the rules for them. G is the verification function of the checker, `s`
--- the state. Used by contracts.
+-- rule). No follower with this profile refuses a message by the rules for them. G is the verification function of the
+-- checker, `s` the state. Used by contracts.
 use Rattle.std.specs.Prelude.{◌≡◌, ℕ, nat_le, List, filter, All, Bool, true, false, Option}
 use Rattle.mls_nodes.specs.declared.required_capabilities.RequiredCapabilities.{RequiredCapabilities}
 use Rattle.mls_tree.specs.RatchetTree.{RatchetTree}
@@ -15,7 +15,7 @@ use Rattle.mls_apply.specs.RuleLists.{Rule, first_failing}
 use Rattle.mls_follow.specs.State.{State, EncodesMessage}
 use Rattle.mls_follow.specs.Acceptance.{IsAcceptable, IsNext}
 use Rattle.mls_follow.specs.MessageRules.{message_rules}
-use Rattle.mls_follow.specs.NextState.{Step}
+use Rattle.mls_follow.specs.NextState.{Transition}
 use Rattle.mls_follow.specs.RefusalNumbers.{number_of}
 use Rattle.mls_follow.specs.Resumption.{IsResumed}
 use Rattle.mls_follow.specs.Start.{IsStart}
@@ -51,13 +51,13 @@ MembersRulesDecide =
 -- The state after an acceptable message is again one of the members' profile.
 abbrev pub MembersStatesStay : Type 0
 MembersStatesStay =
-    (G : VerifyFn) (s : State) (bytes : List ℕ) (step : Step) → IsMembersState s → IsAcceptable G s bytes
+    (G : VerifyFn) (s : State) (bytes : List ℕ) (step : Transition) → IsMembersState s → IsAcceptable G s bytes
     → IsNext s bytes step → IsMembersState step.state
 
 -- A follower that starts in the members' profile starts in such a state.
 abbrev pub MembersStart : Type 0
 MembersStart =
-    (G : VerifyFn) (info : GroupInfo) (handed : Option RatchetTree) (s : State) → IsStart Members G info handed s
+    (G : VerifyFn) (info : GroupInfo) (supplied : Option RatchetTree) (s : State) → IsStart Members G info supplied s
     → IsMembersState s
 
 -- A follower that resumes in the members' profile resumes in such a state.

@@ -37,13 +37,13 @@ use Rattle.mls_apply.specs.declared.fault.ApplyFault.{ApplyFault}
 use Rattle.mls_apply.specs.declared.fault.ApplyFault.TheVariants as faults
 use Rattle.mls_apply.specs.declared.list_item.ListItem.{ListItem}
 use Rattle.mls_apply.specs.declared.list_item.KnownProposal.{KnownProposal}
-use Rattle.mls_apply.specs.RuleLists.{Rule, rule, first_failing, renamed}
+use Rattle.mls_apply.specs.RuleLists.{Rule, rule, first_failing, map_refusals}
 use Rattle.mls_apply.specs.ResolvedList.{find_known, resolved}
-use Rattle.mls_apply.specs.ContextExtensions.{brought}
+use Rattle.mls_apply.specs.ContextExtensions.{proposed_extensions}
 use Rattle.mls_apply.specs.ProposalRules.{proposal_rules, valid_if_add, valid_if_update, valid_if_remove, valid_if_extensions, valid_if_psk, valid_if_reinit, is_no_external_init, all_inline}
 use Rattle.mls_apply.specs.ListRules.{list_rules}
 use Rattle.mls_apply.specs.JoinRules.{path_of_join, join_items}
-use Rattle.mls_apply.specs.AppliedList.{Grown, grown, outcome}
+use Rattle.mls_apply.specs.AppliedList.{AppliedTree, applied_tree, outcome}
 use Rattle.mls_apply.specs.MergePath.{merged}
 use Rattle.mls_apply.specs.PathRules.{path_rules, node_keys}
 use Rattle.mls_signatures.specs.SigningKeys.{signed_context, external_key, outside_key, may_propose}
@@ -52,9 +52,9 @@ use Rattle.mls_follow.specs.declared.refusal.Refusal.{Refusal}
 use Rattle.mls_follow.specs.declared.refusal.Refusal.TheVariants as refusals
 use Rattle.mls_follow.specs.declared.refusal.Refusal.TheVariants.{NotPublic, WrongGroup, WrongEpoch, SenderNotMember, NotHandshake, BadSignature, AddInvalid, UpdateInvalid, RemoveInvalid, LastEpoch, UnknownReference, UpdateByCommitter, RemovesCommitter, SameLeafTwice, PathMissing, TooManyLeaves, PathLength, PathSource, PathKeyUsed, CiphertextCount, PathParentHash, KeyRepeated, Member, TwoContextExtensions, ContextExtensionsInvalid, GroupOver, UnknownExternal, SenderContent, PskInvalid, ReInitInvalid, ExternalInitMisplaced, PskTwice, ReInitNotAlone, JoinList, ResyncInvalid, OutOfMemory}
 
--- `refuse e` is a rule that fails.
-abbrev pub refuse : Refusal → List (Rule Refusal)
-refuse e = rule e false ∷ []
+-- `fail_with e` is a rule that fails.
+abbrev pub fail_with : Refusal → List (Rule Refusal)
+fail_with e = rule e false ∷ []
 
 -- `refusal_of fault` is the same fault of proposals or paths as a refusal. A blank leaf means that the list cannot be
 -- applied.
@@ -113,7 +113,7 @@ abbrev pub proposal_message_rules : VerifyFn → State → AuthenticatedParts �
     → List (Rule Refusal)
 proposal_message_rules G s a sender p =
     rule refusals.KnownProposal (is_new_proposal s a) ∷
-    renamed refusal_of (proposal_rules G s.context s.tree sender p)
+    map_refusals refusal_of (proposal_rules G s.context s.tree sender p)
 
 -- `member_refusal fault` is the same fault of a leaf node as a refusal.
 abbrev pub member_refusal : MemberFault → Refusal
@@ -127,7 +127,7 @@ member_refusal members.OutOfMemory = OutOfMemory
 -- `member_rules fault` is the rules for the leaf nodes of the tree after a commit (RFC 9420, 7.3).
 abbrev pub member_rules : Option MemberFault → List (Rule Refusal)
 member_rules None = []
-member_rules (Some f) = refuse (Member f)
+member_rules (Some f) = fail_with (Member f)
 
 -- `tree_rules G s required t` is the rules for the tree after a commit: distinct encryption keys and valid leaf nodes
 -- (RFC 9420, 7.3 and 12.4.2). There is a tree whenever the path has the expected parent hash.
@@ -138,54 +138,55 @@ tree_rules G s required (Some t) =
     member_rules (member_fault G s.context.cipher_suite s.context.group_id required t)
 
 -- A tree after a commit's proposals, with the indices of the leaves that they have added, and the committer's leaf in it.
-pub record Placed : Type 0 where
-  pub grown : Grown
+pub record CommitterTree : Type 0 where
+  pub applied_tree : AppliedTree
   pub leaf : ℕ
 
 -- `seated g` is the tree `g`, extended if it has no blank leaf, and the leaf that a client takes that joins with a commit. No
 -- leaf of it is counted as added (RFC 9420, 12.4.3.2).
-abbrev pub seated : Grown → Placed
-seated g = record { grown = grown (seat g.tree).tree []; leaf = (seat g.tree).leaf }
+abbrev pub seated : AppliedTree → CommitterTree
+seated g = record { applied_tree = applied_tree (seat g.tree).tree []; leaf = (seat g.tree).leaf }
 
--- `placed committer g` is the tree in which the path of a committer is checked, from the tree after its proposals: a client
--- that joins takes the leaf of the next new member, if the group has fewer than 1,048,576 members (RFC 9420, 12.4.2 and
--- 12.4.3.2). No other senders commit.
-abbrev pub placed : Sender → Grown → Option Placed
-placed (senders.Member i) g = Some (record { grown = g; leaf = i })
-placed (senders.External _) g = None
-placed senders.NewMemberProposal g = None
-placed senders.NewMemberCommit g = if nat_lt (member_count g.tree) leaf_limit then Some (seated g) else None
+-- `committer_tree committer g` is the tree in which the path of a committer is checked, from the tree after its
+-- proposals: a client that joins takes the leaf of the next new member, if the group has fewer than 1,048,576 members
+-- (RFC 9420, 12.4.2 and 12.4.3.2). No other senders commit.
+abbrev pub committer_tree : Sender → AppliedTree → Option CommitterTree
+committer_tree (senders.Member i) g = Some (record { applied_tree = g; leaf = i })
+committer_tree (senders.External _) g = None
+committer_tree senders.NewMemberProposal g = None
+committer_tree senders.NewMemberCommit g = if nat_lt (member_count g.tree) leaf_limit then Some (seated g) else None
 
 -- `resulting H g i path` is the tree after a commit of the client at leaf i, from the tree after its proposals (RFC 9420, 7.5
 -- and 12.4.2).
-abbrev pub resulting : (List ℕ → List ℕ) → Grown → ℕ → Option UpdatePath → Option Tree
+abbrev pub resulting : (List ℕ → List ℕ) → AppliedTree → ℕ → Option UpdatePath → Option Tree
 resulting H g i None = Some g.tree
 resulting H g i (Some path) = merged H g.tree i path.leaf_node (node_keys path)
 
 -- `changed_tree H committer path o` is the tree after a commit, from the tree after its proposals, if there is one.
-abbrev pub changed_tree : (List ℕ → List ℕ) → Sender → Option UpdatePath → Option Grown → Option Tree
+abbrev pub changed_tree : (List ℕ → List ℕ) → Sender → Option UpdatePath → Option AppliedTree → Option Tree
 changed_tree H committer path o =
-    option_and_then (λ q. resulting H q.grown q.leaf path) (option_and_then (placed committer) o)
+    option_and_then (λ q. resulting H q.applied_tree q.leaf path) (option_and_then (committer_tree committer) o)
 
 -- `path_rules_of H g i path` is the rules for a path of leaf i, if there is one (RFC 9420, 7.6, 7.9.2 and 12.4.2).
-abbrev pub path_rules_of : (List ℕ → List ℕ) → Grown → ℕ → Option UpdatePath → List (Rule Refusal)
+abbrev pub path_rules_of : (List ℕ → List ℕ) → AppliedTree → ℕ → Option UpdatePath → List (Rule Refusal)
 path_rules_of H g i None = []
-path_rules_of H g i (Some path) = renamed refusal_of (path_rules H g i path)
+path_rules_of H g i (Some path) = map_refusals refusal_of (path_rules H g i path)
 
--- `placed_rules G s required path q` is the rules for the path, and for the tree after it, once the committer has a leaf.
-abbrev pub placed_rules : VerifyFn → State → RequiredCapabilities → Option UpdatePath → Option Placed
+-- `committer_tree_rules G s required path q` is the rules for the path, and for the tree after it, once the committer
+-- has a leaf.
+abbrev pub committer_tree_rules : VerifyFn → State → RequiredCapabilities → Option UpdatePath → Option CommitterTree
     → List (Rule Refusal)
-placed_rules G s required path None = refuse TooManyLeaves
-placed_rules G s required path (Some q) =
-    path_rules_of (hash_of s.context.cipher_suite) q.grown q.leaf path ++
-    tree_rules G s required (resulting (hash_of s.context.cipher_suite) q.grown q.leaf path)
+committer_tree_rules G s required path None = fail_with TooManyLeaves
+committer_tree_rules G s required path (Some q) =
+    path_rules_of (hash_of s.context.cipher_suite) q.applied_tree q.leaf path ++
+    tree_rules G s required (resulting (hash_of s.context.cipher_suite) q.applied_tree q.leaf path)
 
--- `outcome_rules G s required committer path o` is the rules after those for the proposal list: the tree after it, the
--- committer's leaf, the path, the tree after both (RFC 9420, 12.4.2 and 12.4.3.2).
-abbrev pub outcome_rules : VerifyFn → State → RequiredCapabilities → Sender → Option UpdatePath
-    → Option Grown → List (Rule Refusal)
-outcome_rules G s required committer path o =
-    placed_rules G s required path (option_and_then (placed committer) o)
+-- `applied_tree_rules G s required committer path o` is the rules after those for the proposal list: the tree after it,
+-- the committer's leaf, the path, the tree after both (RFC 9420, 12.4.2 and 12.4.3.2).
+abbrev pub applied_tree_rules : VerifyFn → State → RequiredCapabilities → Sender → Option UpdatePath
+    → Option AppliedTree → List (Rule Refusal)
+applied_tree_rules G s required committer path o =
+    committer_tree_rules G s required path (option_and_then (committer_tree committer) o)
 
 -- `required_after required extensions` is what is required after a commit: by the extensions that its list proposes,
 -- else what is required before it (RFC 9420, 11.1 and 12.1.7). `None` if it cannot be read.
@@ -193,12 +194,13 @@ abbrev pub required_after : RequiredCapabilities → Option (List Extension) →
 required_after required None = Some required
 required_after required (Some extensions) = required_by extensions
 
--- `rules_under G s committer path o required` is the rules after those for the proposal list, under what is then required.
--- That this can be read was checked for each proposal. The rule here matters only in states that no follower comes to.
-abbrev pub rules_under : VerifyFn → State → Sender → Option UpdatePath → Option Grown
+-- `rules_with_requirements G s committer path o required` is the rules after those for the proposal list, under what is
+-- then required. That this can be read was checked for each proposal. The rule here matters only in states that no
+-- follower comes to.
+abbrev pub rules_with_requirements : VerifyFn → State → Sender → Option UpdatePath → Option AppliedTree
     → Option RequiredCapabilities → List (Rule Refusal)
-rules_under G s committer path o None = refuse ContextExtensionsInvalid
-rules_under G s committer path o (Some required) = outcome_rules G s required committer path o
+rules_with_requirements G s committer path o None = fail_with ContextExtensionsInvalid
+rules_with_requirements G s committer path o (Some required) = applied_tree_rules G s required committer path o
 
 -- `inline_rules G s i c` is the rules for the proposals that a commit includes by value (RFC 9420, 12.1 and 12.4).
 abbrev pub inline_rules : VerifyFn → State → ℕ → Commit → List (Rule Refusal)
@@ -211,21 +213,21 @@ inline_rules G s i c =
     rule ReInitInvalid (all_inline (valid_if_reinit s.context) c.proposals) ∷
     rule ExternalInitMisplaced (all_inline is_no_external_init c.proposals) ∷ []
 
--- `items_rules G s required i c items` is the rules for the proposal list of a commit: those for each proposal by
--- value, then those for the whole list (RFC 9420, 12.2 and 12.4).
-abbrev pub items_rules : VerifyFn → State → RequiredCapabilities → ℕ → Commit
+-- `proposal_list_rules G s required i c items` is the rules for the proposal list of a commit: those for each proposal
+-- by value, then those for the whole list (RFC 9420, 12.2 and 12.4).
+abbrev pub proposal_list_rules : VerifyFn → State → RequiredCapabilities → ℕ → Commit
     → Option (List ListItem) → List (Rule Refusal)
-items_rules G s required i c None = refuse UnknownReference
-items_rules G s required i c (Some items) =
+proposal_list_rules G s required i c None = fail_with UnknownReference
+proposal_list_rules G s required i c (Some items) =
     inline_rules G s i c ++
-    (renamed refusal_of (list_rules (senders.Member i) items (is_some c.path)) ++
-    rules_under G s (senders.Member i) c.path (outcome items s.tree) (required_after required (brought items)))
+    (map_refusals refusal_of (list_rules (senders.Member i) items (is_some c.path)) ++
+    rules_with_requirements G s (senders.Member i) c.path (outcome items s.tree) (required_after required (proposed_extensions items)))
 
 -- `commit_rules G s required i c` is the rules for a commit of member i (RFC 9420, 12.4.2).
 abbrev pub commit_rules : VerifyFn → State → RequiredCapabilities → ℕ → Commit → List (Rule Refusal)
 commit_rules G s required i c =
     rule LastEpoch (nat_lt s.context.epoch last_epoch) ∷
-    items_rules G s required i c (resolved (senders.Member i) s.known c.proposals)
+    proposal_list_rules G s required i c (resolved (senders.Member i) s.known c.proposals)
 
 -- `is_handshake c`: the content is a proposal or a commit (RFC 9420, 6).
 abbrev pub is_handshake : Content → Bool
@@ -245,7 +247,7 @@ handshake_rules G s required a i (contents.Commit c) = Some (commit_rules G s re
 -- is signed under this key (RFC 9420, 6.1).
 abbrev pub signed_rules : VerifyFn → GroupContext → List ℕ → AuthenticatedParts
     → Option (List (Rule Refusal)) → List (Rule Refusal)
-signed_rules G context key a None = refuse NotHandshake
+signed_rules G context key a None = fail_with NotHandshake
 signed_rules G context key a (Some rules) =
     rule BadSignature (is_frame_signed G context key a) ∷ rules
 
@@ -259,7 +261,7 @@ content_rules G s required a i x content =
 -- `leaf_rules G s required a i x` is the rules for a message of leaf i, which must be non-blank.
 abbrev pub leaf_rules : VerifyFn → State → RequiredCapabilities → AuthenticatedParts → ℕ
     → Option LeafNode → List (Rule Refusal)
-leaf_rules G s required a i None = refuse SenderNotMember
+leaf_rules G s required a i None = fail_with SenderNotMember
 leaf_rules G s required a i (Some x) = content_rules G s required a i x a.content.content
 
 -- `lacks_key sender key`: the sender is an external one without a key.
@@ -281,7 +283,7 @@ is_known_external extensions senders.NewMemberCommit = true
 -- the sender's key: that it is signed (RFC 9420, 6.1), then those for the proposal (12.1).
 abbrev pub signed_proposal_rules : VerifyFn → State → AuthenticatedParts → Sender → Proposal → Option (List ℕ)
     → List (Rule Refusal)
-signed_proposal_rules G s a sender p None = refuse SenderContent
+signed_proposal_rules G s a sender p None = fail_with SenderContent
 signed_proposal_rules G s a sender p (Some key) =
     rule BadSignature (is_frame_signed G s.context key a) ∷ proposal_message_rules G s a sender p
 
@@ -289,10 +291,10 @@ signed_proposal_rules G s a sender p (Some key) =
 -- may send some kinds of proposals (RFC 9420, 6.1, 6.2 and 12.1.8).
 abbrev pub outside_content_rules : VerifyFn → State → AuthenticatedParts → Sender → Option (List ℕ) → Content
     → List (Rule Refusal)
-outside_content_rules G s a sender key (contents.Application _) = refuse NotHandshake
+outside_content_rules G s a sender key (contents.Application _) = fail_with NotHandshake
 outside_content_rules G s a sender key (contents.Proposal p) =
     rule SenderContent (may_propose sender p) ∷ signed_proposal_rules G s a sender p key
-outside_content_rules G s a sender key (contents.Commit _) = refuse SenderContent
+outside_content_rules G s a sender key (contents.Commit _) = fail_with SenderContent
 
 -- `outside_rules G s a sender` is the rules for a message of a sender outside the group: an external sender is in the
 -- GroupContext of the epoch, and then those for the content (RFC 9420, 12.1.8).
@@ -306,15 +308,15 @@ outside_rules G s a sender =
 abbrev pub external_commit_rules : VerifyFn → State → RequiredCapabilities → Commit → List (Rule Refusal)
 external_commit_rules G s required c =
     rule LastEpoch (nat_lt s.context.epoch last_epoch) ∷
-    (renamed refusal_of (path_of_join s.context s.tree c.proposals c.path) ++
-    rules_under G s senders.NewMemberCommit c.path (outcome (join_items c.proposals) s.tree)
-    (required_after required (brought (join_items c.proposals))))
+    (map_refusals refusal_of (path_of_join s.context s.tree c.proposals c.path) ++
+    rules_with_requirements G s senders.NewMemberCommit c.path (outcome (join_items c.proposals) s.tree)
+    (required_after required (proposed_extensions (join_items c.proposals))))
 
 -- `signed_commit_rules G s required a c path` is the rules for a commit of a client that joins with it, by its path. Without
 -- one there is no key under which it is signed.
 abbrev pub signed_commit_rules : VerifyFn → State → RequiredCapabilities → AuthenticatedParts → Commit
     → Option UpdatePath → List (Rule Refusal)
-signed_commit_rules G s required a c None = refuse PathMissing
+signed_commit_rules G s required a c None = fail_with PathMissing
 signed_commit_rules G s required a c (Some path) =
     rule BadSignature (is_frame_signed G s.context path.leaf_node.signature_key a) ∷
     external_commit_rules G s required c
@@ -323,21 +325,21 @@ signed_commit_rules G s required a c (Some path) =
 -- 6.1, 6.2 and 12.4.3.2).
 abbrev pub joiner_rules : VerifyFn → State → RequiredCapabilities → AuthenticatedParts → Content
     → List (Rule Refusal)
-joiner_rules G s required a (contents.Application _) = refuse NotHandshake
-joiner_rules G s required a (contents.Proposal _) = refuse SenderContent
+joiner_rules G s required a (contents.Application _) = fail_with NotHandshake
+joiner_rules G s required a (contents.Proposal _) = fail_with SenderContent
 joiner_rules G s required a (contents.Commit c) = signed_commit_rules G s required a c c.path
 
--- `is_followed profile sender`: messages of the sender are processed. In the members' profile only those of members are
--- (own rule).
-abbrev pub is_followed : Profile → Sender → Bool
-is_followed profile (senders.Member _) = true
-is_followed profile (senders.External _) = is_in profile false
-is_followed profile senders.NewMemberProposal = is_in profile false
-is_followed profile senders.NewMemberCommit = is_in profile false
+-- `is_sender_supported profile sender`: messages of the sender are processed. In the members' profile only those of
+-- members are (own rule).
+abbrev pub is_sender_supported : Profile → Sender → Bool
+is_sender_supported profile (senders.Member _) = true
+is_sender_supported profile (senders.External _) = is_in profile false
+is_sender_supported profile senders.NewMemberProposal = is_in profile false
+is_sender_supported profile senders.NewMemberCommit = is_in profile false
 
 -- `if_full profile rules` is the rules for senders outside the group, whom the members' profile refuses (own rule).
 abbrev pub if_full : Profile → List (Rule Refusal) → List (Rule Refusal)
-if_full Members rules = refuse SenderNotMember
+if_full Members rules = fail_with SenderNotMember
 if_full Full rules = rules
 
 -- `sender_rules G s required a sender` is the rules for a message of a sender (RFC 9420, 6.1).
@@ -363,9 +365,9 @@ frame_rules G s required a =
 -- `message_rules G s required m` is the rules for a message (RFC 9420, 6), which must be a PublicMessage.
 abbrev pub message_rules : VerifyFn → State → RequiredCapabilities → Message → List (Rule Refusal)
 message_rules G s required (messages.Public m) = frame_rules G s required m.auth
-message_rules G s required (messages.Unread _ _) = refuse NotPublic
-message_rules G s required (messages.GroupInfo _) = refuse NotPublic
-message_rules G s required (messages.KeyPackage _) = refuse NotPublic
+message_rules G s required (messages.Unread _ _) = fail_with NotPublic
+message_rules G s required (messages.GroupInfo _) = fail_with NotPublic
+message_rules G s required (messages.KeyPackage _) = fail_with NotPublic
 
 -- The first rule that fails, for an AuthenticatedContent, for a sender, for the content of a member, for a proposal, for a
 -- commit and for an external commit. Proofs about callers need not unfold these.

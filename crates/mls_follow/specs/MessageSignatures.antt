@@ -28,16 +28,16 @@ message_signatures s m =
 abbrev pub state_signatures : State → List SignatureToVerify
 state_signatures s = lists.tree_signatures s.context.cipher_suite s.context.group_id 0 s.tree
 
--- `AreSignaturesOf s bytes wanted`: `bytes` encode a message, and `wanted` are its signatures in the state `s`
-pub record AreSignaturesOf (s : State) (bytes : List ℕ) (wanted : List SignatureToVerify) : Type 0 where
+-- `AreSignaturesOf s bytes needed`: `bytes` encode a message, and `needed` are its signatures in the state `s`
+pub record AreSignaturesOf (s : State) (bytes : List ℕ) (needed : List SignatureToVerify) : Type 0 where
   pub message : Message
-  pub spelled : EncodesMessage s.profile message bytes
-  pub same : wanted ≡ message_signatures s message
+  pub encoded : EncodesMessage s.profile message bytes
+  pub same : needed ≡ message_signatures s message
 
 -- both verify the signatures of a start with the same result, by each tree that the start may use
 abbrev pub AgreeOnStart : VerifyFn → VerifyFn → GroupInfo → Option RatchetTree → Type 0
-AgreeOnStart G K info handed =
-    (t : RatchetTree) → UsesTree handed info.extensions t → AgreeOn G K (lists.start_signatures info t.tree)
+AgreeOnStart G K info supplied =
+    (t : RatchetTree) → UsesTree supplied info.extensions t → AgreeOn G K (lists.start_signatures info t.tree)
 
 -- ---- theorems
 
@@ -52,15 +52,15 @@ SignaturesDetermineRefusal =
 -- the signatures of a start determine whether a follower starts, and in which state
 abbrev pub SignaturesDetermineStart : Type 0
 SignaturesDetermineStart =
-    (profile : Profile) (G K : VerifyFn) (info : GroupInfo) (handed : Option RatchetTree) (s : State)
-    → AgreeOnStart G K info handed → IsStart profile G info handed s → IsStart profile K info handed s
+    (profile : Profile) (G K : VerifyFn) (info : GroupInfo) (supplied : Option RatchetTree) (s : State)
+    → AgreeOnStart G K info supplied → IsStart profile G info supplied s → IsStart profile K info supplied s
 
 -- the signatures of a start determine why no follower starts
 abbrev pub SignaturesDetermineStartFault : Type 0
 SignaturesDetermineStartFault =
-    (G K : VerifyFn) (info : GroupInfo) (handed : Option RatchetTree) (fault : StartFault)
-    → AgreeOnStart G K info handed → IsStartFault G info handed fault
-    → IsStartFault K info handed fault
+    (G K : VerifyFn) (info : GroupInfo) (supplied : Option RatchetTree) (fault : StartFault)
+    → AgreeOnStart G K info supplied → IsStartFault G info supplied fault
+    → IsStartFault K info supplied fault
 
 -- leaf nodes that are valid remain valid if more signatures are good
 abbrev pub MembersStay : Type 0

@@ -27,13 +27,13 @@ use Rattle.mls_follow.specs.declared.taken.Taken.{Taken}
 use Rattle.mls_follow.specs.declared.taken.Taken.TheVariants as takens
 
 -- The result of an accepted message, and the state after it.
-pub record Step : Type 0 where
+pub record Transition : Type 0 where
   pub taken : Taken
   pub state : State
 
 -- `after_proposal s sender p reference` is the step after a proposal of a sender: it is pending under its reference
 -- (RFC 9420, 12.4).
-abbrev pub after_proposal : State → Sender → Proposal → List ℕ → Step
+abbrev pub after_proposal : State → Sender → Proposal → List ℕ → Transition
 after_proposal s sender p reference = record {
   taken = takens.Proposal reference;
   state = record s {
@@ -43,7 +43,7 @@ after_proposal s sender p reference = record {
 
 -- `committed s t hash confirmed interim` is the step after a commit: the context of the next epoch (RFC 9420, 8.1), the
 -- tree, the interim transcript hash (8.2), and no pending proposals (12.4).
-abbrev pub committed : State → Tree → List ℕ → List ℕ → List ℕ → Step
+abbrev pub committed : State → Tree → List ℕ → List ℕ → List ℕ → Transition
 committed s t hash confirmed interim = record {
   taken = takens.Commit (s.context.epoch + 1);
   state = record s {
@@ -60,7 +60,7 @@ committed s t hash confirmed interim = record {
 
 -- `after_tree s a t` is the step after a commit that leads to the tree `t`, with its tree hash (RFC 9420, 7.8) and the
 -- transcript hashes (8.2).
-abbrev pub after_tree : State → AuthenticatedParts → Tree → Option Step
+abbrev pub after_tree : State → AuthenticatedParts → Tree → Option Transition
 after_tree s a t =
     option_and_then (λ hash.
     option_and_then (λ confirmed.
@@ -95,12 +95,12 @@ abbrev pub with_list : State → Option (List ListItem) → State
 with_list s items = with_extensions s (extensions_after s.context.extensions items) (is_over_after items)
 
 -- `after_commit s a committer c items` is the step after a commit with this proposal list (RFC 9420, 12.4.2).
-abbrev pub after_commit : State → AuthenticatedParts → Sender → Commit → Option (List ListItem) → Option Step
+abbrev pub after_commit : State → AuthenticatedParts → Sender → Commit → Option (List ListItem) → Option Transition
 after_commit s a committer c items =
     option_and_then (after_tree (with_list s items) a) (commit_tree s committer c items)
 
 -- `after_content s a i c` is the step after the content of a message of member i.
-abbrev pub after_content : State → AuthenticatedParts → ℕ → Content → Option Step
+abbrev pub after_content : State → AuthenticatedParts → ℕ → Content → Option Transition
 after_content s a i (contents.Application _) = None
 after_content s a i (contents.Proposal p) =
     option_map (after_proposal s (senders.Member i) p) (reference_of s.context a)
@@ -108,28 +108,28 @@ after_content s a i (contents.Commit c) =
     after_commit s a (senders.Member i) c (resolved (senders.Member i) s.known c.proposals)
 
 -- `after_join s a c` is the step after the content of a message of a client that joins with a commit (RFC 9420, 12.4.3.2).
-abbrev pub after_join : State → AuthenticatedParts → Content → Option Step
+abbrev pub after_join : State → AuthenticatedParts → Content → Option Transition
 after_join s a (contents.Application _) = None
 after_join s a (contents.Proposal _) = None
 after_join s a (contents.Commit c) = after_commit s a senders.NewMemberCommit c (Some (join_items c.proposals))
 
 -- `after_outside s a sender c` is the step after the content of a message of a sender outside the group, which is a
 -- proposal (RFC 9420, 12.1.8).
-abbrev pub after_outside : State → AuthenticatedParts → Sender → Content → Option Step
+abbrev pub after_outside : State → AuthenticatedParts → Sender → Content → Option Transition
 after_outside s a sender (contents.Application _) = None
 after_outside s a sender (contents.Proposal p) =
     option_map (after_proposal s sender p) (reference_of s.context a)
 after_outside s a sender (contents.Commit _) = None
 
 -- `after_sender s a sender` is the step after a message of a sender (RFC 9420, 6.1).
-abbrev pub after_sender : State → AuthenticatedParts → Sender → Option Step
+abbrev pub after_sender : State → AuthenticatedParts → Sender → Option Transition
 after_sender s a (senders.Member i) = after_content s a i a.content.content
 after_sender s a (senders.External k) = after_outside s a (senders.External k) a.content.content
 after_sender s a senders.NewMemberProposal = after_outside s a senders.NewMemberProposal a.content.content
 after_sender s a senders.NewMemberCommit = after_join s a a.content.content
 
 -- `next s m` is the step after a message that satisfies the rules, which is a PublicMessage (RFC 9420, 6.2).
-abbrev pub next : State → Message → Option Step
+abbrev pub next : State → Message → Option Transition
 next s (messages.Public m) = after_sender s m.auth m.auth.content.sender
 next s (messages.Unread _ _) = None
 next s (messages.GroupInfo _) = None

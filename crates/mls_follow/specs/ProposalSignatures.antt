@@ -17,7 +17,7 @@ use Rattle.mls_apply.specs.declared.list_item.KnownProposal.{KnownProposal}
 use Rattle.mls_apply.specs.RuleLists.{first_failing}
 use Rattle.mls_signatures.specs.SigningKeys.{signing_key, may_propose}
 use Rattle.mls_follow.specs.State.{State}
-use Rattle.mls_follow.specs.MessageRules.{reference_of, is_followed, is_new_proposal, is_frame_signed, message_rules}
+use Rattle.mls_follow.specs.MessageRules.{reference_of, is_sender_supported, is_new_proposal, is_frame_signed, message_rules}
 use Rattle.mls_follow.specs.Start.{IsStart}
 use Rattle.mls_follow.specs.Runs.{Call, IsRun}
 use Rattle.mls_follow.specs.declared.refusal.Refusal.TheVariants as refusals
@@ -29,21 +29,21 @@ pub record IsProposalUnder (s : State) (a : AuthenticatedParts) (key : List ℕ)
   pub group : a.content.group_id ≡ s.context.group_id
   pub epoch : a.content.epoch ≡ s.context.epoch
   pub going : s.ended ≡ false
-  pub followed : is_followed s.profile a.content.sender ≡ true
+  pub followed : is_sender_supported s.profile a.content.sender ≡ true
   pub allowed : may_propose a.content.sender p ≡ true
   pub signer : signing_key s.context s.tree a.content.sender a.content.content ≡ Some key
   pub content : a.content.content ≡ contents.Proposal p
 
 -- If its signature is not good, that is the first refusal, also if it is pending already.
-abbrev pub UnsignedIsToldFirst : Type 0
-UnsignedIsToldFirst =
+abbrev pub UnsignedIsReportedFirst : Type 0
+UnsignedIsReportedFirst =
     (G : VerifyFn) (s : State) (required : RequiredCapabilities) (m : PublicParts) (key : List ℕ) (p : Proposal)
     → IsProposalUnder s m.auth key p → is_frame_signed G s.context key m.auth ≡ false
     → first_failing (message_rules G s required (messages.Public m)) ≡ Some BadSignature
 
 -- If its signature is good and it is pending already, that is the first refusal.
-abbrev pub KnownIsToldNext : Type 0
-KnownIsToldNext =
+abbrev pub KnownIsReportedNext : Type 0
+KnownIsReportedNext =
     (G : VerifyFn) (s : State) (required : RequiredCapabilities) (m : PublicParts) (key : List ℕ) (p : Proposal)
     → IsProposalUnder s m.auth key p → is_frame_signed G s.context key m.auth ≡ true → is_new_proposal s m.auth ≡ false
     → first_failing (message_rules G s required (messages.Public m)) ≡ Some refusals.KnownProposal
@@ -67,6 +67,6 @@ AreKnownSigned G s = All (IsKnownSigned G s.context s.tree) s.known
 -- After any run from a start, `AreKnownSigned` holds.
 abbrev pub FollowersKnowSigned : Type 0
 FollowersKnowSigned =
-    (profile : Profile) (G : VerifyFn) (info : GroupInfo) (handed : Option RatchetTree) (first last : State)
-    (calls : List Call) → IsStart profile G info handed first → IsRun G first calls last
+    (profile : Profile) (G : VerifyFn) (info : GroupInfo) (supplied : Option RatchetTree) (first last : State)
+    (calls : List Call) → IsStart profile G info supplied first → IsRun G first calls last
     → AreKnownSigned G last

@@ -10,7 +10,7 @@ use Rattle.mls_msgs.specs.declared.framed_content.Sender.{Sender}
 use Rattle.mls_msgs.specs.declared.proposal.ProposalOrRef.{ProposalOrRef}
 use Rattle.mls_apply.specs.declared.list_item.ListItem.{ListItem}
 use Rattle.mls_apply.specs.declared.list_item.KnownProposal.{KnownProposal}
-use Rattle.mls_apply.specs.ContextExtensions.{brought}
+use Rattle.mls_apply.specs.ContextExtensions.{proposed_extensions}
 use Rattle.mls_apply.specs.ResolvedList.{resolved}
 use Rattle.mls_apply.specs.ProposalRules.{all_inline, valid_if_extensions}
 use Rattle.mls_follow.specs.State.{State}
@@ -25,8 +25,8 @@ AreReadable known = All (λ k. valid_if_extensions k.proposal ≡ true) known
 -- After any run from a start, `AreReadable` holds of the pending proposals.
 abbrev pub FollowersKnowReadable : Type 0
 FollowersKnowReadable =
-    (profile : Profile) (G : VerifyFn) (info : GroupInfo) (handed : Option RatchetTree) (first last : State)
-    (calls : List Call) → IsStart profile G info handed first → IsRun G first calls last
+    (profile : Profile) (G : VerifyFn) (info : GroupInfo) (supplied : Option RatchetTree) (first last : State)
+    (calls : List Call) → IsStart profile G info supplied first → IsRun G first calls last
     → AreReadable last.known
 
 -- If `AreReadable` holds, what a proposal list requires can be read, if the proposals by value satisfy their rules.
@@ -36,4 +36,4 @@ CommitsAreReadable =
     (items : List ListItem) (required : RequiredCapabilities)
     → AreReadable known → all_inline valid_if_extensions entries ≡ true
     → resolved committer known entries ≡ Some items
-    → IsSome (required_after required (brought items))
+    → IsSome (required_after required (proposed_extensions items))

@@ -22,7 +22,7 @@ use Rattle.mls_apply.specs.ProposalRules.{checked_refusal}
 use Rattle.mls_apply.specs.ResolvedList.{find_known}
 use Rattle.mls_apply.specs.declared.list_item.KnownProposal.{KnownProposal}
 use Rattle.mls_signatures.specs.SigningKeys.{may_propose}
-use Rattle.mls_follow.specs.MessageRules.{is_followed, is_known_external}
+use Rattle.mls_follow.specs.MessageRules.{is_sender_supported, is_known_external}
 use Rattle.mls_follow.specs.State.{State}
 use Rattle.mls_follow.specs.StoredState.{IsTreeBody, IsIntact, stored_entry}
 use Rattle.mls_follow.specs.declared.resume_fault.ResumeFault.{ResumeFault}
@@ -52,7 +52,7 @@ unfoldable pub is_receivable : State → KnownProposal → Bool
 is_receivable s k =
     not s.ended
     && is_in s.profile (is_members_proposal k.proposal)
-    && is_followed s.profile k.sender
+    && is_sender_supported s.profile k.sender
     && is_known_external s.context.extensions k.sender
     && may_propose k.sender k.proposal
 

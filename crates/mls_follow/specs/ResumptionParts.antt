@@ -32,7 +32,7 @@ ReadsTreeBody body (Err e) = HasNoTree body
 abbrev pub unreadable : NodeFault → ResumeFault
 unreadable nodes.OutOfMemory = OutOfMemory
 unreadable (nodes.Wire f) = Unreadable (nodes.Wire f)
-unreadable (nodes.WrongNodeKind place) = Unreadable (nodes.WrongNodeKind place)
+unreadable (nodes.WrongNodeKind node_index) = Unreadable (nodes.WrongNodeKind node_index)
 unreadable nodes.LastBlank = Unreadable nodes.LastBlank
 unreadable nodes.EmptyTree = Unreadable nodes.EmptyTree
 unreadable nodes.TooManyLeaves = Unreadable nodes.TooManyLeaves

@@ -6,10 +6,10 @@ use Rattle.mls_check.specs.Signatures.{VerifyFn, Extends}
 use Rattle.mls_msgs.specs.declared.group_info.GroupInfo.{GroupInfo}
 use Rattle.mls_msgs.specs.declared.profile.Profile.{Profile}
 use Rattle.mls_follow.specs.State.{State}
-use Rattle.mls_follow.specs.NextState.{Step}
+use Rattle.mls_follow.specs.NextState.{Transition}
 use Rattle.mls_follow.specs.Acceptance.{IsAcceptable, IsNext}
 use Rattle.mls_follow.specs.Start.{IsStart}
-use Rattle.mls_follow.specs.Runs.{Call, Takes, IsRun, IsFold, IsAnswered, accepted}
+use Rattle.mls_follow.specs.Runs.{Call, IsTransition, IsRun, IsFold, HasAnswer, accepted}
 use Rattle.mls_follow.specs.Validity.{IsValidState}
 use Rattle.mls_follow.specs.ProposalSignatures.{AreKnownSigned}
 use Rattle.mls_follow.specs.declared.refusal.Refusal.TheVariants.{OutOfMemory}
@@ -27,7 +27,7 @@ pub data Event : Type 0 where
 abbrev pub IsRisingRun : VerifyFn → State → List Event → State → Type 0
 IsRisingRun G s [] new = new ≡ s
 IsRisingRun G s (Received call ∷ events) new =
-    (mid : State) × Takes G s call.bytes call.answer mid × IsRisingRun G mid events new
+    (mid : State) × IsTransition G s call.bytes call.answer mid × IsRisingRun G mid events new
 IsRisingRun G s (Learned K ∷ events) new = Extends G K × IsRisingRun K s events new
 
 -- `last_meaning G events` is the verification function after the events, if it is `G` before them.
@@ -47,7 +47,7 @@ received (Learned _ ∷ events) = received events
 abbrev pub AcceptsAll : VerifyFn → State → List (List ℕ) → State → Type 0
 AcceptsAll G s [] new = new ≡ s
 AcceptsAll G s (bytes ∷ messages) new =
-    (step : Step) × IsAcceptable G s bytes × IsNext s bytes step × AcceptsAll G step.state messages new
+    (step : Transition) × IsAcceptable G s bytes × IsNext s bytes step × AcceptsAll G step.state messages new
 
 -- `IsAccepted call`: the follower accepted the message.
 abbrev pub IsAccepted : Call → Type 0
@@ -59,8 +59,8 @@ HasMemory call = call.answer ≡ Err OutOfMemory → ⊥
 
 -- ---- theorems: what a checker that accepts more preserves
 
--- What is acceptable stays acceptable if more signatures are good. The state after it is the same, since `IsNext` names
--- no checker. A refusal need not stay.
+-- What is acceptable remains acceptable if more signatures are good. The state after it is the same, since `IsNext`
+-- names no checker. A refusal need not remain.
 abbrev pub AcceptancesStay : Type 0
 AcceptancesStay =
     (G K : VerifyFn) (s : State) (bytes : List ℕ) → Extends G K → IsAcceptable G s bytes → IsAcceptable K s bytes
@@ -68,8 +68,8 @@ AcceptancesStay =
 -- A follower that starts under a checker starts in the same state under each checker that extends it.
 abbrev pub StartsStay : Type 0
 StartsStay =
-    (profile : Profile) (G K : VerifyFn) (info : GroupInfo) (handed : Option RatchetTree) (s : State) → Extends G K
-    → IsStart profile G info handed s → IsStart profile K info handed s
+    (profile : Profile) (G K : VerifyFn) (info : GroupInfo) (supplied : Option RatchetTree) (s : State) → Extends G K
+    → IsStart profile G info supplied s → IsStart profile K info supplied s
 
 -- The last verification function of a rising run extends the first one.
 abbrev pub RisingRunsExtend : Type 0
@@ -118,23 +118,23 @@ RisingRunsKeepValidity =
 -- The state after a rising run from a start is valid under the last verification function.
 abbrev pub RisingFollowersAreValid : Type 0
 RisingFollowersAreValid =
-    (profile : Profile) (G : VerifyFn) (info : GroupInfo) (handed : Option RatchetTree) (first last : State)
+    (profile : Profile) (G : VerifyFn) (info : GroupInfo) (supplied : Option RatchetTree) (first last : State)
     (events : List Event)
-    → IsStart profile G info handed first → IsRisingRun G first events last
+    → IsStart profile G info supplied first → IsRisingRun G first events last
     → IsValidState (last_meaning G events) last
 
 -- Each pending proposal after a rising run from a start is signed, under the last verification function.
 abbrev pub RisingFollowersKnowSigned : Type 0
 RisingFollowersKnowSigned =
-    (profile : Profile) (G : VerifyFn) (info : GroupInfo) (handed : Option RatchetTree) (first last : State)
+    (profile : Profile) (G : VerifyFn) (info : GroupInfo) (supplied : Option RatchetTree) (first last : State)
     (events : List Event)
-    → IsStart profile G info handed first → IsRisingRun G first events last
+    → IsStart profile G info supplied first → IsRisingRun G first events last
     → AreKnownSigned (last_meaning G events) last
 
 -- After a rising run from a start there is an answer to any bytes, under the last verification function.
 abbrev pub RisingRunsAreAnswered : Type 0
 RisingRunsAreAnswered =
-    (profile : Profile) (G : VerifyFn) (info : GroupInfo) (handed : Option RatchetTree) (first last : State)
+    (profile : Profile) (G : VerifyFn) (info : GroupInfo) (supplied : Option RatchetTree) (first last : State)
     (events : List Event)
-    (bytes : List ℕ) → IsStart profile G info handed first → IsRisingRun G first events last
-    → IsAnswered (last_meaning G events) last bytes
+    (bytes : List ℕ) → IsStart profile G info supplied first → IsRisingRun G first events last
+    → HasAnswer (last_meaning G events) last bytes

@@ -11,20 +11,20 @@ use Rattle.mls_check.specs.Signatures.{VerifyFn}
 use Rattle.mls_nodes.specs.declared.required_capabilities.RequiredCapabilities.{RequiredCapabilities}
 use Rattle.mls_nodes.specs.Requirements.{Requires}
 use Rattle.mls_follow.specs.State.{State}
-use Rattle.mls_follow.specs.NextState.{Step}
+use Rattle.mls_follow.specs.NextState.{Transition}
 use Rattle.mls_follow.specs.Acceptance.{IsAcceptable, IsNext, IsFirstRefusal}
 use Rattle.mls_follow.specs.Start.{IsStart}
 use Rattle.mls_follow.specs.declared.refusal.Refusal.{Refusal}
 use Rattle.mls_follow.specs.declared.refusal.Refusal.TheVariants.{OutOfMemory}
 use Rattle.mls_follow.specs.declared.taken.Taken.{Taken}
 
--- `Takes G s bytes result new`: `take` may return `result` and leave the state `new`. It accepts only what is
+-- `IsTransition G s bytes result new`: `take` may return `result` and leave the state `new`. It accepts only what is
 -- acceptable, and moves to the next state. It refuses only for the first rule that fails, or if it runs out of memory,
 -- and leaves the state unchanged.
-abbrev pub Takes : VerifyFn → State → List ℕ → Result Taken Refusal → State → Type 0
-Takes G s bytes (Ok taken) new =
+abbrev pub IsTransition : VerifyFn → State → List ℕ → Result Taken Refusal → State → Type 0
+IsTransition G s bytes (Ok taken) new =
     IsAcceptable G s bytes × IsNext s bytes (record { taken = taken; state = new })
-Takes G s bytes (Err e) new = (new ≡ s) × (e ≢ OutOfMemory → IsFirstRefusal G s bytes e)
+IsTransition G s bytes (Err e) new = (new ≡ s) × (e ≢ OutOfMemory → IsFirstRefusal G s bytes e)
 
 -- A message that was passed to a follower, and its result.
 pub record Call : Type 0 where
@@ -35,7 +35,7 @@ pub record Call : Type 0 where
 abbrev pub IsRun : VerifyFn → State → List Call → State → Type 0
 IsRun G s [] new = new ≡ s
 IsRun G s (call ∷ calls) new =
-    (mid : State) × Takes G s call.bytes call.answer mid × IsRun G mid calls new
+    (mid : State) × IsTransition G s call.bytes call.answer mid × IsRun G mid calls new
 
 -- `accepted_before bytes result rest` is `rest` with the message in front, if it was accepted.
 abbrev pub accepted_before : List ℕ → Result Taken Refusal → List (List ℕ) → List (List ℕ)
@@ -50,7 +50,7 @@ accepted (call ∷ calls) = accepted_before call.bytes call.answer (accepted cal
 -- `IsFold s messages new`: the messages, each taken to the next state, lead from `s` to `new`.
 abbrev pub IsFold : State → List (List ℕ) → State → Type 0
 IsFold s [] new = new ≡ s
-IsFold s (bytes ∷ rest) new = (step : Step) × IsNext s bytes step × IsFold step.state rest new
+IsFold s (bytes ∷ rest) new = (step : Transition) × IsNext s bytes step × IsFold step.state rest new
 
 -- After any run the state is the fold over the accepted messages.
 abbrev pub RunsAreFolds : Type 0
@@ -63,12 +63,12 @@ RunsAreFolds =
 pub record IsAnswer
     (G : VerifyFn) (s : State) (bytes : List ℕ) (answer : Result Taken Refusal) (new : State)
     : Type 0 where
-  pub takes : Takes G s bytes answer new
+  pub takes : IsTransition G s bytes answer new
   pub memory : answer ≡ Err OutOfMemory → ⊥
 
--- `IsAnswered G s bytes`: there is such an answer.
-abbrev pub IsAnswered : VerifyFn → State → List ℕ → Type 0
-IsAnswered G s bytes =
+-- `HasAnswer G s bytes`: there is such an answer.
+abbrev pub HasAnswer : VerifyFn → State → List ℕ → Type 0
+HasAnswer G s bytes =
     (answer : Result Taken Refusal) × (new : State) × IsAnswer G s bytes answer new
 
 -- There is at most one such answer, with one state after it.
@@ -77,7 +77,7 @@ AnswerIsUnique =
     (G : VerifyFn) (s : State) (bytes : List ℕ) (a b : Result Taken Refusal) (x y : State)
     → IsAnswer G s bytes a x → IsAnswer G s bytes b y → (a ≡ b) × (x ≡ y)
 
--- `IsWellFormed s`: the tree has the shape of a tree, and what the state holds has an encoding. This holds where a
+-- `IsWellFormed s`: the tree has the shape of a tree, and what the state holds has an encoding. This holds when a
 -- follower starts, and after any run.
 pub record IsWellFormed (s : State) : Type 0 where
   pub shape : HasShape s.tree
@@ -88,11 +88,11 @@ pub record IsWellFormed (s : State) : Type 0 where
 abbrev pub AnswerExists : Type 0
 AnswerExists =
     (G : VerifyFn) (s : State) (required : RequiredCapabilities) (bytes : List ℕ) → IsWellFormed s
-    → Requires s.context required → IsAnswered G s bytes
+    → Requires s.context required → HasAnswer G s bytes
 
 -- After any run from a start, there is such an answer to any bytes.
 abbrev pub RunsAreAnswered : Type 0
 RunsAreAnswered =
-    (profile : Profile) (G : VerifyFn) (info : GroupInfo) (handed : Option RatchetTree) (first last : State)
-    (calls : List Call) (bytes : List ℕ) → IsStart profile G info handed first → IsRun G first calls last
-    → IsAnswered G last bytes
+    (profile : Profile) (G : VerifyFn) (info : GroupInfo) (supplied : Option RatchetTree) (first last : State)
+    (calls : List Call) (bytes : List ℕ) → IsStart profile G info supplied first → IsRun G first calls last
+    → HasAnswer G last bytes

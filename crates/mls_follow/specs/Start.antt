@@ -1,6 +1,6 @@
 -- Where a follower starts (RFC 9420, 12.4.3 and 12.4.3.1): eight conditions, in their order. The first six are those of
--- a GroupContext with its tree (`mls_check/specs/GroupTree`), for the context and the tree of a GroupInfo. `handed` is
--- the tree that the caller passes, if there is one. Used by contracts.
+-- a GroupContext with its tree (`mls_check/specs/GroupTree`), for the context and the tree of a GroupInfo. `supplied`
+-- is the tree that the caller passes, if there is one. Used by contracts.
 use Rattle.std.specs.Prelude.{◌≡◌, ◌≢◌, ℕ, List, [], Bool, true, false, Option, Some, None}
 use Rattle.mls_nodes.specs.Requirements.{extension_of}
 use Rattle.mls_nodes.specs.declared.extension.Extension.{Extension}
@@ -27,25 +27,25 @@ abbrev pub IsTreeIn : Option (List ℕ) → RatchetTree → Type 0
 IsTreeIn None t = ⊥
 IsTreeIn (Some body) t = IsTreeOf body t
 
--- `UsesTree handed extensions t`: `t` is the tree that the caller passes, or else the one in the first extension of
+-- `UsesTree supplied extensions t`: `t` is the tree that the caller passes, otherwise the one in the first extension of
 -- type 2 of the GroupInfo (RFC 9420, 12.4.3.3).
 abbrev pub UsesTree : Option RatchetTree → List Extension → RatchetTree → Type 0
-UsesTree (Some handed) extensions t = t ≡ handed
+UsesTree (Some supplied) extensions t = t ≡ supplied
 UsesTree None extensions t = IsTreeIn (extension_of 2 extensions) t
 
--- `UsesNoTree handed extensions`: there is no such tree.
+-- `UsesNoTree supplied extensions`: there is no such tree.
 abbrev pub UsesNoTree : Option RatchetTree → List Extension → Type 0
-UsesNoTree handed extensions = (t : RatchetTree) → UsesTree handed extensions t → ⊥
+UsesNoTree supplied extensions = (t : RatchetTree) → UsesTree supplied extensions t → ⊥
 
 -- Conditions 1 to 6: the version and the suite are supported, there is a tree, the required capabilities can be read,
 -- the tree is valid, and its leaf nodes are valid. That is `HasMembers` of the context and the tree of the GroupInfo.
 
 -- Condition 7, with those before it: the signer's leaf is non-blank (RFC 9420, 12.4.3).
 pub record HasSigner
-    (G : VerifyFn) (info : GroupInfo) (handed : Option RatchetTree) (t : RatchetTree)
+    (G : VerifyFn) (info : GroupInfo) (supplied : Option RatchetTree) (t : RatchetTree)
     (signer : LeafNode) : Type 0 where
   pub required : RequiredCapabilities
-  pub has_members : HasMembers G info.context (UsesTree handed info.extensions) t required
+  pub has_members : HasMembers G info.context (UsesTree supplied info.extensions) t required
   pub set : leaf_at 0 t.tree info.signer ≡ Some signer
 
 -- Condition 8: the signature of the GroupInfo is good under the key of the leaf `x` (RFC 9420, 12.4.3).
@@ -72,13 +72,13 @@ initial_state profile info t interim = record {
   ended = false;
 }
 
--- `IsStart profile G info handed s`: a follower with this profile starts from the GroupInfo in this state. All eight
+-- `IsStart profile G info supplied s`: a follower with this profile starts from the GroupInfo in this state. All eight
 -- conditions hold.
 pub record IsStart
-    (profile : Profile) (G : VerifyFn) (info : GroupInfo) (handed : Option RatchetTree) (s : State) : Type 0 where
+    (profile : Profile) (G : VerifyFn) (info : GroupInfo) (supplied : Option RatchetTree) (s : State) : Type 0 where
   pub tree : RatchetTree
   pub signer : LeafNode
-  pub has_signer : HasSigner G info handed tree signer
+  pub has_signer : HasSigner G info supplied tree signer
   pub signed : is_info_signed G info signer ≡ true
   pub interim : List ℕ
   pub hashed : info_interim info ≡ Some interim
@@ -86,54 +86,55 @@ pub record IsStart
 
 -- ---- why no follower starts: the first condition that fails
 
--- `FailsTree info handed`: condition 3 fails, there is no tree.
-pub record FailsTree (info : GroupInfo) (handed : Option RatchetTree) : Type 0 where
+-- `FailsTree info supplied`: condition 3 fails, there is no tree.
+pub record FailsTree (info : GroupInfo) (supplied : Option RatchetTree) : Type 0 where
   pub followed : IsSupportedContext info.context
-  pub none : UsesNoTree handed info.extensions
+  pub none : UsesNoTree supplied info.extensions
 
--- `FailsSigner G info handed`: condition 7 fails, the signer's leaf is blank.
-pub record FailsSigner (G : VerifyFn) (info : GroupInfo) (handed : Option RatchetTree) : Type 0 where
+-- `FailsSigner G info supplied`: condition 7 fails, the signer's leaf is blank.
+pub record FailsSigner (G : VerifyFn) (info : GroupInfo) (supplied : Option RatchetTree) : Type 0 where
   pub tree : RatchetTree
   pub required : RequiredCapabilities
-  pub has_members : HasMembers G info.context (UsesTree handed info.extensions) tree required
+  pub has_members : HasMembers G info.context (UsesTree supplied info.extensions) tree required
   pub blank : leaf_at 0 tree.tree info.signer ≡ None
 
--- `FailsSignature G info handed`: condition 8 fails, the signature of the GroupInfo is not good.
+-- `FailsSignature G info supplied`: condition 8 fails, the signature of the GroupInfo is not good.
 pub record FailsSignature
-    (G : VerifyFn) (info : GroupInfo) (handed : Option RatchetTree) : Type 0 where
+    (G : VerifyFn) (info : GroupInfo) (supplied : Option RatchetTree) : Type 0 where
   pub tree : RatchetTree
   pub signer : LeafNode
-  pub has_signer : HasSigner G info handed tree signer
+  pub has_signer : HasSigner G info supplied tree signer
   pub unsigned : is_info_signed G info signer ≡ false
 
--- `IsStartFault G info handed fault`: the fault is that of the first condition that fails. `OutOfMemory` says nothing.
+-- `IsStartFault G info supplied fault`: the fault is that of the first condition that fails. `OutOfMemory` says
+-- nothing.
 abbrev pub IsStartFault : VerifyFn → GroupInfo → Option RatchetTree → StartFault → Type 0
-IsStartFault G info handed UnsupportedVersion = info.context.version ≢ 1
-IsStartFault G info handed UnsupportedSuite = FailsSuite info.context
-IsStartFault G info handed NoTree = FailsTree info handed
-IsStartFault G info handed RequirementsUnreadable =
-    FailsRequirements info.context (UsesTree handed info.extensions)
-IsStartFault G info handed (Tree fault) =
-    FailsValid info.context (UsesTree handed info.extensions) fault
-IsStartFault G info handed (Member fault) =
-    FailsMembers G info.context (UsesTree handed info.extensions) fault
-IsStartFault G info handed SignerNotMember = FailsSigner G info handed
-IsStartFault G info handed InfoSignature = FailsSignature G info handed
-IsStartFault G info handed OutOfMemory = Unit {0}
+IsStartFault G info supplied UnsupportedVersion = info.context.version ≢ 1
+IsStartFault G info supplied UnsupportedSuite = FailsSuite info.context
+IsStartFault G info supplied NoTree = FailsTree info supplied
+IsStartFault G info supplied RequirementsUnreadable =
+    FailsRequirements info.context (UsesTree supplied info.extensions)
+IsStartFault G info supplied (Tree fault) =
+    FailsValid info.context (UsesTree supplied info.extensions) fault
+IsStartFault G info supplied (Member fault) =
+    FailsMembers G info.context (UsesTree supplied info.extensions) fault
+IsStartFault G info supplied SignerNotMember = FailsSigner G info supplied
+IsStartFault G info supplied InfoSignature = FailsSignature G info supplied
+IsStartFault G info supplied OutOfMemory = Unit {0}
 
 -- ---- internal: of a GroupInfo whose version and suite are supported, and of a tree
 
 -- `StartsWith G info t interim`: if the GroupInfo has the tree, a follower starts, with this interim transcript hash.
 abbrev pub StartsWith : VerifyFn → GroupInfo → RatchetTree → List ℕ → Type 0
 StartsWith G info t interim =
-    (profile : Profile) (handed : Option RatchetTree) → UsesTree handed info.extensions t
-    → IsStart profile G info handed (initial_state profile info t interim)
+    (profile : Profile) (supplied : Option RatchetTree) → UsesTree supplied info.extensions t
+    → IsStart profile G info supplied (initial_state profile info t interim)
 
 -- `FailsWith G info t fault`: if the GroupInfo has the tree, no follower starts, for this fault.
 abbrev pub FailsWith : VerifyFn → GroupInfo → RatchetTree → StartFault → Type 0
 FailsWith G info t fault =
-    (handed : Option RatchetTree) → UsesTree handed info.extensions t
-    → IsStartFault G info handed fault
+    (supplied : Option RatchetTree) → UsesTree supplied info.extensions t
+    → IsStartFault G info supplied fault
 
 -- `IsSignedIn G info t`: the signer's leaf is non-blank, and the signature of the GroupInfo is good.
 pub record IsSignedIn (G : VerifyFn) (info : GroupInfo) (t : RatchetTree) : Type 0 where
@@ -144,9 +145,9 @@ pub record IsSignedIn (G : VerifyFn) (info : GroupInfo) (t : RatchetTree) : Type
 -- `FailsSigned G info t fault`: if the leaf nodes of the tree are valid, no follower starts, for this fault.
 abbrev pub FailsSigned : VerifyFn → GroupInfo → RatchetTree → StartFault → Type 0
 FailsSigned G info t fault =
-    (handed : Option RatchetTree) (required : RequiredCapabilities)
-    → HasMembers G info.context (UsesTree handed info.extensions) t required
-    → IsStartFault G info handed fault
+    (supplied : Option RatchetTree) (required : RequiredCapabilities)
+    → HasMembers G info.context (UsesTree supplied info.extensions) t required
+    → IsStartFault G info supplied fault
 
 -- `start_fault_of fault` is the same fault of a tree as a `StartFault`.
 abbrev pub start_fault_of : GroupTreeFault → StartFault

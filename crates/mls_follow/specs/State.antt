@@ -23,7 +23,7 @@ pub record State : Type 0 where
 -- `EncodesMessage profile m bytes`: the bytes of an input encode the message, which is in the profile (6, 12.1). In the
 -- members' profile it has no proposal of the types psk, reinit and external_init.
 pub record EncodesMessage (profile : Profile) (m : Message) (bytes : List ℕ) : Type 0 where
-  pub spelled : message m ≡ Some bytes
+  pub encoded : message m ≡ Some bytes
   pub allowed : is_in profile (is_members_message m) ≡ true
   pub bounded : length bytes ≤ input_limit
 

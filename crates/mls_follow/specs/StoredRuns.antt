@@ -10,7 +10,7 @@ use Rattle.mls_signatures.specs.Agreement.{AgreeOn}
 use Rattle.mls_signatures.specs.SignaturesToVerify.{resumption_signatures}
 use Rattle.mls_follow.specs.State.{State}
 use Rattle.mls_follow.specs.Start.{IsStart}
-use Rattle.mls_follow.specs.Runs.{Call, IsRun, IsAnswered}
+use Rattle.mls_follow.specs.Runs.{Call, IsRun, HasAnswer}
 use Rattle.mls_follow.specs.Validity.{IsValidState}
 use Rattle.mls_follow.specs.StoredState.{EncodesState, HasNoFile, stored_entry}
 use Rattle.mls_follow.specs.Resumption.{Holds, IsResumed, IsResumeFault}
@@ -29,7 +29,7 @@ pub record IsResumable (G : VerifyFn) (s : State) : Type 0 where
 -- `IsFirst G s`: a follower starts from a GroupInfo in the state, or resumes from a file in it.
 abbrev pub IsFirst : VerifyFn → State → Type 0
 IsFirst G s =
-    ((profile : Profile) × (info : GroupInfo) × (handed : Option RatchetTree) × IsStart profile G info handed s)
+    ((profile : Profile) × (info : GroupInfo) × (supplied : Option RatchetTree) × IsStart profile G info supplied s)
     ⊎ ((bytes : List ℕ) × IsResumed G bytes s)
 
 -- ---- resumptions are determined
@@ -38,7 +38,7 @@ IsFirst G s =
 abbrev pub ResumptionIsUnique : Type 0
 ResumptionIsUnique = (G : VerifyFn) (bytes : List ℕ) (s t : State) → IsResumed G bytes s → IsResumed G bytes t → s ≡ t
 
--- Where a follower resumes there is no fault.
+-- If a follower resumes there is no fault.
 abbrev pub ResumptionHasNoFault : Type 0
 ResumptionHasNoFault =
     (G : VerifyFn) (bytes : List ℕ) (s : State) (fault : ResumeFault) → IsResumed G bytes s
@@ -128,4 +128,4 @@ ResumedRunsAreValid =
 abbrev pub ResumedRunsAreAnswered : Type 0
 ResumedRunsAreAnswered =
     (G : VerifyFn) (bytes more : List ℕ) (first last : State) (calls : List Call) → IsResumed G bytes first
-    → IsRun G first calls last → IsAnswered G last more
+    → IsRun G first calls last → HasAnswer G last more

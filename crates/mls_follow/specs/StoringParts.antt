@@ -19,7 +19,7 @@ HasNoTreeBody t = (body : List ℕ) → IsTreeBody body t → ⊥
 abbrev pub storing_fault : NodeFault → CodecFault
 storing_fault nodes.OutOfMemory = codec.OutOfMemory
 storing_fault (nodes.Wire f) = codec.Wire (too_long_at 0)
-storing_fault (nodes.WrongNodeKind place) = codec.Wire (too_long_at 0)
+storing_fault (nodes.WrongNodeKind node_index) = codec.Wire (too_long_at 0)
 storing_fault nodes.LastBlank = codec.Wire (too_long_at 0)
 storing_fault nodes.EmptyTree = codec.Wire (too_long_at 0)
 storing_fault nodes.TooManyLeaves = codec.Wire (too_long_at 0)

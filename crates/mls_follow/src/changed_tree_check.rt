@@ -6,7 +6,7 @@ ghost use Rattle.mls_tree.specs.TreeHash.{tree_hash};
 ghost use Rattle.mls_check.specs.LeafValidation.{IsMemberFault, LeavesAreValid};
 ghost use Rattle.mls_apply.specs.RuleLists.{first_failing};
 ghost use Rattle.mls_apply.specs.Staged.{SatisfiesTreeRules};
-ghost use Rattle.mls_follow.specs.Acceptance.{Refuses};
+ghost use Rattle.mls_follow.specs.Acceptance.{FailsWithRule};
 ghost use Rattle.mls_follow.specs.MessageRules.{tree_rules};
 ghost use Rattle.mls_follow.specs.CommitTree.{in_context};
 
@@ -37,8 +37,8 @@ fn check_leaf_nodes<C: SignatureCheck>(
     checker: &C,
     tree: &StagedTree,
 ) -> Result<(), MemberFault>
-    requires indexed { tree.now.indexed ≡ true }
-    requires kept { LeavesAreValid (C.meaning checker.now) rules.now.context.now.cipher_suite
+    requires is_index_of_tree { tree.now.indexed ≡ true }
+    requires rules_hold { LeavesAreValid (C.meaning checker.now) rules.now.context.now.cipher_suite
         rules.now.context.now.group_id rules.now.former.now tree.now.base }
     ensures members { OnOk result (LeavesAreValid (C.meaning checker.now) rules.now.context.now.cipher_suite
         rules.now.context.now.group_id rules.now.required.now tree.now.tree) }
@@ -57,21 +57,21 @@ fn check_leaf_nodes<C: SignatureCheck>(
 
 /// Checks the rules for the tree after a commit: its encryption keys are distinct, and its leaf nodes are valid (RFC
 /// 9420, 7.3 and 12.4.2). The tree before it must satisfy them under the previous requirements. What did not change is
-/// visited only where a rule needs it.
+/// visited only if a rule needs it.
 fn check_tree_rules<C: SignatureCheck>(
     alloc: Global,
     rules: &TreeRules<'_>,
     checker: &C,
     tree: &StagedTree,
 ) -> Result<(), Refusal>
-    requires indexed { tree.now.indexed ≡ true }
-    requires kept { SatisfiesTreeRules (C.meaning checker.now) rules.now.context.now rules.now.former.now
+    requires is_index_of_tree { tree.now.indexed ≡ true }
+    requires rules_hold { SatisfiesTreeRules (C.meaning checker.now) rules.now.context.now rules.now.former.now
         tree.now.base }
-    ensures kept { let s = in_context rules.now.context.now in
+    ensures rules_hold { let s = in_context rules.now.context.now in
         OnOk result (first_failing (tree_rules (C.meaning checker.now) s
         rules.now.required.now (Some tree.now.tree)) ≡ None) }
     ensures refused { let s = in_context rules.now.context.now in
-        IfErr result (Refuses (first_failing (tree_rules (C.meaning checker.now) s
+        IfErr result (FailsWithRule (first_failing (tree_rules (C.meaning checker.now) s
         rules.now.required.now (Some tree.now.tree)))) }
 {
     if !tree.has_distinct_keys() {
@@ -81,7 +81,7 @@ fn check_tree_rules<C: SignatureCheck>(
 }
 
 /// Checks the rules for the tree after a commit, and returns its tree hash. The tree before it must satisfy them under
-/// the previous requirements. The changes are indexed, so that the tree can be settled.
+/// the previous requirements. The changes are indexed, so that they can be made final.
 pub(crate) fn check_changed_tree<C: SignatureCheck>(
     alloc: Global,
     rules: &TreeRules<'_>,
@@ -92,12 +92,12 @@ pub(crate) fn check_changed_tree<C: SignatureCheck>(
         tree.old.base }
     ensures base { tree.new.base ≡ tree.old.base }
     ensures tree { tree.new.tree ≡ tree.old.tree }
-    ensures indexed { OnOk result (tree.new.indexed ≡ true) }
-    ensures kept { let s = in_context rules.now.context.now in
+    ensures is_index_of_tree { OnOk result (tree.new.indexed ≡ true) }
+    ensures rules_hold { let s = in_context rules.now.context.now in
         OnOk result (first_failing (tree_rules (C.meaning checker.now) s
         rules.now.required.now (Some tree.old.tree)) ≡ None) }
     ensures refused { let s = in_context rules.now.context.now in
-        IfErr result (Refuses (first_failing (tree_rules (C.meaning checker.now) s
+        IfErr result (FailsWithRule (first_failing (tree_rules (C.meaning checker.now) s
         rules.now.required.now (Some tree.old.tree)))) }
     ensures hash { IfOk result (λ hash.
         tree_hash (hash_of rules.now.context.now.cipher_suite) 0 tree.old.tree ≡ Some hash) }

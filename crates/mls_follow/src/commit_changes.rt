@@ -13,12 +13,12 @@ ghost use Rattle.mls_apply.specs.ListRules.{list_refusal};
 ghost use Rattle.mls_apply.specs.Senders.{is_present};
 ghost use Rattle.mls_apply.specs.RuleLists.{first_failing};
 ghost use Rattle.mls_apply.specs.AddedKeys.{have_distinct_added_keys};
-ghost use Rattle.mls_apply.specs.AppliedList.{grown, outcome};
+ghost use Rattle.mls_apply.specs.AppliedList.{applied_tree, outcome};
 ghost use Rattle.mls_apply.specs.Staged.{SatisfiesTreeRules};
 ghost use Rattle.mls_follow.specs.State.{State, last_epoch};
-ghost use Rattle.mls_follow.specs.Acceptance.{Refuses};
+ghost use Rattle.mls_follow.specs.Acceptance.{FailsWithRule};
 ghost use Rattle.mls_follow.specs.GroupModel.{group_state, with_known};
-ghost use Rattle.mls_follow.specs.MessageRules.{changed_tree, commit_refusal, external_commit_refusal, inline_rules, outcome_rules, path_rules_of, placed, resulting};
+ghost use Rattle.mls_follow.specs.MessageRules.{changed_tree, commit_refusal, external_commit_refusal, inline_rules, applied_tree_rules, path_rules_of, committer_tree, resulting};
 ghost use Rattle.mls_follow.specs.CommitTree.{change_rules, in_context};
 
 use crate::changed_tree_check::{TreeRules, check_changed_tree};
@@ -47,14 +47,14 @@ pub(crate) fn check_items<'a, C: SignatureCheck>(
     received: &ReceivedCommit<'a>,
 ) -> Result<Vec<ListItem<'a>>, Refusal>
     requires member { IsSome (leaf_at 0 group.now.tree.tree received.now.committer) }
-    ensures later { OnOk result (group.now.context.epoch < last_epoch) }
+    ensures not_last_epoch { OnOk result (group.now.context.epoch < last_epoch) }
     ensures items { IfOk result (λ items. resolved (Member received.now.committer) received.now.known.now
         received.now.commit.now.proposals ≡ Some items.items) }
     ensures inline { OnOk result (first_failing (inline_rules (C.meaning checker.now)
         (group_state group.now) received.now.committer received.now.commit.now) ≡ None) }
     ensures list { IfOk result (λ items. list_refusal (Member received.now.committer) items.items
         (is_some received.now.commit.now.path) ≡ None) }
-    ensures refused { IfErr result (Refuses (commit_refusal (C.meaning checker.now)
+    ensures refused { IfErr result (FailsWithRule (commit_refusal (C.meaning checker.now)
         (with_known (group_state group.now) received.now.known.now)
         group.now.required received.now.committer received.now.commit.now)) }
 {
@@ -82,7 +82,7 @@ pub(crate) fn check_join_items<'a>(
     commit: &'a Commit,
 ) -> Result<Vec<ListItem<'a>>, Refusal>
     requires { IsSome commit.now.path }
-    ensures later { OnOk result (group.now.context.epoch < last_epoch) }
+    ensures not_last_epoch { OnOk result (group.now.context.epoch < last_epoch) }
     ensures items { IfOk result (λ items. items.items ≡ join_items commit.now.proposals) }
     ensures list { OnOk result (join_refusal group.now.context group.now.tree.tree commit.now ≡ None) }
     ensures refused { IfErr result (λ e. e ≢ Refusal.OutOfMemory → (G : VerifyFn)
@@ -101,36 +101,36 @@ pub(crate) fn check_join_items<'a>(
 
 /// The leaf of a committer in the tree after its proposals, and the leaves that these added.
 #[derive(Drop)]
-struct PlacedCommitter {
+struct CommitterInTree {
     leaf: u32,
     added: Leaves,
 }
 
 /// Returns the committer's leaf in the tree after its proposals, of which `added` are the added leaves. A client that joins
 /// takes the leaf of the next new member, for which the tree may be extended. No leaf counts as added then.
-fn place_committer(
+fn committer_in_tree(
     alloc: Global,
     tree: &mut StagedTree,
     committer: Sender,
     added: Leaves,
-) -> Result<PlacedCommitter, Refusal>
+) -> Result<CommitterInTree, Refusal>
     requires { IsTrue (is_present tree.old.tree committer) }
-    ensures placed { IfOk result (λ q. placed committer (grown tree.old.tree added)
-        ≡ Some (record { grown = grown tree.new.tree q.added; leaf = q.leaf })) }
+    ensures committer_tree { IfOk result (λ q. committer_tree committer (applied_tree tree.old.tree added)
+        ≡ Some (record { applied_tree = applied_tree tree.new.tree q.added; leaf = q.leaf })) }
     ensures inside { IfOk result (λ q. q.leaf < leaf_count tree.new.tree) }
     ensures refused { IfErr result (λ e. e ≢ Refusal.OutOfMemory
-        → (placed committer (grown tree.old.tree added) ≡ None) × (e ≡ Refusal.TooManyLeaves)) }
+        → (committer_tree committer (applied_tree tree.old.tree added) ≡ None) × (e ≡ Refusal.TooManyLeaves)) }
     ensures base { tree.new.base ≡ tree.old.base }
 {
     match committer {
-        Sender::Member(leaf) => Ok(PlacedCommitter { leaf, added }),
+        Sender::Member(leaf) => Ok(CommitterInTree { leaf, added }),
         Sender::External(_) => Err(Refusal::TooManyLeaves),
         Sender::NewMemberProposal => Err(Refusal::TooManyLeaves),
         Sender::NewMemberCommit => {
             let leaf = tree.seat()?;
             let none = Vec::new(alloc);
             let added = Leaves::new(none);
-            Ok(PlacedCommitter { leaf, added })
+            Ok(CommitterInTree { leaf, added })
         }
     }
 }
@@ -140,16 +140,16 @@ fn merge(
     alloc: Global,
     suite: Suite,
     tree: &mut StagedTree,
-    committer: &PlacedCommitter,
+    committer: &CommitterInTree,
     path: &Option<UpdatePath>,
 ) -> Result<(), Refusal>
     requires { committer.now.leaf < leaf_count tree.old.tree }
-    ensures kept { let g = grown tree.old.tree committer.now.added in
+    ensures rules_hold { let g = applied_tree tree.old.tree committer.now.added in
         OnOk result (first_failing (path_rules_of (hash_of suite) g committer.now.leaf path.now) ≡ None) }
-    ensures tree { let g = grown tree.old.tree committer.now.added in
+    ensures tree { let g = applied_tree tree.old.tree committer.now.added in
         OnOk result (resulting (hash_of suite) g committer.now.leaf path.now ≡ Some tree.new.tree) }
-    ensures refused { let g = grown tree.old.tree committer.now.added in
-        IfErr result (Refuses (first_failing (path_rules_of (hash_of suite) g
+    ensures refused { let g = applied_tree tree.old.tree committer.now.added in
+        IfErr result (FailsWithRule (first_failing (path_rules_of (hash_of suite) g
         committer.now.leaf path.now))) }
     ensures base { tree.new.base ≡ tree.old.base }
 {
@@ -172,19 +172,19 @@ fn change_tree(
     commit: &ResolvedCommit<'_>,
 ) -> Result<(), Refusal>
     requires { IsTrue (is_present tree.old.tree commit.now.committer) }
-    ensures kept { let o = outcome commit.now.items.items tree.old.tree in
+    ensures rules_hold { let o = outcome commit.now.items.items tree.old.tree in
         OnOk result (first_failing (change_rules (hash_of suite)
         commit.now.committer commit.now.path.now o) ≡ None) }
     ensures tree { let o = outcome commit.now.items.items tree.old.tree in
         OnOk result (changed_tree (hash_of suite) commit.now.committer commit.now.path.now o
         ≡ Some tree.new.tree) }
     ensures refused { let o = outcome commit.now.items.items tree.old.tree in
-        IfErr result (Refuses (first_failing (change_rules (hash_of suite)
+        IfErr result (FailsWithRule (first_failing (change_rules (hash_of suite)
         commit.now.committer commit.now.path.now o))) }
     ensures base { tree.new.base ≡ tree.old.base }
 {
     let added = tree.apply_list(alloc, commit.items.as_slice())?;
-    let committer = place_committer(alloc, tree, commit.committer, added)?;
+    let committer = committer_in_tree(alloc, tree, commit.committer, added)?;
     merge(alloc, suite, tree, &committer, commit.path)
 }
 
@@ -195,7 +195,7 @@ fn repeated_key_refusal(alloc: Global, tree: &mut StagedTree, items: &[ListItem<
     requires { have_distinct_added_keys items.now ≡ false }
     ensures refused { let o = outcome items.now tree.old.tree in
         result ≢ Refusal.OutOfMemory → (G : VerifyFn) → (s : State) → (required : RequiredCapabilities) → (i : ℕ)
-        → first_failing (outcome_rules G s required (Member i) None o) ≡ Some result }
+        → first_failing (applied_tree_rules G s required (Member i) None o) ≡ Some result }
     ensures base { tree.new.base ≡ tree.old.base }
 {
     match tree.check_list_fits(alloc, items) {
@@ -213,7 +213,7 @@ fn check_added_keys(
 ) -> Result<(), Refusal>
     ensures refused { let o = outcome commit.now.items.items tree.old.tree in
         IfErr result (λ e. e ≢ Refusal.OutOfMemory → (G : VerifyFn) → (s : State) → (required : RequiredCapabilities)
-        → first_failing (outcome_rules G s required commit.now.committer commit.now.path.now o) ≡ Some e) }
+        → first_failing (applied_tree_rules G s required commit.now.committer commit.now.path.now o) ≡ Some e) }
     ensures tree { OnOk result (tree.new.tree ≡ tree.old.tree) }
     ensures base { tree.new.base ≡ tree.old.base }
 {
@@ -227,7 +227,7 @@ fn check_added_keys(
 }
 
 /// Stages a commit, and returns the tree hash after it, if the tree after the list and the path satisfies its rules.
-/// The tree can then be settled. On error a part of the commit may have been applied.
+/// The changes can then be made final. On error a part of the commit may have been applied.
 pub(crate) fn stage_commit<C: SignatureCheck>(
     alloc: Global,
     rules: &TreeRules<'_>,
@@ -236,14 +236,14 @@ pub(crate) fn stage_commit<C: SignatureCheck>(
     commit: &ResolvedCommit<'_>,
 ) -> Result<Opaque, Refusal>
     requires present { IsTrue (is_present tree.old.tree commit.now.committer) }
-    requires kept { SatisfiesTreeRules (C.meaning checker.now) rules.now.context.now rules.now.former.now
+    requires rules_hold { SatisfiesTreeRules (C.meaning checker.now) rules.now.context.now rules.now.former.now
         tree.old.base }
-    ensures kept { let o = outcome commit.now.items.items tree.old.tree in
-        OnOk result (first_failing (outcome_rules (C.meaning checker.now)
+    ensures rules_hold { let o = outcome commit.now.items.items tree.old.tree in
+        OnOk result (first_failing (applied_tree_rules (C.meaning checker.now)
         (in_context rules.now.context.now) rules.now.required.now
         commit.now.committer commit.now.path.now o) ≡ None) }
     ensures refused { let o = outcome commit.now.items.items tree.old.tree in
-        IfErr result (Refuses (first_failing (outcome_rules (C.meaning checker.now)
+        IfErr result (FailsWithRule (first_failing (applied_tree_rules (C.meaning checker.now)
         (in_context rules.now.context.now) rules.now.required.now
         commit.now.committer commit.now.path.now o))) }
     ensures tree { let o = outcome commit.now.items.items tree.old.tree in
@@ -253,7 +253,7 @@ pub(crate) fn stage_commit<C: SignatureCheck>(
     ensures hash { let H = hash_of rules.now.context.now.cipher_suite in
         IfOk result (λ hash. tree_hash H 0 tree.new.tree ≡ Some hash) }
     ensures base { tree.new.base ≡ tree.old.base }
-    ensures indexed { OnOk result (tree.new.indexed ≡ true) }
+    ensures is_index_of_tree { OnOk result (tree.new.indexed ≡ true) }
 {
     check_added_keys(alloc, tree, commit)?;
     change_tree(alloc, rules.suite, tree, commit)?;

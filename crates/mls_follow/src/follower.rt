@@ -9,10 +9,10 @@ ghost use Rattle.mls_apply.specs.Staged.{IsSettled};
 ghost use Rattle.mls_follow.specs.CommitTree.{state_in};
 ghost use Rattle.mls_follow.specs.State.{HasEncoding, EncodesMessage};
 ghost use Rattle.mls_follow.specs.GroupModel.{group_state};
-ghost use Rattle.mls_follow.specs.FollowerInvariant.{IsJudged, IsJudged-prop};
+ghost use Rattle.mls_follow.specs.FollowerInvariant.{HasUniqueKeysAndValidLeaves, HasUniqueKeysAndValidLeaves-prop};
 ghost use Rattle.mls_follow.specs.Acceptance.{IsAcceptable, IsNext, IsFirstRefusal};
 ghost use Rattle.mls_follow.specs.MessageHeader.{HasNoHeader, IsUnreadMessage};
-ghost use Rattle.mls_follow.specs.Runs.{Takes};
+ghost use Rattle.mls_follow.specs.Runs.{IsTransition};
 ghost use Rattle.mls_check.specs.GroupTree.{FailsSuite, IsSupportedContext};
 ghost use Rattle.mls_check.specs.ReceiptSets.{with_receipt};
 ghost use Rattle.mls_check.specs.Signatures.{Extends};
@@ -23,7 +23,7 @@ use crate::framed_content_rules::read_message;
 use crate::group::Group;
 use crate::refusal::Refusal;
 use crate::resume::{ResumeRefused, resumed_group};
-use crate::start::{Judged, StartRefused, check_start, supported_suite};
+use crate::start::{StartParts, StartRefused, check_start, supported_suite};
 use crate::start_fault::StartFault;
 use crate::taken::Taken;
 use mls_apply::{KnownProposal, PendingProposals, StagedTree};
@@ -41,7 +41,7 @@ pub struct Follower<C: SignatureCheck> {
     pub(crate) group: Group,
     checker: C,
     pub(crate) alloc: Global,
-    ghost judged: { IsJudged (C.meaning checker) (group_state group) } by { IsJudged-prop (C.meaning checker) (group_state group) },
+    ghost checked: { HasUniqueKeysAndValidLeaves (C.meaning checker) (group_state group) } by { HasUniqueKeysAndValidLeaves-prop (C.meaning checker) (group_state group) },
 }
 
 /// Returns the group of a GroupInfo with its tree, from what was found of them, with no pending proposals.
@@ -50,22 +50,22 @@ fn initial_group(
     profile: Profile,
     info: GroupInfo,
     tree: StagedTree,
-    judged: Judged,
+    checked: StartParts,
 ) -> Group
-    requires suite_of_context { judged.suite ≡ info.context.cipher_suite }
-    requires required { Requires info.context judged.required }
+    requires suite_of_context { checked.suite ≡ info.context.cipher_suite }
+    requires required { Requires info.context checked.required }
     requires settled { IsSettled tree }
-    ensures { group_state result ≡ state_in profile info tree.tree judged.interim }
+    ensures { group_state result ≡ state_in profile info tree.tree checked.interim }
 {
     Group {
         profile,
         context: info.context,
         tree,
-        interim: judged.interim,
+        interim: checked.interim,
         known: PendingProposals::new(alloc),
         ended: false,
-        suite: judged.suite,
-        required: judged.required,
+        suite: checked.suite,
+        required: checked.required,
     }
 }
 
@@ -94,14 +94,13 @@ impl<C: SignatureCheck> Follower<C> {
             (λ r. r.fault ≡ StartFault.UnsupportedSuite) ↔ FailsSuite info.context }
         ensures no_tree { IsSupportedContext info.context → tree ≡ None → extension_of 2 info.extensions ≡ None
             → IsErrAnd result (λ r. r.fault ≡ StartFault.NoTree) }
-        ensures handed_back { IfErr result (λ r. (r.info ≡ info)
+        ensures returned_arguments { IfErr result (λ r. (r.info ≡ info)
             × (option_map plain r.tree ≡ option_map plain tree) × (r.checker ≡ checker)) }
     {
         Follower::start_in(alloc, Profile::Members, info, tree, checker)
     }
 
-    /// Starts a follower from a GroupInfo (RFC 9420, 12.4.3), with the tree that is passed, or else with the one in the
-    /// GroupInfo. In the members' profile it processes the proposals Add, Update, Remove and GroupContextExtensions of
+    /// Starts a follower from a GroupInfo (RFC 9420, 12.4.3), with the tree that is passed, otherwise with the one in the GroupInfo. In the members' profile it processes the proposals Add, Update, Remove and GroupContextExtensions of
     /// members. In the full profile it processes also PreSharedKey and ReInit (12.1.4, 12.1.5), and the proposals of external
     /// senders and of clients that propose to join (12.1.8), and external commits (12.4.3.2).
     ///
@@ -141,7 +140,7 @@ impl<C: SignatureCheck> Follower<C> {
             (λ r. r.fault ≡ StartFault.UnsupportedSuite) ↔ FailsSuite info.context }
         ensures no_tree { IsSupportedContext info.context → tree ≡ None → extension_of 2 info.extensions ≡ None
             → IsErrAnd result (λ r. r.fault ≡ StartFault.NoTree) }
-        ensures handed_back { IfErr result (λ r. (r.info ≡ info)
+        ensures returned_arguments { IfErr result (λ r. (r.info ≡ info)
             × (option_map plain r.tree ≡ option_map plain tree) × (r.checker ≡ checker)) }
     {
         let suite = match supported_suite(&info) {
@@ -156,8 +155,8 @@ impl<C: SignatureCheck> Follower<C> {
             }
         };
         match check_start(alloc, suite, &info, tree, &checker) {
-            Ok((tree, judged)) => Ok(Follower {
-                group: initial_group(alloc, profile, info, tree, judged),
+            Ok((tree, checked)) => Ok(Follower {
+                group: initial_group(alloc, profile, info, tree, checked),
                 checker,
                 alloc,
             }),
@@ -191,7 +190,7 @@ impl<C: SignatureCheck> Follower<C> {
         ensures resumed { IfOk result (λ f. IsResumed (C.meaning checker) bytes.now (state_of f)) }
         ensures checker { IfOk result (λ f. C.meaning (checker_of f) ≡ C.meaning checker) }
         ensures refused { IfErr result (λ r. IsResumeFault (C.meaning checker) bytes.now r.fault) }
-        ensures handed_back { IfErr result (λ r. r.checker ≡ checker) }
+        ensures returned_arguments { IfErr result (λ r. r.checker ≡ checker) }
     {
         match resumed_group(alloc, bytes, &checker) {
             Ok(group) => Ok(Follower {
@@ -258,7 +257,7 @@ impl<C: SignatureCheck> Follower<C> {
     fn take_message(&mut self, message: &Message) -> Result<Taken, Refusal>
         requires { HasEncoding (state_of self.old).profile message.now }
         ensures takes { (bytes : List ℕ) → EncodesMessage (state_of self.old).profile message.now bytes
-            → Takes (C.meaning (checker_of self.old)) (state_of self.old) bytes result
+            → IsTransition (C.meaning (checker_of self.old)) (state_of self.old) bytes result
             (state_of self.new) }
         ensures checker { C.meaning (checker_of self.new) ≡ C.meaning (checker_of self.old) }
     {
@@ -287,7 +286,7 @@ impl<C: SignatureCheck> Follower<C> {
         ensures too_long { input_limit < length bytes.now → result ≡ Err Refusal.Malformed }
         ensures no_header { HasNoHeader bytes.now → result ≡ Err Refusal.Malformed }
         ensures unread { IsUnreadMessage bytes.now → result ≡ Err Refusal.NotPublic }
-        ensures stays { OnErr result (state_of self.new ≡ state_of self.old) }
+        ensures unchanged_on_error { OnErr result (state_of self.new ≡ state_of self.old) }
         ensures checker { C.meaning (checker_of self.new) ≡ C.meaning (checker_of self.old) }
     {
         let message = read_message(self.alloc, self.group.profile, bytes)?;
@@ -309,7 +308,7 @@ impl<C: LearningCheck> Follower<C> {
     pub fn learn(&mut self, digest: [u8; 32]) -> Result<(), OutOfMemory>
         ensures learnt { OnOk result (C.meaning (checker_of self.new)
             ≡ with_receipt (C.meaning (checker_of self.old)) digest) }
-        ensures stays { OnErr result (C.meaning (checker_of self.new)
+        ensures unchanged_on_error { OnErr result (C.meaning (checker_of self.new)
             ≡ C.meaning (checker_of self.old)) }
         ensures extends { Extends (C.meaning (checker_of self.old)) (C.meaning (checker_of self.new)) }
         ensures state { state_of self.new ≡ state_of self.old }

@@ -13,7 +13,7 @@ ghost use Rattle.mls_signatures.specs.SigningKeys.{outside_key};
 ghost use Rattle.mls_follow.specs.State.{EncodesMessage};
 ghost use Rattle.mls_follow.specs.GroupModel.{group_state};
 ghost use Rattle.mls_follow.specs.MessageRules.{external_commit_refusal, frame_refusal, handshake_refusal, is_frame_signed, is_handshake, joiner_refusal, lacks_key, outside_content_rules, outside_refusal, proposal_refusal, sender_refusal};
-ghost use Rattle.mls_follow.specs.Acceptance.{Refuses, EncodesNoMessage};
+ghost use Rattle.mls_follow.specs.Acceptance.{FailsWithRule, EncodesNoMessage};
 ghost use Rattle.mls_follow.specs.MessageHeader.{HasNoHeader, IsUnreadMessage};
 
 use crate::group::Group;
@@ -109,7 +109,7 @@ fn is_frame_signed<C: SignatureCheck>(
 /// rules for its sender.
 #[tactic(auto, unfolding(crate::specs::MessageRules::frame_refusal, crate::specs::MessageRules::sender_refusal))]
 pub(crate) fn check_header(group: &Group, auth: &Authenticated) -> Result<(), Refusal>
-    ensures kept { OnOk result ((G : VerifyFn) (required : RequiredCapabilities)
+    ensures rules_hold { OnOk result ((G : VerifyFn) (required : RequiredCapabilities)
         → frame_refusal G (group_state group.now) required auth.now
         ≡ sender_refusal G (group_state group.now) required auth.now auth.now.content.sender) }
     ensures refused { IfErr result (λ e. (G : VerifyFn) (required : RequiredCapabilities)
@@ -140,11 +140,11 @@ pub(crate) fn check_member_frame<C: SignatureCheck>(
 ) -> Result<(), Refusal>
     ensures member { OnOk result (IsSome (leaf_at 0 group.now.tree.tree sender)) }
     ensures handshake { OnOk result (IsTrue (is_handshake auth.now.content.content)) }
-    ensures kept { OnOk result
+    ensures rules_hold { OnOk result
         (sender_refusal (C.meaning checker.now) (group_state group.now) group.now.required auth.now (Member sender)
         ≡ handshake_refusal (C.meaning checker.now) (group_state group.now) group.now.required auth.now sender
         auth.now.content.content) }
-    ensures refused { IfErr result (Refuses (sender_refusal (C.meaning checker.now) (group_state group.now)
+    ensures refused { IfErr result (FailsWithRule (sender_refusal (C.meaning checker.now) (group_state group.now)
         group.now.required auth.now (Member sender))) }
 {
     let Some(leaf) = group.tree.tree().leaf(sender) else {
@@ -170,11 +170,11 @@ fn check_outside_content<'a, C: SignatureCheck>(
     key: &Option<Opaque>,
 ) -> Result<&'a Proposal, Refusal>
     ensures proposal { IfOk result (λ p. auth.now.content.content ≡ contents.Proposal p.now) }
-    ensures kept { IfOk result (λ p. first_failing (outside_content_rules (C.meaning checker.now)
+    ensures rules_hold { IfOk result (λ p. first_failing (outside_content_rules (C.meaning checker.now)
         (group_state group.now) auth.now auth.now.content.sender key.now auth.now.content.content)
         ≡ proposal_refusal (C.meaning checker.now) (group_state group.now) auth.now
         auth.now.content.sender p.now) }
-    ensures refused { IfErr result (Refuses (first_failing (outside_content_rules (C.meaning checker.now)
+    ensures refused { IfErr result (FailsWithRule (first_failing (outside_content_rules (C.meaning checker.now)
         (group_state group.now) auth.now auth.now.content.sender key.now auth.now.content.content))) }
 {
     let frame = auth.content();
@@ -217,10 +217,10 @@ pub(crate) fn check_outside_frame<'a, C: SignatureCheck>(
     auth: &'a Authenticated,
 ) -> Result<&'a Proposal, Refusal>
     ensures proposal { IfOk result (λ p. auth.now.content.content ≡ contents.Proposal p.now) }
-    ensures kept { IfOk result (λ p. outside_refusal (C.meaning checker.now) (group_state group.now) auth.now
+    ensures rules_hold { IfOk result (λ p. outside_refusal (C.meaning checker.now) (group_state group.now) auth.now
         auth.now.content.sender
         ≡ proposal_refusal (C.meaning checker.now) (group_state group.now) auth.now auth.now.content.sender p.now) }
-    ensures refused { IfErr result (Refuses (outside_refusal (C.meaning checker.now) (group_state group.now)
+    ensures refused { IfErr result (FailsWithRule (outside_refusal (C.meaning checker.now) (group_state group.now)
         auth.now auth.now.content.sender)) }
 {
     let frame = auth.content();
@@ -245,10 +245,10 @@ pub(crate) fn check_joiner_frame<'a, C: SignatureCheck>(
 ) -> Result<&'a Commit, Refusal>
     ensures commit { IfOk result (λ c. auth.now.content.content ≡ contents.Commit c.now) }
     ensures path { IfOk result (λ c. IsSome c.now.path) }
-    ensures kept { IfOk result (λ c. joiner_refusal (C.meaning checker.now) (group_state group.now)
+    ensures rules_hold { IfOk result (λ c. joiner_refusal (C.meaning checker.now) (group_state group.now)
         group.now.required auth.now auth.now.content.content
         ≡ external_commit_refusal (C.meaning checker.now) (group_state group.now) group.now.required c.now) }
-    ensures refused { IfErr result (Refuses (joiner_refusal (C.meaning checker.now) (group_state group.now)
+    ensures refused { IfErr result (FailsWithRule (joiner_refusal (C.meaning checker.now) (group_state group.now)
         group.now.required auth.now auth.now.content.content)) }
 {
     let commit = match &auth.content().content {

@@ -51,17 +51,17 @@ impl Group {
     ghost use Rattle.mls_follow.specs.NextState.{after_proposal, committed, with_extensions};
 
     /// Stores a pending proposal under its reference.
-    pub(crate) fn keep(
+    pub(crate) fn store_proposal(
         &mut self,
         alloc: Global,
         reference: HashValue,
         sender: Sender,
         proposal: &Proposal,
     ) -> Result<Taken, AllocError>
-        ensures kept { IfOk result (λ taken. after_proposal
+        ensures stored { IfOk result (λ taken. after_proposal
             (group_state self.old) sender proposal.now reference
             ≡ record { taken = taken; state = group_state self.new }) }
-        ensures stays { OnErr result (group_state self.new ≡ group_state self.old) }
+        ensures unchanged_on_error { OnErr result (group_state self.new ≡ group_state self.old) }
     {
         let proposal = copy_of(alloc, proposal)?;
         let known = KnownProposal {
@@ -99,13 +99,13 @@ impl Group {
     }
 
     /// Moves to the next epoch, whose tree is in place and has this tree hash, with these extensions and requirements. Does not allocate.
-    pub(crate) fn enter(
+    pub(crate) fn begin_epoch(
         &mut self,
         tree_hash: Opaque,
         transcript: Transcript,
         terms: NextExtensions,
     ) -> Taken
-        requires later { self.old.context.epoch < last_epoch }
+        requires not_last_epoch { self.old.context.epoch < last_epoch }
         requires terms { RequiresBy terms.extensions terms.required }
         ensures next { committed (with_extensions (group_state self.old) terms.extensions terms.ends)
             self.old.tree.tree tree_hash transcript.confirmed transcript.interim

@@ -5,8 +5,8 @@
 //! Contracts model a follower as its state (`specs/State.antt`): the profile, the context, the tree, the interim transcript
 //! hash, the pending proposals, and whether the group is over.
 //!
-//! [`Follower::wanted`] returns the signatures of a message, for a caller that verifies them elsewhere; those of a start are
-//! [`mls_signatures::start_signatures`].
+//! [`Follower::signatures_to_verify`] returns the signatures of a message, for a caller that verifies them elsewhere;
+//! those of a start are [`mls_signatures::start_signatures`].
 #![tactic(auto)]
 
 mod changed_tree_check;

@@ -3,7 +3,7 @@
 
 ghost use Rattle.std.specs.Prelude.{◌≡◌, ◌≢◌, Some, None, IfOk, IfErr};
 ghost use Rattle.mls_nodes.specs.Requirements.{RequiresBy};
-ghost use Rattle.mls_apply.specs.ContextExtensions.{brought, new_extensions};
+ghost use Rattle.mls_apply.specs.ContextExtensions.{proposed_extensions, new_extensions};
 ghost use Rattle.mls_apply.specs.ListRules.{has_reinit};
 ghost use Rattle.mls_follow.specs.MessageRules.{required_after};
 
@@ -32,13 +32,13 @@ pub(crate) fn next_extensions_after(
 ) -> Result<NextExtensions, Refusal>
     ensures extensions { IfOk result (λ terms.
         terms.extensions ≡ new_extensions group.now.context.extensions items.now) }
-    ensures told { IfOk result (λ terms. RequiresBy terms.extensions terms.required) }
+    ensures determined { IfOk result (λ terms. RequiresBy terms.extensions terms.required) }
     ensures required { IfOk result (λ terms.
-        required_after group.now.required (brought items.now) ≡ Some terms.required) }
+        required_after group.now.required (proposed_extensions items.now) ≡ Some terms.required) }
     ensures ends { IfOk result (λ terms. terms.ends ≡ has_reinit items.now) }
     ensures refused { IfErr result (λ e. e ≢ Refusal.OutOfMemory
         → (e ≡ Refusal.ContextExtensionsInvalid)
-        × (required_after group.now.required (brought items.now) ≡ None)) }
+        × (required_after group.now.required (proposed_extensions items.now) ≡ None)) }
 {
     let extensions = new_extensions(alloc, &group.context, items)?;
     match requirements_of(alloc, &extensions) {

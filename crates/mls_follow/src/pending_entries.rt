@@ -8,7 +8,7 @@ ghost use Rattle.mls_apply.specs.ResolvedList.{find_known};
 ghost use Rattle.mls_apply.specs.declared.list_item.KnownProposal.{KnownProposal};
 ghost use Rattle.mls_follow.specs.GroupModel.{group_state};
 ghost use Rattle.mls_follow.specs.StoredState.{stored_entry};
-ghost use Rattle.mls_follow.specs.MessageRules.{is_followed, is_known_external};
+ghost use Rattle.mls_follow.specs.MessageRules.{is_sender_supported, is_known_external};
 ghost use Rattle.mls_follow.specs.Resumption.{can_hold, is_receivable, with_pending, Holds};
 ghost use Rattle.mls_follow.specs.ResumptionParts.{IsKnownFault};
 
@@ -40,8 +40,8 @@ fn is_new_reference(group: &Group, reference: &HashValue) -> bool
 }
 
 /// Returns whether the messages of a sender are processed in a profile.
-fn is_followed(profile: Profile, sender: Sender) -> bool
-    ensures { result ≡ is_followed profile sender }
+fn is_sender_supported(profile: Profile, sender: Sender) -> bool
+    ensures { result ≡ is_sender_supported profile sender }
 {
     match (sender, profile) {
         (Sender::Member(_), _) => true,
@@ -80,7 +80,7 @@ fn is_receivable(
     let sender = entry.sender;
     if group.ended
         || !group.profile.has_proposal(entry.proposal)
-        || !is_followed(group.profile, sender)
+        || !is_sender_supported(group.profile, sender)
     {
         return Ok(false);
     }
@@ -155,7 +155,7 @@ fn hold_entry<C: SignatureCheck>(
     if !can_hold(alloc, group, checker, &pending)? {
         return Ok(false);
     }
-    group.keep(alloc, reference, entry.sender, &entry.proposal)?;
+    group.store_proposal(alloc, reference, entry.sender, &entry.proposal)?;
     Ok(true)
 }
 

@@ -3,7 +3,7 @@
 ghost use Rattle.std.specs.Prelude.{◌≡◌, Some, None, IsSome, IsTrue, IfOk, IfErr, OnOk};
 ghost use Rattle.mls_apply.specs.RuleLists.{first_failing};
 ghost use Rattle.mls_apply.specs.Senders.{is_present};
-ghost use Rattle.mls_follow.specs.Acceptance.{Refuses};
+ghost use Rattle.mls_follow.specs.Acceptance.{FailsWithRule};
 ghost use Rattle.mls_follow.specs.GroupModel.{group_state};
 ghost use Rattle.mls_follow.specs.MessageRules.{proposal_message_rules, reference_of};
 
@@ -45,12 +45,12 @@ pub(crate) fn check_proposal_message<C: SignatureCheck>(
 ) -> Result<HashValue, Refusal>
     requires present { IsTrue (is_present group.now.tree.tree sent.now.sender) }
     requires referenced { IsSome (reference_of group.now.context sent.now.auth.now) }
-    ensures kept { OnOk result (first_failing
+    ensures rules_hold { OnOk result (first_failing
         (proposal_message_rules (C.meaning checker.now) (group_state group.now)
         sent.now.auth.now sent.now.sender sent.now.proposal.now) ≡ None) }
     ensures reference { IfOk result (λ reference. reference_of group.now.context sent.now.auth.now
         ≡ Some reference) }
-    ensures refused { IfErr result (Refuses (first_failing
+    ensures refused { IfErr result (FailsWithRule (first_failing
         (proposal_message_rules (C.meaning checker.now) (group_state group.now)
         sent.now.auth.now sent.now.sender sent.now.proposal.now))) }
 {

@@ -4,7 +4,7 @@ ghost use Rattle.std.specs.Prelude.{◌≡◌, None, Some, IsSome, IfOk, IfErr, 
 ghost use Rattle.mls_tree.specs.Tree.{leaf_at};
 ghost use Rattle.mls_msgs.specs.declared.framed_content.Sender.TheVariants.{Member};
 ghost use Rattle.mls_apply.specs.RuleLists.{first_failing};
-ghost use Rattle.mls_follow.specs.Acceptance.{Refuses};
+ghost use Rattle.mls_follow.specs.Acceptance.{FailsWithRule};
 ghost use Rattle.mls_follow.specs.GroupModel.{group_state};
 ghost use Rattle.mls_follow.specs.InlineValidity.{all_valid, both_valid, entry_validity, invalid_by, validity_rules};
 ghost use Rattle.mls_follow.specs.MessageRules.{inline_rules};
@@ -164,10 +164,10 @@ pub(crate) fn check_inline<C: SignatureCheck>(
     commit: &Commit,
 ) -> Result<(), Refusal>
     requires member { IsSome (leaf_at 0 group.now.tree.tree committer) }
-    ensures kept { OnOk result (first_failing
+    ensures rules_hold { OnOk result (first_failing
         (inline_rules (C.meaning checker.now) (group_state group.now) committer commit.now)
         ≡ None) }
-    ensures refused { IfErr result (Refuses (first_failing
+    ensures refused { IfErr result (FailsWithRule (first_failing
         (inline_rules (C.meaning checker.now) (group_state group.now) committer commit.now))) }
 {
     let mut valid = Validity::full();

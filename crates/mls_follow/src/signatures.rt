@@ -62,8 +62,8 @@ impl<C: SignatureCheck> Follower<C> {
     /// senders and new members may send do, if the sender has a key (12.1.8). An external commit with a path has its own, and that
     /// of the path's leaf (12.4.3.2). If the group is over, there are none.
     ///
-    /// The list of a commit is applied to the tree in place and taken back: the group and the checker are unchanged, whatever
-    /// is returned.
+    /// The proposal list of a commit is applied to the tree in place and undone: the group and the checker are
+    /// unchanged, whatever is returned.
     ///
     /// # Errors
     ///
@@ -71,8 +71,11 @@ impl<C: SignatureCheck> Follower<C> {
     ///
     /// More than 268,435,456 bytes, and bytes without the header of a message, are `Malformed` even without memory. A
     /// PrivateMessage and a Welcome have no signatures: an empty list is returned, even without memory.
-    pub fn wanted(&mut self, bytes: &[u8]) -> Result<Vec<SignatureToVerify>, SignatureListFault>
-        ensures wanted { IfOk result (λ v. AreSignaturesOf (state_of self.old) bytes.now v.items) }
+    pub fn signatures_to_verify(
+        &mut self,
+        bytes: &[u8],
+    ) -> Result<Vec<SignatureToVerify>, SignatureListFault>
+        ensures needed { IfOk result (λ v. AreSignaturesOf (state_of self.old) bytes.now v.items) }
         ensures malformed { IfErr result (λ e. e ≢ SignatureListFault.OutOfMemory
             → (e ≡ SignatureListFault.Malformed)
             × EncodesNoMessage (state_of self.old).profile bytes.now) }

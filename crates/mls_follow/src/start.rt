@@ -41,7 +41,7 @@ pub struct StartRefused<C> {
 
 /// What is found of a GroupInfo and a tree from which a follower starts.
 #[derive(Drop)]
-pub(crate) struct Judged {
+pub(crate) struct StartParts {
     pub(crate) suite: Suite,
     pub(crate) required: RequiredCapabilities,
     pub(crate) interim: HashValue,
@@ -51,8 +51,8 @@ pub(crate) struct Judged {
 pub(crate) fn supported_suite(info: &GroupInfo) -> Result<Suite, StartFault>
     ensures followed { OnOk result (IsSupportedContext info.now.context) }
     ensures suite { IfOk result (λ suite. suite ≡ info.now.context.cipher_suite) }
-    ensures refused { IfErr result (λ e. (G : VerifyFn) (handed : Option RatchetTree)
-        → IsStartFault G info.now handed e) }
+    ensures refused { IfErr result (λ e. (G : VerifyFn) (supplied : Option RatchetTree)
+        → IsStartFault G info.now supplied e) }
     ensures unfollowed { OnErr result (¬ IsSupportedContext info.now.context) }
     ensures unsupported_version { (result ≡ Err StartFault.UnsupportedVersion)
         ↔ (info.now.context.version ≢ 1) }
@@ -175,25 +175,25 @@ fn verified_interim_hash<C: SignatureCheck>(
 
 /// Returns what is found of a supported GroupInfo and a tree from which a follower starts. Checks the tree, then its
 /// leaf nodes, then the signature of the GroupInfo.
-fn judge<C: SignatureCheck>(
+fn check_info_and_tree<C: SignatureCheck>(
     alloc: Global,
     suite: Suite,
     info: &GroupInfo,
     tree: &mut PublicTree,
     checker: &C,
-) -> Result<Judged, StartFault>
+) -> Result<StartParts, StartFault>
     requires followed { IsSupportedContext info.now.context }
     requires suite_of_context { suite ≡ info.now.context.cipher_suite }
     ensures tree { plain tree.new ≡ plain tree.old }
-    ensures suite { IfOk result (λ judged. judged.suite ≡ info.now.context.cipher_suite) }
-    ensures required { IfOk result (λ judged. Requires info.now.context judged.required) }
-    ensures started { IfOk result (λ judged. StartsWith
-        (C.meaning checker.now) info.now (plain tree.old) judged.interim) }
+    ensures suite { IfOk result (λ checked. checked.suite ≡ info.now.context.cipher_suite) }
+    ensures required { IfOk result (λ checked. Requires info.now.context checked.required) }
+    ensures started { IfOk result (λ checked. StartsWith
+        (C.meaning checker.now) info.now (plain tree.old) checked.interim) }
     ensures refused { IfErr result (FailsWith (C.meaning checker.now) info.now (plain tree.old)) }
 {
     let required = validated_requirements(alloc, suite, info, tree, checker)?;
     match verified_interim_hash(alloc, suite, info, tree, checker) {
-        Ok(interim) => Ok(Judged {
+        Ok(interim) => Ok(StartParts {
             suite,
             required,
             interim,
@@ -212,7 +212,7 @@ fn check_tree<C: SignatureCheck>(
     info: &GroupInfo,
     mut tree: PublicTree,
     checker: &C,
-) -> Result<(StagedTree, Judged), (StartFault, PublicTree)>
+) -> Result<(StagedTree, StartParts), (StartFault, PublicTree)>
     requires followed { IsSupportedContext info.now.context }
     requires suite_of_context { suite ≡ info.now.context.cipher_suite }
     ensures tree { IfOk result (λ found. found.0.tree ≡ tree.tree) }
@@ -222,13 +222,13 @@ fn check_tree<C: SignatureCheck>(
     ensures started { IfOk result (λ found. StartsWith
         (C.meaning checker.now) info.now (plain tree) found.1.interim) }
     ensures refused { IfErr result (λ r. FailsWith (C.meaning checker.now) info.now (plain tree) r.0) }
-    ensures handed_back { IfErr result (λ r. plain r.1 ≡ plain tree) }
+    ensures returned_arguments { IfErr result (λ r. plain r.1 ≡ plain tree) }
 {
-    match judge(alloc, suite, info, &mut tree, checker) {
-        Ok(judged) => match StagedTree::of(alloc, tree) {
-            Ok(tree) => Ok((tree, judged)),
+    match check_info_and_tree(alloc, suite, info, &mut tree, checker) {
+        Ok(checked) => match StagedTree::of(alloc, tree) {
+            Ok(tree) => Ok((tree, checked)),
             Err(tree) => {
-                drop(judged);
+                drop(checked);
                 Err((StartFault::OutOfMemory, tree))
             }
         },
@@ -242,7 +242,7 @@ fn check_embedded_tree<C: SignatureCheck>(
     suite: Suite,
     info: &GroupInfo,
     checker: &C,
-) -> Result<(StagedTree, Judged), StartFault>
+) -> Result<(StagedTree, StartParts), StartFault>
     requires followed { IsSupportedContext info.now.context }
     requires suite_of_context { suite ≡ info.now.context.cipher_suite }
     ensures settled { IfOk result (λ found. IsSettled found.0) }
@@ -264,14 +264,15 @@ fn check_embedded_tree<C: SignatureCheck>(
     }
 }
 
-/// Does the same with the tree that is passed, or else with the one in the GroupInfo. On error returns what was passed.
+/// Does the same with the tree that is passed, otherwise with the one in the GroupInfo. On error returns what was
+/// passed.
 pub(crate) fn check_start<C: SignatureCheck>(
     alloc: Global,
     suite: Suite,
     info: &GroupInfo,
     tree: Option<PublicTree>,
     checker: &C,
-) -> Result<(StagedTree, Judged), (StartFault, Option<PublicTree>)>
+) -> Result<(StagedTree, StartParts), (StartFault, Option<PublicTree>)>
     requires followed { IsSupportedContext info.now.context }
     requires suite_of_context { suite ≡ info.now.context.cipher_suite }
     ensures settled { IfOk result (λ found. IsSettled found.0) }
@@ -281,7 +282,7 @@ pub(crate) fn check_start<C: SignatureCheck>(
         info.now (option_map plain tree) (state_in profile info.now found.0.tree found.1.interim)) }
     ensures refused { IfErr result (λ r. IsStartFault (C.meaning checker.now) info.now
         (option_map plain tree) r.0) }
-    ensures handed_back { IfErr result (λ r. option_map plain r.1 ≡ option_map plain tree) }
+    ensures returned_arguments { IfErr result (λ r. option_map plain r.1 ≡ option_map plain tree) }
     ensures no_extension { tree ≡ None → extension_of 2 info.now.extensions ≡ None
         → IsErrAnd result (λ r. r.0 ≡ StartFault.NoTree) }
 {

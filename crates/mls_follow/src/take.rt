@@ -8,18 +8,18 @@ ghost use Rattle.mls_msgs.specs.Tbs.{confirmed_input};
 ghost use Rattle.mls_msgs.specs.declared.framed_content.Content.TheVariants as contents;
 ghost use Rattle.mls_hash.specs.SuiteHash.{hash_of};
 ghost use Rattle.mls_msgs.specs.declared.framed_content.Sender.TheVariants.{Member, NewMemberCommit};
-ghost use Rattle.mls_apply.specs.ContextExtensions.{brought};
+ghost use Rattle.mls_apply.specs.ContextExtensions.{proposed_extensions};
 ghost use Rattle.mls_apply.specs.Senders.{is_present};
 ghost use Rattle.mls_apply.specs.AppliedList.{outcome};
 ghost use Rattle.mls_apply.specs.JoinRules.{join_items};
 ghost use Rattle.mls_apply.specs.RuleLists.{first_failing};
 ghost use Rattle.mls_follow.specs.GroupModel.{group_state, with_known};
-ghost use Rattle.mls_follow.specs.FollowerInvariant.{IsJudged};
-ghost use Rattle.mls_follow.specs.MessageRules.{changed_tree, external_commit_refusal, frame_refusal, handshake_refusal, if_full, joiner_refusal, joiner_rules, outcome_rules, outside_refusal, outside_rules, proposal_refusal, required_after, rules_under, reference_of, sender_refusal};
+ghost use Rattle.mls_follow.specs.FollowerInvariant.{HasUniqueKeysAndValidLeaves};
+ghost use Rattle.mls_follow.specs.MessageRules.{changed_tree, external_commit_refusal, frame_refusal, handshake_refusal, if_full, joiner_refusal, joiner_rules, applied_tree_rules, outside_refusal, outside_rules, proposal_refusal, required_after, rules_with_requirements, reference_of, sender_refusal};
 ghost use Rattle.mls_follow.specs.NextState.{after_commit, after_content, after_join, after_outside, after_proposal, after_sender, after_tree, with_extensions, with_list};
 ghost use Rattle.mls_follow.specs.State.{HasEncoding, EncodesMessage, last_epoch};
-ghost use Rattle.mls_follow.specs.Acceptance.{Refuses};
-ghost use Rattle.mls_follow.specs.Runs.{Takes};
+ghost use Rattle.mls_follow.specs.Acceptance.{FailsWithRule};
+ghost use Rattle.mls_follow.specs.Runs.{IsTransition};
 
 use crate::changed_tree_check::TreeRules;
 use crate::commit_changes::{check_items, check_join_items, stage_commit};
@@ -49,18 +49,18 @@ impl Group {
     ) -> Result<Taken, Refusal>
         requires present { IsTrue (is_present self.old.tree.tree sent.now.sender) }
         requires referenced { IsSome (reference_of self.old.context sent.now.auth.now) }
-        ensures kept { OnOk result (proposal_refusal (C.meaning checker.now) (group_state self.old)
+        ensures rules_hold { OnOk result (proposal_refusal (C.meaning checker.now) (group_state self.old)
             sent.now.auth.now sent.now.sender sent.now.proposal.now ≡ None) }
         ensures next { IfOk result (λ taken. option_map
             (after_proposal (group_state self.old) sent.now.sender sent.now.proposal.now)
             (reference_of self.old.context sent.now.auth.now)
             ≡ Some (record { taken = taken; state = group_state self.new })) }
-        ensures refused { IfErr result (Refuses (proposal_refusal (C.meaning checker.now) (group_state self.old)
+        ensures refused { IfErr result (FailsWithRule (proposal_refusal (C.meaning checker.now) (group_state self.old)
             sent.now.auth.now sent.now.sender sent.now.proposal.now)) }
-        ensures stays { OnErr result (group_state self.new ≡ group_state self.old) }
+        ensures unchanged_on_error { OnErr result (group_state self.new ≡ group_state self.old) }
     {
         let reference = check_proposal_message(alloc, self, checker, sent)?;
-        Ok(self.keep(alloc, reference, sent.sender, sent.proposal)?)
+        Ok(self.store_proposal(alloc, reference, sent.sender, sent.proposal)?)
     }
 
     /// Processes a proposal that a member has sent and signed.
@@ -74,16 +74,16 @@ impl Group {
     ) -> Result<Taken, Refusal>
         requires member { IsSome (leaf_at 0 self.old.tree.tree message.now.sender) }
         requires referenced { IsSome (reference_of self.old.context message.now.auth.now) }
-        ensures kept { OnOk result (handshake_refusal (C.meaning checker.now)
+        ensures rules_hold { OnOk result (handshake_refusal (C.meaning checker.now)
             (group_state self.old) self.old.required
             message.now.auth.now message.now.sender (contents.Proposal proposal.now) ≡ None) }
         ensures next { IfOk result (λ taken. after_content (group_state self.old) message.now.auth.now message.now.sender
             (contents.Proposal proposal.now) ≡ Some
             (record { taken = taken; state = group_state self.new })) }
-        ensures refused { IfErr result (Refuses (handshake_refusal (C.meaning checker.now)
+        ensures refused { IfErr result (FailsWithRule (handshake_refusal (C.meaning checker.now)
             (group_state self.old)
             self.old.required message.now.auth.now message.now.sender (contents.Proposal proposal.now))) }
-        ensures stays { OnErr result (group_state self.new ≡ group_state self.old) }
+        ensures unchanged_on_error { OnErr result (group_state self.new ≡ group_state self.old) }
     {
         let sent = SentProposal {
             auth: message.auth,
@@ -103,11 +103,11 @@ impl Group {
         terms: NextExtensions,
     ) -> Result<Taken, Refusal>
         requires present { IsTrue (is_present self.old.tree.tree commit.now.committer) }
-        requires later { self.old.context.epoch < last_epoch }
+        requires not_last_epoch { self.old.context.epoch < last_epoch }
         requires terms { RequiresBy terms.extensions terms.required }
-        requires judged { IsJudged (C.meaning checker.now) (group_state self.old) }
-        ensures kept { let o = outcome commit.now.items.items self.old.tree.tree in
-            OnOk result (first_failing (outcome_rules (C.meaning checker.now)
+        requires checked { HasUniqueKeysAndValidLeaves (C.meaning checker.now) (group_state self.old) }
+        ensures rules_hold { let o = outcome commit.now.items.items self.old.tree.tree in
+            OnOk result (first_failing (applied_tree_rules (C.meaning checker.now)
             (group_state self.old) terms.required commit.now.committer commit.now.path.now o)
             ≡ None) }
         ensures next { let o = outcome commit.now.items.items self.old.tree.tree in
@@ -117,9 +117,9 @@ impl Group {
             (changed_tree H commit.now.committer commit.now.path.now o)
             ≡ Some (record { taken = taken; state = group_state self.new })) }
         ensures refused { let o = outcome commit.now.items.items self.old.tree.tree in
-            IfErr result (Refuses (first_failing (outcome_rules (C.meaning checker.now)
+            IfErr result (FailsWithRule (first_failing (applied_tree_rules (C.meaning checker.now)
             (group_state self.old) terms.required commit.now.committer commit.now.path.now o))) }
-        ensures stays { OnErr result (group_state self.new ≡ group_state self.old) }
+        ensures unchanged_on_error { OnErr result (group_state self.new ≡ group_state self.old) }
     {
         let transcript = match self.transcript(alloc, commit.auth) {
             Ok(transcript) => transcript,
@@ -137,10 +137,10 @@ impl Group {
         match stage_commit(alloc, &rules, checker, &mut self.tree, commit) {
             Ok(tree_hash) => {
                 self.tree.settle();
-                Ok(self.enter(tree_hash, transcript, terms))
+                Ok(self.begin_epoch(tree_hash, transcript, terms))
             }
             Err(refusal) => {
-                self.tree.take_back();
+                self.tree.rollback();
                 Err(refusal)
             }
         }
@@ -154,11 +154,11 @@ impl Group {
         commit: &ResolvedCommit<'_>,
     ) -> Result<Taken, Refusal>
         requires present { IsTrue (is_present self.old.tree.tree commit.now.committer) }
-        requires later { self.old.context.epoch < last_epoch }
-        requires judged { IsJudged (C.meaning checker.now) (group_state self.old) }
-        ensures kept { let o = outcome commit.now.items.items self.old.tree.tree in
-            let required = required_after self.old.required (brought commit.now.items.items) in
-            OnOk result (first_failing (rules_under (C.meaning checker.now)
+        requires not_last_epoch { self.old.context.epoch < last_epoch }
+        requires checked { HasUniqueKeysAndValidLeaves (C.meaning checker.now) (group_state self.old) }
+        ensures rules_hold { let o = outcome commit.now.items.items self.old.tree.tree in
+            let required = required_after self.old.required (proposed_extensions commit.now.items.items) in
+            OnOk result (first_failing (rules_with_requirements (C.meaning checker.now)
             (group_state self.old) commit.now.committer commit.now.path.now o required) ≡ None) }
         ensures next { let o = outcome commit.now.items.items self.old.tree.tree in
             let H = hash_of self.old.context.cipher_suite in
@@ -167,10 +167,10 @@ impl Group {
             (changed_tree H commit.now.committer commit.now.path.now o)
             ≡ Some (record { taken = taken; state = group_state self.new })) }
         ensures refused { let o = outcome commit.now.items.items self.old.tree.tree in
-            let required = required_after self.old.required (brought commit.now.items.items) in
-            IfErr result (Refuses (first_failing (rules_under (C.meaning checker.now)
+            let required = required_after self.old.required (proposed_extensions commit.now.items.items) in
+            IfErr result (FailsWithRule (first_failing (rules_with_requirements (C.meaning checker.now)
             (group_state self.old) commit.now.committer commit.now.path.now o required))) }
-        ensures stays { OnErr result (group_state self.new ≡ group_state self.old) }
+        ensures unchanged_on_error { OnErr result (group_state self.new ≡ group_state self.old) }
     {
         let terms = next_extensions_after(alloc, self, commit.items.as_slice())?;
         self.apply_commit(alloc, checker, commit, terms)
@@ -188,18 +188,18 @@ impl Group {
         requires member { IsSome (leaf_at 0 self.old.tree.tree received.now.committer) }
         requires hashed { IsSome (confirmed_input auth.now) }
         requires commit { IsTrue (is_commit auth.now.content.content) }
-        requires judged { IsJudged (C.meaning checker.now) (group_state self.old) }
-        ensures kept { OnOk result (handshake_refusal (C.meaning checker.now)
+        requires checked { HasUniqueKeysAndValidLeaves (C.meaning checker.now) (group_state self.old) }
+        ensures rules_hold { OnOk result (handshake_refusal (C.meaning checker.now)
             (with_known (group_state self.old) received.now.known.now) self.old.required
             auth.now received.now.committer (contents.Commit received.now.commit.now) ≡ None) }
         ensures next { IfOk result (λ taken. after_content
             (with_known (group_state self.old) received.now.known.now) auth.now received.now.committer
             (contents.Commit received.now.commit.now) ≡ Some
             (record { taken = taken; state = group_state self.new })) }
-        ensures refused { IfErr result (Refuses (handshake_refusal (C.meaning checker.now)
+        ensures refused { IfErr result (FailsWithRule (handshake_refusal (C.meaning checker.now)
             (with_known (group_state self.old) received.now.known.now) self.old.required
             auth.now received.now.committer (contents.Commit received.now.commit.now))) }
-        ensures stays { OnErr result (group_state self.new ≡ group_state self.old) }
+        ensures unchanged_on_error { OnErr result (group_state self.new ≡ group_state self.old) }
     {
         let items = check_items(alloc, self, checker, received)?;
         let resolved = ResolvedCommit {
@@ -225,17 +225,17 @@ impl Group {
         requires member { IsSome (leaf_at 0 self.old.tree.tree message.now.sender) }
         requires hashed { IsSome (confirmed_input message.now.auth.now) }
         requires commit { IsTrue (is_commit message.now.auth.now.content.content) }
-        requires judged { IsJudged (C.meaning checker.now) (group_state self.old) }
-        ensures kept { OnOk result (handshake_refusal (C.meaning checker.now)
+        requires checked { HasUniqueKeysAndValidLeaves (C.meaning checker.now) (group_state self.old) }
+        ensures rules_hold { OnOk result (handshake_refusal (C.meaning checker.now)
             (group_state self.old) self.old.required
             message.now.auth.now message.now.sender (contents.Commit commit.now) ≡ None) }
         ensures next { IfOk result (λ taken. after_content (group_state self.old) message.now.auth.now message.now.sender
             (contents.Commit commit.now) ≡ Some
             (record { taken = taken; state = group_state self.new })) }
-        ensures refused { IfErr result (Refuses (handshake_refusal (C.meaning checker.now)
+        ensures refused { IfErr result (FailsWithRule (handshake_refusal (C.meaning checker.now)
             (group_state self.old)
             self.old.required message.now.auth.now message.now.sender (contents.Commit commit.now))) }
-        ensures stays { OnErr result (group_state self.new ≡ group_state self.old) }
+        ensures unchanged_on_error { OnErr result (group_state self.new ≡ group_state self.old) }
     {
         let known = replace(&mut self.known, PendingProposals::new(alloc));
         let received = ReceivedCommit {
@@ -261,15 +261,15 @@ impl Group {
     ) -> Result<Taken, Refusal>
         requires hashed { IsSome (confirmed_input message.now.auth.now) }
         requires referenced { IsSome (reference_of self.old.context message.now.auth.now) }
-        requires judged { IsJudged (C.meaning checker.now) (group_state self.old) }
-        ensures kept { OnOk result (sender_refusal (C.meaning checker.now) (group_state self.old)
+        requires checked { HasUniqueKeysAndValidLeaves (C.meaning checker.now) (group_state self.old) }
+        ensures rules_hold { OnOk result (sender_refusal (C.meaning checker.now) (group_state self.old)
             self.old.required message.now.auth.now (Member message.now.sender) ≡ None) }
         ensures next { IfOk result (λ taken. after_sender (group_state self.old) message.now.auth.now
             (Member message.now.sender)
             ≡ Some (record { taken = taken; state = group_state self.new })) }
-        ensures refused { IfErr result (Refuses (sender_refusal (C.meaning checker.now) (group_state self.old)
+        ensures refused { IfErr result (FailsWithRule (sender_refusal (C.meaning checker.now) (group_state self.old)
             self.old.required message.now.auth.now (Member message.now.sender))) }
-        ensures stays { OnErr result (group_state self.new ≡ group_state self.old) }
+        ensures unchanged_on_error { OnErr result (group_state self.new ≡ group_state self.old) }
     {
         let auth = message.auth;
         check_member_frame(alloc, self, checker, auth, message.sender)?;
@@ -292,14 +292,14 @@ impl Group {
     ) -> Result<Taken, Refusal>
         requires present { IsTrue (is_present self.old.tree.tree auth.now.content.sender) }
         requires referenced { IsSome (reference_of self.old.context auth.now) }
-        ensures kept { OnOk result (outside_refusal (C.meaning checker.now) (group_state self.old)
+        ensures rules_hold { OnOk result (outside_refusal (C.meaning checker.now) (group_state self.old)
             auth.now auth.now.content.sender ≡ None) }
         ensures next { IfOk result (λ taken. after_outside (group_state self.old) auth.now auth.now.content.sender
             auth.now.content.content
             ≡ Some (record { taken = taken; state = group_state self.new })) }
-        ensures refused { IfErr result (Refuses (outside_refusal (C.meaning checker.now) (group_state self.old)
+        ensures refused { IfErr result (FailsWithRule (outside_refusal (C.meaning checker.now) (group_state self.old)
             auth.now auth.now.content.sender)) }
-        ensures stays { OnErr result (group_state self.new ≡ group_state self.old) }
+        ensures unchanged_on_error { OnErr result (group_state self.new ≡ group_state self.old) }
     {
         let proposal = check_outside_frame(alloc, self, checker, auth)?;
         let sent = SentProposal {
@@ -320,14 +320,14 @@ impl Group {
     ) -> Result<Taken, Refusal>
         requires present { IsTrue (is_present self.old.tree.tree auth.now.content.sender) }
         requires referenced { IsSome (reference_of self.old.context auth.now) }
-        ensures kept { OnOk result (first_failing (if_full self.old.profile (outside_rules
+        ensures rules_hold { OnOk result (first_failing (if_full self.old.profile (outside_rules
             (C.meaning checker.now) (group_state self.old) auth.now auth.now.content.sender)) ≡ None) }
         ensures next { IfOk result (λ taken. after_outside (group_state self.old) auth.now auth.now.content.sender
             auth.now.content.content
             ≡ Some (record { taken = taken; state = group_state self.new })) }
-        ensures refused { IfErr result (Refuses (first_failing (if_full self.old.profile (outside_rules
+        ensures refused { IfErr result (FailsWithRule (first_failing (if_full self.old.profile (outside_rules
             (C.meaning checker.now) (group_state self.old) auth.now auth.now.content.sender)))) }
-        ensures stays { OnErr result (group_state self.new ≡ group_state self.old) }
+        ensures unchanged_on_error { OnErr result (group_state self.new ≡ group_state self.old) }
     {
         match self.profile {
             Profile::Members => Err(Refusal::SenderNotMember),
@@ -347,15 +347,15 @@ impl Group {
         requires path { IsSome commit.now.path }
         requires hashed { IsSome (confirmed_input auth.now) }
         requires commit { IsTrue (is_commit auth.now.content.content) }
-        requires judged { IsJudged (C.meaning checker.now) (group_state self.old) }
-        ensures kept { OnOk result (external_commit_refusal (C.meaning checker.now) (group_state self.old)
+        requires checked { HasUniqueKeysAndValidLeaves (C.meaning checker.now) (group_state self.old) }
+        ensures rules_hold { OnOk result (external_commit_refusal (C.meaning checker.now) (group_state self.old)
             self.old.required commit.now ≡ None) }
         ensures next { IfOk result (λ taken. after_commit (group_state self.old) auth.now NewMemberCommit commit.now
             (Some (join_items commit.now.proposals))
             ≡ Some (record { taken = taken; state = group_state self.new })) }
-        ensures refused { IfErr result (Refuses (external_commit_refusal (C.meaning checker.now)
+        ensures refused { IfErr result (FailsWithRule (external_commit_refusal (C.meaning checker.now)
             (group_state self.old) self.old.required commit.now)) }
-        ensures stays { OnErr result (group_state self.new ≡ group_state self.old) }
+        ensures unchanged_on_error { OnErr result (group_state self.new ≡ group_state self.old) }
     {
         let items = check_join_items(alloc, self, commit)?;
         let resolved = ResolvedCommit {
@@ -377,20 +377,21 @@ impl Group {
         auth: &Authenticated,
     ) -> Result<Taken, Refusal>
         requires hashed { IsSome (confirmed_input auth.now) }
-        requires judged { IsJudged (C.meaning checker.now) (group_state self.old) }
-        ensures kept { OnOk result (joiner_refusal (C.meaning checker.now) (group_state self.old)
+        requires checked { HasUniqueKeysAndValidLeaves (C.meaning checker.now) (group_state self.old) }
+        ensures rules_hold { OnOk result (joiner_refusal (C.meaning checker.now) (group_state self.old)
             self.old.required auth.now auth.now.content.content ≡ None) }
         ensures next { IfOk result (λ taken. after_join (group_state self.old) auth.now auth.now.content.content
             ≡ Some (record { taken = taken; state = group_state self.new })) }
-        ensures refused { IfErr result (Refuses (joiner_refusal (C.meaning checker.now) (group_state self.old)
+        ensures refused { IfErr result (FailsWithRule (joiner_refusal (C.meaning checker.now) (group_state self.old)
             self.old.required auth.now auth.now.content.content)) }
-        ensures stays { OnErr result (group_state self.new ≡ group_state self.old) }
+        ensures unchanged_on_error { OnErr result (group_state self.new ≡ group_state self.old) }
     {
         let commit = check_joiner_frame(alloc, self, checker, auth)?;
         self.take_external_commit(alloc, checker, auth, commit)
     }
 
-    /// Processes an AuthenticatedContent of such a client in the full profile. The members' profile refuses it.
+    /// Processes an AuthenticatedContent of a client that joins with a commit (RFC 9420, 12.4.3.2) in the full profile. The
+    /// members' profile refuses it.
     #[tactic(auto, unfolding(crate::specs::MessageRules::joiner_refusal))]
     fn take_joiner<C: SignatureCheck>(
         &mut self,
@@ -399,14 +400,14 @@ impl Group {
         auth: &Authenticated,
     ) -> Result<Taken, Refusal>
         requires hashed { IsSome (confirmed_input auth.now) }
-        requires judged { IsJudged (C.meaning checker.now) (group_state self.old) }
-        ensures kept { OnOk result (first_failing (if_full self.old.profile (joiner_rules
+        requires checked { HasUniqueKeysAndValidLeaves (C.meaning checker.now) (group_state self.old) }
+        ensures rules_hold { OnOk result (first_failing (if_full self.old.profile (joiner_rules
             (C.meaning checker.now) (group_state self.old) self.old.required auth.now auth.now.content.content)) ≡ None) }
         ensures next { IfOk result (λ taken. after_join (group_state self.old) auth.now auth.now.content.content
             ≡ Some (record { taken = taken; state = group_state self.new })) }
-        ensures refused { IfErr result (Refuses (first_failing (if_full self.old.profile (joiner_rules
+        ensures refused { IfErr result (FailsWithRule (first_failing (if_full self.old.profile (joiner_rules
             (C.meaning checker.now) (group_state self.old) self.old.required auth.now auth.now.content.content)))) }
-        ensures stays { OnErr result (group_state self.new ≡ group_state self.old) }
+        ensures unchanged_on_error { OnErr result (group_state self.new ≡ group_state self.old) }
     {
         match self.profile {
             Profile::Members => Err(Refusal::SenderNotMember),
@@ -424,17 +425,17 @@ impl Group {
     ) -> Result<Taken, Refusal>
         requires hashed { IsSome (confirmed_input auth.now) }
         requires referenced { IsSome (reference_of self.old.context auth.now) }
-        requires judged { IsJudged (C.meaning checker.now) (group_state self.old) }
-        ensures kept { OnOk result (frame_refusal (C.meaning checker.now)
+        requires checked { HasUniqueKeysAndValidLeaves (C.meaning checker.now) (group_state self.old) }
+        ensures rules_hold { OnOk result (frame_refusal (C.meaning checker.now)
             (group_state self.old) self.old.required
             auth.now ≡ None) }
         ensures next { IfOk result (λ taken. after_sender
             (group_state self.old) auth.now auth.now.content.sender
             ≡ Some (record { taken = taken; state = group_state self.new })) }
-        ensures refused { IfErr result (Refuses (frame_refusal (C.meaning checker.now)
+        ensures refused { IfErr result (FailsWithRule (frame_refusal (C.meaning checker.now)
             (group_state self.old)
             self.old.required auth.now)) }
-        ensures stays { OnErr result (group_state self.new ≡ group_state self.old) }
+        ensures unchanged_on_error { OnErr result (group_state self.new ≡ group_state self.old) }
     {
         check_header(self, auth)?;
         match auth.content().sender {
@@ -456,9 +457,9 @@ impl Group {
         message: &Message,
     ) -> Result<Taken, Refusal>
         requires input { HasEncoding self.old.profile message.now }
-        requires judged { IsJudged (C.meaning checker.now) (group_state self.old) }
+        requires checked { HasUniqueKeysAndValidLeaves (C.meaning checker.now) (group_state self.old) }
         ensures { (bytes : List ℕ) → EncodesMessage self.old.profile message.now bytes
-            → Takes (C.meaning checker.now) (group_state self.old) bytes result
+            → IsTransition (C.meaning checker.now) (group_state self.old) bytes result
             (group_state self.new) }
     {
         match message {

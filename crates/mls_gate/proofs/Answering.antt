@@ -11,13 +11,13 @@ use Rattle.mls_follow.specs.declared.taken.Taken.{Taken}
 use Rattle.mls_report.specs.Finding.{finding_line}
 use Rattle.mls_report.specs.SignaturesReport.{HasSignatures}
 use Rattle.mls_report.specs.declared.finding.Finding.{Finding}
-use Rattle.mls_gate.specs.Answers.{Outcome, Goes, Ends, Begins, Queries, Judges, StoresState, Responds, Answers, message_query, ready_line, judged_line, stored_line, no_file_line, broken_line}
+use Rattle.mls_gate.specs.Answers.{Outcome, Goes, Ends, Begins, Queries, Processes, StoresState, Responds, Answers, message_query, ready_line, processed_line, stored_line, no_file_line, broken_line}
 use Rattle.mls_gate.specs.FirstStates.{IsFirstState, Declines}
 use Rattle.mls_gate.specs.GateSteps.{IsReadable, IsReady, Replies, AnswersIn, IsOutcome}
 use Rattle.mls_gate.specs.Phases.{Inputs, Phase, Opening, Following}
 use Rattle.mls_gate.specs.Requests.{request_of, having_learnt}
 use Rattle.mls_gate.specs.declared.request.Request.{Request}
-use Rattle.mls_gate.specs.declared.request.Request.TheVariants.{Learn, Begin, Query, Judge, Store}
+use Rattle.mls_gate.specs.declared.request.Request.TheVariants.{Learn, Begin, Query, Process, Store}
 use Rattle.mls_gate.proofs.FirstStates.{declines-refuses}
 
 -- ---- a start
@@ -35,18 +35,18 @@ not-begun G i finding after r d = record {
 
 -- ---- a message
 
-pub queried : (G K : VerifyFn) (s t : State) (message : List ℕ) (wanted : Option (List SignatureToVerify)) (text : List ℕ) → HasSignatures s message wanted
-    → text ≡ message_query G wanted → K ≡ G → t ≡ s → Replies (Queries G s message) text false (Some (Following K t))
-queried G K s t message wanted text has e same stays = record {
-  outcome = Goes (message_query G wanted) (Following G s);
-  meets = (wanted, has, refl);
+pub queried : (G K : VerifyFn) (s t : State) (message : List ℕ) (needed : Option (List SignatureToVerify)) (text : List ℕ) → HasSignatures s message needed
+    → text ≡ message_query G needed → K ≡ G → t ≡ s → Replies (Queries G s message) text false (Some (Following K t))
+queried G K s t message needed text has e same stays = record {
+  outcome = Goes (message_query G needed) (Following G s);
+  meets = (needed, has, refl);
   is = (e, refl, λ i. Some (Following (same i) (stays i)));
 }
 
 pub judged : (G K : VerifyFn) (s t : State) (message : List ℕ) (answer : Result Taken Refusal) (text : List ℕ) → IsAnswer G s message answer t
-    → text ≡ judged_line answer t → K ≡ G → Replies (Judges G s message) text false (Some (Following K t))
+    → text ≡ processed_line answer t → K ≡ G → Replies (Processes G s message) text false (Some (Following K t))
 judged G K s t message answer text is_answer e same = record {
-  outcome = Goes (judged_line answer t) (Following G t);
+  outcome = Goes (processed_line answer t) (Following G t);
   meets = (answer, t, is_answer, refl);
   is = (e, refl, λ i. Some (Following (same i) t));
 }
@@ -74,9 +74,9 @@ pub record GoesOn (now : Phase) (body text : List ℕ) (after : Option Phase) : 
 
 by_going : (now : Phase) (body text : List ℕ) (last : Bool) (after : Option Phase) (o : Outcome) → last ≡ false → Answers now body o → IsOutcome o text last after
     → GoesOn now body text after
-by_going now body text last after (Goes told new) e meets is =
+by_going now body text last after (Goes printed new) e meets is =
     record { new = new; answers = subst (λ (t : List ℕ). Answers now body (Goes t new)) (sym is.0) meets; is = is.2 }
-by_going now body text last after (Ends told) e meets is = absurd (false≢true (sym e ∙ is.1))
+by_going now body text last after (Ends printed) e meets is = absurd (false≢true (sym e ∙ is.1))
 
 pub goes-on : (now : Phase) (body text : List ℕ) (last : Bool) (after : Option Phase) → last ≡ false → Replies (AnswersIn (Some now) body) text last after
     → GoesOn now body text after
@@ -84,19 +84,19 @@ goes-on now body text last after e r = by_going now body text last after r.outco
 
 by_ending : (now : Phase) (body text : List ℕ) (last : Bool) (after : Option Phase) (o : Outcome) → last ≡ true → Answers now body o → IsOutcome o text last after
     → Answers now body (Ends text)
-by_ending now body text last after (Ends told) e meets is = subst (λ (t : List ℕ). Answers now body (Ends t)) (sym is.0) meets
-by_ending now body text last after (Goes told new) e meets is = absurd (false≢true (sym is.1 ∙ e))
+by_ending now body text last after (Ends printed) e meets is = subst (λ (t : List ℕ). Answers now body (Ends t)) (sym is.0) meets
+by_ending now body text last after (Goes printed new) e meets is = absurd (false≢true (sym is.1 ∙ e))
 
 pub ends-there : (now : Phase) (body text : List ℕ) (last : Bool) (after : Option Phase) → last ≡ true → Replies (AnswersIn (Some now) body) text last after
     → Answers now body (Ends text)
 ends-there now body text last after e r = by_ending now body text last after r.outcome e r.meets r.is
 
 -- what the gate goes on to can answer the next record
-pub one_phase : (text told : List ℕ) (new phase : Phase) → Goes text new ≡ Goes told phase → phase ≡ new
-one_phase text told new phase e = cc
+pub one_phase : (text printed : List ℕ) (new phase : Phase) → Goes text new ≡ Goes printed phase → phase ≡ new
+one_phase text printed new phase e = cc
 
-pub no_end : {A : Type 0} (text told : List ℕ) (new : Phase) → Goes text new ≡ Ends told → A
-no_end text told new e = absurd cc
+pub no_end : {A : Type 0} (text printed : List ℕ) (new : Phase) → Goes text new ≡ Ends printed → A
+no_end text printed new e = absurd cc
 
 ready-responds : (now new : Phase) (request : Option Request) (rest text : List ℕ) → IsReady (Some now) → Responds now request rest (Goes text new) → IsReady (Some new)
 ready-responds (Opening i G) new (Some Learn) rest text r a =
@@ -105,7 +105,7 @@ ready-responds (Opening i G) new (Some Begin) rest text r (inl a) =
     subst (λ (p : Phase). IsReady (Some p)) (one_phase text (ready_line a.0) new (Following G a.0) a.2) tt
 ready-responds (Opening i G) new (Some Begin) rest text r (inr a) = no_end text (finding_line a.0) new a.2
 ready-responds (Opening i G) new (Some Query) rest text r a = no_end text broken_line new a
-ready-responds (Opening i G) new (Some Judge) rest text r a = no_end text broken_line new a
+ready-responds (Opening i G) new (Some Process) rest text r a = no_end text broken_line new a
 ready-responds (Opening i G) new (Some Store) rest text r a = no_end text broken_line new a
 ready-responds (Opening i G) new None rest text r a = no_end text broken_line new a
 ready-responds (Following G s) new (Some Learn) rest text r a =
@@ -113,8 +113,8 @@ ready-responds (Following G s) new (Some Learn) rest text r a =
 ready-responds (Following G s) new (Some Begin) rest text r a = no_end text broken_line new a
 ready-responds (Following G s) new (Some Query) rest text r a =
     subst (λ (p : Phase). IsReady (Some p)) (one_phase text (message_query G a.0) new (Following G s) a.2) tt
-ready-responds (Following G s) new (Some Judge) rest text r a =
-    subst (λ (p : Phase). IsReady (Some p)) (one_phase text (judged_line a.0 a.1) new (Following G a.1) a.3) tt
+ready-responds (Following G s) new (Some Process) rest text r a =
+    subst (λ (p : Phase). IsReady (Some p)) (one_phase text (processed_line a.0 a.1) new (Following G a.1) a.3) tt
 ready-responds (Following G s) new (Some Store) rest text r (inl a) =
     subst (λ (p : Phase). IsReady (Some p)) (one_phase text (stored_line a.0) new (Following G s) a.2) tt
 ready-responds (Following G s) new (Some Store) rest text r (inr a) =

@@ -21,7 +21,7 @@ use Rattle.mls_follow.proofs.Resumed.{one_resumption, no_resume_fault, one_resum
 use Rattle.mls_follow.proofs.ResumedOrNot.{some_resumption}
 use Rattle.mls_follow.proofs.StoredRuns.{resumed_steady}
 use Rattle.mls_report.specs.Finding.{finding_verdict}
-use Rattle.mls_report.specs.StartInputs.{IsHanded, IsHandedUnread, IsStarted, IsStartFinding, started_of}
+use Rattle.mls_report.specs.StartInputs.{IsSupplied, IsSuppliedUnread, IsStarted, IsStartFinding, started_of}
 use Rattle.mls_report.specs.StateInputs.{IsStateFinding}
 use Rattle.mls_report.specs.UniqueReports.{AreAlike}
 use Rattle.mls_report.specs.declared.finding.Finding.{Finding}
@@ -36,10 +36,10 @@ use Rattle.mls_gate.specs.Phases.{GroupFiles, Inputs, OfGroup, OfState}
 
 -- ---- a GroupInfo and a tree
 
-not_handed : (bytes : Option (List ℕ)) (t : Option RatchetTree) → IsHandedUnread bytes → IsHanded bytes t → ⊥
-not_handed None t a b = absurd a
-not_handed (Some bytes) None a b = absurd b
-not_handed (Some bytes) (Some t) a b = a b.nodes b.is_tree
+not_supplied : (bytes : Option (List ℕ)) (t : Option RatchetTree) → IsSuppliedUnread bytes → IsSupplied bytes t → ⊥
+not_supplied None t a b = absurd a
+not_supplied (Some bytes) None a b = absurd b
+not_supplied (Some bytes) (Some t) a b = a b.nodes b.is_tree
 
 -- of files that can be read only that a start is refused
 refused-only : (G : VerifyFn) (files : GroupFiles) (finding : Finding) → IsReadable (OfGroup files) → Declines G (OfGroup files) finding
@@ -47,9 +47,9 @@ refused-only : (G : VerifyFn) (files : GroupFiles) (finding : Finding) → IsRea
 refused-only G files (StartRefused fault) r d = (fault, refl)
 refused-only G files (InfoUnreadable fault) r d = absurd (d.found (messages.GroupInfo r.info) r.is_read.is_info)
 refused-only G files NotGroupInfo r d =
-    let same : d.found.0 ≡ messages.GroupInfo r.info = messages_once files.profile d.found.0 (messages.GroupInfo r.info) files.info d.found.1.spelled r.is_read.is_info.spelled in
+    let same : d.found.0 ≡ messages.GroupInfo r.info = messages_once files.profile d.found.0 (messages.GroupInfo r.info) files.info d.found.1.encoded r.is_read.is_info.encoded in
     absurd (d.found.2 r.info same)
-refused-only G files (TreeUnreadable fault) r d = absurd (not_handed files.tree r.handed d.found.2 r.is_read.is_handed)
+refused-only G files (TreeUnreadable fault) r d = absurd (not_supplied files.tree r.supplied d.found.2 r.is_read.is_supplied)
 refused-only G files (Starts started) r d = absurd (yes_no d.verdict)
 refused-only G files (ContextUnreadable fault) r d = absurd d.found
 refused-only G files UnsupportedVersion r d = absurd d.found
@@ -61,7 +61,7 @@ refused-only G files (StateRefused fault) r d = absurd d.found
 refused-only G files (TreeValid hash) r d = absurd d.found
 
 files_start : (files : GroupFiles) (signatures : List SignatureToVerify) (c : StartSignatures files signatures) → IsStarted files.profile all_good files.info files.tree c.state
-files_start files signatures c = record { info = c.info; handed = c.handed; is_read = c.is_read; start = c.has_signatures.start }
+files_start files signatures c = record { info = c.info; supplied = c.supplied; is_read = c.is_read; start = c.has_signatures.start }
 
 -- ---- the file of a state
 
@@ -151,14 +151,14 @@ first_or_refused G (OfState bytes) r =
 -- ---- with each signature good
 
 pub readable : (i : Inputs) (signatures : List SignatureToVerify) → CanStart i signatures → IsReadable i
-readable (OfGroup files) signatures c = record { info = c.info; handed = c.handed; is_read = c.is_read }
+readable (OfGroup files) signatures c = record { info = c.info; supplied = c.supplied; is_read = c.is_read }
 readable (OfState bytes) signatures c = (c.state, c.resumed)
 
 pub one_list : (i : Inputs) (ws vs : List SignatureToVerify) → CanStart i ws → CanStart i vs → ws ≡ vs
 one_list (OfGroup files) ws vs a b =
     let info = one_info files.profile files.info a.info b.info a.is_read.is_info b.is_read.is_info in
     let state = one_started files.profile all_good files.info files.tree a.state b.state (files_start files ws a) (files_start files vs b) in
-    a.has_signatures.wanted_is ∙ (λ k. start_signatures (info k) (state k).tree) ∙ sym b.has_signatures.wanted_is
+    a.has_signatures.needed_is ∙ (λ k. start_signatures (info k) (state k).tree) ∙ sym b.has_signatures.needed_is
 one_list (OfState bytes) ws vs a b =
     let state = one_resumption all_good bytes a.state b.state a.resumed b.resumed in
     a.signatures_are ∙ ap (λ (s : State). resumption_signatures s.context s.tree s.known) state ∙ sym b.signatures_are
@@ -186,10 +186,10 @@ starts_or_declined (OfGroup files) =
             start_signatures started.info s.0.tree,
             record {
               info = started.info;
-              handed = started.handed;
+              supplied = started.supplied;
               is_read = started.is_read;
               state = s.0;
-              has_signatures = record { start = started.start; wanted_is = refl };
+              has_signatures = record { start = started.start; needed_is = refl };
             },
           ))
       | inr f ↦ inr (f.0, record { found = f.1; verdict = f.2 })
@@ -203,9 +203,9 @@ starts_or_declined (OfState bytes) =
 -- ---- what holds of a first state
 
 pub first_steady : (G : VerifyFn) (i : Inputs) (s : State) → IsFirstState G i s → IsSteady s
-first_steady G (OfGroup files) s h = start_steady files.profile G h.info h.handed s h.start
+first_steady G (OfGroup files) s h = start_steady files.profile G h.info h.supplied s h.start
 first_steady G (OfState bytes) s h = resumed_steady G bytes s h
 
 pub first_resumable : (G : VerifyFn) (i : Inputs) (s : State) → IsFirstState G i s → IsResumable G s
-first_resumable G (OfGroup files) s h = start_resumable files.profile G h.info h.handed s h.start
+first_resumable G (OfGroup files) s h = start_resumable files.profile G h.info h.supplied s h.start
 first_resumable G (OfState bytes) s h = resumed_resumable G bytes s h

@@ -3,7 +3,7 @@ use Rattle.std.proofs.Common.{◌≡◌, ◌≢◌, ◌∙◌, ℕ, zero, suc, L
 use Rattle.std.specs.Prelude.{option_map}
 use Rattle.mls_check.specs.Signatures.{VerifyFn}
 use Rattle.mls_follow.specs.MessageSignatures.{message_signatures}
-use Rattle.mls_follow.specs.Runs.{IsAnswer, IsAnswered}
+use Rattle.mls_follow.specs.Runs.{IsAnswer, HasAnswer}
 use Rattle.mls_follow.specs.State.{State}
 use Rattle.mls_follow.specs.declared.refusal.Refusal.{Refusal}
 use Rattle.mls_follow.specs.declared.refusal.Refusal.TheVariants.{OutOfMemory}
@@ -22,7 +22,7 @@ use Rattle.mls_report.specs.declared.verdict.Verdict.TheVariants.{No}
 use Rattle.mls_report.proofs.LogsExist.{Begins, Breaks, comes}
 use Rattle.mls_report.proofs.ReplaysExist.{read_input, read_optional_tree}
 use Rattle.mls_gate.specs.Answers as specs
-use Rattle.mls_gate.specs.Answers.{Outcome, Goes, Ends, Answers, Responds, query_text, message_query, judged_line, ready_line, stored_line, no_file_line, broken_line}
+use Rattle.mls_gate.specs.Answers.{Outcome, Goes, Ends, Answers, Responds, query_text, message_query, processed_line, ready_line, stored_line, no_file_line, broken_line}
 use Rattle.mls_gate.specs.FirstStates.{ReadsGroup, ReadsState}
 use Rattle.mls_gate.specs.GateReport.{Turn, phase_after, answers, record_limit, IsEnding, GatesOf}
 use Rattle.mls_gate.specs.GateReports.{GateExists, StateGateExists}
@@ -31,7 +31,7 @@ use Rattle.mls_gate.specs.GateSteps.{IsReadable}
 use Rattle.mls_gate.specs.Phases.{GroupFiles, Inputs, OfGroup, OfState, Phase, Opening, Following, end_verdict}
 use Rattle.mls_gate.specs.Requests.{request_of, having_learnt}
 use Rattle.mls_gate.specs.declared.request.Request.{Request}
-use Rattle.mls_gate.specs.declared.request.Request.TheVariants.{Learn, Begin, Query, Judge, Store}
+use Rattle.mls_gate.specs.declared.request.Request.TheVariants.{Learn, Begin, Query, Process, Store}
 use Rattle.mls_gate.proofs.FirstStates.{first_or_refused, readable, starts_or_declined, first_steady}
 use Rattle.mls_gate.proofs.RecordsOnce.{RecordLines}
 use Rattle.mls_gate.proofs.Rising.{Reached, reached-none, reached-on}
@@ -42,15 +42,15 @@ own : (e : Refusal) → (◌≡◌ {A = Result Taken Refusal} (Err e) (Err OutOf
 own e memory same = memory (ap Err same)
 
 -- a message that is processed has signatures, or it is none
-some_wanted : (G : VerifyFn) (s : State) (bytes : List ℕ) (answer : Result Taken Refusal) (new : State) → IsAnswer G s bytes answer new
-    → (wanted : Option (List SignatureToVerify)) × HasSignatures s bytes wanted
-some_wanted G s bytes (Ok taken) new h =
+some_needed : (G : VerifyFn) (s : State) (bytes : List ℕ) (answer : Result Taken Refusal) (new : State) → IsAnswer G s bytes answer new
+    → (needed : Option (List SignatureToVerify)) × HasSignatures s bytes needed
+some_needed G s bytes (Ok taken) new h =
     let message = h.takes.0 in
-    (Some (message_signatures s message.message), record { message = message.message; spelled = message.spelled; same = refl })
-some_wanted G s bytes (Err e) new h =
+    (Some (message_signatures s message.message), record { message = message.message; encoded = message.encoded; same = refl })
+some_needed G s bytes (Err e) new h =
     elim (h.takes.1 (own e h.memory)) [
       | inl none ↦ (None, none.1)
-      | inr message ↦ (Some (message_signatures s message.message), record { message = message.message; spelled = message.spelled; same = refl })
+      | inr message ↦ (Some (message_signatures s message.message), record { message = message.message; encoded = message.encoded; same = refl })
     ]
 
 -- ---- a record
@@ -60,12 +60,12 @@ module _ (i : Inputs) (G : VerifyFn) (can_read : IsReadable i) where
   Here = Reached i G
 
   -- there is an answer to any message
-  some_answer : (K : VerifyFn) (s : State) (bytes : List ℕ) → HasStarted i G K s → IsAnswered K s bytes
+  some_answer : (K : VerifyFn) (s : State) (bytes : List ℕ) → HasStarted i G K s → HasAnswer K s bytes
   some_answer K s bytes h =
       let L = last_meaning h.known h.run.events in
       let run = as_run h.known h.first h.run.events s h.run.rises in
       let steady = run_steady L h.first run.calls s (first_steady h.known i h.first h.started) run.run in
-      subst (λ (M : VerifyFn). IsAnswered M s bytes) h.run.meaning (an_answer L s steady.required bytes steady.held steady.requires)
+      subst (λ (M : VerifyFn). HasAnswer M s bytes) h.run.meaning (an_answer L s steady.required bytes steady.held steady.requires)
 
   some_begin : (j : Inputs) (K : VerifyFn) → IsReadable j → (o : Outcome) × specs.Begins j K o
   some_begin j K r =
@@ -85,18 +85,18 @@ module _ (i : Inputs) (G : VerifyFn) (can_read : IsReadable i) where
   some_response (Opening j K) (Some Learn) rest r = (Goes [] (Opening j (having_learnt K rest)), refl)
   some_response (Opening j K) (Some Begin) rest r = some_begin j K (subst IsReadable (sym r.0) can_read)
   some_response (Opening j K) (Some Query) rest r = (Ends broken_line, refl)
-  some_response (Opening j K) (Some Judge) rest r = (Ends broken_line, refl)
+  some_response (Opening j K) (Some Process) rest r = (Ends broken_line, refl)
   some_response (Opening j K) (Some Store) rest r = (Ends broken_line, refl)
   some_response (Opening j K) None rest r = (Ends broken_line, refl)
   some_response (Following K s) (Some Learn) rest r = (Goes [] (Following (having_learnt K rest) s), refl)
   some_response (Following K s) (Some Begin) rest r = (Ends broken_line, refl)
   some_response (Following K s) (Some Query) rest r =
       let answer = some_answer K s rest r in
-      let wanted = some_wanted K s rest answer.0 answer.1 answer.2 in
-      (Goes (message_query K wanted.0) (Following K s), (wanted.0, wanted.1, refl))
-  some_response (Following K s) (Some Judge) rest r =
+      let needed = some_needed K s rest answer.0 answer.1 answer.2 in
+      (Goes (message_query K needed.0) (Following K s), (needed.0, needed.1, refl))
+  some_response (Following K s) (Some Process) rest r =
       let answer = some_answer K s rest r in
-      (Goes (judged_line answer.0 answer.1) (Following K answer.1), (answer.0, answer.1, answer.2, refl))
+      (Goes (processed_line answer.0 answer.1) (Following K answer.1), (answer.0, answer.1, answer.2, refl))
   some_response (Following K s) (Some Store) rest r = some_store K s
   some_response (Following K s) None rest r = (Ends broken_line, refl)
 
@@ -223,7 +223,7 @@ has_report Reads G i records read =
               can_start = s.1;
               between = Some (query_text G s.0);
               wrote = refl;
-              tells = record {
+              reports = record {
                 turns = all.turns;
                 rest = all.lines.rest;
                 text = all.text;

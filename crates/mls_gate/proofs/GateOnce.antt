@@ -12,7 +12,7 @@ use Rattle.mls_report.specs.declared.verdict.Verdict.{Verdict}
 use Rattle.mls_report.proofs.InputsOnce.{written_is, one_input, one_tree_input}
 use Rattle.mls_gate.specs.Answers.{query_text}
 use Rattle.mls_gate.specs.FirstStates.{CanStart, Declines, ReadsGroup, ReadsState}
-use Rattle.mls_gate.specs.GateReport.{phase_after, answers, still_to_come, Serves, IsEnding, TellsRecords, DeclinesGate, OpensGate, GatesOf}
+use Rattle.mls_gate.specs.GateReport.{phase_after, answers, still_to_come, Serves, IsEnding, ReportsRecords, DeclinesGate, OpensGate, GatesOf}
 use Rattle.mls_gate.specs.GateReports.{GateIsUnique, StateGateIsUnique}
 use Rattle.mls_gate.specs.Phases.{Inputs, OfGroup, OfState, Opening}
 use Rattle.mls_gate.proofs.FirstStates.{one_list, alike_findings, starts_or_declines}
@@ -24,10 +24,10 @@ written_both : (before : List ℕ) (between : Option (List ℕ)) (text line more
 written_both before between text line more a b = written_is before text (line ++ more) (Appends-trans (Some before) between (Some (before ++ text)) line more a b)
 
 -- from the same bytes
-same_records : (G : VerifyFn) (records : List ℕ) (r q w x y z : Option (List ℕ)) (v o : Verdict) (n m : Inputs) → n ≡ m → (a : TellsRecords (Opening n G) (Some records) r w x v)
-    (b : TellsRecords (Opening m G) (Some records) q y z o) → (answers a.turns ++ a.text ≡ answers b.turns ++ b.text) × (v ≡ o)
+same_records : (G : VerifyFn) (records : List ℕ) (r q w x y z : Option (List ℕ)) (v o : Verdict) (n m : Inputs) → n ≡ m → (a : ReportsRecords (Opening n G) (Some records) r w x v)
+    (b : ReportsRecords (Opening m G) (Some records) q y z o) → (answers a.turns ++ a.text ≡ answers b.turns ++ b.text) × (v ≡ o)
 same_records G records r q w x y z v o n m e a b =
-    let moved : TellsRecords (Opening m G) (Some records) r w x v = record {
+    let moved : ReportsRecords (Opening m G) (Some records) r w x v = record {
       turns = a.turns;
       rest = a.rest;
       text = a.text;
@@ -56,10 +56,10 @@ module _ (G : VerifyFn) (records : List ℕ) (Reads Others : Inputs → Type 0) 
   both_open a b =
       let inputs = one a.i b.i a.read b.read in
       let list = one_list b.i a.signatures b.signatures (subst (λ (i : Inputs). CanStart i a.signatures) inputs a.can_start) b.can_start in
-      let same = same_records G records r q a.between (Some (before ++ text)) b.between (Some (after ++ other)) v o a.i b.i inputs a.tells b.tells in (
-        inl (written_both before a.between text (query_text G a.signatures) (answers a.tells.turns ++ a.tells.text) a.wrote a.tells.wrote
+      let same = same_records G records r q a.between (Some (before ++ text)) b.between (Some (after ++ other)) v o a.i b.i inputs a.reports b.reports in (
+        inl (written_both before a.between text (query_text G a.signatures) (answers a.reports.turns ++ a.reports.text) a.wrote a.reports.wrote
             ∙ (λ k. query_text G (list k) ++ same.0 k)
-            ∙ sym (written_both after b.between other (query_text G b.signatures) (answers b.tells.turns ++ b.tells.text) b.wrote b.tells.wrote)),
+            ∙ sym (written_both after b.between other (query_text G b.signatures) (answers b.reports.turns ++ b.reports.text) b.wrote b.reports.wrote)),
         same.1,
       )
 

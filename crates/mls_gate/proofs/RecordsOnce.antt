@@ -9,7 +9,7 @@ use Rattle.mls_report.specs.Replay.{AreRecords}
 use Rattle.mls_report.specs.declared.verdict.Verdict.{Verdict}
 use Rattle.mls_report.specs.declared.verdict.Verdict.TheVariants.{No}
 use Rattle.mls_gate.specs.Answers.{Goes, Ends, Answers, broken_line}
-use Rattle.mls_gate.specs.GateReport.{Turn, AreAnswered, phase_after, answers, record_limit, IsEnding, TellsRecords}
+use Rattle.mls_gate.specs.GateReport.{Turn, AreAnswered, phase_after, answers, record_limit, IsEnding, ReportsRecords}
 use Rattle.mls_gate.specs.Phases.{Phase, end_verdict}
 use Rattle.mls_gate.proofs.AnswersOnce.{one_outcome}
 
@@ -91,14 +91,14 @@ says_once p steps.Broken steps.Record body more text other v o e same a b = absu
 says_once p steps.Broken steps.End body more text other v o e same a b = absurd cc
 
 -- what ends the gate is no record at which it goes on
-says_no_record : (p : Phase) (s : LogStep) (body more text told : List ℕ) (v : Verdict) (new : Phase) → s ≡ steps.Record → (s ≡ steps.Record → body ≡ more)
-    → Says p s body text v → Answers p more (Goes told new) → ⊥
-says_no_record p steps.Record body more text told v new e same a goes =
+says_no_record : (p : Phase) (s : LogStep) (body more text printed : List ℕ) (v : Verdict) (new : Phase) → s ≡ steps.Record → (s ≡ steps.Record → body ≡ more)
+    → Says p s body text v → Answers p more (Goes printed new) → ⊥
+says_no_record p steps.Record body more text printed v new e same a goes =
     let moved = subst (λ (x : List ℕ). Answers p x (Ends text)) (same e) a.0 in
-    ends_or_goes text told new (one_outcome p more (Ends text) (Goes told new) moved goes)
-says_no_record p steps.End body more text told v new e same a goes = absurd cc
-says_no_record p steps.Broken body more text told v new e same a goes = absurd cc
-says_no_record p steps.Over body more text told v new e same a goes = a
+    ends_or_goes text printed new (one_outcome p more (Ends text) (Goes printed new) moved goes)
+says_no_record p steps.End body more text printed v new e same a goes = absurd cc
+says_no_record p steps.Broken body more text printed v new e same a goes = absurd cc
+says_no_record p steps.Over body more text printed v new e same a goes = a
 
 behind : (all records front more rest left : List ℕ) → records ≡ front ++ more → all ≡ (records ++ rest) ++ left → all ≡ front ++ ((more ++ rest) ++ left)
 behind all records front more rest left e f =
@@ -122,8 +122,8 @@ module _ (most : ℕ) (p : Phase) (all : List ℕ) (turn : Turn) (turns : List T
       (omega (arith, bound), a.are_records.0, behind all a.records a.are_records.0 a.are_records.1 a.rest a.left a.are_records.4 a.read, a.are_records.2)
 
   -- what is answered behind it
-  told_behind : RecordLines (most - 1) turn.phase behind_first turns text verdict
-  told_behind =
+  reported_after : RecordLines (most - 1) turn.phase behind_first turns text verdict
+  reported_after =
       let bound = a.bounded in
       let same : most - length (turn ∷ turns) ≡ (most - 1) - length turns = omega (arith) in
       record {
@@ -137,22 +137,22 @@ module _ (most : ℕ) (p : Phase) (all : List ℕ) (turn : Turn) (turns : List T
         ending = subst (λ (n : ℕ). IsEnding (phase_after turn.phase turns) n a.rest (Some a.left) text verdict) same a.ending;
       }
 
-pub one_told : (most : ℕ) (p : Phase) (all : List ℕ) (turns others : List Turn) (text other : List ℕ) (v o : Verdict) → RecordLines most p all turns text v
+pub one_reported : (most : ℕ) (p : Phase) (all : List ℕ) (turns others : List Turn) (text other : List ℕ) (v o : Verdict) → RecordLines most p all turns text v
     → RecordLines most p all others other o → (answers turns ++ text ≡ answers others ++ other) × (v ≡ o)
-one_told most p all [] [] text other v o a b =
+one_reported most p all [] [] text other v o a b =
     let x = at_end most p all text v a in
     let y = at_end most p all other o b in
     let met = meets_once all a.left b.left most x.body y.body x.step y.step x.meets y.meets in
     says_once p x.step y.step x.body y.body text other v o met.0 met.2 x.says y.says
-one_told most p all [] (u ∷ us) text other v o a b =
+one_reported most p all [] (u ∷ us) text other v o a b =
     let x = at_end most p all text v a in
     let met = meets_once all a.left (behind_first most p all u us other o b) most x.body u.body x.step steps.Record x.meets (at_record most p all u us other o b) in
     absurd (says_no_record p x.step x.body u.body text u.text v u.phase met.0 met.2 x.says b.answered.0)
-one_told most p all (t ∷ ts) [] text other v o a b =
+one_reported most p all (t ∷ ts) [] text other v o a b =
     let y = at_end most p all other o b in
     let met = meets_once all b.left (behind_first most p all t ts text v a) most y.body t.body y.step steps.Record y.meets (at_record most p all t ts text v a) in
     absurd (says_no_record p y.step y.body t.body other t.text o t.phase met.0 met.2 y.says a.answered.0)
-one_told most p all (t ∷ ts) (u ∷ us) text other v o a b =
+one_reported most p all (t ∷ ts) (u ∷ us) text other v o a b =
     let after = behind_first most p all t ts text v a in
     let met = meets_once all after (behind_first most p all u us other o b) most t.body u.body steps.Record steps.Record
     (at_record most p all t ts text v a) (at_record most p all u us other o b) in
@@ -160,26 +160,26 @@ one_told most p all (t ∷ ts) (u ∷ us) text other v o a b =
     (subst (λ (x : List ℕ). Answers p x (Goes t.text t.phase)) (met.2 refl) a.answered.0) b.answered.0 in
     let said = went_text t.text u.text t.phase u.phase same in
     let phase = went_phase t.text u.text t.phase u.phase same in
-    let rest = told_behind most p all u us other o b in
+    let rest = reported_after most p all u us other o b in
     let moved = subst (λ (x : List ℕ). RecordLines (most - 1) u.phase x us other o) (sym met.1) rest in
     let back = subst (λ (q : Phase). RecordLines (most - 1) q after us other o) (sym phase) moved in
-    let more = one_told (most - 1) t.phase after ts us text other v o (told_behind most p all t ts text v a) back in (
+    let more = one_reported (most - 1) t.phase after ts us text other v o (reported_after most p all t ts text v a) back in (
       append_assoc t.text (answers ts) text ∙ (λ k. said k ++ more.0 k) ∙ sym (append_assoc u.text (answers us) other),
       more.1,
     )
 
 -- ---- as a report of the records
 
-pub record IsTold (p : Phase) (all text : List ℕ) (verdict : Verdict) : Type 0 where
+pub record IsLogReported (p : Phase) (all text : List ℕ) (verdict : Verdict) : Type 0 where
   pub turns : List Turn
   pub last : List ℕ
   pub lines : RecordLines record_limit p all turns last verdict
   pub text_is : answers turns ++ last ≡ text
 
-pub told_records : (p : Phase) (all : List ℕ) (left w0 w1 : Option (List ℕ)) (verdict : Verdict) (h : TellsRecords p (Some all) left w0 w1 verdict)
-    → IsTold p all (answers h.turns ++ h.text) verdict
-told_records p all None w0 w1 verdict h = absurd (h.serves.all_read)
-told_records p all (Some left) w0 w1 verdict h = record {
+pub reported_records : (p : Phase) (all : List ℕ) (left w0 w1 : Option (List ℕ)) (verdict : Verdict) (h : ReportsRecords p (Some all) left w0 w1 verdict)
+    → IsLogReported p all (answers h.turns ++ h.text) verdict
+reported_records p all None w0 w1 verdict h = absurd (h.serves.all_read)
+reported_records p all (Some left) w0 w1 verdict h = record {
   turns = h.turns;
   last = h.text;
   lines = record {
@@ -195,10 +195,10 @@ told_records p all (Some left) w0 w1 verdict h = record {
   text_is = refl;
 }
 
-pub one_answering : (p : Phase) (all : List ℕ) (left other w x y z : Option (List ℕ)) (v o : Verdict) (a : TellsRecords p (Some all) left w x v)
-    (b : TellsRecords p (Some all) other y z o) → (answers a.turns ++ a.text ≡ answers b.turns ++ b.text) × (v ≡ o)
+pub one_answering : (p : Phase) (all : List ℕ) (left other w x y z : Option (List ℕ)) (v o : Verdict) (a : ReportsRecords p (Some all) left w x v)
+    (b : ReportsRecords p (Some all) other y z o) → (answers a.turns ++ a.text ≡ answers b.turns ++ b.text) × (v ≡ o)
 one_answering p all left other w x y z v o a b =
-    let t = told_records p all left w x v a in
-    let u = told_records p all other y z o b in
-    let same = one_told record_limit p all t.turns u.turns t.last u.last v o t.lines u.lines in
+    let t = reported_records p all left w x v a in
+    let u = reported_records p all other y z o b in
+    let same = one_reported record_limit p all t.turns u.turns t.last u.last v o t.lines u.lines in
     (sym t.text_is ∙ same.0 ∙ u.text_is, same.1)

@@ -12,14 +12,14 @@ use Rattle.mls_gate.specs.declared.request.Request.TheVariants.{Learn}
 
 module _ {V E : Type 0} (text : V → List ℕ) (last : V → Bool) where
   -- an answer that has these lines, and ends the gate or not
-  pub replies-of : (r : Result V E) (Meets : Outcome → Type 0) (told : List ℕ) (ends : Bool) (after : Option Phase) → Replies Meets told ends after
-      → IfOk r (λ a. text a ≡ told) → IfOk r (λ a. last a ≡ ends) → IfOk r (λ a. Replies Meets (text a) (last a) after)
-  replies-of (Ok a) Meets told ends after n t l = record {
+  pub replies-of : (r : Result V E) (Meets : Outcome → Type 0) (printed : List ℕ) (ends : Bool) (after : Option Phase) → Replies Meets printed ends after
+      → IfOk r (λ a. text a ≡ printed) → IfOk r (λ a. last a ≡ ends) → IfOk r (λ a. Replies Meets (text a) (last a) after)
+  replies-of (Ok a) Meets printed ends after n t l = record {
     outcome = n.outcome;
     meets = n.meets;
-    is = subst (λ (x : List ℕ). IsOutcome n.outcome x (last a) after) (sym t) (subst (λ (x : Bool). IsOutcome n.outcome told x after) (sym l) n.is);
+    is = subst (λ (x : List ℕ). IsOutcome n.outcome x (last a) after) (sym t) (subst (λ (x : Bool). IsOutcome n.outcome printed x after) (sym l) n.is);
   }
-  replies-of (Err e) Meets told ends after n t l = tt
+  replies-of (Err e) Meets printed ends after n t l = tt
 
   -- a request that has no answer in the phase
   pub broken-at : (r : Result V E) (o p : Option Phase) (request : Option Request) (rest : List ℕ) (after : Option Phase) → o ≡ p

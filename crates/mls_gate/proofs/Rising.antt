@@ -5,7 +5,7 @@ use Rattle.mls_check.specs.Signatures.{VerifyFn, Extends}
 use Rattle.mls_check.proofs.ReceiptSets.{with_receipt_extends}
 use Rattle.mls_follow.specs.RisingRuns.{Event, IsRisingRun, last_meaning}
 use Rattle.mls_follow.specs.RisingRuns.Event.{Received, Learned}
-use Rattle.mls_follow.specs.Runs.{Call, Takes, IsAnswer}
+use Rattle.mls_follow.specs.Runs.{Call, IsTransition, IsAnswer}
 use Rattle.mls_follow.specs.State.{State}
 use Rattle.mls_follow.specs.StoredRuns.{IsResumable}
 use Rattle.mls_follow.specs.Validity.{IsValidState}
@@ -17,14 +17,14 @@ use Rattle.mls_follow.proofs.ResumableStays.{resumable_stays}
 use Rattle.mls_follow.proofs.RisingRuns.{as_run, rising_extends}
 use Rattle.mls_follow.proofs.StoredRuns.{resumable_resumes}
 use Rattle.mls_report.specs.Finding.{finding_line}
-use Rattle.mls_gate.specs.Answers.{Goes, Answers, Responds, broken_line, judged_line, message_query, ready_line, stored_line, no_file_line}
+use Rattle.mls_gate.specs.Answers.{Goes, Answers, Responds, broken_line, processed_line, message_query, ready_line, stored_line, no_file_line}
 use Rattle.mls_gate.specs.FirstStates.{IsFirstState}
 use Rattle.mls_gate.specs.GateReport.{Turn, AreAnswered, phase_after}
 use Rattle.mls_gate.specs.GateRuns.{HasStarted, GatesRise, GatesAreValid, GateAnswersAreTrusted, GateStatesResume}
 use Rattle.mls_gate.specs.Phases.{Inputs, Phase, Opening, Following}
 use Rattle.mls_gate.specs.Requests.{request_of, with_receipts, having_learnt}
 use Rattle.mls_gate.specs.declared.request.Request.{Request}
-use Rattle.mls_gate.specs.declared.request.Request.TheVariants.{Learn, Begin, Query, Judge, Store}
+use Rattle.mls_gate.specs.declared.request.Request.TheVariants.{Learn, Begin, Query, Process, Store}
 use Rattle.mls_gate.proofs.Answering.{one_phase, no_end}
 use Rattle.mls_gate.proofs.FirstStates.{first_resumable}
 
@@ -48,8 +48,8 @@ learnt_extends G bytes = receipts_extend (length bytes / 32) G bytes
 -- ---- one event more
 
 after_message : (G : VerifyFn) (s : State) (events : List Event) (mid new : State) (call : Call) → IsRisingRun G s events mid
-    → Takes (last_meaning G events) mid call.bytes call.answer new → IsRisingRun G s (events ++ Received call ∷ []) new
-after_message G s [] mid new call h takes = (new, subst (λ (t : State). Takes G t call.bytes call.answer new) h takes, refl)
+    → IsTransition (last_meaning G events) mid call.bytes call.answer new → IsRisingRun G s (events ++ Received call ∷ []) new
+after_message G s [] mid new call h takes = (new, subst (λ (t : State). IsTransition G t call.bytes call.answer new) h takes, refl)
 after_message G s (Received c ∷ events) mid new call h takes = (h.0, h.1, after_message G h.0 events mid new call h.2 takes)
 after_message G s (Learned K ∷ events) mid new call h takes = (h.0, after_message K s events mid new call h.1 takes)
 
@@ -114,7 +114,7 @@ module _ (i : Inputs) (G : VerifyFn) where
         run = record {
           events = r.run.events ++ Received call ∷ [];
           rises = after_message r.known r.first r.run.events s new call r.run.rises
-              (subst (λ (M : VerifyFn). Takes M s message answer new) (sym r.run.meaning) h.takes);
+              (subst (λ (M : VerifyFn). IsTransition M s message answer new) (sym r.run.meaning) h.takes);
           meaning = meaning_message r.known r.run.events call ∙ r.run.meaning;
         };
       }
@@ -126,7 +126,7 @@ module _ (i : Inputs) (G : VerifyFn) where
       subst Reached (one_phase text (ready_line a.0) new (Following K a.0) a.2) (starts j K a.0 r a.1)
   by_request (Opening j K) new (Some Begin) rest text r (inr a) = no_end text (finding_line a.0) new a.2
   by_request (Opening j K) new (Some Query) rest text r a = no_end text broken_line new a
-  by_request (Opening j K) new (Some Judge) rest text r a = no_end text broken_line new a
+  by_request (Opening j K) new (Some Process) rest text r a = no_end text broken_line new a
   by_request (Opening j K) new (Some Store) rest text r a = no_end text broken_line new a
   by_request (Opening j K) new None rest text r a = no_end text broken_line new a
   by_request (Following K s) new (Some Learn) rest text r a =
@@ -134,8 +134,8 @@ module _ (i : Inputs) (G : VerifyFn) where
   by_request (Following K s) new (Some Begin) rest text r a = no_end text broken_line new a
   by_request (Following K s) new (Some Query) rest text r a =
       subst Reached (one_phase text (message_query K a.0) new (Following K s) a.2) r
-  by_request (Following K s) new (Some Judge) rest text r a =
-      subst Reached (one_phase text (judged_line a.0 a.1) new (Following K a.1) a.3) (takes K s a.1 rest a.0 r a.2)
+  by_request (Following K s) new (Some Process) rest text r a =
+      subst Reached (one_phase text (processed_line a.0 a.1) new (Following K a.1) a.3) (takes K s a.1 rest a.0 r a.2)
   by_request (Following K s) new (Some Store) rest text r (inl a) =
       subst Reached (one_phase text (stored_line a.0) new (Following K s) a.2) r
   by_request (Following K s) new (Some Store) rest text r (inr a) =

@@ -12,7 +12,7 @@ use Rattle.mls_report.specs.declared.verdict.Verdict.{Verdict}
 use Rattle.mls_report.specs.declared.verdict.Verdict.TheVariants.{No}
 use Rattle.mls_report.proofs.Replaying.{Consumes-nil, Appends-nil}
 use Rattle.mls_gate.specs.Answers.{Outcome, Goes, Ends, Answers, broken_line}
-use Rattle.mls_gate.specs.GateReport.{Turn, AreAnswered, phase_after, answers, still_to_come, record_limit, Serves, IsEnding, TellsRecords, RecordsPart}
+use Rattle.mls_gate.specs.GateReport.{Turn, AreAnswered, phase_after, answers, still_to_come, record_limit, Serves, IsEnding, ReportsRecords, RecordsPart}
 use Rattle.mls_gate.specs.GateSteps.{IsReady, verdict_at, IsOutcome, Replies, AnswersIn, AnswersRecord, StopsAt, ReadsUndecided}
 use Rattle.mls_gate.specs.Phases.{Phase}
 use Rattle.mls_gate.proofs.Answering.{goes-on, ends-there, ready-goes}
@@ -86,44 +86,44 @@ module _ (p : Phase) (r0 r1 r2 w0 w1 : Option (List ℕ)) (now : Option Phase) (
   fewer = let count = f.count in omega arith
 
   pub so_far-snoc : (last : Bool) → last ≡ false → AnswersRecord now body after w1 w2 last → SoFar p r0 r2 w0 w2 after (n + 1)
-  so_far-snoc last e told =
-      let g = goes-on here body told.text last after e (subst (λ (o : Option Phase). Replies (AnswersIn o body) told.text last after) f.is told.replies) in
-      let t : Turn = record { body = body; text = told.text; phase = g.new } in
+  so_far-snoc last e printed =
+      let g = goes-on here body printed.text last after e (subst (λ (o : Option Phase). Replies (AnswersIn o body) printed.text last after) f.is printed.replies) in
+      let t : Turn = record { body = body; text = printed.text; phase = g.new } in
       let count = f.count in
       record {
         turns = f.turns ++ t ∷ [];
         serves = serves-snoc p r0 r1 r2 f.turns t read f.serves fewer is_record taken g.answers;
-        wrote = subst (Appends w0 w2) (sym (answers-snoc f.turns t)) (Appends-trans w0 w1 w2 _ _ f.wrote told.wrote);
+        wrote = subst (Appends w0 w2) (sym (answers-snoc f.turns t)) (Appends-trans w0 w1 w2 _ _ f.wrote printed.wrote);
         is = g.is ∙ ap (λ (q : Phase). Some q) (sym (phase_after-snoc p f.turns t));
         count = omega (arith, length-append f.turns (t ∷ []));
       }
 
   pub ready-snoc : (last : Bool) → last ≡ false → IsReady now → AnswersRecord now body after w1 w2 last → IsReady after
-  ready-snoc last e ready told =
-      let g = goes-on here body told.text last after e (subst (λ (o : Option Phase). Replies (AnswersIn o body) told.text last after) f.is told.replies) in
-      subst IsReady (sym g.is) (ready-goes here g.new body told.text (subst IsReady f.is ready) g.answers)
+  ready-snoc last e ready printed =
+      let g = goes-on here body printed.text last after e (subst (λ (o : Option Phase). Replies (AnswersIn o body) printed.text last after) f.is printed.replies) in
+      subst IsReady (sym g.is) (ready-goes here g.new body printed.text (subst IsReady f.is ready) g.answers)
 
   ending : (text : List ℕ) → Answers here body (Ends text) → IsEnding here (still_to_come f.turns) read r2 text No
   ending text answers =
       let less = fewer in
       inr (inr (record { body = body; allowed = omega arith; is_record = is_record; answers = answers; verdict_is = refl }))
 
-  pub told-last : (last : Bool) → last ≡ true → AnswersRecord now body after w1 w2 last → TellsRecords p r0 r2 w0 w2 No
-  told-last last e told =
-      let answers = ends-there here body told.text last after e (subst (λ (o : Option Phase). Replies (AnswersIn o body) told.text last after) f.is told.replies) in
+  pub printed-last : (last : Bool) → last ≡ true → AnswersRecord now body after w1 w2 last → ReportsRecords p r0 r2 w0 w2 No
+  printed-last last e printed =
+      let answers = ends-there here body printed.text last after e (subst (λ (o : Option Phase). Replies (AnswersIn o body) printed.text last after) f.is printed.replies) in
       record {
         turns = f.turns;
         rest = read;
-        text = told.text;
+        text = printed.text;
         serves = serves-read p r0 r1 r2 f.turns read f.serves taken;
-        ending = ending told.text answers;
-        wrote = Appends-trans w0 w1 w2 _ _ f.wrote told.wrote;
+        ending = ending printed.text answers;
+        wrote = Appends-trans w0 w1 w2 _ _ f.wrote printed.wrote;
       }
 
   -- the output failed in the answer
   in-answer : (text : List ℕ) (o : Outcome) (last : Bool) → Answers here body o → IsOutcome o text last after → AppendsPrefix w1 w2 text → RecordsPart p r0 r2 w0 w2 Write
-  in-answer text (Goes told new) last answers is part =
-      let t : Turn = record { body = body; text = told; phase = new } in
+  in-answer text (Goes printed new) last answers is part =
+      let t : Turn = record { body = body; text = printed; phase = new } in
       inl (record {
         turns = f.turns;
         last = t;
@@ -133,13 +133,13 @@ module _ (p : Phase) (r0 r1 r2 w0 w1 : Option (List ℕ)) (now : Option Phase) (
         text_is = sym is.0 ∙ part.2;
         wrote = Appends-trans w0 w1 w2 _ _ f.wrote part.3;
       })
-  in-answer text (Ends told) last answers is part = inr (record {
+  in-answer text (Ends printed) last answers is part = inr (record {
     turns = f.turns;
     rest = read;
-    text = told;
+    text = printed;
     verdict = No;
     serves = serves-read p r0 r1 r2 f.turns read f.serves taken;
-    ending = ending told answers;
+    ending = ending printed answers;
     part = part.0;
     more = part.1;
     text_is = sym is.0 ∙ part.2;
@@ -183,8 +183,8 @@ module _ (p : Phase) (r0 r1 r2 w0 w1 : Option (List ℕ)) (now : Option Phase) (
     wrote = f.wrote;
   }
 
-  pub told-end : (verdict : Verdict) → verdict ≡ verdict_at now → Consumes r1 r2 [] → IsAtEnd r2 → TellsRecords p r0 r2 w0 w1 verdict
-  told-end verdict v read end = record {
+  pub printed-end : (verdict : Verdict) → verdict ≡ verdict_at now → Consumes r1 r2 [] → IsAtEnd r2 → ReportsRecords p r0 r2 w0 w1 verdict
+  printed-end verdict v read end = record {
     turns = f.turns;
     rest = [];
     text = [];
@@ -201,8 +201,8 @@ module _ (p : Phase) (r0 r1 r2 w0 w1 : Option (List ℕ)) (now : Option Phase) (
       verdict_is = refl;
     }))
 
-    pub told-broken : (verdict : Verdict) → verdict ≡ No → Appends w1 w2 broken_line → TellsRecords p r0 r2 w0 w2 verdict
-    told-broken verdict is wrote = record {
+    pub printed-broken : (verdict : Verdict) → verdict ≡ No → Appends w1 w2 broken_line → ReportsRecords p r0 r2 w0 w2 verdict
+    printed-broken verdict is wrote = record {
       turns = f.turns;
       rest = read;
       text = broken_line;

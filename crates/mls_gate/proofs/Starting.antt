@@ -23,15 +23,15 @@ use Rattle.mls_gate.specs.Phases.{GroupFiles, Inputs, OfGroup, OfState}
 
 -- ---- from the bytes of a GroupInfo and a tree
 
-module _ (files : GroupFiles) (info : GroupInfo) (handed : Option RatchetTree) (is_read : IsReadAs files.profile files.info files.tree info handed) where
-  pub can-start : (s : State) (signatures : List SignatureToVerify) → StartHasSignatures files.profile info handed s signatures → StartSignatures files signatures
-  can-start s signatures has = record { info = info; handed = handed; is_read = is_read; state = s; has_signatures = has }
+module _ (files : GroupFiles) (info : GroupInfo) (supplied : Option RatchetTree) (is_read : IsReadAs files.profile files.info files.tree info supplied) where
+  pub can-start : (s : State) (signatures : List SignatureToVerify) → StartHasSignatures files.profile info supplied s signatures → StartSignatures files signatures
+  can-start s signatures has = record { info = info; supplied = supplied; is_read = is_read; state = s; has_signatures = has }
 
-  declines : (G : VerifyFn) (finding : Finding) → FailsStart G info handed finding → Declines G (OfGroup files) finding
+  declines : (G : VerifyFn) (finding : Finding) → FailsStart G info supplied finding → Declines G (OfGroup files) finding
   declines G finding f =
-      subst (Declines G (OfGroup files)) (sym f.finding_is) (record { found = (info, handed, is_read, f.own, f.fails); verdict = refl })
+      subst (Declines G (OfGroup files)) (sym f.finding_is) (record { found = (info, supplied, is_read, f.own, f.fails); verdict = refl })
 
-  pub says-declines : (G : VerifyFn) (failure : StartFailure) → Says (FailsStart G info handed) failure → Says (Declines G (OfGroup files)) failure
+  pub says-declines : (G : VerifyFn) (failure : StartFailure) → Says (FailsStart G info supplied) failure → Says (Declines G (OfGroup files)) failure
   says-declines G (Found finding) f = declines G finding f
   says-declines G (Fault e) f = f
 
@@ -54,8 +54,8 @@ module _ (Reads : Inputs → Type 0) (G : VerifyFn) (i : Inputs) (read : Reads i
   reads : (j : Inputs) → Are i j → Reads j
   reads j e = subst Reads (sym e) read
 
-  pub told-read : (verdict : Verdict) → GatesOf (Are i) G r0 r1 w0 w1 verdict → GatesOf Reads G r0 r1 w0 w1 verdict
-  told-read verdict (inl p) = inl (record {
+  pub printed-read : (verdict : Verdict) → GatesOf (Are i) G r0 r1 w0 w1 verdict → GatesOf Reads G r0 r1 w0 w1 verdict
+  printed-read verdict (inl p) = inl (record {
     i = p.i;
     read = reads p.i p.read;
     finding = p.finding;
@@ -64,14 +64,14 @@ module _ (Reads : Inputs → Type 0) (G : VerifyFn) (i : Inputs) (read : Reads i
     wrote = p.wrote;
     verdict_is = p.verdict_is;
   })
-  told-read verdict (inr p) = inr (record {
+  printed-read verdict (inr p) = inr (record {
     i = p.i;
     read = reads p.i p.read;
     signatures = p.signatures;
     can_start = p.can_start;
     between = p.between;
     wrote = p.wrote;
-    tells = p.tells;
+    reports = p.reports;
   })
 
   before-read : (fault : RunFault) → GateBefore (Are i) G r0 r1 w0 w1 fault → GateBefore Reads G r0 r1 w0 w1 fault
@@ -90,7 +90,7 @@ module _ (Reads : Inputs → Type 0) (G : VerifyFn) (i : Inputs) (read : Reads i
     can_start = p.can_start;
     between = p.between;
     wrote = p.wrote;
-    tells = p.tells;
+    reports = p.reports;
   })
 
 -- ---- a part of it

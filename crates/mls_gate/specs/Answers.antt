@@ -16,14 +16,14 @@ use Rattle.mls_follow.specs.declared.taken.Taken.TheVariants.{Proposal, Commit}
 use Rattle.mls_report.specs.FaultText.{member_fault_text}
 use Rattle.mls_report.specs.Finding.{finding_line}
 use Rattle.mls_report.specs.Replay.{ended_text}
-use Rattle.mls_report.specs.SignaturesReport.{HasSignatures, wanted_line}
+use Rattle.mls_report.specs.SignaturesReport.{HasSignatures, signature_line}
 use Rattle.mls_report.specs.ValueTexts.{hex_text}
 use Rattle.mls_report.specs.declared.finding.Finding.{Finding}
 use Rattle.mls_gate.specs.FirstStates.{IsFirstState, Refuses}
 use Rattle.mls_gate.specs.Phases.{Inputs, Phase, Opening, Following}
 use Rattle.mls_gate.specs.Requests.{request_of, having_learnt}
 use Rattle.mls_gate.specs.declared.request.Request.{Request}
-use Rattle.mls_gate.specs.declared.request.Request.TheVariants.{Learn, Begin, Query, Judge, Store}
+use Rattle.mls_gate.specs.declared.request.Request.TheVariants.{Learn, Begin, Query, Process, Store}
 
 -- ---- lines
 
@@ -33,34 +33,34 @@ is_known G w = G w.suite w.key w.content w.signature
 
 -- `verify_line G w` is the line of a signature, `verify` and the line of `signatures`, unless `G` accepts it.
 abbrev pub verify_line : VerifyFn → SignatureToVerify → List ℕ
-verify_line G w = if is_known G w then [] else codes "verify " ++ wanted_line w
+verify_line G w = if is_known G w then [] else codes "verify " ++ signature_line w
 
--- `verify_lines G wanted` is the lines of the signatures of a list that `G` does not accept.
+-- `verify_lines G needed` is the lines of the signatures of a list that `G` does not accept.
 abbrev pub verify_lines : VerifyFn → List SignatureToVerify → List ℕ
 verify_lines G [] = []
-verify_lines G (w ∷ wanted) = verify_line G w ++ verify_lines G wanted
+verify_lines G (w ∷ needed) = verify_line G w ++ verify_lines G needed
 
 -- `unknown_one G w` is 0 if `G` accepts the signature, else 1.
 abbrev pub unknown_one : VerifyFn → SignatureToVerify → ℕ
 unknown_one G w = if is_known G w then 0 else 1
 
--- `unknown_count G wanted` is how many signatures of a list `G` does not accept.
+-- `unknown_count G needed` is how many signatures of a list `G` does not accept.
 abbrev pub unknown_count : VerifyFn → List SignatureToVerify → ℕ
 unknown_count G [] = 0
-unknown_count G (w ∷ wanted) = unknown_one G w + unknown_count G wanted
+unknown_count G (w ∷ needed) = unknown_one G w + unknown_count G needed
 
 -- `count_line n` is the line with this number.
 abbrev pub count_line : ℕ → List ℕ
 count_line n = codes "queried " ++ (decimal n ++ codes "\n")
 
--- `query_text G wanted` is the lines of the signatures that `G` does not accept, and a last one with their number.
+-- `query_text G needed` is the lines of the signatures that `G` does not accept, and a last one with their number.
 abbrev pub query_text : VerifyFn → List SignatureToVerify → List ℕ
-query_text G wanted = verify_lines G wanted ++ count_line (unknown_count G wanted)
+query_text G needed = verify_lines G needed ++ count_line (unknown_count G needed)
 
--- `message_query G wanted` is the answer to a query. Bytes that are no message have no signature.
+-- `message_query G needed` is the answer to a query. Bytes that are no message have no signature.
 abbrev pub message_query : VerifyFn → Option (List SignatureToVerify) → List ℕ
 message_query G None = query_text G []
-message_query G (Some wanted) = query_text G wanted
+message_query G (Some needed) = query_text G needed
 
 -- `ready_line s` is the line of a follower that has started or resumed: its epoch, its number of members, and its tree hash
 -- (RFC 9420, 8.1).
@@ -111,17 +111,17 @@ refusal_name refusals.JoinList = codes "JoinList"
 refusal_name refusals.ResyncInvalid = codes "ResyncInvalid"
 refusal_name refusals.OutOfMemory = codes "OutOfMemory"
 
--- `judged_line answer s` is the line of a processed message: the reference of a proposal (RFC 9420, 5.2); of a
+-- `processed_line answer s` is the line of a processed message: the reference of a proposal (RFC 9420, 5.2); of a
 -- commit the epoch that it begins, the tree hash and the confirmed transcript hash of that epoch (8.1), and whether the
 -- group is over; or the number and the name of the refusal, and for 25 those of the fault of the leaf node.
-abbrev pub judged_line : Result Taken Refusal → State → List ℕ
-judged_line (Ok (Proposal reference)) s = codes "accepted proposal " ++ (hex_text reference ++ codes "\n")
-judged_line (Ok (Commit epoch)) s =
+abbrev pub processed_line : Result Taken Refusal → State → List ℕ
+processed_line (Ok (Proposal reference)) s = codes "accepted proposal " ++ (hex_text reference ++ codes "\n")
+processed_line (Ok (Commit epoch)) s =
     codes "accepted commit " ++ (decimal epoch
     ++ (codes " " ++ (hex_text s.context.tree_hash
     ++ (codes " " ++ (hex_text s.context.confirmed
     ++ (ended_text s.ended ++ codes "\n"))))))
-judged_line (Err e) s = codes "refused " ++ (decimal (number_of e) ++ (codes " " ++ (refusal_name e ++ codes "\n")))
+processed_line (Err e) s = codes "refused " ++ (decimal (number_of e) ++ (codes " " ++ (refusal_name e ++ codes "\n")))
 
 -- `stored_line bytes` is the line of a state that has this file.
 abbrev pub stored_line : List ℕ → List ℕ
@@ -153,14 +153,14 @@ Begins i G outcome =
 -- `Queries G s message outcome`: the signatures of the message that `G` does not accept are listed. Nothing changes.
 abbrev pub Queries : VerifyFn → State → List ℕ → Outcome → Type 0
 Queries G s message outcome =
-    (wanted : Option (List SignatureToVerify)) × HasSignatures s message wanted
-    × (outcome ≡ Goes (message_query G wanted) (Following G s))
+    (needed : Option (List SignatureToVerify)) × HasSignatures s message needed
+    × (outcome ≡ Goes (message_query G needed) (Following G s))
 
--- `Judges G s message outcome`: the follower processes the message.
-abbrev pub Judges : VerifyFn → State → List ℕ → Outcome → Type 0
-Judges G s message outcome =
+-- `Processes G s message outcome`: the follower processes the message.
+abbrev pub Processes : VerifyFn → State → List ℕ → Outcome → Type 0
+Processes G s message outcome =
     (answer : Result Taken Refusal) × (new : State) × IsAnswer G s message answer new
-    × (outcome ≡ Goes (judged_line answer new) (Following G new))
+    × (outcome ≡ Goes (processed_line answer new) (Following G new))
 
 -- `StoresState G s outcome`: the file of the state is written, or that it has none. Nothing changes.
 abbrev pub StoresState : VerifyFn → State → Outcome → Type 0
@@ -175,7 +175,7 @@ Responds (Opening i G) (Some Learn) rest outcome = outcome ≡ Goes [] (Opening 
 Responds (Opening i G) (Some Begin) rest outcome = Begins i G outcome
 Responds (Following G s) (Some Learn) rest outcome = outcome ≡ Goes [] (Following (having_learnt G rest) s)
 Responds (Following G s) (Some Query) rest outcome = Queries G s rest outcome
-Responds (Following G s) (Some Judge) rest outcome = Judges G s rest outcome
+Responds (Following G s) (Some Process) rest outcome = Processes G s rest outcome
 Responds (Following G s) (Some Store) rest outcome = StoresState G s outcome
 Responds _ _ rest outcome = outcome ≡ Ends broken_line
 

@@ -34,10 +34,10 @@ IsFirstState G (OfState bytes) s = IsResumed G bytes s
 -- these signatures.
 pub record StartSignatures (files : GroupFiles) (signatures : List SignatureToVerify) : Type 0 where
   pub info : GroupInfo
-  pub handed : Option RatchetTree
-  pub is_read : IsReadAs files.profile files.info files.tree info handed
+  pub supplied : Option RatchetTree
+  pub is_read : IsReadAs files.profile files.info files.tree info supplied
   pub state : State
-  pub has_signatures : StartHasSignatures files.profile info handed state signatures
+  pub has_signatures : StartHasSignatures files.profile info supplied state signatures
 
 -- `ResumptionSignatures bytes signatures`: a follower resumes from the bytes, each signature being good, and the
 -- resumption has these signatures.

@@ -11,7 +11,7 @@ use Rattle.mls_msgs.specs.declared.profile.Profile.{Profile}
 use Rattle.mls_signatures.specs.declared.signature_to_verify.SignatureToVerify.{SignatureToVerify}
 use Rattle.mls_follow.specs.CoveredLogs.{all_good}
 use Rattle.mls_report.specs.Finding.{finding_line}
-use Rattle.mls_report.specs.Replay.{AreRecords, IsLeftOver, TellsNothing}
+use Rattle.mls_report.specs.Replay.{AreRecords, IsLeftOver, ReportsNothing}
 use Rattle.mls_report.specs.declared.finding.Finding.{Finding}
 use Rattle.mls_report.specs.declared.verdict.RunFault.{RunFault}
 use Rattle.mls_report.specs.declared.verdict.RunFault.TheVariants.{Read, Write, Memory}
@@ -96,8 +96,8 @@ IsEnding phase most rest left text verdict =
 
 -- ---- the report of the records
 
--- `TellsRecords phase records0 records1 written0 written1 verdict`: each record was answered, and the gate has ended.
-pub record TellsRecords (phase : Phase) (records0 records1 written0 written1 : Option (List ℕ)) (verdict : Verdict)
+-- `ReportsRecords phase records0 records1 written0 written1 verdict`: each record was answered, and the gate has ended.
+pub record ReportsRecords (phase : Phase) (records0 records1 written0 written1 : Option (List ℕ)) (verdict : Verdict)
     : Type 0 where
   pub turns : List Turn
   pub rest : List ℕ
@@ -181,7 +181,7 @@ pub record OpensGate (Reads : Inputs → Type 0) (G : VerifyFn)
   pub can_start : CanStart i signatures
   pub between : Option (List ℕ)
   pub wrote : Appends written0 between (query_text G signatures)
-  pub tells : TellsRecords (Opening i G) records0 records1 between written1 verdict
+  pub reports : ReportsRecords (Opening i G) records0 records1 between written1 verdict
 
 -- `GatesOf Reads G ..`: the report was written whole. Either no follower starts although each signature is good, or the
 -- records were answered.
@@ -242,12 +242,12 @@ pub record QueryWithoutMemory (Reads : Inputs → Type 0) (G : VerifyFn)
 -- `GateBefore Reads G .. fault`: no record was read, by the fault that is returned.
 abbrev pub GateBefore : (Inputs → Type 0) → VerifyFn → Option (List ℕ) → Option (List ℕ) → Option (List ℕ)
     → Option (List ℕ) → RunFault → Type 0
-GateBefore Reads G records0 records1 written0 written1 Read = TellsNothing records0 records1 written0 written1
+GateBefore Reads G records0 records1 written0 written1 Read = ReportsNothing records0 records1 written0 written1
 GateBefore Reads G records0 records1 written0 written1 Write =
     StopsDeclining Reads records0 records1 written0 written1
     ⊎ StopsInQuery Reads G records0 records1 written0 written1
 GateBefore Reads G records0 records1 written0 written1 Memory =
-    TellsNothing records0 records1 written0 written1
+    ReportsNothing records0 records1 written0 written1
     ⊎ QueryWithoutMemory Reads G records0 records1 written0 written1
 
 -- `GateAfter Reads G .. fault`: the lines of the start were written, and not each record was answered.
@@ -259,7 +259,7 @@ pub record GateAfter (Reads : Inputs → Type 0) (G : VerifyFn)
   pub can_start : CanStart i signatures
   pub between : Option (List ℕ)
   pub wrote : Appends written0 between (query_text G signatures)
-  pub tells : RecordsPart (Opening i G) records0 records1 between written1 fault
+  pub reports : RecordsPart (Opening i G) records0 records1 between written1 fault
 
 -- `GatesPartOf Reads G .. fault`: what was written if the report was not written whole, by the fault that is returned. It
 -- is a prefix of what the bytes that were read determine.

@@ -58,8 +58,8 @@ phase_of meaning phases.Over = None
 -- A GroupInfo, and a tree if there is a file of it, can be read.
 pub record AreReadable (files : GroupFiles) : Type 0 where
   pub info : GroupInfo
-  pub handed : Option RatchetTree
-  pub is_read : IsReadAs files.profile files.info files.tree info handed
+  pub supplied : Option RatchetTree
+  pub is_read : IsReadAs files.profile files.info files.tree info supplied
 
 -- The inputs can be read. The file of a state leads to a follower, each signature being good.
 abbrev pub IsReadable : Inputs → Type 0
@@ -88,10 +88,10 @@ RespondsIn (Some phase) request rest outcome = Responds phase request rest outco
 abbrev pub AnswersIn : Option Phase → List ℕ → Outcome → Type 0
 AnswersIn phase body outcome = RespondsIn phase (request_of body) (drop 1 body) outcome
 
--- The outcome has this text. It ends the gate if `last` is true, and else leads to this phase.
+-- The outcome has this text. It ends the gate if `last` is true, and otherwise leads to this phase.
 abbrev pub IsOutcome : Outcome → List ℕ → Bool → Option Phase → Type 0
-IsOutcome (Goes told phase) text last after = (text ≡ told) × (last ≡ false) × (after ≡ Some phase)
-IsOutcome (Ends told) text last after = (text ≡ told) × (last ≡ true)
+IsOutcome (Goes printed phase) text last after = (text ≡ printed) × (last ≡ false) × (after ≡ Some phase)
+IsOutcome (Ends printed) text last after = (text ≡ printed) × (last ≡ true)
 
 -- What was answered is such an outcome.
 pub record Replies (Meets : Outcome → Type 0) (text : List ℕ) (last : Bool) (after : Option Phase) : Type 0 where
@@ -129,11 +129,11 @@ pub record ReadsUndecided (records0 records1 : Option (List ℕ)) (most : ℕ) :
 -- ---- the start
 
 -- No follower starts from a GroupInfo and a tree, and this is the finding.
-pub record FailsStart (G : VerifyFn) (info : GroupInfo) (handed : Option RatchetTree) (finding : Finding)
+pub record FailsStart (G : VerifyFn) (info : GroupInfo) (supplied : Option RatchetTree) (finding : Finding)
     : Type 0 where
   pub fault : StartFault
   pub own : fault ≢ starts.OutOfMemory
-  pub fails : IsStartFault G info handed fault
+  pub fails : IsStartFault G info supplied fault
   pub finding_is : finding ≡ StartRefused fault
 
 -- The lines of a start were not written whole, with this fault.

@@ -3,7 +3,7 @@ use Rattle.std.specs.Prelude.{ℕ, suc, zero, ◌==◌, ◌%◌, ◌/◌, List, 
 use Rattle.mls_check.specs.ReceiptSets.{with_receipt}
 use Rattle.mls_check.specs.Signatures.{VerifyFn}
 use Rattle.mls_gate.specs.declared.request.Request.{Request}
-use Rattle.mls_gate.specs.declared.request.Request.TheVariants.{Learn, Begin, Query, Judge, Store}
+use Rattle.mls_gate.specs.declared.request.Request.TheVariants.{Learn, Begin, Query, Process, Store}
 
 -- `receipt_size` is the number of bytes of a receipt: it is a SHA-256 digest.
 abbrev pub receipt_size : ℕ
@@ -17,7 +17,7 @@ request_of (letter ∷ rest) =
     if letter == 114 then (if length rest % receipt_size == 0 then Some Learn else None)
     else if letter == 98 then (if length rest == 0 then Some Begin else None)
     else if letter == 113 then Some Query
-    else if letter == 109 then Some Judge
+    else if letter == 109 then Some Process
     else if letter == 115 then (if length rest == 0 then Some Store else None)
     else None
 

@@ -8,7 +8,7 @@ ghost use Rattle.mls_follow.specs.MessageSignatures.{state_signatures};
 ghost use Rattle.mls_report.specs.StartInputs.{has_failed};
 ghost use Rattle.mls_gate.specs.Answers.{broken_line};
 ghost use Rattle.mls_gate.specs.FirstStates.{CanStart};
-ghost use Rattle.mls_gate.specs.GateReport.{GatesOf, GatesPartOf, Gates, GatesPart, TellsRecords, RecordsPart};
+ghost use Rattle.mls_gate.specs.GateReport.{GatesOf, GatesPartOf, Gates, GatesPart, ReportsRecords, RecordsPart};
 ghost use Rattle.mls_gate.specs.GateSteps.{files_of, inputs_of, phase_of, IsReadable, IsReady, ReadsUndecided, AnswersRecord, StopsAt, Are};
 ghost use Rattle.mls_gate.specs.Phases.{OfGroup, Phase, Opening};
 ghost use Rattle.std.specs.Io.KnownBytes.{Appends};
@@ -20,7 +20,7 @@ use crate::opening_lines::write_start_query;
 use crate::phase::GatePhase;
 use mls_check::LearningCheck;
 use mls_msgs::Profile;
-use mls_report::finding::tell;
+use mls_report::finding::report_finding;
 use mls_report::read_inputs::{StartFailure, read_inputs_to_end};
 use mls_report::trusting_start::TrustingStart;
 use mls_report::{RunFault, Verdict, write_text};
@@ -55,7 +55,7 @@ fn answer_record<C: LearningCheck, K: Sink>(
 ) -> Result<bool, RunFault>
     requires ready { IsReady (phase_of C.meaning phase.old) }
     requires out { K.is_failed out.old ≡ false }
-    ensures told { IfOk result (λ is_last. AnswersRecord (phase_of C.meaning phase.old) body.now
+    ensures printed { IfOk result (λ is_last. AnswersRecord (phase_of C.meaning phase.old) body.now
         (phase_of C.meaning phase.new) (K.written out.old) (K.written out.new) is_last) }
     ensures part { IfErr result (StopsAt (phase_of C.meaning phase.old) body.now
         (phase_of C.meaning phase.new) (K.written out.old) (K.written out.new)) }
@@ -68,9 +68,9 @@ fn answer_record<C: LearningCheck, K: Sink>(
 }
 
 /// Writes the line of a record that is none.
-fn tell_broken<K: Sink>(out: &mut K) -> Result<Verdict, RunFault>
+fn report_broken<K: Sink>(out: &mut K) -> Result<Verdict, RunFault>
     requires { K.is_failed out.old ≡ false }
-    ensures told { IfOk result (λ verdict. (verdict ≡ Verdict.No)
+    ensures printed { IfOk result (λ verdict. (verdict ≡ Verdict.No)
         × Appends (K.written out.old) (K.written out.new) broken_line) }
     ensures part { OnErr result
         (AppendsPrefix (K.written out.old) (K.written out.new) broken_line) }
@@ -91,8 +91,8 @@ fn serve_records<R: Source, C: LearningCheck, K: Sink>(
     requires ready { IsReady (phase_of C.meaning phase.old) }
     requires records { R.is_failed records.old ≡ false }
     requires out { K.is_failed out.old ≡ false }
-    ensures told { (p : Phase) → phase_of C.meaning phase.old ≡ Some p → IfOk result
-        (TellsRecords p (R.left records.old) (R.left records.new)
+    ensures printed { (p : Phase) → phase_of C.meaning phase.old ≡ Some p → IfOk result
+        (ReportsRecords p (R.left records.old) (R.left records.new)
         (K.written out.old) (K.written out.new)) }
     ensures part { (p : Phase) → phase_of C.meaning phase.old ≡ Some p → IfErr result
         (RecordsPart p (R.left records.old) (R.left records.new)
@@ -109,7 +109,7 @@ fn serve_records<R: Source, C: LearningCheck, K: Sink>(
                 }
             }
             LogStep::End => return Ok(phase.end_verdict()),
-            LogStep::Broken => return tell_broken(out),
+            LogStep::Broken => return report_broken(out),
             LogStep::Over => unreachable!(),
         }
     }
@@ -127,7 +127,7 @@ pub(crate) fn serve<R: Source, C: LearningCheck, K: Sink>(
     requires inputs { IsReadable (inputs_of inputs) }
     requires records { R.is_failed records.old ≡ false }
     requires out { K.is_failed out.old ≡ false }
-    ensures told { IfOk result (TellsRecords (Opening (inputs_of inputs) (C.meaning checker))
+    ensures printed { IfOk result (ReportsRecords (Opening (inputs_of inputs) (C.meaning checker))
         (R.left records.old) (R.left records.new) (K.written out.old) (K.written out.new)) }
     ensures part { IfErr result (RecordsPart (Opening (inputs_of inputs) (C.meaning checker))
         (R.left records.old) (R.left records.new) (K.written out.old) (K.written out.new)) }
@@ -153,7 +153,7 @@ fn gate_after<R: Source, C: LearningCheck, K: Sink>(
         (start.info_signatures.items ++ state_signatures (state_of start.follower)) }
     requires records { R.is_failed records.old ≡ false }
     requires out { K.is_failed out.old ≡ false }
-    ensures told { IfOk result (GatesOf (Are (OfGroup (files_of inputs))) (C.meaning checker)
+    ensures printed { IfOk result (GatesOf (Are (OfGroup (files_of inputs))) (C.meaning checker)
         (R.left records.old) (R.left records.new) (K.written out.old) (K.written out.new)) }
     ensures part { IfErr result (GatesPartOf (Are (OfGroup (files_of inputs))) (C.meaning checker)
         (R.left records.old) (R.left records.new) (K.written out.old) (K.written out.new)) }
@@ -174,7 +174,7 @@ fn gate_from<R: Source, C: LearningCheck, K: Sink>(
 ) -> Result<Verdict, RunFault>
     requires records { R.is_failed records.old ≡ false }
     requires out { K.is_failed out.old ≡ false }
-    ensures told { IfOk result (GatesOf (Are (OfGroup (files_of inputs))) (C.meaning checker)
+    ensures printed { IfOk result (GatesOf (Are (OfGroup (files_of inputs))) (C.meaning checker)
         (R.left records.old) (R.left records.new) (K.written out.old) (K.written out.new)) }
     ensures part { IfErr result (GatesPartOf (Are (OfGroup (files_of inputs))) (C.meaning checker)
         (R.left records.old) (R.left records.new) (K.written out.old) (K.written out.new)) }
@@ -183,7 +183,7 @@ fn gate_from<R: Source, C: LearningCheck, K: Sink>(
 {
     match opening_start(alloc, &inputs) {
         Ok(start) => gate_after(alloc, inputs, start, records, checker, out),
-        Err(StartFailure::Found(finding)) => tell(alloc, &finding, out),
+        Err(StartFailure::Found(finding)) => report_finding(alloc, &finding, out),
         Err(StartFailure::Fault(fault)) => Err(fault),
     }
 }
@@ -202,7 +202,7 @@ fn gate_from<R: Source, C: LearningCheck, K: Sink>(
 /// - `b`: the follower starts by the signatures that it has learnt to be good by then. The line has the epoch, the number of members and the
 ///   tree hash; or it is that of `run_validate_in`, and the gate ends with `No`.
 /// - `q` and a message: a line for each signature of the message that is not known to be good
-///   ([`mls_follow::Follower::wanted`]), and one with their number.
+///   ([`mls_follow::Follower::signatures_to_verify`]), and one with their number.
 /// - `m` and a message: the message is processed ([`mls_follow::Follower::take`]). The line says that it was accepted
 ///   and what it led to, with `ended` if the group is over (11.2); or the number and the name of the refusal.
 /// - `s`: the line has the file of the follower's state ([`mls_follow::Follower::encode_state`]), or says that it has
@@ -231,7 +231,7 @@ pub fn run_gate_in<I: Source, T: Source, R: Source, C: LearningCheck, K: Sink>(
     requires tree { has_failed (option_map T.is_failed tree.old) ≡ false }
     requires records { R.is_failed records.old ≡ false }
     requires out { K.is_failed out.old ≡ false }
-    ensures told { IfOk result
+    ensures printed { IfOk result
         (Gates profile (C.meaning checker) (I.left info.old) (I.left info.new)
         (option_map T.left tree.old) (option_map T.left tree.new)
         (R.left records.old) (R.left records.new) (K.written out.old) (K.written out.new)) }
@@ -266,7 +266,7 @@ pub fn run_gate<I: Source, T: Source, R: Source, C: LearningCheck, K: Sink>(
     requires tree { has_failed (option_map T.is_failed tree.old) ≡ false }
     requires records { R.is_failed records.old ≡ false }
     requires out { K.is_failed out.old ≡ false }
-    ensures told { IfOk result
+    ensures printed { IfOk result
         (Gates Members (C.meaning checker) (I.left info.old) (I.left info.new)
         (option_map T.left tree.old) (option_map T.left tree.new)
         (R.left records.old) (R.left records.new) (K.written out.old) (K.written out.new)) }

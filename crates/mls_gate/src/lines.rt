@@ -14,38 +14,38 @@ use mls_follow::{Follower, Refusal, Taken};
 use mls_nodes::GroupContext;
 use mls_report::fault_text::member_fault_text;
 use mls_report::replay_text::ended_text;
-use mls_report::signature_text::wanted_line;
+use mls_report::signature_text::signature_line;
 use mls_report::value_text::hex_of;
 use mls_signatures::SignatureToVerify;
 use mls_tree::HashValue;
 use std::alloc::{AllocError, Global};
 
 /// Returns whether the checker accepts a signature.
-fn is_known<C: SignatureCheck>(wanted: &SignatureToVerify, checker: &C) -> bool
-    ensures { result ≡ answers.is_known (C.meaning checker.now) wanted.now }
+fn is_known<C: SignatureCheck>(needed: &SignatureToVerify, checker: &C) -> bool
+    ensures { result ≡ answers.is_known (C.meaning checker.now) needed.now }
 {
-    let key = wanted.key.as_slice();
-    let content = wanted.content.as_slice();
-    checker.good(wanted.suite, key, content, wanted.signature.as_slice())
+    let key = needed.key.as_slice();
+    let content = needed.content.as_slice();
+    checker.good(needed.suite, key, content, needed.signature.as_slice())
 }
 
 /// Appends the line of a signature, unless the checker accepts it. Returns how many lines it appended.
 pub(crate) fn put_verify_line<C: SignatureCheck>(
     alloc: Global,
     text: &mut String,
-    wanted: &SignatureToVerify,
+    needed: &SignatureToVerify,
     checker: &C,
 ) -> Result<usize, AllocError>
     ensures line { IfOk result (λ _. string_bytes text.new
-        ≡ string_bytes text.old ++ answers.verify_line (C.meaning checker.now) wanted.now) }
+        ≡ string_bytes text.old ++ answers.verify_line (C.meaning checker.now) needed.now) }
     ensures unknown { IfOk result
-        (λ count. count ≡ answers.unknown_one (C.meaning checker.now) wanted.now) }
+        (λ count. count ≡ answers.unknown_one (C.meaning checker.now) needed.now) }
     ensures most { IfOk result (λ count. count ≤ 1) }
 {
-    if is_known(wanted, checker) {
+    if is_known(needed, checker) {
         return Ok(0);
     }
-    let line = wanted_line(alloc, wanted)?;
+    let line = signature_line(alloc, needed)?;
     text.push_str("verify ")?;
     text.push_str(line.as_str())?;
     Ok(1)
@@ -208,7 +208,7 @@ fn commit_line(
     format!(in alloc; "accepted commit {epoch} {tree_hash} {confirmed}{ended}\n")
 }
 
-/// Returns the line of a state that has this file. It allocates the text once, beside the hexadecimal digits.
+/// Returns the line of a state that has this file. It allocates the text once, in addition to the hexadecimal digits.
 pub(crate) fn stored_line(alloc: Global, file: Vec<u8>) -> Result<String, AllocError>
     ensures { IfOk result (λ text. string_bytes text ≡ answers.stored_line file.items) }
 {
@@ -223,13 +223,13 @@ pub(crate) fn stored_line(alloc: Global, file: Vec<u8>) -> Result<String, AllocE
 }
 
 /// Returns the line of a processed message.
-pub(crate) fn judged_line<C: SignatureCheck>(
+pub(crate) fn processed_line<C: SignatureCheck>(
     alloc: Global,
     answer: &Result<Taken, Refusal>,
     follower: &Follower<C>,
 ) -> Result<String, AllocError>
     ensures { IfOk result
-        (λ text. string_bytes text ≡ answers.judged_line answer.now (state_of follower.now)) }
+        (λ text. string_bytes text ≡ answers.processed_line answer.now (state_of follower.now)) }
 {
     match answer {
         Ok(Taken::Proposal(reference)) => proposal_line(alloc, reference),

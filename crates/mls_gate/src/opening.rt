@@ -29,8 +29,8 @@ use std::alloc::Global;
 
 /// Returns why no follower has started: a finding, or a fault that ends the report.
 fn failure_of(fault: StartFault) -> StartFailure
-    ensures { (G : VerifyFn) (info : infos.GroupInfo) (handed : Option RatchetTree)
-        → IsStartFault G info handed fault → Says (FailsStart G info handed) result }
+    ensures { (G : VerifyFn) (info : infos.GroupInfo) (supplied : Option RatchetTree)
+        → IsStartFault G info supplied fault → Says (FailsStart G info supplied) result }
 {
     match fault {
         StartFault::OutOfMemory => StartFailure::Fault(RunFault::Memory),

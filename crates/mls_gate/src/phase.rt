@@ -4,13 +4,13 @@ ghost use Rattle.std.specs.Prelude.{◌≡◌, ℕ, List, Some, [], false, true,
 ghost use Rattle.mls_follow.specs.FollowerModel.{checker_of, state_of};
 ghost use Rattle.mls_report.specs.Finding.{finding_line};
 ghost use Rattle.mls_gate.specs.Answers as answers;
-ghost use Rattle.mls_gate.specs.Answers.{broken_line, Begins, Judges, Queries, StoresState};
+ghost use Rattle.mls_gate.specs.Answers.{broken_line, Begins, Processes, Queries, StoresState};
 ghost use Rattle.mls_gate.specs.GateSteps.{inputs_of, phase_of, IsReadable, verdict_at, IsReady, RespondsIn, AnswersIn, Replies};
 ghost use Rattle.mls_gate.specs.Phases.{Following};
 
 use crate::gate_inputs::{GateInputs, first_follower};
 use crate::learning::{learn_in_follower, learn_receipts};
-use crate::lines::{judged_line, query_text, ready_line, stored_line};
+use crate::lines::{processed_line, query_text, ready_line, stored_line};
 use crate::request::{Request, request_of};
 use mls_check::{LearningCheck, OutOfMemory, SignatureCheck};
 use mls_follow::{Follower, Refusal, SignatureListFault};
@@ -78,16 +78,16 @@ fn declined(alloc: Global, finding: &Finding) -> Result<Answer, RunFault>
 /// Returns the answer to a query of a message with these signatures.
 fn queried<C: SignatureCheck>(
     alloc: Global,
-    wanted: &[SignatureToVerify],
+    needed: &[SignatureToVerify],
     checker: &C,
 ) -> Result<Answer, RunFault>
     ensures text { IfOk result
-        (λ a. string_bytes a.text ≡ answers.query_text (C.meaning checker.now) wanted.now) }
+        (λ a. string_bytes a.text ≡ answers.query_text (C.meaning checker.now) needed.now) }
     ensures last { IfOk result (λ a. a.is_last ≡ false) }
     ensures memory { IfErr result (λ e. e ≡ RunFault.Memory) }
 {
     Ok(Answer {
-        text: query_text(alloc, wanted, checker)?,
+        text: query_text(alloc, needed, checker)?,
         is_last: false,
     })
 }
@@ -104,10 +104,10 @@ fn query_message<C: SignatureCheck>(
         (Some (Following (C.meaning (checker_of follower.new)) (state_of follower.new)))) }
     ensures memory { IfErr result (λ e. e ≡ RunFault.Memory) }
 {
-    match follower.wanted(message) {
-        Ok(wanted) => {
-            let answer = queried(alloc, wanted.as_slice(), follower.checker());
-            drop(wanted);
+    match follower.signatures_to_verify(message) {
+        Ok(needed) => {
+            let answer = queried(alloc, needed.as_slice(), follower.checker());
+            drop(needed);
             answer
         }
         Err(SignatureListFault::Malformed) => queried(alloc, &[], follower.checker()),
@@ -116,13 +116,13 @@ fn query_message<C: SignatureCheck>(
 }
 
 /// Processes a message, and returns the answer to it.
-fn judge_message<C: SignatureCheck>(
+fn process_message<C: SignatureCheck>(
     alloc: Global,
     follower: &mut Follower<C>,
     message: &[u8],
 ) -> Result<Answer, RunFault>
     ensures replied { IfOk result (λ a. Replies
-        (Judges (C.meaning (checker_of follower.old)) (state_of follower.old) message.now)
+        (Processes (C.meaning (checker_of follower.old)) (state_of follower.old) message.now)
         (string_bytes a.text) a.is_last
         (Some (Following (C.meaning (checker_of follower.new)) (state_of follower.new)))) }
     ensures memory { IfErr result (λ e. e ≡ RunFault.Memory) }
@@ -132,7 +132,7 @@ fn judge_message<C: SignatureCheck>(
         return Err(RunFault::Memory);
     }
     Ok(Answer {
-        text: judged_line(alloc, &answer, follower)?,
+        text: processed_line(alloc, &answer, follower)?,
         is_last: false,
     })
 }
@@ -260,14 +260,14 @@ impl<C: LearningCheck> GatePhase<C> {
     }
 
     /// Answers what came of a message.
-    fn judge(&mut self, alloc: Global, message: &[u8]) -> Result<Answer, RunFault>
+    fn process(&mut self, alloc: Global, message: &[u8]) -> Result<Answer, RunFault>
         ensures answered { IfOk result (λ a. Replies
-            (RespondsIn (phase_of C.meaning self.old) (Some Request.Judge) message.now)
+            (RespondsIn (phase_of C.meaning self.old) (Some Request.Process) message.now)
             (string_bytes a.text) a.is_last (phase_of C.meaning self.new)) }
         ensures memory { IfErr result (λ e. e ≡ RunFault.Memory) }
     {
         match self {
-            GatePhase::Following(follower) => judge_message(alloc, follower, message),
+            GatePhase::Following(follower) => process_message(alloc, follower, message),
             GatePhase::Opening { .. } => broken(alloc),
             GatePhase::Over => broken(alloc),
         }
@@ -299,7 +299,7 @@ impl<C: LearningCheck> GatePhase<C> {
             Request::Learn => self.learn(alloc, rest),
             Request::Begin => self.begin(alloc),
             Request::Query => self.query(alloc, rest),
-            Request::Judge => self.judge(alloc, rest),
+            Request::Process => self.process(alloc, rest),
             Request::Store => self.store(alloc),
         }
     }

@@ -13,7 +13,7 @@ pub enum Request {
     /// Which signatures of a message are not known to be good.
     Query,
     /// To process a message.
-    Judge,
+    Process,
     /// The file of the follower's state.
     Store,
 }
@@ -30,7 +30,7 @@ pub(crate) fn request_of(body: &[u8]) -> Option<Request>
         b'r' if rest.len() % RECEIPT_SIZE == 0 => Some(Request::Learn),
         b'b' if rest.is_empty() => Some(Request::Begin),
         b'q' => Some(Request::Query),
-        b'm' => Some(Request::Judge),
+        b'm' => Some(Request::Process),
         b's' if rest.is_empty() => Some(Request::Store),
         _ => None,
     }

@@ -13,7 +13,7 @@ use crate::gate_inputs::GateInputs;
 use crate::state_lines::write_state_query;
 use mls_check::{LearningCheck, Trusting};
 use mls_follow::Follower;
-use mls_report::finding::tell;
+use mls_report::finding::report_finding;
 use mls_report::read_inputs::StartFailure;
 use mls_report::state_input::resume_from;
 use mls_report::{RunFault, Verdict, read_all};
@@ -32,7 +32,7 @@ fn gate_after_state<R: Source, C: LearningCheck, K: Sink>(
     requires resumed { IsResumed all_good bytes.items (state_of follower) }
     requires records { R.is_failed records.old ≡ false }
     requires out { K.is_failed out.old ≡ false }
-    ensures told { IfOk result (GatesOf (Are (OfState bytes.items)) (C.meaning checker)
+    ensures printed { IfOk result (GatesOf (Are (OfState bytes.items)) (C.meaning checker)
         (R.left records.old) (R.left records.new) (K.written out.old) (K.written out.new)) }
     ensures part { IfErr result (GatesPartOf (Are (OfState bytes.items)) (C.meaning checker)
         (R.left records.old) (R.left records.new) (K.written out.old) (K.written out.new)) }
@@ -53,7 +53,7 @@ fn gate_from_state<R: Source, C: LearningCheck, K: Sink>(
 ) -> Result<Verdict, RunFault>
     requires records { R.is_failed records.old ≡ false }
     requires out { K.is_failed out.old ≡ false }
-    ensures told { IfOk result (GatesOf (Are (OfState bytes.items)) (C.meaning checker)
+    ensures printed { IfOk result (GatesOf (Are (OfState bytes.items)) (C.meaning checker)
         (R.left records.old) (R.left records.new) (K.written out.old) (K.written out.new)) }
     ensures part { IfErr result (GatesPartOf (Are (OfState bytes.items)) (C.meaning checker)
         (R.left records.old) (R.left records.new) (K.written out.old) (K.written out.new)) }
@@ -62,7 +62,7 @@ fn gate_from_state<R: Source, C: LearningCheck, K: Sink>(
 {
     match resume_from(alloc, bytes.as_slice(), Trusting) {
         Ok(follower) => gate_after_state(alloc, bytes, follower, records, checker, out),
-        Err(StartFailure::Found(finding)) => tell(alloc, &finding, out),
+        Err(StartFailure::Found(finding)) => report_finding(alloc, &finding, out),
         Err(StartFailure::Fault(fault)) => Err(fault),
     }
 }
@@ -87,7 +87,7 @@ pub fn run_gate_state<S: Source, R: Source, C: LearningCheck, K: Sink>(
     requires state { S.is_failed state.old ≡ false }
     requires records { R.is_failed records.old ≡ false }
     requires out { K.is_failed out.old ≡ false }
-    ensures told { IfOk result
+    ensures printed { IfOk result
         (GatesState (C.meaning checker) (S.left state.old) (S.left state.new)
         (R.left records.old) (R.left records.new) (K.written out.old) (K.written out.new)) }
     ensures part { IfErr result

@@ -3,9 +3,9 @@ use Rattle.std.proofs.Common.{◌≡◌, ℕ, ◌+◌, ◌<◌, ◌≤◌, cond,
 use Rattle.std.specs.Prelude.{option_and_then, All, slice_get}
 use Rattle.std.proofs.lemmas.Option.{same_Some}
 use Rattle.mls_nodes.specs.declared.parent.ParentNode.{ParentNode}
-use Rattle.mls_tree.specs.Tree.{Tree, leaf, branch, leaf_count, Subtree, subtree_at, root_place}
+use Rattle.mls_tree.specs.Tree.{Tree, leaf, branch, leaf_count, Subtree, subtree_at, root_node_index}
 use Rattle.mls_tree.specs.TreeHash.{tree_hash}
-use Rattle.mls_tree.proofs.Trees.{subtree_at-stands, subtree_at-root, subtree_at-nested, subtree_at-in_left, subtree_at-in_right, root_place-above, root_place-below}
+use Rattle.mls_tree.proofs.Trees.{subtree_at-stands, subtree_at-root, subtree_at-nested, subtree_at-in_left, subtree_at-in_right, root_node_index-above, root_node_index-below}
 use Rattle.mls_tree.specs.NodeView.{HasChildren}
 use Rattle.mls_hash.specs.ParentHash.{root_parent}
 use Rattle.mls_hash.specs.WithoutLeaves.{strip, original_tree_hash, original_tree_hash_at}
@@ -26,16 +26,16 @@ module _ (L M : List ℕ) where
       strip-alike first l (λ i a b. alike i a (omega arith))
       (λ p s q e h.
       let at = subtree_at-stands first l p s e in
-      own p s q (subtree_at-in_left first l n r p (omega (arith, at.place, at.to_right, root_place-below s.first s.tree)) ∙ e) h) in
+      own p s q (subtree_at-in_left first l n r p (omega (arith, at.node_index, at.to_right, root_node_index-below s.first s.tree)) ∙ e) h) in
       let right =
       strip-alike (first + leaf_count l) r (λ i a b. alike i (omega arith) (omega arith))
       (λ p s q e h.
       let at = subtree_at-stands (first + leaf_count l) r p s e in
-      own p s q (subtree_at-in_right first l n r p (omega (arith, at.place, at.from_left, root_place-above s.first s.tree)) ∙ e) h) in
+      own p s q (subtree_at-in_right first l n r p (omega (arith, at.node_index, at.from_left, root_node_index-above s.first s.tree)) ∙ e) h) in
       let here =
       parent-alike L M n
       (λ q e k d lt.
-      let range = own (root_place first (branch l n r)) _ q (subtree_at-root first (branch l n r)) e k d lt in
+      let range = own (root_node_index first (branch l n r)) _ q (subtree_at-root first (branch l n r)) e k d lt in
       alike _ range.0 range.1) in
       λ i. branch (left i) (here i) (right i)
 

@@ -8,13 +8,13 @@ use Rattle.mls_nodes.specs.declared.leaf.LeafNode.{LeafNode}
 use Rattle.mls_nodes.specs.declared.parent.ParentNode.{ParentNode}
 use Rattle.mls_nodes.specs.declared.node.Node.{Node}
 use Rattle.mls_nodes.specs.NodeModel.{entry_value}
-use Rattle.mls_tree.specs.Tree.{Tree, leaf, branch, leaf_count, listing, Subtree, subtree_at, root_place}
+use Rattle.mls_tree.specs.Tree.{Tree, leaf, branch, leaf_count, listing, Subtree, subtree_at, root_node_index}
 use Rattle.mls_tree.specs.RatchetTree.{RatchetTree}
 use Rattle.mls_tree.specs.TreeHash.{leaf_hash_input, parent_hash_input, tree_hash}
 use Rattle.mls_tree.proofs.Arrays.{slice_get-set_same, slice_get-set_other}
 use Rattle.mls_tree.proofs.Coordinates.{root-seen}
 use Rattle.mls_tree.proofs.Descent.{inside_bound}
-use Rattle.mls_tree.proofs.Trees.{length-listing, subtree_at-stands, subtree_at-root, subtree_at-some, subtree_at-none, subtree_at-in_left, subtree_at-in_right, root_place-above, root_place-below}
+use Rattle.mls_tree.proofs.Trees.{length-listing, subtree_at-stands, subtree_at-root, subtree_at-some, subtree_at-none, subtree_at-in_left, subtree_at-in_right, root_node_index-above, root_node_index-below}
 use Rattle.mls_hash.specs.declared.fault.HashFault.{HashFault}
 use Rattle.mls_hash.specs.HashInputs.{HashesText, HashesSubtree}
 use Rattle.mls_tree.specs.NodeView.{HasChildren}
@@ -59,19 +59,19 @@ module _ (H : List ℕ → List ℕ) (t : Tree) where
     -- a leaf has no other subtree
     pub leaf_put : (number : ℕ) (x : Option LeafNode) → subtree_at 0 t p ≡ Some (record { first = number; tree = leaf x }) → AreHashesUnder H t new p
     leaf_put number x e s f q u sub =
-        let place = (subtree_at-stands 0 t p _ e).place in
+        let node_index = (subtree_at-stands 0 t p _ e).node_index in
         let inside : subtree_at number (leaf x) q ≡ Some u = subst (λ (v : Subtree). subtree_at v.first v.tree q ≡ Some u) (same_Some _ _ (sym f ∙ e)) sub in
         let st = subtree_at-stands number (leaf x) q u inside in
-        let at : q ≡ p = omega (arith, place, st.place, st.from_left, st.to_right, root_place-above u.first u.tree, root_place-below u.first u.tree) in
+        let at : q ≡ p = omega (arith, node_index, st.node_index, st.from_left, st.to_right, root_node_index-above u.first u.tree, root_node_index-below u.first u.tree) in
         subst (λ (k : ℕ). IsSubtreeHashAt H t new k) (sym at) put_here
 
     -- a parent has those of its halves besides
     pub parent_put : (q u m : ℕ) (n : Option ParentNode) → HasChildren t p q u m n → AreHashesUnder H t old q → AreHashesUnder H t old u → AreHashesUnder H t new p
     parent_put q u m n c left after s f k v sub =
-        let place = (subtree_at-stands 0 t p _ c.whole).place in
+        let node_index = (subtree_at-stands 0 t p _ c.whole).node_index in
         let inside : subtree_at c.first (branch c.left n c.right) k ≡ Some v = subst (λ (w : Subtree). subtree_at w.first w.tree k ≡ Some v) (same_Some _ _ (sym f ∙ c.whole)) sub in
         elim (cases_order (k + 1) (2 * (c.first + leaf_count c.left))) [
-          | inl at ↦ subst (λ (w : ℕ). IsSubtreeHashAt H t new w) (omega (arith, place)) put_here
+          | inl at ↦ subst (λ (w : ℕ). IsSubtreeHashAt H t new w) (omega (arith, node_index)) put_here
           | inr (inl lt) ↦ put_keeps k (left _ c.left_child k v (sym (subtree_at-in_left c.first c.left n c.right k lt) ∙ inside))
           | inr (inr gt) ↦ put_keeps k (after _ c.right_child k v (sym (subtree_at-in_right c.first c.left n c.right k gt) ∙ inside))
         ]
@@ -82,7 +82,7 @@ module _ (H : List ℕ → List ℕ) (t : Tree) where
   -- ---- all hashes are put
 
   pub all_listed : (hashes : List (List ℕ)) → length hashes + 1 ≡ 2 * leaf_count t → ((p : ℕ) → p + 1 < 2 * leaf_count t → IsSubtreeHashAt H t hashes p) → AreSubtreeHashes H t hashes
-  all_listed hashes room each p =
+  all_listed hashes capacity each p =
       elim (cases_lt (p + 1) (2 * leaf_count t)) [
         | inl lt ↦ each p lt
         | inr past ↦
@@ -90,18 +90,18 @@ module _ (H : List ℕ → List ℕ) (t : Tree) where
             ∙ sym (ap (option_and_then (λ (s : Subtree). tree_hash H s.first s.tree)) (subtree_at-none 0 t p (omega arith)))
       ]
 
-  pub all_put : (hashes : List (List ℕ)) (root : ℕ) → length hashes + 1 ≡ 2 * leaf_count t → root ≡ root_place 0 t → AreHashesUnder H t hashes root → AreSubtreeHashes H t hashes
-  all_put hashes root room at h =
-      all_listed hashes room
+  pub all_put : (hashes : List (List ℕ)) (root : ℕ) → length hashes + 1 ≡ 2 * leaf_count t → root ≡ root_node_index 0 t → AreHashesUnder H t hashes root → AreSubtreeHashes H t hashes
+  all_put hashes root capacity at h =
+      all_listed hashes capacity
       (λ p lt.
       let s = subtree_at-some 0 t p (omega arith) (omega arith) in
       h (record { first = 0; tree = t }) (ap (subtree_at 0 t) at ∙ subtree_at-root 0 t) p s.0 s.1)
 
 -- a hash is put into a list that has room for all of them
 pub put_room : (suite : ℕ) (t : Tree) (old new : EqualHashes) (p : ℕ) (hash : List ℕ) → HasCapacity suite t old → new ≡ record old { hashes = slice_set old.hashes p hash } → HasCapacity suite t new
-put_room suite t old new p hash room is = record {
-  count = omega (arith, ap (λ l. length l.hashes) is, length-set old.hashes p hash, room.count);
-  width = ap (λ l. l.width) is ∙ room.width;
+put_room suite t old new p hash capacity is = record {
+  count = omega (arith, ap (λ l. length l.hashes) is, length-set old.hashes p hash, capacity.count);
+  width = ap (λ l. l.width) is ∙ capacity.width;
 }
 
 pub node_count : (t : Tree) (nodes : List (Option Node)) → map entry_value nodes ≡ listing t → length nodes + 1 ≡ 2 * leaf_count t

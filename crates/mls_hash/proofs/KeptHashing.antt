@@ -15,7 +15,7 @@ use Rattle.mls_tree.proofs.Arrays.{slice_get-set_other}
 use Rattle.mls_tree.proofs.Trees.{subtree_at-some}
 use Rattle.mls_hash.specs.SuiteHash.{hash_of, kind_of}
 use Rattle.mls_hash.specs.HashInputs.{HashesText}
-use Rattle.mls_hash.specs.FilledCache.{IsFilled, FilledStay}
+use Rattle.mls_hash.specs.FilledCache.{HasCachedHash, FilledStay}
 use Rattle.mls_hash.specs.WithoutLeaves.{stripped_parent, original_tree_hash_at, tree_hash_at}
 use Rattle.mls_hash.proofs.Answers.{whole_tree}
 use Rattle.mls_hash.proofs.Filling.{parent_hashed}
@@ -44,16 +44,16 @@ pub nothing_left_out : (H : List ℕ → List ℕ) (t : Tree) (p : ℕ) (L : Lis
 nothing_left_out H t p L h none e = ap (λ M. original_tree_hash_at H M t p) none ∙ whole_tree H t p ∙ e
 
 -- filling a cell empties none
-pub put_stays : (cells new : List (Option (List ℕ))) (p : ℕ) (h : List ℕ) → new ≡ slice_set cells p (Some h) → hash_in (slice_get new p) ≡ Some h → FilledStay cells new
-put_stays cells new p h e filled q was =
+pub put_stays : (slots new : List (Option (List ℕ))) (p : ℕ) (h : List ℕ) → new ≡ slice_set slots p (Some h) → hash_in (slice_get new p) ≡ Some h → FilledStay slots new
+put_stays slots new p h e filled q was =
     elim (cases_order q p) [
       | inl same ↦ subst (λ (o : Option (List ℕ)). IsSome o) (sym (ap (λ (k : ℕ). hash_in (slice_get new k)) same ∙ filled)) refl
       | inr (inl lt) ↦ other (λ s. omega arith)
       | inr (inr gt) ↦ other (λ s. omega arith)
     ]
   where
-    other : q ≢ p → IsFilled new q
-    other ne = subst (λ (o : Option (Option (List ℕ))). IsSome (hash_in o)) (sym (ap (λ (cs : List (Option (List ℕ))). slice_get cs q) e ∙ slice_get-set_other cells p q (Some h) ne)) was
+    other : q ≢ p → HasCachedHash new q
+    other ne = subst (λ (o : Option (Option (List ℕ))). IsSome (hash_in o)) (sym (ap (λ (cs : List (Option (List ℕ))). slice_get cs q) e ∙ slice_get-set_other slots p q (Some h) ne)) was
 
 parent_of-entry : (n : Option ParentNode) → parent_of (parent_entry n) ≡ n
 parent_of-entry None = refl
@@ -69,5 +69,5 @@ module _ (H : List ℕ → List ℕ) (t u v : Tree) (p q w m : ℕ) (n node : Op
       (subst (λ (k : Option ParentNode). HashesText (option_map H (parent_hash_input (option_map (stripped_parent L) k) left right)) (Ok hash)) there text)
 
 -- there is a subtree at each place
-pub place_there : (t : Tree) (p : ℕ) → p + 1 < 2 * leaf_count t → IsSome (subtree_at 0 t p)
-place_there t p lt = let s = subtree_at-some 0 t p (omega arith) (omega arith) in subst (λ (o : Option Subtree). IsSome o) (sym s.1) refl
+pub node_index_there : (t : Tree) (p : ℕ) → p + 1 < 2 * leaf_count t → IsSome (subtree_at 0 t p)
+node_index_there t p lt = let s = subtree_at-some 0 t p (omega arith) (omega arith) in subst (λ (o : Option Subtree). IsSome o) (sym s.1) refl

@@ -42,8 +42,8 @@ module _ (t : Tree) (p q u m : ℕ) (n : Option ParentNode) (c : HasChildren t p
   -- its place is odd
   numbered : 2 * (p / 2) + 1 ≡ p
   numbered =
-      let place = (subtree_at-stands 0 t p _ c.whole).place in
-      omega (arith, place, leaf_count-positive c.left)
+      let node_index = (subtree_at-stands 0 t p _ c.whole).node_index in
+      omega (arith, node_index, leaf_count-positive c.left)
 
   pub here : parent_at t p ≡ n
   here = ap (option_and_then (λ (s : Subtree). root_parent s.tree)) c.whole

@@ -49,8 +49,8 @@ length-tree_hash suite first (branch l p r) hash e =
     length-parent_hash suite p (tree_hash (hash_of suite) first l) (tree_hash (hash_of suite) (first + leaf_count l) r) hash e
 
 -- and that of a subtree
-pub length-tree_hash_at : (suite : ℕ) (t : Tree) (place : ℕ) (hash : List ℕ) → tree_hash_at (hash_of suite) t place ≡ Some hash → length hash ≡ hash_length suite
-length-tree_hash_at suite t place hash = by_subtree (subtree_at 0 t place)
+pub length-tree_hash_at : (suite : ℕ) (t : Tree) (node_index : ℕ) (hash : List ℕ) → tree_hash_at (hash_of suite) t node_index ≡ Some hash → length hash ≡ hash_length suite
+length-tree_hash_at suite t node_index hash = by_subtree (subtree_at 0 t node_index)
   where
     by_subtree : (o : Option Subtree) → option_and_then (λ (s : Subtree). tree_hash (hash_of suite) s.first s.tree) o ≡ Some hash → length hash ≡ hash_length suite
     by_subtree None e = absurd (none-some hash e)

@@ -4,10 +4,10 @@ use Rattle.mls_tree.specs.HashCache.{hash_in}
 
 -- ---- internal
 
--- `IsFilled cells p`: the cache slot of node index p is filled.
-abbrev pub IsFilled : List (Option (List ℕ)) → ℕ → Type 0
-IsFilled cells p = IsSome (hash_in (slice_get cells p))
+-- `HasCachedHash slots p`: the cache slot of node index p is filled.
+abbrev pub HasCachedHash : List (Option (List ℕ)) → ℕ → Type 0
+HasCachedHash slots p = IsSome (hash_in (slice_get slots p))
 
 -- `FilledStay old new`: no filled slot was cleared.
 abbrev pub FilledStay : List (Option (List ℕ)) → List (Option (List ℕ)) → Type 0
-FilledStay old new = (p : ℕ) → IsFilled old p → IsFilled new p
+FilledStay old new = (p : ℕ) → HasCachedHash old p → HasCachedHash new p

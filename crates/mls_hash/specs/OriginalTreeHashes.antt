@@ -19,20 +19,20 @@ root_child_hash H side first (branch l None r) = None
 root_child_hash H Left first (branch l (Some p) r) = original_tree_hash H p.unmerged first l
 root_child_hash H Right first (branch l (Some p) r) = original_tree_hash H p.unmerged (first + leaf_count l) r
 
--- `child_hash_at H t place side` is `root_child_hash` of the subtree at a node index.
+-- `child_hash_at H t node_index side` is `root_child_hash` of the subtree at a node index.
 abbrev pub child_hash_at : (List ℕ → List ℕ) → Tree → ℕ → Side → Option (List ℕ)
-child_hash_at H t place side = option_and_then (λ s. root_child_hash H side s.first s.tree) (subtree_at 0 t place)
+child_hash_at H t node_index side = option_and_then (λ s. root_child_hash H side s.first s.tree) (subtree_at 0 t node_index)
 
--- `AreChildHashes H t place hashes`: a non-blank parent is at the node index, and its children have these original tree
--- hashes.
-pub record AreChildHashes (H : List ℕ → List ℕ) (t : Tree) (place : ℕ) (hashes : ChildHashes) : Type 0 where
-  pub left : child_hash_at H t place Left ≡ Some hashes.left
-  pub right : child_hash_at H t place Right ≡ Some hashes.right
+-- `AreChildHashes H t node_index hashes`: a non-blank parent is at the node index, and its children have these original
+-- tree hashes.
+pub record AreChildHashes (H : List ℕ → List ℕ) (t : Tree) (node_index : ℕ) (hashes : ChildHashes) : Type 0 where
+  pub left : child_hash_at H t node_index Left ≡ Some hashes.left
+  pub right : child_hash_at H t node_index Right ≡ Some hashes.right
 
--- `own_hash_at H t place` is the original tree hash of the subtree of a non-blank parent, without the parent's own
+-- `own_hash_at H t node_index` is the original tree hash of the subtree of a non-blank parent, without the parent's own
 -- unmerged leaves (RFC 9420, 7.9).
 abbrev pub own_hash_at : (List ℕ → List ℕ) → Tree → ℕ → Option (List ℕ)
-own_hash_at H t place = option_and_then (λ p. original_tree_hash_at H p.unmerged t place) (parent_at t place)
+own_hash_at H t node_index = option_and_then (λ p. original_tree_hash_at H p.unmerged t node_index) (parent_at t node_index)
 
 -- `AreOwnHashes H t own`: each hash that the list has, at index k, is the one of the parent at node index 2 * k + 1.
 abbrev pub AreOwnHashes : (List ℕ → List ℕ) → Tree → List (Option (List ℕ)) → Type 0
@@ -52,7 +52,7 @@ pub record AreKnownHashes (H : List ℕ → List ℕ) (t : Tree) (known : KnownH
 
 -- `HasNonDecreasingLists t`: the unmerged list of every non-blank parent does not decrease (RFC 9420, 7.1).
 abbrev pub HasNonDecreasingLists : Tree → Type 0
-HasNonDecreasingLists t = (place : ℕ) (p : ParentNode) → parent_at t place ≡ Some p → IsNonDecreasing p.unmerged
+HasNonDecreasingLists t = (node_index : ℕ) (p : ParentNode) → parent_at t node_index ≡ Some p → IsNonDecreasing p.unmerged
 
 -- ---- internal
 
@@ -61,6 +61,6 @@ abbrev pub ListsJust : List ℕ → Option ParentNode → Type 0
 ListsJust leaves None = ⊥
 ListsJust leaves (Some p) = leaves ≡ p.unmerged
 
--- `KeepsOwn place hash old new`: the hash of the parent at a node index was stored, or nothing changed.
+-- `KeepsOwn node_index hash old new`: the hash of the parent at a node index was stored, or nothing changed.
 abbrev pub KeepsOwn : ℕ → List ℕ → KnownHashes → KnownHashes → Type 0
-KeepsOwn place hash old new = (new ≡ old) ⊎ (new ≡ record old { own = slice_set old.own (place / 2) (Some hash) })
+KeepsOwn node_index hash old new = (new ≡ old) ⊎ (new ≡ record old { own = slice_set old.own (node_index / 2) (Some hash) })

@@ -26,15 +26,15 @@ root_parent_hash H side first (branch l None r) = None
 root_parent_hash H Left first (branch l (Some p) r) = parent_hash H p first l
 root_parent_hash H Right first (branch l (Some p) r) = parent_hash H p (first + leaf_count l) r
 
--- `parent_hash_at H t place side` is the parent hash of the non-blank parent at a node index.
+-- `parent_hash_at H t node_index side` is the parent hash of the non-blank parent at a node index.
 abbrev pub parent_hash_at : (List ℕ → List ℕ) → Tree → ℕ → Side → Option (List ℕ)
-parent_hash_at H t place side = option_and_then (λ s. root_parent_hash H side s.first s.tree) (subtree_at 0 t place)
+parent_hash_at H t node_index side = option_and_then (λ s. root_parent_hash H side s.first s.tree) (subtree_at 0 t node_index)
 
 -- `root_parent t` is the parent node of the root, if the root is a non-blank parent.
 abbrev pub root_parent : Tree → Option ParentNode
 root_parent (leaf _) = None
 root_parent (branch _ p _) = p
 
--- `parent_at t place` is the non-blank parent at a node index.
+-- `parent_at t node_index` is the non-blank parent at a node index.
 abbrev pub parent_at : Tree → ℕ → Option ParentNode
-parent_at t place = option_and_then (λ s. root_parent s.tree) (subtree_at 0 t place)
+parent_at t node_index = option_and_then (λ s. root_parent s.tree) (subtree_at 0 t node_index)

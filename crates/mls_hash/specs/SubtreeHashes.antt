@@ -70,7 +70,7 @@ AreLeavesUnder t p leaves = (s : Subtree) → subtree_at 0 t p ≡ Some s → Al
 abbrev pub AreHashesKept : (List ℕ → List ℕ) → Tree → List (List ℕ) → List (List ℕ) → Type 0
 AreHashesKept H t old new = (q : ℕ) → IsSubtreeHashAt H t old q → IsSubtreeHashAt H t new q
 
--- `AreHashesUnder H t hashes place`: the list has the hashes of all subtrees of the subtree at a node index.
+-- `AreHashesUnder H t hashes node_index`: the list has the hashes of all subtrees of the subtree at a node index.
 abbrev pub AreHashesUnder : (List ℕ → List ℕ) → Tree → List (List ℕ) → ℕ → Type 0
-AreHashesUnder H t hashes place =
-    (s : Subtree) → subtree_at 0 t place ≡ Some s → (q : ℕ) (u : Subtree) → subtree_at s.first s.tree q ≡ Some u → IsSubtreeHashAt H t hashes q
+AreHashesUnder H t hashes node_index =
+    (s : Subtree) → subtree_at 0 t node_index ≡ Some s → (q : ℕ) (u : Subtree) → subtree_at s.first s.tree q ≡ Some u → IsSubtreeHashAt H t hashes q

@@ -34,11 +34,11 @@ strip leaves first (branch l p r) =
 abbrev pub original_tree_hash : (List ℕ → List ℕ) → List ℕ → ℕ → Tree → Option (List ℕ)
 original_tree_hash H leaves first t = tree_hash H first (strip leaves first t)
 
--- `tree_hash_at H t place` is the tree hash of the subtree at a node index, if there is one (RFC 9420, 7.8).
+-- `tree_hash_at H t node_index` is the tree hash of the subtree at a node index, if there is one (RFC 9420, 7.8).
 abbrev pub tree_hash_at : (List ℕ → List ℕ) → Tree → ℕ → Option (List ℕ)
-tree_hash_at H t place = option_and_then (λ s. tree_hash H s.first s.tree) (subtree_at 0 t place)
+tree_hash_at H t node_index = option_and_then (λ s. tree_hash H s.first s.tree) (subtree_at 0 t node_index)
 
--- `original_tree_hash_at H leaves t place` is the original tree hash of the subtree at a node index, if there is one
--- (RFC 9420, 7.9).
+-- `original_tree_hash_at H leaves t node_index` is the original tree hash of the subtree at a node index, if there is
+-- one (RFC 9420, 7.9).
 abbrev pub original_tree_hash_at : (List ℕ → List ℕ) → List ℕ → Tree → ℕ → Option (List ℕ)
-original_tree_hash_at H leaves t place = option_and_then (λ s. original_tree_hash H leaves s.first s.tree) (subtree_at 0 t place)
+original_tree_hash_at H leaves t node_index = option_and_then (λ s. original_tree_hash H leaves s.first s.tree) (subtree_at 0 t node_index)

@@ -5,7 +5,7 @@ ghost use Rattle.mls_tree.specs.HashCache.{empty_count, AreAllFilled};
 ghost use Rattle.mls_tree.specs.Tree.{leaf_count, subtree_at};
 ghost use Rattle.mls_hash.specs.SuiteHash.{hash_of, kind_of};
 ghost use Rattle.mls_hash.specs.HashInputs.{HashesSubtree};
-ghost use Rattle.mls_hash.specs.FilledCache.{IsFilled, FilledStay};
+ghost use Rattle.mls_hash.specs.FilledCache.{HasCachedHash, FilledStay};
 ghost use Rattle.mls_hash.specs.WithoutLeaves.{tree_hash_at};
 
 use crate::fault::HashFault;
@@ -17,13 +17,13 @@ use mls_wire::Writer;
 use std::alloc::Global;
 
 /// Returns the cached tree hash of the subtree at a node index, if the cache is of the suite's hash function.
-pub(crate) fn kept_hash(suite: Suite, tree: &PublicTree, place: u32) -> Option<HashValue>
-    ensures { IfSome result (λ h. tree_hash_at (hash_of suite) tree.now.tree place ≡ Some h) }
+pub(crate) fn kept_hash(suite: Suite, tree: &PublicTree, node_index: u32) -> Option<HashValue>
+    ensures { IfSome result (λ h. tree_hash_at (hash_of suite) tree.now.tree node_index ≡ Some h) }
 {
     if tree.hash_kind() != Some(suite.kind()) {
         return None;
     }
-    tree.kept_hash(place)
+    tree.kept_hash(node_index)
 }
 
 /// Returns the tree hash of the subtree at a node index: the cached one, if its slot is filled. Otherwise its children
@@ -33,33 +33,33 @@ fn fill(
     alloc: Global,
     suite: Suite,
     tree: &mut PublicTree,
-    place: u32,
+    node_index: u32,
     writer: &mut Writer,
 ) -> Result<HashValue, HashFault>
     requires { tree.old.kind ≡ Some (kind_of suite) }
-    ensures hash { HashesSubtree (subtree_at 0 tree.old.tree place)
-        (tree_hash_at (hash_of suite) tree.old.tree place) result }
+    ensures hash { HashesSubtree (subtree_at 0 tree.old.tree node_index)
+        (tree_hash_at (hash_of suite) tree.old.tree node_index) result }
     ensures tree { tree.new.tree ≡ tree.old.tree }
     ensures kind { tree.new.kind ≡ tree.old.kind }
-    ensures stays { FilledStay tree.old.cells tree.new.cells }
-    ensures filled { OnOk result (IsFilled tree.new.cells place) }
+    ensures stays { FilledStay tree.old.slots tree.new.slots }
+    ensures filled { OnOk result (HasCachedHash tree.new.slots node_index) }
 {
-    if let Some(hash) = tree.kept_hash(place) {
+    if let Some(hash) = tree.kept_hash(node_index) {
         return Ok(hash);
     }
-    match tree.part(place) {
+    match tree.part(node_index) {
         None => Err(HashFault::NoSuchNode),
         Some(Part::Leaf { index, node }) => {
             let hash = hash_leaf(alloc, suite, index, node, writer)?;
-            tree.keep_hash(place, hash);
+            tree.keep_hash(node_index, hash);
             Ok(hash)
         }
         Some(Part::Parent { left, right, .. }) => {
             let left = fill(alloc, suite, tree, left, writer)?;
             let right = fill(alloc, suite, tree, right, writer)?;
-            let node = tree.parent(place);
+            let node = tree.parent(node_index);
             let hash = hash_parent(suite, node, &LeafSet::empty(), &left, &right, writer)?;
-            tree.keep_hash(place, hash);
+            tree.keep_hash(node_index, hash);
             Ok(hash)
         }
     }
@@ -95,11 +95,11 @@ fn fill_each(
     requires { tree.old.kind ≡ Some (kind_of suite) }
     ensures tree { tree.new.tree ≡ tree.old.tree }
     ensures kind { tree.new.kind ≡ tree.old.kind }
-    ensures filled { OnOk result (AreAllFilled tree.new.tree tree.new.cells) }
+    ensures filled { OnOk result (AreAllFilled tree.new.tree tree.new.slots) }
     ensures memory { IfErr result (λ e. e ≡ HashFault.OutOfMemory) }
 {
-    for place in 0..2 * tree.leaf_count() - 1 {
-        match fill(alloc, suite, tree, place, writer) {
+    for node_index in 0..2 * tree.leaf_count() - 1 {
+        match fill(alloc, suite, tree, node_index, writer) {
             Ok(_) => {}
             Err(HashFault::OutOfMemory) => return Err(HashFault::OutOfMemory),
             Err(_) => unreachable!(),
@@ -120,18 +120,18 @@ fn fill_each(
 pub fn fill_hashes(alloc: Global, suite: Suite, tree: &mut PublicTree) -> Result<u32, HashFault>
     ensures tree { tree.new.tree ≡ tree.old.tree }
     ensures kind { OnOk result (tree.new.kind ≡ Some (kind_of suite)) }
-    ensures filled { OnOk result (AreAllFilled tree.new.tree tree.new.cells) }
+    ensures filled { OnOk result (AreAllFilled tree.new.tree tree.new.slots) }
     ensures count { tree.old.kind ≡ Some (kind_of suite)
-        → IfOk result (λ n. n ≡ empty_count tree.old.cells) }
+        → IfOk result (λ n. n ≡ empty_count tree.old.slots) }
     ensures all { tree.old.kind ≢ Some (kind_of suite)
         → IfOk result (λ n. n + 1 ≡ 2 * leaf_count tree.old.tree) }
     ensures memory { IfErr result (λ e. e ≡ HashFault.OutOfMemory) }
 {
     tree.reserve_hashes(alloc, suite.kind())?;
-    let empty = tree.empty_cells();
+    let empty = tree.empty_slots();
     let mut writer = Writer::new(alloc);
     fill_from_root(alloc, suite, tree, &mut writer)?;
-    if tree.empty_cells() > 0 {
+    if tree.empty_slots() > 0 {
         fill_each(alloc, suite, tree, &mut writer)?;
     }
     Ok(empty)

@@ -3,7 +3,7 @@
 
 ghost use Rattle.std.specs.Prelude.{◌≡◌, ◌≤◌, ◌^◌, MatchOption, OnOk, Some, length, option_copied, option_map};
 ghost use Rattle.std.specs.Int.{w32};
-ghost use Rattle.mls_wire.specs.Encoding as spell;
+ghost use Rattle.mls_wire.specs.Encoding as encoding;
 ghost use Rattle.mls_wire.specs.WriteContracts.{after};
 ghost use Rattle.mls_nodes.specs.Limits.{leaf_limit};
 ghost use Rattle.mls_nodes.specs.Layout as layout;
@@ -28,7 +28,7 @@ fn write_optional_leaf(
     node: Option<&LeafNode>,
     writer: &mut Writer,
 ) -> Result<(), CodecFault>
-    ensures { WritesText (spell.optional layout.leaf (option_copied node.entry)) writer.old
+    ensures { WritesText (encoding.optional layout.leaf (option_copied node.entry)) writer.old
         writer.new result }
 {
     match node {
@@ -58,7 +58,7 @@ fn write_leaf_input(
 
 /// Writes one number of a list.
 fn write_number(number: u32, writer: &mut Writer) -> Result<(), AllocError>
-    ensures { OnOk result (after writer.old (spell.number w32 number) ≡ Some writer.new) }
+    ensures { OnOk result (after writer.old (encoding.number w32 number) ≡ Some writer.new) }
 {
     match writer.write_u32(number) {
         Ok(()) => Ok(()),
@@ -87,7 +87,7 @@ fn write_kept(
     writer: &mut Writer,
 ) -> Result<(), AllocError>
     ensures { OnOk result
-        (after writer.old (spell.items (spell.number w32) (without left_out.now numbers.now))
+        (after writer.old (encoding.items (encoding.number w32) (without left_out.now numbers.now))
         ≡ Some writer.new) }
 {
     for number in numbers {
@@ -139,7 +139,7 @@ fn write_optional_parent(
     left_out: &LeafSet<'_>,
     writer: &mut Writer,
 ) -> Result<(), CodecFault>
-    ensures { WritesText (spell.optional layout.parent
+    ensures { WritesText (encoding.optional layout.parent
         (option_map (stripped_parent left_out.now) (option_copied node.entry))) writer.old
         writer.new result }
 {

@@ -73,12 +73,12 @@ impl<'a> OriginalHashes<'a> {
     }
 
     /// Returns the tree hash of the subtree at a node index, if no leaf is left out.
-    fn unchanged(&self, left_out: &LeafSet<'_>, place: u32) -> Option<HashValue>
+    fn unchanged(&self, left_out: &LeafSet<'_>, node_index: u32) -> Option<HashValue>
         ensures { IfSome result
-            (λ h. (left_out.now ≡ []) × (slice_get self.now.subtrees place ≡ Some h)) }
+            (λ h. (left_out.now ≡ []) × (slice_get self.now.subtrees node_index ≡ Some h)) }
     {
         if left_out.is_empty() {
-            self.subtrees.get(place)
+            self.subtrees.get(node_index)
         } else {
             None
         }
@@ -90,15 +90,15 @@ impl<'a> OriginalHashes<'a> {
         &self,
         node: Option<&ParentNode>,
         left_out: &LeafSet<'_>,
-        place: u32,
+        node_index: u32,
     ) -> Option<HashValue>
         ensures { IfSome result (λ h. ListsJust left_out.now (option_copied node.entry)
-            × (slice_get self.now.own (place / 2) ≡ Some (Some h))) }
+            × (slice_get self.now.own (node_index / 2) ≡ Some (Some h))) }
     {
         if !left_out.holds_just(node?.unmerged.as_slice()) {
             return None;
         }
-        self.own.get(place / 2)
+        self.own.get(node_index / 2)
     }
 
     /// Returns the original tree hash of the subtree at a node index, without the leaves of the set, all of which are
@@ -109,19 +109,19 @@ impl<'a> OriginalHashes<'a> {
         suite: Suite,
         tree: &PublicTree,
         left_out: &LeafSet<'_>,
-        place: u32,
+        node_index: u32,
     ) -> Result<HashValue, HashFault>
         requires known { AreKnownHashes (hash_of suite) tree.now.tree self.old }
         requires own_leaves { HoldsOwnLeaves tree.now.tree }
-        requires under { AreLeavesUnder tree.now.tree place left_out.now }
-        ensures hash { HashesSubtree (subtree_at 0 tree.now.tree place)
-            (original_tree_hash_at (hash_of suite) left_out.now tree.now.tree place) result }
+        requires under { AreLeavesUnder tree.now.tree node_index left_out.now }
+        ensures hash { HashesSubtree (subtree_at 0 tree.now.tree node_index)
+            (original_tree_hash_at (hash_of suite) left_out.now tree.now.tree node_index) result }
         ensures same { self.new ≡ self.old }
     {
-        if let Some(hash) = self.unchanged(left_out, place) {
+        if let Some(hash) = self.unchanged(left_out, node_index) {
             return Ok(hash);
         }
-        match tree.part(place) {
+        match tree.part(node_index) {
             None => Err(HashFault::NoSuchNode),
             Some(Part::Leaf { index, node }) => {
                 let node = kept_leaf(index, node, left_out);
@@ -135,7 +135,7 @@ impl<'a> OriginalHashes<'a> {
                     middle,
                 },
             ) => {
-                if let Some(hash) = self.own_hash(node, left_out, place) {
+                if let Some(hash) = self.own_hash(node, left_out, node_index) {
                     return Ok(hash);
                 }
                 let (before, after) = left_out.split(middle);
@@ -147,10 +147,10 @@ impl<'a> OriginalHashes<'a> {
     }
 
     /// Stores the own hash of the parent at a node index, if its length is that of the other hashes.
-    fn keep(&mut self, place: u32, hash: &HashValue)
-        ensures { KeepsOwn place hash.now self.old self.new }
+    fn store(&mut self, node_index: u32, hash: &HashValue)
+        ensures { KeepsOwn node_index hash.now self.old self.new }
     {
-        self.own.keep(place / 2, hash);
+        self.own.store(node_index / 2, hash);
     }
 
     /// Returns the original tree hashes of the children of the non-blank parent at a node index. Stores the parent's
@@ -166,15 +166,15 @@ impl<'a> OriginalHashes<'a> {
         alloc: Global,
         suite: Suite,
         tree: &PublicTree,
-        place: u32,
+        node_index: u32,
     ) -> Result<ChildHashes, HashFault>
         requires known { AreKnownHashes (hash_of suite) tree.now.tree self.old }
         requires own_leaves { HoldsOwnLeaves tree.now.tree }
         requires sorted { HasNonDecreasingLists tree.now.tree }
-        ensures hashes { IfOk result (AreChildHashes (hash_of suite) tree.now.tree place) }
+        ensures hashes { IfOk result (AreChildHashes (hash_of suite) tree.now.tree node_index) }
         ensures no_such_node { (result ≡ Err HashFault.NoSuchNode)
-            ↔ (parent_at tree.now.tree place ≡ None) }
-        ensures else_memory { IfErr result
+            ↔ (parent_at tree.now.tree node_index ≡ None) }
+        ensures possible_errors { IfErr result
             (λ e. (e ≡ HashFault.NoSuchNode) ⊎ (e ≡ HashFault.OutOfMemory)) }
         ensures known { AreKnownHashes (hash_of suite) tree.now.tree self.new }
     {
@@ -185,7 +185,7 @@ impl<'a> OriginalHashes<'a> {
                 right,
                 middle,
             },
-        ) = tree.part(place)
+        ) = tree.part(node_index)
         else {
             return Err(HashFault::NoSuchNode);
         };
@@ -196,7 +196,7 @@ impl<'a> OriginalHashes<'a> {
         if !left_out.is_empty() {
             let writer = &mut self.writer;
             let own = hash_parent(suite, Some(parent), &left_out, &left, &right, writer)?;
-            self.keep(place, &own);
+            self.store(node_index, &own);
         }
         Ok(ChildHashes { left, right })
     }
@@ -207,16 +207,16 @@ impl<'a> OriginalHashes<'a> {
         &mut self,
         suite: Suite,
         tree: &PublicTree,
-        place: u32,
+        node_index: u32,
         side: Side,
         children: &ChildHashes,
     ) -> Result<HashValue, AllocError>
-        requires { AreChildHashes (hash_of suite) tree.now.tree place children.now }
+        requires { AreChildHashes (hash_of suite) tree.now.tree node_index children.now }
         ensures hash { IfOk result
-            (λ h. parent_hash_at (hash_of suite) tree.now.tree place side ≡ Some h) }
+            (λ h. parent_hash_at (hash_of suite) tree.now.tree node_index side ≡ Some h) }
         ensures same { self.new ≡ self.old }
     {
-        let Some(parent) = tree.parent(place) else {
+        let Some(parent) = tree.parent(node_index) else {
             unreachable!()
         };
         let original = match side {

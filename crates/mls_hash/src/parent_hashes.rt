@@ -19,9 +19,9 @@ use std::alloc::Global;
 
 /// Returns the non-blank parent at a node index, and the node index of its child on a side. `None` if there is no
 /// non-blank parent.
-fn parent_and_child(tree: &PublicTree, place: u32, side: Side) -> Option<(&ParentNode, u32)>
-    ensures { MatchOption result (parent_at tree.now.tree place ≡ None)
-        (λ r. HasChildOn tree.now.tree place side r.1 r.0.now) }
+fn parent_and_child(tree: &PublicTree, node_index: u32, side: Side) -> Option<(&ParentNode, u32)>
+    ensures { MatchOption result (parent_at tree.now.tree node_index ≡ None)
+        (λ r. HasChildOn tree.now.tree node_index side r.1 r.0.now) }
 {
     let Some(
         Part::Parent {
@@ -30,7 +30,7 @@ fn parent_and_child(tree: &PublicTree, place: u32, side: Side) -> Option<(&Paren
             right,
             ..
         },
-    ) = tree.part(place)
+    ) = tree.part(node_index)
     else {
         return None;
     };
@@ -98,17 +98,17 @@ pub fn parent_hash(
     alloc: Global,
     suite: Suite,
     tree: &PublicTree,
-    place: u32,
+    node_index: u32,
     side: Side,
 ) -> Result<HashValue, HashFault>
     ensures hash { IfOk result
-        (λ h. parent_hash_at (hash_of suite) tree.now.tree place side ≡ Some h) }
+        (λ h. parent_hash_at (hash_of suite) tree.now.tree node_index side ≡ Some h) }
     ensures no_such_node { (result ≡ Err HashFault.NoSuchNode)
-        ↔ (parent_at tree.now.tree place ≡ None) }
-    ensures else_memory { IfErr result
+        ↔ (parent_at tree.now.tree node_index ≡ None) }
+    ensures possible_errors { IfErr result
         (λ e. (e ≡ HashFault.NoSuchNode) ⊎ (e ≡ HashFault.OutOfMemory)) }
 {
-    let Some((parent, child)) = parent_and_child(tree, place, side) else {
+    let Some((parent, child)) = parent_and_child(tree, node_index, side) else {
         return Err(HashFault::NoSuchNode);
     };
     let leaves = sorted(alloc, parent.unmerged.as_slice())?;

@@ -52,7 +52,7 @@ impl OwnHashes {
 
     /// Stores a hash, if there is such an index and the hash has the length of the others. Otherwise nothing changes,
     /// which only takes more time.
-    pub(crate) fn keep(&mut self, index: u32, hash: &HashValue)
+    pub(crate) fn store(&mut self, index: u32, hash: &HashValue)
         ensures { (self.new ≡ self.old) ⊎ (self.new ≡ slice_set self.old index (Some hash.now)) }
     {
         let count = self.known.len();

@@ -39,24 +39,24 @@ fn put_hashes(
     alloc: Global,
     suite: Suite,
     tree: &PublicTree,
-    place: u32,
+    node_index: u32,
     hashes: &mut HashList,
     writer: &mut Writer,
 ) -> Result<HashValue, HashFault>
     requires { HasCapacity suite tree.now.tree hashes.old }
-    ensures room { HasCapacity suite tree.now.tree hashes.new }
-    ensures hash { HashesSubtree (subtree_at 0 tree.now.tree place)
-        (tree_hash_at (hash_of suite) tree.now.tree place) result }
+    ensures capacity { HasCapacity suite tree.now.tree hashes.new }
+    ensures hash { HashesSubtree (subtree_at 0 tree.now.tree node_index)
+        (tree_hash_at (hash_of suite) tree.now.tree node_index) result }
     ensures kept { let H = hash_of suite in
         OnOk result (AreHashesKept H tree.now.tree hashes.old.hashes hashes.new.hashes) }
     ensures put { let H = hash_of suite in
-        OnOk result (AreHashesUnder H tree.now.tree hashes.new.hashes place) }
+        OnOk result (AreHashesUnder H tree.now.tree hashes.new.hashes node_index) }
 {
-    match tree.part(place) {
+    match tree.part(node_index) {
         None => Err(HashFault::NoSuchNode),
         Some(Part::Leaf { index, node }) => {
             let hash = hash_leaf(alloc, suite, index, node, writer)?;
-            hashes.put(place, &hash);
+            hashes.put(node_index, &hash);
             Ok(hash)
         }
         Some(
@@ -70,7 +70,7 @@ fn put_hashes(
             let left = put_hashes(alloc, suite, tree, left, hashes, writer)?;
             let right = put_hashes(alloc, suite, tree, right, hashes, writer)?;
             let hash = hash_parent(suite, node, &LeafSet::empty(), &left, &right, writer)?;
-            hashes.put(place, &hash);
+            hashes.put(node_index, &hash);
             Ok(hash)
         }
     }
@@ -80,15 +80,15 @@ fn put_hashes(
 /// filled. Stops at the first empty one.
 fn put_kept(suite: Suite, tree: &PublicTree, hashes: &mut HashList) -> bool
     requires { HasCapacity suite tree.now.tree hashes.old }
-    ensures room { HasCapacity suite tree.now.tree hashes.new }
+    ensures capacity { HasCapacity suite tree.now.tree hashes.new }
     ensures kept { OnTrue result
         (AreSubtreeHashes (hash_of suite) tree.now.tree hashes.new.hashes) }
 {
-    for place in 0..2 * tree.leaf_count() - 1 {
-        let Some(hash) = kept_hash(suite, tree, place) else {
+    for node_index in 0..2 * tree.leaf_count() - 1 {
+        let Some(hash) = kept_hash(suite, tree, node_index) else {
             return false;
         };
-        hashes.put(place, &hash);
+        hashes.put(node_index, &hash);
     }
     true
 }
@@ -113,10 +113,10 @@ impl SubtreeHashes {
     }
 
     /// Returns the tree hash of the subtree at a node index. `None` if there is none.
-    pub fn get(&self, place: u32) -> Option<HashValue>
-        ensures { result ≡ slice_get self.now place }
+    pub fn get(&self, node_index: u32) -> Option<HashValue>
+        ensures { result ≡ slice_get self.now node_index }
     {
-        self.hashes.get(place)
+        self.hashes.get(node_index)
     }
 
     /// Returns the length of each hash.

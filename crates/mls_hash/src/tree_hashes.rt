@@ -34,13 +34,13 @@ fn kept_whole(
     suite: Suite,
     tree: &PublicTree,
     left_out: &LeafSet<'_>,
-    place: u32,
+    node_index: u32,
 ) -> Option<HashValue>
     ensures { IfSome result (λ h.
-        original_tree_hash_at (hash_of suite) left_out.now tree.now.tree place ≡ Some h) }
+        original_tree_hash_at (hash_of suite) left_out.now tree.now.tree node_index ≡ Some h) }
 {
     if left_out.is_empty() {
-        kept_hash(suite, tree, place)
+        kept_hash(suite, tree, node_index)
     } else {
         None
     }
@@ -53,16 +53,16 @@ pub(crate) fn hash_subtree(
     suite: Suite,
     tree: &PublicTree,
     left_out: &LeafSet<'_>,
-    place: u32,
+    node_index: u32,
     writer: &mut Writer,
 ) -> Result<HashValue, HashFault>
-    ensures { HashesSubtree (subtree_at 0 tree.now.tree place)
-        (original_tree_hash_at (hash_of suite) left_out.now tree.now.tree place) result }
+    ensures { HashesSubtree (subtree_at 0 tree.now.tree node_index)
+        (original_tree_hash_at (hash_of suite) left_out.now tree.now.tree node_index) result }
 {
-    if let Some(hash) = kept_whole(suite, tree, left_out, place) {
+    if let Some(hash) = kept_whole(suite, tree, left_out, node_index) {
         return Ok(hash);
     }
-    match tree.part(place) {
+    match tree.part(node_index) {
         None => Err(HashFault::NoSuchNode),
         Some(Part::Leaf { index, node }) => {
             let node = kept_leaf(index, node, left_out);
@@ -93,17 +93,17 @@ pub fn tree_hash(
     alloc: Global,
     suite: Suite,
     tree: &PublicTree,
-    place: u32,
+    node_index: u32,
 ) -> Result<HashValue, HashFault>
-    ensures hash { IfOk result (λ h. tree_hash_at (hash_of suite) tree.now.tree place ≡ Some h) }
+    ensures hash { IfOk result (λ h. tree_hash_at (hash_of suite) tree.now.tree node_index ≡ Some h) }
     ensures no_such_node { (result ≡ Err HashFault.NoSuchNode)
-        ↔ (subtree_at 0 tree.now.tree place ≡ None) }
-    ensures else_memory { IfErr result
+        ↔ (subtree_at 0 tree.now.tree node_index ≡ None) }
+    ensures possible_errors { IfErr result
         (λ e. (e ≡ HashFault.NoSuchNode) ⊎ (e ≡ HashFault.OutOfMemory)) }
 {
     let left_out = LeafSet::empty();
     let mut writer = Writer::new(alloc);
-    hash_subtree(alloc, suite, tree, &left_out, place, &mut writer)
+    hash_subtree(alloc, suite, tree, &left_out, node_index, &mut writer)
 }
 
 /// Returns the original tree hash of the subtree at a node index (RFC 9420, 7.9): its tree hash with each of these
@@ -116,21 +116,21 @@ pub fn original_tree_hash(
     alloc: Global,
     suite: Suite,
     tree: &PublicTree,
-    place: u32,
+    node_index: u32,
     leaves: &[u32],
 ) -> Result<HashValue, HashFault>
     ensures hash { IfOk result
-        (λ h. original_tree_hash_at (hash_of suite) leaves.now tree.now.tree place ≡ Some h) }
+        (λ h. original_tree_hash_at (hash_of suite) leaves.now tree.now.tree node_index ≡ Some h) }
     ensures no_such_node { (result ≡ Err HashFault.NoSuchNode)
-        ↔ (subtree_at 0 tree.now.tree place ≡ None) }
-    ensures else_memory { IfErr result
+        ↔ (subtree_at 0 tree.now.tree node_index ≡ None) }
+    ensures possible_errors { IfErr result
         (λ e. (e ≡ HashFault.NoSuchNode) ⊎ (e ≡ HashFault.OutOfMemory)) }
 {
-    if tree.part(place).is_none() {
+    if tree.part(node_index).is_none() {
         return Err(HashFault::NoSuchNode);
     }
     let leaves = sorted(alloc, leaves)?;
     let left_out = LeafSet::new(&leaves);
     let mut writer = Writer::new(alloc);
-    hash_subtree(alloc, suite, tree, &left_out, place, &mut writer)
+    hash_subtree(alloc, suite, tree, &left_out, node_index, &mut writer)
 }

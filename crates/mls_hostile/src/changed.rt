@@ -6,7 +6,7 @@ use crate::group::{
     ADD_COMMIT, COMMIT, EXTENSIONS_COMMIT, FULL_COMMIT, GROUP_INFO, OPERATIONS, PATH_COMMIT,
     PROPOSAL, PSK_PROPOSAL, REINIT_PROPOSAL, TRANSCRIPT, TREE, TREE_CONTEXT, VALIDATION, VECTORS,
 };
-use crate::told::{Stop, have};
+use crate::output::{Stop, have};
 use mls_check::{TreeFault, validate_tree};
 use mls_hash::{Suite, tree_hash};
 use mls_msgs::{Message, Profile, decode_message_in, encode_message};
@@ -55,8 +55,8 @@ fn change(alloc: Global, chance: &mut Chance, bytes: &[u8]) -> Result<Vec<u8>, S
         (kind, Some(byte)) => {
             have(changed.extend_from_slice(rest))?;
             let more = chance.below(255).min(255) as u8;
-            if let Some(place) = changed.get_mut(at) {
-                *place = if kind == 2 {
+            if let Some(target) = changed.get_mut(at) {
+                *target = if kind == 2 {
                     byte.wrapping_add(more).wrapping_add(1)
                 } else {
                     byte | (0x40 << (more % 2))

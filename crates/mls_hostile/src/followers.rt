@@ -1,8 +1,8 @@
 //! A follower: its start, and the messages it processes.
 
 use crate::group::GROUP_INFO;
+use crate::output::{Output, Stop, have};
 use crate::signatures::{add_receipts, first_info};
-use crate::told::{Stop, Told, have};
 use mls_apply::KnownProposal;
 use mls_check::Trusting;
 use mls_follow::{Follower, Refusal, SignatureListFault, StartFault, StartRefused, Taken};
@@ -28,8 +28,8 @@ fn add_hashes(
     let Ok(suite) = Suite::from_u16(suite) else {
         return Err(Stop::OtherSuite);
     };
-    for place in 0..tree.leaf_count().saturating_mul(2).saturating_sub(1) {
-        let hash = have(tree_hash(alloc, suite, tree, place))?;
+    for node_index in 0..tree.leaf_count().saturating_mul(2).saturating_sub(1) {
+        let hash = have(tree_hash(alloc, suite, tree, node_index))?;
         have(state.extend_from_slice(hash.as_slice()))?;
     }
     Ok(())
@@ -166,8 +166,8 @@ fn start(alloc: Global, profile: Profile) -> Result<(TrustingFollower, bool), St
     }
 }
 
-/// Gets the signatures of a message from a follower, appends their receipts, and returns whether `wanted` ran out of
-/// memory. The state must be `before`, whatever is returned. If it ran out of memory, it is called again.
+/// Gets the signatures of a message from a follower, appends their receipts, and returns whether `signatures_to_verify`
+/// ran out of memory. The state must be `before`, whatever is returned. If it ran out of memory, it is called again.
 fn push_wanted(
     alloc: Global,
     follower: &mut TrustingFollower,
@@ -175,13 +175,13 @@ fn push_wanted(
     before: &[u8],
     receipts: &mut String,
 ) -> Result<bool, Stop> {
-    let mut answer = follower.wanted(message);
+    let mut answer = follower.signatures_to_verify(message);
     if !is_unchanged(alloc, follower, before)? {
         return Err(Stop::Changed);
     }
     let was_refused = matches!(answer, Err(SignatureListFault::OutOfMemory));
     if was_refused {
-        answer = follower.wanted(message);
+        answer = follower.signatures_to_verify(message);
         if !is_unchanged(alloc, follower, before)? {
             return Err(Stop::Changed);
         }
@@ -226,8 +226,8 @@ pub(crate) struct Followed {
     pub(crate) receipts: String,
 }
 
-/// Passes messages to a follower of this profile that starts on the group of member 0 alone and accepts every signature. Before each
-/// message it is asked for its signatures.
+/// Passes messages to a follower of this profile that starts on the group of member 0 alone and accepts every
+/// signature. Before each message its signatures are requested.
 pub(crate) fn follow(
     alloc: Global,
     profile: Profile,
@@ -251,18 +251,18 @@ pub(crate) fn follow(
 }
 
 /// Returns the answers to messages, whose signatures must have these receipts.
-pub(crate) fn tell_answers(
+pub(crate) fn write_answers(
     alloc: Global,
     profile: Profile,
     messages: &[&str],
     receipts: &str,
-) -> Result<Told, Stop> {
+) -> Result<Output, Stop> {
     let messages = bytes_of_all(alloc, messages)?;
     let followed = follow(alloc, profile, messages.as_slice())?;
     if followed.receipts.as_str() != receipts {
         return Err(Stop::OtherSignatures);
     }
-    Ok(Told {
+    Ok(Output {
         was_refused: followed.was_refused,
         text: followed.answers,
     })

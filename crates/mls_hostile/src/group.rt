@@ -100,7 +100,7 @@ pub(crate) const JOIN_COMMIT: &str = "000100010147000000000000000004000305010006
     0141020001020001000002000103202c8eee82830dd44bbbffaeffae38f629547698198b39cd9280b00999cee94877\
     0001c10701d10401aa01bb01c601e1";
 
-/// The next external commit, by which this client comes back: it removes its leaf and takes it again.
+/// The next external commit, by which this client rejoins: it removes its leaf and takes it again.
 pub(crate) const RESYNC_COMMIT: &str = "00010001014700000000000000010400030c01000601aa010003000000\
     0101018f01b10001014102000102000100000200010320364d93d2bb5f2db8d1d1ab8172f1505afd0d40ab2d4abdf7\
     211d32a0facbd49e0001c10701d20401aa01bb01c601e1";

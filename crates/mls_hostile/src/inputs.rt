@@ -1,7 +1,7 @@
 //! Calls that only read their input.
 
 use crate::group::{LEAVES, RECEIPTS, SIGNED_START};
-use crate::told::{Stop, Told, have};
+use crate::output::{Output, Stop, have};
 use mls_check::{Receipts, ReceiptsFault, SignatureCheck};
 use mls_msgs::{Message, Profile, decode_message_in, encode_message};
 use mls_wire::CodecFault;
@@ -12,7 +12,7 @@ fn written(
     alloc: Global,
     was_refused: bool,
     answer: Result<Message, CodecFault>,
-) -> Result<Told, Stop> {
+) -> Result<Output, Stop> {
     let Ok(message) = answer else {
         return Err(Stop::NotRead);
     };
@@ -20,11 +20,11 @@ fn written(
     drop(message);
     let bytes = have(bytes)?;
     let text = have(hex::encode(alloc, bytes.as_slice()))?;
-    Ok(Told { was_refused, text })
+    Ok(Output { was_refused, text })
 }
 
 /// Decodes a message in a profile. The text is its encoding.
-pub(crate) fn read_message(alloc: Global, profile: Profile, message: &str) -> Result<Told, Stop> {
+pub(crate) fn read_message(alloc: Global, profile: Profile, message: &str) -> Result<Output, Stop> {
     let input = have(hex::decode(alloc, message))?;
     match decode_message_in(alloc, profile, input.as_slice()) {
         Err(CodecFault::OutOfMemory) => {
@@ -51,7 +51,7 @@ fn listed_text(
     alloc: Global,
     was_refused: bool,
     answer: Result<Receipts, ReceiptsFault>,
-) -> Result<Told, Stop> {
+) -> Result<Output, Stop> {
     let Ok(listed) = answer else {
         return Err(Stop::NotRead);
     };
@@ -59,11 +59,11 @@ fn listed_text(
     let second = is_good(alloc, &listed, LEAVES[1], 1)?;
     let other = is_good(alloc, &listed, LEAVES[0], 1)?;
     let text = have(format!(in alloc; "{first} {second} {other}"))?;
-    Ok(Told { was_refused, text })
+    Ok(Output { was_refused, text })
 }
 
 /// Reads a receipts file of two lines.
-pub(crate) fn read_receipts(alloc: Global) -> Result<Told, Stop> {
+pub(crate) fn read_receipts(alloc: Global) -> Result<Output, Stop> {
     match Receipts::read(alloc, RECEIPTS.as_bytes()) {
         Err(ReceiptsFault::OutOfMemory) => {
             let again = Receipts::read(alloc, RECEIPTS.as_bytes());

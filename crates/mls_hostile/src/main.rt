@@ -17,13 +17,13 @@ mod changed;
 mod followers;
 mod group;
 mod inputs;
+mod output;
 mod reports;
 mod signatures;
-mod told;
 mod trees;
 
 use crate::changed::try_input;
-use crate::followers::tell_answers;
+use crate::followers::write_answers;
 use crate::group::{
     ADD_ANSWERS, ADD_COMMIT, ADD_RECEIPTS, COMMIT, EXTENSIONS_ANSWERS, EXTENSIONS_COMMIT,
     EXTENSIONS_RECEIPTS, FULL_COMMIT, GROUP_INFO, JOIN_ANSWERS, JOIN_COMMIT, JOIN_RECEIPTS,
@@ -31,9 +31,9 @@ use crate::group::{
     SECOND_ADD_COMMIT, START_RECEIPTS,
 };
 use crate::inputs::{read_message, read_receipts};
-use crate::reports::{Report, tell_report};
-use crate::signatures::tell_start_signatures;
-use crate::told::{Stop, Told};
+use crate::output::{Output, Stop};
+use crate::reports::{Report, write_report};
+use crate::signatures::write_start_signatures;
 use crate::trees::{Validator, validate};
 use mls_msgs::Profile;
 use std::alloc::Global;
@@ -155,20 +155,20 @@ const CALLS: &[(&str, Call, &str)] = &[
 ];
 
 /// Makes a call.
-fn make(alloc: Global, call: Call) -> Result<Told, Stop> {
+fn make(alloc: Global, call: Call) -> Result<Output, Stop> {
     match call {
         Call::Message(message) => read_message(alloc, Profile::Members, message),
         Call::FullMessage(message) => read_message(alloc, Profile::Full, message),
         Call::Receipts => read_receipts(alloc),
         Call::Validate(validator) => validate(alloc, validator),
-        Call::StartSignatures => tell_start_signatures(alloc),
+        Call::StartSignatures => write_start_signatures(alloc),
         Call::Follow(messages, receipts) => {
-            tell_answers(alloc, Profile::Members, messages, receipts)
+            write_answers(alloc, Profile::Members, messages, receipts)
         }
         Call::FollowInFull(messages, receipts) => {
-            tell_answers(alloc, Profile::Full, messages, receipts)
+            write_answers(alloc, Profile::Full, messages, receipts)
         }
-        Call::Report(report) => tell_report(alloc, report),
+        Call::Report(report) => write_report(alloc, report),
     }
 }
 
@@ -181,28 +181,28 @@ enum Refused {
 }
 
 /// Makes a call, and once more if an allocation outside of it failed. Returns also where one failed.
-fn make_all(alloc: Global, call: Call) -> (Refused, Result<Told, Stop>) {
+fn make_all(alloc: Global, call: Call) -> (Refused, Result<Output, Stop>) {
     match make(alloc, call) {
         Err(Stop::Memory) => (Refused::Outside, make(alloc, call)),
-        Ok(told) if told.was_refused => (Refused::InCall, Ok(told)),
-        told => (Refused::Nowhere, told),
+        Ok(output) if output.was_refused => (Refused::InCall, Ok(output)),
+        output => (Refused::Nowhere, output),
     }
 }
 
 /// Prints the answer of a call. Returns where an allocation failed, or `None` if something is wrong.
-fn tell(rt: &HostRuntime, name: &str, call: Call, wanted: &str) -> Option<Refused> {
-    let (refused, told) = make_all(rt.alloc(), call);
-    match told {
-        Ok(told) if told.text.as_str() == wanted => {
+fn write(rt: &HostRuntime, name: &str, call: Call, needed: &str) -> Option<Refused> {
+    let (refused, output) = make_all(rt.alloc(), call);
+    match output {
+        Ok(output) if output.text.as_str() == needed => {
             let before = match refused {
                 Refused::InCall => "out of memory, unchanged, then ",
                 _ => "",
             };
-            println!(rt; "{name}: {before}{wanted}").ok()?;
+            println!(rt; "{name}: {before}{needed}").ok()?;
             Some(refused)
         }
-        Ok(told) => {
-            println!(rt; "{name}: wrong: {}", told.text).ok()?;
+        Ok(output) => {
+            println!(rt; "{name}: wrong: {}", output.text).ok()?;
             None
         }
         Err(stop) => {
@@ -213,10 +213,10 @@ fn tell(rt: &HostRuntime, name: &str, call: Call, wanted: &str) -> Option<Refuse
 }
 
 /// Makes all calls. Returns where an allocation failed, or `None` if something is wrong.
-fn tell_all(rt: &HostRuntime) -> Option<Refused> {
+fn write_all(rt: &HostRuntime) -> Option<Refused> {
     let mut refused = Refused::Nowhere;
-    for (name, call, wanted) in CALLS {
-        match tell(rt, name, *call, wanted)? {
+    for (name, call, needed) in CALLS {
+        match write(rt, name, *call, needed)? {
             Refused::Nowhere => {}
             found => refused = found,
         }
@@ -226,7 +226,7 @@ fn tell_all(rt: &HostRuntime) -> Option<Refused> {
 
 /// Passes `count` changed inputs to the libraries, and prints the first at which something is wrong. The number of
 /// accepted ones and the time of the slowest go to standard error.
-fn tell_changed(rt: &HostRuntime, first: u64, count: u64) -> Option<()> {
+fn write_changed(rt: &HostRuntime, first: u64, count: u64) -> Option<()> {
     let (mut accepted, mut slowest) = (0u64, 0u128);
     for at in 0..count {
         let number = first.wrapping_add(at);
@@ -273,8 +273,8 @@ fn take_memory(alloc: Global, count: u64) {
 fn main(rt: HostRuntime) -> ExitCode {
     let [pieces, first, count] = numbers(&rt);
     take_memory(rt.alloc(), pieces);
-    let refused = tell_all(&rt);
-    let is_right = refused.is_some() && tell_changed(&rt, first, count).is_some();
+    let refused = write_all(&rt);
+    let is_right = refused.is_some() && write_changed(&rt, first, count).is_some();
     match refused {
         Some(Refused::Nowhere) if is_right => ExitCode::from(0),
         Some(Refused::Outside) if is_right => ExitCode::from(2),

@@ -5,7 +5,7 @@ use crate::group::{
     SIGNATURES, STATE, STATE_GATED, STATE_RECORDS, STATE_SIGNATURES, STATE_VALIDATED, TREE,
     TREE_CONTEXT, VALIDATED, VALIDATED_TREE, VECTORS,
 };
-use crate::told::{Stop, Told, have};
+use crate::output::{Output, Stop, have};
 use mls_check::{Receipts, Trusting};
 use mls_follow::Follower;
 use mls_gate::{run_gate, run_gate_state};
@@ -180,11 +180,11 @@ fn validate_state_ended(alloc: Global) -> Result<Ended, Stop> {
 fn stored_ended(
     verdict: Verdict,
     follower: &Option<Follower<Trusting>>,
-    wanted: &[u8],
+    needed: &[u8],
 ) -> Result<Verdict, RunFault> {
     match follower {
         Some(follower) => match follower.encode_state() {
-            Ok(bytes) if bytes.as_slice() == wanted => Ok(verdict),
+            Ok(bytes) if bytes.as_slice() == needed => Ok(verdict),
             Err(CodecFault::OutOfMemory) => Err(RunFault::Memory),
             _ => Err(RunFault::Write),
         },
@@ -198,12 +198,12 @@ fn replay_state_ended(alloc: Global) -> Result<Ended, Stop> {
         return Err(Stop::Memory);
     };
     let state = have(hex::decode(alloc, STATE))?;
-    let wanted = have(hex::decode(alloc, NEXT_STATE))?;
+    let needed = have(hex::decode(alloc, NEXT_STATE))?;
     let log = commit_log(alloc)?;
     let mut state = MemorySource::new(state.as_slice(), 40, None);
     let mut log = MemorySource::new(log.as_slice(), 40, None);
     let outcome = match replay_state(alloc, &mut state, &mut log, Trusting, &mut out) {
-        Ok(replayed) => stored_ended(replayed.verdict, &replayed.follower, wanted.as_slice()),
+        Ok(replayed) => stored_ended(replayed.verdict, &replayed.follower, needed.as_slice()),
         Err(fault) => Err(fault),
     };
     Ok((outcome, out))
@@ -243,7 +243,7 @@ fn usual(report: Report) -> (&'static str, &'static str) {
 
 /// Makes a report, and once more if it ran out of memory. Then what is written must be a prefix of the usual report,
 /// and nothing if the report is made whole before it is written.
-pub(crate) fn tell_report(alloc: Global, report: Report) -> Result<Told, Stop> {
+pub(crate) fn write_report(alloc: Global, report: Report) -> Result<Output, Stop> {
     let (usual_verdict, usual_text) = usual(report);
     let (mut outcome, mut out) = ended(alloc, report)?;
     let was_refused = matches!(outcome, Err(RunFault::Memory));
@@ -271,5 +271,5 @@ pub(crate) fn tell_report(alloc: Global, report: Report) -> Result<Told, Stop> {
         return Err(Stop::OtherReport);
     }
     let text = have(format!(in alloc; "{verdict}, {} bytes", out.bytes().len()))?;
-    Ok(Told { was_refused, text })
+    Ok(Output { was_refused, text })
 }

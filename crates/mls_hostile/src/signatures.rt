@@ -1,7 +1,7 @@
 //! The signatures of a start, and the receipts of signatures.
 
 use crate::group::{GROUP_INFO, TREE};
-use crate::told::{Stop, Told, have};
+use crate::output::{Output, Stop, have};
 use mls_check::receipt;
 use mls_msgs::{GroupInfo, Message, decode_message};
 use mls_nodes::encode_ratchet_tree;
@@ -78,7 +78,7 @@ fn signatures_again(
 }
 
 /// Returns the receipts of the signatures of a start from a GroupInfo with the tree of four members.
-pub(crate) fn tell_start_signatures(alloc: Global) -> Result<Told, Stop> {
+pub(crate) fn write_start_signatures(alloc: Global) -> Result<Output, Stop> {
     let input = have(hex::decode(alloc, GROUP_INFO))?;
     let tree = have(hex::decode(alloc, TREE))?;
     let info = first_info(alloc, input.as_slice())?;
@@ -88,5 +88,5 @@ pub(crate) fn tell_start_signatures(alloc: Global) -> Result<Told, Stop> {
     let (was_refused, signatures) = signatures_again(alloc, &info, &tree)?;
     let mut text = String::new(alloc);
     add_receipts(alloc, signatures.as_slice(), &mut text)?;
-    Ok(Told { was_refused, text })
+    Ok(Output { was_refused, text })
 }

@@ -3,7 +3,7 @@
 ghost use Rattle.std.specs.Prelude.{◌≡◌};
 
 use crate::group::{TREE, TREE_CONTEXT};
-use crate::told::{Stop, Told, have};
+use crate::output::{Output, Stop, have};
 use mls_check::{MemberFault, TreeFault, Trusting, validate_members, validate_tree};
 use mls_hash::Suite;
 use mls_nodes::{GroupContext, decode_context, encode_ratchet_tree, requirements};
@@ -77,7 +77,7 @@ fn judge_again(
 }
 
 /// Calls a validator with the tree of four members.
-pub(crate) fn validate(alloc: Global, validator: Validator) -> Result<Told, Stop> {
+pub(crate) fn validate(alloc: Global, validator: Validator) -> Result<Output, Stop> {
     let context = have(hex::decode(alloc, TREE_CONTEXT))?;
     let tree = have(hex::decode(alloc, TREE))?;
     let Ok(context) = decode_context(alloc, context.as_slice()) else {
@@ -95,5 +95,5 @@ pub(crate) fn validate(alloc: Global, validator: Validator) -> Result<Told, Stop
         None => "out of memory",
     };
     let text = have(String::from_str(alloc, text))?;
-    Ok(Told { was_refused, text })
+    Ok(Output { was_refused, text })
 }

@@ -1,32 +1,32 @@
--- Classes of leaves in lists, and what a list comes to when replacements are taken back.
+-- Classes of leaves in lists, and what a list comes to when replacements are undone.
 use Rattle.std.proofs.Common.{◌≡◌, ◌∙◌, ℕ, zero, suc, ◌≤◌, List, [], ◌∷◌, ◌++◌, length, Option, Some, None, refl, sym, ap, subst, arith}
 use Rattle.std.specs.Prelude.{slice_set}
 use Rattle.std.proofs.lemmas.List.{get_or_past, set-set, set-get_or}
 use Rattle.mls_nodes.specs.declared.leaf.LeafNode.{LeafNode}
 use Rattle.mls_tree.specs.Tree.{Tree, leaf_count, leaf_at}
 use Rattle.mls_check.proofs.Leaves.{leaf_at-low}
-use Rattle.mls_index.specs.LeafCredentials.{LeafClass, blank_class, class_of, class_at, AreClassesOf, taken_back}
+use Rattle.mls_index.specs.LeafCredentials.{LeafClass, blank_class, class_of, class_at, AreClassesOf, undone}
 
 pub same_classes : (t : Tree) (xs ys : List LeafClass) → ys ≡ xs → AreClassesOf t xs → AreClassesOf t ys
 same_classes t xs ys e h = subst (AreClassesOf t) (sym e) h
 
--- ---- replacements that are taken back
+-- ---- replacements that are undone
 
-pub taken_back-last : (es : List (ℕ × LeafClass)) (e : ℕ × LeafClass) (xs : List LeafClass) → taken_back (es ++ e ∷ []) xs ≡ taken_back es (slice_set xs e.0 e.1)
-taken_back-last [] e xs = refl
-taken_back-last (f ∷ es) e xs = ap (λ ys. slice_set ys f.0 f.1) (taken_back-last es e xs)
+pub undone-last : (es : List (ℕ × LeafClass)) (e : ℕ × LeafClass) (xs : List LeafClass) → undone (es ++ e ∷ []) xs ≡ undone es (slice_set xs e.0 e.1)
+undone-last [] e xs = refl
+undone-last (f ∷ es) e xs = ap (λ ys. slice_set ys f.0 f.1) (undone-last es e xs)
 
 -- one more is made
 pub replaced-back : (es fs : List (ℕ × LeafClass)) (xs ys : List LeafClass) (i : ℕ) (was now : LeafClass) → fs ≡ es ++ (i, was) ∷ [] → ys ≡ slice_set xs i now
-    → was ≡ class_at xs i → taken_back fs ys ≡ taken_back es xs
+    → was ≡ class_at xs i → undone fs ys ≡ undone es xs
 replaced-back es fs xs ys i was now more set stood =
-    ap (λ gs. taken_back gs ys) more ∙ taken_back-last es (i, was) ys ∙ ap (λ zs. taken_back es (slice_set zs i was)) set
-    ∙ ap (taken_back es) (set-set xs i now was ∙ ap (slice_set xs i) stood ∙ set-get_or xs i blank_class)
+    ap (λ gs. undone gs ys) more ∙ undone-last es (i, was) ys ∙ ap (λ zs. undone es (slice_set zs i was)) set
+    ∙ ap (undone es) (set-set xs i now was ∙ ap (slice_set xs i) stood ∙ set-get_or xs i blank_class)
 
--- the last is taken back
+-- the last is undone
 pub back-last : (es fs : List (ℕ × LeafClass)) (xs ys : List LeafClass) (i : ℕ) (was : LeafClass) → es ≡ fs ++ (i, was) ∷ [] → ys ≡ slice_set xs i was
-    → taken_back fs ys ≡ taken_back es xs
-back-last es fs xs ys i was more set = ap (taken_back fs) set ∙ sym (taken_back-last fs (i, was) xs) ∙ ap (λ gs. taken_back gs xs) (sym more)
+    → undone fs ys ≡ undone es xs
+back-last es fs xs ys i was more set = ap (undone fs) set ∙ sym (undone-last fs (i, was) xs) ∙ ap (λ gs. undone gs xs) (sym more)
 
 -- ---- the class at an index
 
@@ -48,5 +48,5 @@ blank-beyond t i high = beyond (leaf_at 0 t i) refl
     beyond (Some x) e = absurd (let low = leaf_at-low 0 t i x e in omega (arith, low, high))
 
 pub class-beyond : (xs : List LeafClass) (t : Tree) (i : ℕ) → leaf_count t ≤ length xs → length xs ≤ i → class_at xs i ≡ class_of (leaf_at 0 t i)
-class-beyond xs t i room high =
-    let far : leaf_count t ≤ i = omega (arith, room, high) in get_or_past xs i blank_class high ∙ sym (ap class_of (blank-beyond t i far))
+class-beyond xs t i capacity high =
+    let far : leaf_count t ≤ i = omega (arith, capacity, high) in get_or_past xs i blank_class high ∙ sym (ap class_of (blank-beyond t i far))

@@ -13,8 +13,8 @@ use Rattle.std.proofs.lemmas.Bool.{cases_Bool, cases_eq, false≢true, and_parts
 use Rattle.std.proofs.lemmas.Bool.Decides.{nat_tests}
 use Rattle.std.proofs.lemmas.List.Folds.{list_any-append}
 use Rattle.std.proofs.lemmas.Map.Keys.{sorted_head, sorted_tail}
-use Rattle.mls_index.specs.IncrementalCheck.{lists_place}
-use Rattle.mls_index.specs.KeyTable.{entry_cmp, has_entry, lists_entry}
+use Rattle.mls_index.specs.IncrementalCheck.{contains_node_index}
+use Rattle.mls_index.specs.KeyTable.{entry_cmp, has_entry, contains_entry}
 
 -- ---- one entry
 
@@ -40,9 +40,9 @@ pub record WithoutEntry (s n : BTreeSet (ℕ × ℕ)) (b p : ℕ) : Type 0 where
   pub only : (c q : ℕ) → has_entry n c q ≡ true → has_entry s c q ≡ true
   pub kept : (c q : ℕ) → has_entry s c q ≡ true → (has_entry n c q ≡ true) ⊎ ((b ≡ c) × (p ≡ q))
 
-pub entered : (s n : BTreeSet (ℕ × ℕ)) (b p : ℕ) → Updates entry_cmp s n (b, p) true → WithEntry s n b p
+pub staged : (s n : BTreeSet (ℕ × ℕ)) (b p : ℕ) → Updates entry_cmp s n (b, p) true → WithEntry s n b p
 unfolding has_entry
-entered s n b p u = record {
+staged s n b p u = record {
   here = u.1;
   kept = λ c q had. elim (cases_Bool (is_at (entry_cmp (b, p)) (c, q))) [
     | inl at ↦ u.0 (c, q) ∙ rw at refl
@@ -111,22 +111,22 @@ is_entry-same b p e h = let parts = and_parts (eqb e.0 b) (eqb e.1 p) h in (equa
 is_entry-own : (b p : ℕ) → is_entry b p (b, p) ≡ true
 is_entry-own b p = and_both (eqb b b) (eqb p p) (own b) (own p)
 
-pub lists-nil : (es : List (ℕ × ℕ)) → es ≡ [] → (b p : ℕ) → lists_entry es b p ≡ true → ⊥
-unfolding lists_entry
+pub lists-nil : (es : List (ℕ × ℕ)) → es ≡ [] → (b p : ℕ) → contains_entry es b p ≡ true → ⊥
+unfolding contains_entry
 lists-nil es e b p h = false≢true (sym (ap (list_any (is_entry b p)) e) ∙ h)
 
-pub lists-kept : (es fs : List (ℕ × ℕ)) (b p : ℕ) → lists_entry es b p ≡ true → lists_entry (es ++ fs) b p ≡ true
-unfolding lists_entry
+pub lists-kept : (es fs : List (ℕ × ℕ)) (b p : ℕ) → contains_entry es b p ≡ true → contains_entry (es ++ fs) b p ≡ true
+unfolding contains_entry
 lists-kept es fs b p h = list_any-append (is_entry b p) es fs ∙ or_left (list_any (is_entry b p) es) (list_any (is_entry b p) fs) h
 
-pub lists-last : (es : List (ℕ × ℕ)) (b p : ℕ) → lists_entry (es ++ (b, p) ∷ []) b p ≡ true
-unfolding lists_entry
+pub lists-last : (es : List (ℕ × ℕ)) (b p : ℕ) → contains_entry (es ++ (b, p) ∷ []) b p ≡ true
+unfolding contains_entry
 lists-last es b p =
     list_any-append (is_entry b p) es ((b, p) ∷ []) ∙ (let h : list_any (is_entry b p) ((b, p) ∷ []) ≡ true = or_left (is_entry b p (b, p)) false (is_entry-own b p) in
     ap (λ v. list_any (is_entry b p) es || v) h ∙ or_right (list_any (is_entry b p) es))
 
-pub lists-added : (es : List (ℕ × ℕ)) (b p c q : ℕ) → lists_entry (es ++ (b, p) ∷ []) c q ≡ true → (lists_entry es c q ≡ true) ⊎ ((b ≡ c) × (p ≡ q))
-unfolding lists_entry
+pub lists-added : (es : List (ℕ × ℕ)) (b p c q : ℕ) → contains_entry (es ++ (b, p) ∷ []) c q ≡ true → (contains_entry es c q ≡ true) ⊎ ((b ≡ c) × (p ≡ q))
+unfolding contains_entry
 lists-added es b p c q h =
     elim (or_cases (list_any (is_entry c q) es) (list_any (is_entry c q) ((b, p) ∷ [])) (sym (list_any-append (is_entry c q) es ((b, p) ∷ [])) ∙ h)) [
       | inl old ↦ inl old
@@ -137,8 +137,8 @@ lists-added es b p c q h =
     ]
 
 -- the first of a list, or one of the others
-pub lists-first : (e : ℕ × ℕ) (es : List (ℕ × ℕ)) (b p : ℕ) → lists_entry (e ∷ es) b p ≡ true → (e.1 ≡ p) ⊎ (lists_entry es b p ≡ true)
-unfolding lists_entry
+pub lists-first : (e : ℕ × ℕ) (es : List (ℕ × ℕ)) (b p : ℕ) → contains_entry (e ∷ es) b p ≡ true → (e.1 ≡ p) ⊎ (contains_entry es b p ≡ true)
+unfolding contains_entry
 lists-first e es b p h =
     elim (or_cases (is_entry b p e) (list_any (is_entry b p) es) h) [
       | inl at ↦ inl (is_entry-same b p e at).1
@@ -147,13 +147,13 @@ lists-first e es b p h =
 
 -- ---- places of a list
 
-pub listed-here : (r : ℕ) (rest : List ℕ) → lists_place (r ∷ rest) r ≡ true
-listed-here r rest = ap (λ (b : Bool). b || lists_place rest r) (own r)
+pub listed-here : (r : ℕ) (rest : List ℕ) → contains_node_index (r ∷ rest) r ≡ true
+listed-here r rest = ap (λ (b : Bool). b || contains_node_index rest r) (own r)
 
-pub listed-other : (r p : ℕ) (rest : List ℕ) → p ≢ r → lists_place (r ∷ rest) p ≡ lists_place rest p
-listed-other r p rest other = let t : eqb r p ≡ false = grind (arith, nat_tests) in ap (λ (b : Bool). b || lists_place rest p) t
+pub listed-other : (r p : ℕ) (rest : List ℕ) → p ≢ r → contains_node_index (r ∷ rest) p ≡ contains_node_index rest p
+listed-other r p rest other = let t : eqb r p ≡ false = grind (arith, nat_tests) in ap (λ (b : Bool). b || contains_node_index rest p) t
 
-pub listed-more : (r p : ℕ) (rest : List ℕ) → lists_place rest p ≡ true → lists_place (r ∷ rest) p ≡ true
+pub listed-more : (r p : ℕ) (rest : List ℕ) → contains_node_index rest p ≡ true → contains_node_index (r ∷ rest) p ≡ true
 listed-more r p rest e = ap (λ b. eqb r p || b) e ∙ or_right (eqb r p)
 
 -- ---- entries of one beginning
@@ -183,8 +183,8 @@ passes_range b q low = grind (arith, nat_tests)
 
 -- what the range of a beginning shows: an entry of each place
 pub in_range : (s : BTreeSet (ℕ × ℕ)) (b : ℕ) (lo hi : Bound (ℕ × ℕ)) (r : List (ℕ × ℕ)) → r ≡ keys_between entry_cmp lo hi s
-    → lo ≡ Included (b, 0) → hi ≡ Included (b, 4294967295) → (q : ℕ) → q ≤ 4294967295 → has_entry s b q ≡ true → lists_entry r b q ≡ true
-unfolding has_entry lists_entry
+    → lo ≡ Included (b, 0) → hi ≡ Included (b, 4294967295) → (q : ℕ) → q ≤ 4294967295 → has_entry s b q ≡ true → contains_entry r b q ≡ true
+unfolding has_entry contains_entry
 in_range s b lo hi r is from to q low has =
     ap (list_any (is_entry b q)) (is ∙ (ap (λ l. keys_between entry_cmp l hi s) from ∙ ap (λ h. keys_between entry_cmp (Included (b, 0)) h s) to))
     ∙ filtered (range_contains entry_cmp (Included (b, 0)) (Included (b, 4294967295))) b q (passes_range b q low) s.keys has
@@ -193,16 +193,16 @@ in_range s b lo hi r is from to q low has =
 
 -- the node indices of a beginning's entries rise
 abbrev pub RisesFrom : ℕ → ℕ × ℕ → List (ℕ × ℕ) → Type 0
-RisesFrom b e es = (q : ℕ) → lists_entry es b q ≡ true → e.1 < q
+RisesFrom b e es = (q : ℕ) → contains_entry es b q ≡ true → e.1 < q
 
-abbrev pub AreRising : ℕ → List (ℕ × ℕ) → Type 0
-AreRising b [] = Unit {0}
-AreRising b (e ∷ es) = RisesFrom b e es × AreRising b es
+abbrev pub AreIncreasing : ℕ → List (ℕ × ℕ) → Type 0
+AreIncreasing b [] = Unit {0}
+AreIncreasing b (e ∷ es) = RisesFrom b e es × AreIncreasing b es
 
 -- an entry before others of a list is below what a filter lets through
 below_listed : (k : ℕ × ℕ) (test : ℕ × ℕ → Bool) (ks : List (ℕ × ℕ)) → AllByRecursion (λ y. entry_cmp k y ≡ Less) ks
-    → (b q : ℕ) → lists_entry (filter test ks) b q ≡ true → entry_cmp k (b, q) ≡ Less
-unfolding lists_entry
+    → (b q : ℕ) → contains_entry (filter test ks) b q ≡ true → entry_cmp k (b, q) ≡ Less
+unfolding contains_entry
 below_listed k test [] h b q on = absurd (false≢true on)
 below_listed k test (y ∷ ys) h b q on =
     elim (cases_Bool (test y)) [
@@ -215,40 +215,40 @@ below_listed k test (y ∷ ys) h b q on =
       | inr failed ↦ below_listed k test ys h.1 b q (ap (λ v. list_any (is_entry b q) (cond v (y ∷ filter test ys) (filter test ys))) (sym failed) ∙ on)
     ]
 
-of_beginning : (b : ℕ) (k : ℕ × ℕ) → range_contains entry_cmp (Included (b, 0)) (Included (b, 4294967295)) k ≡ true → k.0 ≡ b
-of_beginning b k h = grind (arith, nat_tests)
+of_fingerprint : (b : ℕ) (k : ℕ × ℕ) → range_contains entry_cmp (Included (b, 0)) (Included (b, 4294967295)) k ≡ true → k.0 ≡ b
+of_fingerprint b k h = grind (arith, nat_tests)
 
-less_place : (b q : ℕ) (k : ℕ × ℕ) → k.0 ≡ b → entry_cmp k (b, q) ≡ Less → k.1 < q
-less_place b q k same less = grind (arith, nat_tests)
+less_node_index : (b q : ℕ) (k : ℕ × ℕ) → k.0 ≡ b → entry_cmp k (b, q) ≡ Less → k.1 < q
+less_node_index b q k same less = grind (arith, nat_tests)
 
-rising_filter : (b : ℕ) (ks : List (ℕ × ℕ)) → IsStrictlySortedBy entry_cmp ks
-    → AreRising b (filter (range_contains entry_cmp (Included (b, 0)) (Included (b, 4294967295))) ks)
-rising_filter b [] h = tt
-rising_filter b (k ∷ ks) h =
+increasing_filter : (b : ℕ) (ks : List (ℕ × ℕ)) → IsStrictlySortedBy entry_cmp ks
+    → AreIncreasing b (filter (range_contains entry_cmp (Included (b, 0)) (Included (b, 4294967295))) ks)
+increasing_filter b [] h = tt
+increasing_filter b (k ∷ ks) h =
     let test = range_contains entry_cmp (Included (b, 0)) (Included (b, 4294967295)) in
-    let rest = rising_filter b ks (sorted_tail entry_cmp k ks h) in
+    let rest = increasing_filter b ks (sorted_tail entry_cmp k ks h) in
     elim (cases_Bool (test k)) [
       | inl passed ↦
-          subst (λ v. AreRising b (cond v (k ∷ filter test ks) (filter test ks))) (sym passed)
-          (λ q on. less_place b q k (of_beginning b k passed) (below_listed k test ks (sorted_head entry_cmp k ks h) b q on), rest)
-      | inr failed ↦ subst (λ v. AreRising b (cond v (k ∷ filter test ks) (filter test ks))) (sym failed) rest
+          subst (λ v. AreIncreasing b (cond v (k ∷ filter test ks) (filter test ks))) (sym passed)
+          (λ q on. less_node_index b q k (of_fingerprint b k passed) (below_listed k test ks (sorted_head entry_cmp k ks h) b q on), rest)
+      | inr failed ↦ subst (λ v. AreIncreasing b (cond v (k ∷ filter test ks) (filter test ks))) (sym failed) rest
     ]
 
 -- those that a range shows rise
-pub rising_first : (s : BTreeSet (ℕ × ℕ)) (b : ℕ) (lo hi : Bound (ℕ × ℕ)) (r : List (ℕ × ℕ)) → IsStrictlySortedBy entry_cmp s.keys
-    → r ≡ keys_between entry_cmp lo hi s → lo ≡ Included (b, 0) → hi ≡ Included (b, 4294967295) → AreRising b r
-rising_first s b lo hi r sorted is from to =
-    subst (AreRising b) (sym (is ∙ (ap (λ l. keys_between entry_cmp l hi s) from ∙ ap (λ h. keys_between entry_cmp (Included (b, 0)) h s) to)))
-    (rising_filter b s.keys sorted)
+pub increasing_first : (s : BTreeSet (ℕ × ℕ)) (b : ℕ) (lo hi : Bound (ℕ × ℕ)) (r : List (ℕ × ℕ)) → IsStrictlySortedBy entry_cmp s.keys
+    → r ≡ keys_between entry_cmp lo hi s → lo ≡ Included (b, 0) → hi ≡ Included (b, 4294967295) → AreIncreasing b r
+increasing_first s b lo hi r sorted is from to =
+    subst (AreIncreasing b) (sym (is ∙ (ap (λ l. keys_between entry_cmp l hi s) from ∙ ap (λ h. keys_between entry_cmp (Included (b, 0)) h s) to)))
+    (increasing_filter b s.keys sorted)
 
-pub rising_more : (b : ℕ) (e : ℕ × ℕ) (all rest : List (ℕ × ℕ)) → all ≡ e ∷ rest → AreRising b all → AreRising b rest
-rising_more b e all rest cut h = (subst (AreRising b) cut h).1
+pub increasing_more : (b : ℕ) (e : ℕ × ℕ) (all rest : List (ℕ × ℕ)) → all ≡ e ∷ rest → AreIncreasing b all → AreIncreasing b rest
+increasing_more b e all rest cut h = (subst (AreIncreasing b) cut h).1
 
 -- ---- a search among them
 
 -- of each place with an entry of a beginning something holds, or its entry is still to come
 pub record IsSought (P : ℕ → Type 0) (s : BTreeSet (ℕ × ℕ)) (b : ℕ) (rest : List (ℕ × ℕ)) : Type 0 where
-  pub at : (q : ℕ) → q ≤ 4294967295 → has_entry s b q ≡ true → (P q) ⊎ (lists_entry rest b q ≡ true)
+  pub at : (q : ℕ) → q ≤ 4294967295 → has_entry s b q ≡ true → (P q) ⊎ (contains_entry rest b q ≡ true)
 
 module _ (P : ℕ → Type 0) (s : BTreeSet (ℕ × ℕ)) (b : ℕ) where
   pub sought-first : (lo hi : Bound (ℕ × ℕ)) (r : List (ℕ × ℕ)) → r ≡ keys_between entry_cmp lo hi s
@@ -259,7 +259,7 @@ module _ (P : ℕ → Type 0) (s : BTreeSet (ℕ × ℕ)) (b : ℕ) where
   sought-more e all rest cut here h = record {
     at = λ q low has. elim (h.at q low has) [
       | inl met ↦ inl met
-      | inr left ↦ elim (lists-first e rest b q (ap (λ es. lists_entry es b q) (sym cut) ∙ left)) [
+      | inr left ↦ elim (lists-first e rest b q (ap (λ es. contains_entry es b q) (sym cut) ∙ left)) [
         | inl same ↦ inl (subst P same here)
         | inr more ↦ inr more
       ]

@@ -7,7 +7,7 @@ use Rattle.std.proofs.lemmas.Option.{none-some, same_Some}
 use Rattle.mls_nodes.specs.declared.leaf.LeafNode.{LeafNode}
 use Rattle.mls_tree.specs.Tree.{Tree, leaf_at}
 use Rattle.mls_index.specs.FirstChanged.{FailsFirstAt, FindsFailingAt, smaller}
-use Rattle.mls_index.specs.IncrementalCheck.{lists_place}
+use Rattle.mls_index.specs.IncrementalCheck.{contains_node_index}
 use Rattle.mls_index.proofs.Entries.{listed-here, listed-more}
 
 -- ---- the smaller leaf index
@@ -24,23 +24,23 @@ smaller-assoc (Some i) (Some j) (Some k) = grind (arith, nat_tests)
 
 -- ---- one node index, and those after it
 
-pub one_or_rest : (r p : ℕ) (rest : List ℕ) → lists_place (r ∷ rest) p ≡ true → (lists_place (r ∷ []) p ≡ true) ⊎ (lists_place rest p ≡ true)
+pub one_or_rest : (r p : ℕ) (rest : List ℕ) → contains_node_index (r ∷ rest) p ≡ true → (contains_node_index (r ∷ []) p ≡ true) ⊎ (contains_node_index rest p ≡ true)
 one_or_rest r p rest e = go (eqb r p) refl e
   where
-    go : (b : Bool) → eqb r p ≡ b → (b || lists_place rest p) ≡ true → (lists_place (r ∷ []) p ≡ true) ⊎ (lists_place rest p ≡ true)
+    go : (b : Bool) → eqb r p ≡ b → (b || contains_node_index rest p) ≡ true → (contains_node_index (r ∷ []) p ≡ true) ⊎ (contains_node_index rest p ≡ true)
     go true is h = inl (ap (λ (c : Bool). c || false) is)
     go false is h = inr h
 
-pub listed-one : (r p : ℕ) (rest : List ℕ) → lists_place (r ∷ []) p ≡ true → lists_place (r ∷ rest) p ≡ true
+pub listed-one : (r p : ℕ) (rest : List ℕ) → contains_node_index (r ∷ []) p ≡ true → contains_node_index (r ∷ rest) p ≡ true
 listed-one r p rest e = go (eqb r p) refl e
   where
-    go : (b : Bool) → eqb r p ≡ b → (b || false) ≡ true → lists_place (r ∷ rest) p ≡ true
-    go true is h = ap (λ (c : Bool). c || lists_place rest p) is
+    go : (b : Bool) → eqb r p ≡ b → (b || false) ≡ true → contains_node_index (r ∷ rest) p ≡ true
+    go true is h = ap (λ (c : Bool). c || contains_node_index rest p) is
     go false is h = absurd (false≢true h)
 
 module _ (test : ℕ → LeafNode → Bool) (t : Tree) (r : ℕ) (rest : List ℕ) where
   abbrev Passes : List ℕ → ℕ → Type 0
-  Passes places i = (x : LeafNode) → lists_place places (2 * i) ≡ true → leaf_at 0 t i ≡ Some x → test i x ≡ true
+  Passes node_indices i = (x : LeafNode) → contains_node_index node_indices (2 * i) ≡ true → leaf_at 0 t i ≡ Some x → test i x ≡ true
 
   both_pass : (i : ℕ) → Passes (r ∷ []) i → Passes rest i → Passes (r ∷ rest) i
   both_pass i one others x on set = elim (one_or_rest r (2 * i) rest on) [
@@ -86,7 +86,7 @@ nothing-first test t i x on set = absurd (false≢true on)
 
 -- ---- what stands at one node index
 
-pub at_one : (p i : ℕ) → lists_place (p ∷ []) (2 * i) ≡ true → p ≡ 2 * i
+pub at_one : (p i : ℕ) → contains_node_index (p ∷ []) (2 * i) ≡ true → p ≡ 2 * i
 at_one p i on = go (eqb p (2 * i)) refl on
   where
     go : (b : Bool) → eqb p (2 * i) ≡ b → (b || false) ≡ true → p ≡ 2 * i
@@ -99,7 +99,7 @@ module _ (test : ℕ → LeafNode → Bool) (t : Tree) (p : ℕ) where
   parent-first odd i x on set = let at = at_one p i on in absurd (omega (arith, odd, at))
 
   module _ (i : ℕ) (at : p ≡ 2 * i) where
-    same_leaf : (j : ℕ) → lists_place (p ∷ []) (2 * j) ≡ true → i ≡ j
+    same_leaf : (j : ℕ) → contains_node_index (p ∷ []) (2 * j) ≡ true → i ≡ j
     same_leaf j on = let other = at_one p j on in omega (arith, at, other)
 
     -- a blank leaf
@@ -115,7 +115,7 @@ module _ (test : ℕ → LeafNode → Bool) (t : Tree) (p : ℕ) where
       pub failing-first : test i y ≡ false → FindsFailingAt test (p ∷ []) t (Some i)
       failing-first fails = record {
         node = y;
-        listed = subst (λ q. lists_place (p ∷ []) q ≡ true) at (listed-here p []);
+        listed = subst (λ q. contains_node_index (p ∷ []) q ≡ true) at (listed-here p []);
         set = here;
         fails = fails;
         smaller = λ j x low on set. let same = same_leaf j on in absurd (omega (arith, low, same));

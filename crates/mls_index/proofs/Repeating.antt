@@ -6,18 +6,18 @@ use Rattle.std.proofs.lemmas.Option.{same_Some}
 use Rattle.mls_nodes.specs.declared.leaf.LeafNode.{LeafNode}
 use Rattle.mls_tree.specs.Tree.{Tree, leaf_at}
 use Rattle.mls_tree.specs.ChangedNodes.{AgreeExceptAt}
-use Rattle.mls_check.specs.LeafValidation.{all_leaves, has_own_signature_key}
+use Rattle.mls_check.specs.LeafValidation.{all_leaves, has_unique_signature_key}
 use Rattle.mls_check.proofs.Leaves.{all_leaves-at}
 use Rattle.mls_index.specs.FirstChanged.{smaller}
 use Rattle.mls_index.specs.FirstIndex.{IsFirst}
-use Rattle.mls_index.specs.IncrementalCheck.{lists_place}
+use Rattle.mls_index.specs.IncrementalCheck.{contains_node_index}
 use Rattle.mls_index.specs.RepeatedKeys.{ShareKey, FindsOther, IsRepeatedAt, FindsRepeatedAt, ChangedLeavesFindRepeated}
 use Rattle.mls_index.specs.declared.node_key.KeyKind.TheVariants.{Signature}
 use Rattle.mls_index.proofs.Changed.{all_leaves-each, same_leaf-at, own_key-apart, own_key-from}
 use Rattle.mls_index.proofs.Entries.{listed-here, listed-more}
 use Rattle.mls_index.proofs.FirstFailing.{at_one, one_or_rest, listed-one}
 use Rattle.mls_index.proofs.FirstIndexes.{smaller_of}
-use Rattle.mls_index.proofs.Standing.{leaf-keyed, signer}
+use Rattle.mls_index.proofs.Standing.{leaf-key_at_node, signer}
 
 turned : (t : Tree) (p q : ℕ) → ShareKey Signature t p q → ShareKey Signature t q p
 turned t p q s = record { key = s.key; other = λ e. s.other (sym e); here = s.there; there = s.here }
@@ -104,7 +104,7 @@ module _ (t : Tree) (p : ℕ) where
                 holds = record {
                   other = a;
                   shared = subst (λ n. ShareKey Signature t n (2 * a)) qb (subst (λ n. ShareKey Signature t q n) pa (turned t p q f.holds));
-                  listed = inr (subst (λ n. lists_place (p ∷ []) n ≡ true) pa on);
+                  listed = inr (subst (λ n. contains_node_index (p ∷ []) n ≡ true) pa on);
                 };
                 smaller = none_smaller b (omega (arith, less, qb)) (omega (arith, qb));
               }))
@@ -114,7 +114,7 @@ module _ (t : Tree) (p : ℕ) where
                 holds = record {
                   other = b;
                   shared = subst (λ n. ShareKey Signature t n (2 * b)) pa (subst (λ n. ShareKey Signature t p n) qb f.holds);
-                  listed = inl (subst (λ n. lists_place (p ∷ []) n ≡ true) pa on);
+                  listed = inl (subst (λ n. contains_node_index (p ∷ []) n ≡ true) pa on);
                 };
                 smaller = none_smaller a (omega (arith, pa)) (omega (arith, past, pa));
               }))
@@ -124,52 +124,52 @@ module _ (t : Tree) (p : ℕ) where
     repeated-some =
         let here = signer t p f.holds.key f.holds.here in
         let there = signer t q f.holds.key f.holds.there in
-        between here.at.index there.at.index here.at.place there.at.place
+        between here.at.index there.at.index here.at.node_index there.at.node_index
 
 -- ---- the first leaf of the tree
 
-module _ (places : List ℕ) (old new : Tree) (same : AgreeExceptAt places old new) (was : all_leaves (has_own_signature_key old) 0 old ≡ true) where
+module _ (node_indices : List ℕ) (old new : Tree) (same : AgreeExceptAt node_indices old new) (was : all_leaves (has_unique_signature_key old) 0 old ≡ true) where
   -- of two leaves with one key, one changed
   one_changed : (i j : ℕ) (x y : LeafNode) → leaf_at 0 new i ≡ Some x → leaf_at 0 new j ≡ Some y → j ≢ i → y.signature_key ≡ x.signature_key
-      → IsRepeatedAt places new i
+      → IsRepeatedAt node_indices new i
   one_changed i j x y first second other equal =
       let shared : ShareKey Signature new (2 * i) (2 * j) = record {
         key = x.signature_key;
         other = λ e. other (omega (arith, e));
-        here = leaf-keyed new i x first;
-        there = leaf-keyed new j y second ∙ ap Some equal;
+        here = leaf-key_at_node new i x first;
+        there = leaf-key_at_node new j y second ∙ ap Some equal;
       } in
-      elim (cases_Bool (lists_place places (2 * i))) [
+      elim (cases_Bool (contains_node_index node_indices (2 * i))) [
         | inl here ↦ record { other = j; shared = shared; listed = inl here }
-        | inr kept ↦ elim (cases_Bool (lists_place places (2 * j))) [
+        | inr kept ↦ elim (cases_Bool (contains_node_index node_indices (2 * j))) [
           | inl there ↦ record { other = j; shared = shared; listed = inr there }
           | inr stays ↦
-              (let before = sym (same_leaf-at places old new same i kept) ∙ first in
-              absurd (own_key-apart old i x (all_leaves-at (has_own_signature_key old) 0 old was i x before) j y (sym (same_leaf-at places old new same j stays) ∙ second) other equal))
+              (let before = sym (same_leaf-at node_indices old new same i kept) ∙ first in
+              absurd (own_key-apart old i x (all_leaves-at (has_unique_signature_key old) 0 old was i x before) j y (sym (same_leaf-at node_indices old new same j stays) ∙ second) other equal))
         ]
       ]
 
-  not_repeated : (i : ℕ) (x : LeafNode) → leaf_at 0 new i ≡ Some x → (IsRepeatedAt places new i → ⊥) → has_own_signature_key new i x ≡ true
+  not_repeated : (i : ℕ) (x : LeafNode) → leaf_at 0 new i ≡ Some x → (IsRepeatedAt node_indices new i → ⊥) → has_unique_signature_key new i x ≡ true
   not_repeated i x set not = own_key-from new i x (λ j y there other equal. not (one_changed i j x y set there other equal))
 
-  repeated-fails : (i : ℕ) (x : LeafNode) → leaf_at 0 new i ≡ Some x → IsRepeatedAt places new i → has_own_signature_key new i x ≡ false
-  repeated-fails i x set h = elim (cases_Bool (has_own_signature_key new i x)) [
+  repeated-fails : (i : ℕ) (x : LeafNode) → leaf_at 0 new i ≡ Some x → IsRepeatedAt node_indices new i → has_unique_signature_key new i x ≡ false
+  repeated-fails i x set h = elim (cases_Bool (has_unique_signature_key new i x)) [
     | inl own ↦
         (let there = signer new (2 * h.other) h.shared.key h.shared.there in
-        let key : x.signature_key ≡ h.shared.key = same_Some x.signature_key h.shared.key (sym (leaf-keyed new i x set) ∙ h.shared.here) in
-        absurd (own_key-apart new i x own there.at.index there.leaf there.at.is (λ e. h.shared.other (there.at.place ∙ ap (λ k. 2 * k) e)) (there.has ∙ sym key)))
+        let key : x.signature_key ≡ h.shared.key = same_Some x.signature_key h.shared.key (sym (leaf-key_at_node new i x set) ∙ h.shared.here) in
+        absurd (own_key-apart new i x own there.at.index there.leaf there.at.is (λ e. h.shared.other (there.at.node_index ∙ ap (λ k. 2 * k) e)) (there.has ∙ sym key)))
     | inr fails ↦ fails
   ]
 
 pub changed_repeated : ChangedLeavesFindRepeated
-changed_repeated places old new same was None none = all_leaves-each (has_own_signature_key new) new (λ i x set. not_repeated places old new same was i x set (none i))
-changed_repeated places old new same was (Some i) f =
+changed_repeated node_indices old new same was None none = all_leaves-each (has_unique_signature_key new) new (λ i x set. not_repeated node_indices old new same was i x set (none i))
+changed_repeated node_indices old new same was (Some i) f =
     let here = signer new (2 * i) f.holds.shared.key f.holds.shared.here in
-    let at : here.at.index ≡ i = omega (arith, here.at.place) in
+    let at : here.at.index ≡ i = omega (arith, here.at.node_index) in
     let set = subst (λ k. leaf_at 0 new k ≡ Some here.leaf) at here.at.is in
     record {
       node = here.leaf;
       set = set;
-      fails = repeated-fails places old new same was i here.leaf set f.holds;
-      smaller = λ j y low there. not_repeated places old new same was j y there (f.smaller j low);
+      fails = repeated-fails node_indices old new same was i here.leaf set f.holds;
+      smaller = λ j y low there. not_repeated node_indices old new same was j y there (f.smaller j low);
     }

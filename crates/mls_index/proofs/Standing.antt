@@ -9,7 +9,7 @@ use Rattle.mls_tree.specs.Tree.{Tree, leaf, branch, leaf_count, leaf_at, node_at
 use Rattle.mls_tree.proofs.Choices.{here, before, after, same, other}
 use Rattle.mls_tree.proofs.Positions.{node_at-listing, leaf_at-listing}
 use Rattle.mls_check.proofs.Leaves.{leaf_at-here, leaf_at-left, leaf_at-right, leaf_at-leaf, leaf_at-low}
-use Rattle.mls_index.specs.NodeKeys.{signature_key, keyed}
+use Rattle.mls_index.specs.NodeKeys.{signature_key, key_at_node}
 use Rattle.mls_index.specs.declared.node_key.KeyKind.TheVariants.{Signature}
 
 -- the leaf that a node is
@@ -37,8 +37,8 @@ pub same_leaf : (old new : Tree) (i : ℕ) → node_at old (2 * i) ≡ node_at n
 same_leaf old new i e = leaf_at-node new i ∙ ap leaf_of (sym e) ∙ sym (leaf_at-node old i)
 
 -- the signature key of a set leaf stands at its place
-pub leaf-keyed : (t : Tree) (i : ℕ) (x : LeafNode) → leaf_at 0 t i ≡ Some x → keyed Signature t (2 * i) ≡ Some x.signature_key
-leaf-keyed t i x set = ap signature_key (standing t i ∙ ap leaf_entry set)
+pub leaf-key_at_node : (t : Tree) (i : ℕ) (x : LeafNode) → leaf_at 0 t i ≡ Some x → key_at_node Signature t (2 * i) ≡ Some x.signature_key
+leaf-key_at_node t i x set = ap signature_key (standing t i ∙ ap leaf_entry set)
 
 leaf_at-high : (first : ℕ) (t : Tree) (i : ℕ) (x : LeafNode) → leaf_at first t i ≡ Some x → first ≤ i
 leaf_at-high first (leaf y) i x e = let at = leaf_at-leaf first y i x e in omega (arith, at.0)
@@ -49,23 +49,23 @@ leaf_at-high first (branch l n r) i x e =
     ]
 
 -- a set leaf stands at a place
-pub record IsLeafPlace (first : ℕ) (t : Tree) (p : ℕ) (x : LeafNode) : Type 0 where
+pub record IsLeafNodeIndex (first : ℕ) (t : Tree) (p : ℕ) (x : LeafNode) : Type 0 where
   pub index : ℕ
-  pub place : p ≡ 2 * index
+  pub node_index : p ≡ 2 * index
   pub is : leaf_at first t index ≡ Some x
 
-leaf_place : (first : ℕ) (t : Tree) (p : ℕ) (x : LeafNode) → entry_of (subtree_at first t p) ≡ Some (leaf_node x) → IsLeafPlace first t p x
-leaf_place first (leaf y) p x e =
+tbs_suffix : (first : ℕ) (t : Tree) (p : ℕ) (x : LeafNode) → entry_of (subtree_at first t p) ≡ Some (leaf_node x) → IsLeafNodeIndex first t p x
+tbs_suffix first (leaf y) p x e =
     let whole : Option Subtree = Some (record { first = first; tree = leaf y }) in
     elim (cases_eq p (2 * first)) [
       | inl at ↦ record {
         index = first;
-        place = at;
+        node_index = at;
         is = leaf_at-here first y ∙ sym (leaf_of-entry y) ∙ ap leaf_of (sym (ap entry_of (same p (2 * first) whole None at)) ∙ e);
       }
       | inr off ↦ absurd (none-some _ (sym (ap entry_of (other p (2 * first) whole None off)) ∙ e))
     ]
-leaf_place first (branch l n r) p x e =
+tbs_suffix first (branch l n r) p x e =
     let at = p + 1 in
     let middle = 2 * (first + leaf_count l) in
     let whole : Option Subtree = Some (record { first = first; tree = branch l n r }) in
@@ -74,11 +74,11 @@ leaf_place first (branch l n r) p x e =
     elim (cases_order at middle) [
       | inl eq ↦ absurd (parent-no_leaf n x (sym (ap entry_of (here at middle whole left right eq)) ∙ e))
       | inr (inl lt) ↦
-          (let s = leaf_place first l p x (sym (ap entry_of (before at middle whole left right lt)) ∙ e) in
-          record { index = s.index; place = s.place; is = leaf_at-left first l n r s.index (leaf_at-low first l s.index x s.is) ∙ s.is })
+          (let s = tbs_suffix first l p x (sym (ap entry_of (before at middle whole left right lt)) ∙ e) in
+          record { index = s.index; node_index = s.node_index; is = leaf_at-left first l n r s.index (leaf_at-low first l s.index x s.is) ∙ s.is })
       | inr (inr gt) ↦
-          (let s = leaf_place (first + leaf_count l) r p x (sym (ap entry_of (after at middle whole left right gt)) ∙ e) in
-          record { index = s.index; place = s.place; is = leaf_at-right first l n r s.index (leaf_at-high (first + leaf_count l) r s.index x s.is) ∙ s.is })
+          (let s = tbs_suffix (first + leaf_count l) r p x (sym (ap entry_of (after at middle whole left right gt)) ∙ e) in
+          record { index = s.index; node_index = s.node_index; is = leaf_at-right first l n r s.index (leaf_at-high (first + leaf_count l) r s.index x s.is) ∙ s.is })
     ]
 
 -- a node with a signature key is a leaf
@@ -90,10 +90,10 @@ signing (Some (parent_node p)) key e = absurd (none-some key e)
 -- where a signature key stands, there is a leaf that has it
 pub record HasSigner (t : Tree) (p : ℕ) (key : List ℕ) : Type 0 where
   pub leaf : LeafNode
-  pub at : IsLeafPlace 0 t p leaf
+  pub at : IsLeafNodeIndex 0 t p leaf
   pub has : leaf.signature_key ≡ key
 
-pub signer : (t : Tree) (p : ℕ) (key : List ℕ) → keyed Signature t p ≡ Some key → HasSigner t p key
+pub signer : (t : Tree) (p : ℕ) (key : List ℕ) → key_at_node Signature t p ≡ Some key → HasSigner t p key
 signer t p key e =
     let s = signing (node_at t p) key e in
-    record { leaf = s.0; at = leaf_place 0 t p s.0 s.1; has = s.2 }
+    record { leaf = s.0; at = tbs_suffix 0 t p s.0 s.1; has = s.2 }

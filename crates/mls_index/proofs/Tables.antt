@@ -8,9 +8,9 @@ use Rattle.mls_tree.proofs.Arrays.{slice_get-set_same, slice_get-set_other}
 use Rattle.mls_index.specs.NodeKeys.{fingerprint}
 use Rattle.mls_check.specs.DistinctKeys.{encryption_key}
 use Rattle.mls_check.proofs.Repeats.{no_key_above}
-use Rattle.mls_index.specs.NodeKeys.{node_key, begun}
-use Rattle.mls_index.specs.IncrementalCheck.{lists_place}
-use Rattle.mls_index.specs.KeyTable.{has_entry, lists_entry, AreSameBut, settled_at, HasBase, IsTableOf, ContainsKeysOf, IsFilled, IsSettling, HasEntered, HasLeft, ContainsKeysBut}
+use Rattle.mls_index.specs.NodeKeys.{node_key, fingerprint_at}
+use Rattle.mls_index.specs.IncrementalCheck.{contains_node_index}
+use Rattle.mls_index.specs.KeyTable.{has_entry, contains_entry, AreSameBut, base_at, HasBase, IsTableOf, ContainsKeysOf, IndexesFirst, IsSettling, HasStaged, HasLeft, ContainsKeysBut}
 use Rattle.mls_index.specs.declared.node_key.KeyKind.{KeyKind}
 use Rattle.mls_index.specs.declared.node_key.KeyKind.TheVariants.{Encryption, Signature}
 use Rattle.mls_index.specs.declared.key_table.KeyTable.{KeyTable}
@@ -27,15 +27,15 @@ no_key Encryption = refl
 no_key Signature = refl
 
 -- no key stands above the last place
-pub begun-above : (kind : KeyKind) (t : Tree) (n p : ℕ) → n + 1 ≡ 2 * leaf_count t → n ≤ p → begun kind t p ≡ None
-begun-above kind t n p e high =
+pub fingerprint_at-above : (kind : KeyKind) (t : Tree) (n p : ℕ) → n + 1 ≡ 2 * leaf_count t → n ≤ p → fingerprint_at kind t p ≡ None
+fingerprint_at-above kind t n p e high =
     let blank = no_node encryption_key (node_at t p) (no_key_above t n p e high) in
     ap (λ o. option_map fingerprint (node_key kind o)) blank ∙ ap (option_map fingerprint) (no_key kind)
 
-pub begun-low : (kind : KeyKind) (t : Tree) (n p b : ℕ) → n + 1 ≡ 2 * leaf_count t → begun kind t p ≡ Some b → p < n
-begun-low kind t n p b e is = elim (cases_lt p n) [
+pub fingerprint_at-low : (kind : KeyKind) (t : Tree) (n p b : ℕ) → n + 1 ≡ 2 * leaf_count t → fingerprint_at kind t p ≡ Some b → p < n
+fingerprint_at-low kind t n p b e is = elim (cases_lt p n) [
   | inl low ↦ low
-  | inr high ↦ absurd (none-some b (sym (begun-above kind t n p e high) ∙ is))
+  | inr high ↦ absurd (none-some b (sym (fingerprint_at-above kind t n p e high) ∙ is))
 ]
 
 get-last : (xs : List (Option ℕ)) (o : Option ℕ) → unwrap_or (slice_get (xs ++ o ∷ []) (length xs)) None ≡ o
@@ -67,41 +67,41 @@ get-blank [] (suc p) = refl
 get-blank (x ∷ xs) zero = refl
 get-blank (x ∷ xs) (suc p) = get-blank xs p
 
-pub settled-beyond : (k : KeyTable) (p : ℕ) → length k.beginnings.items ≤ p → settled_at k p ≡ None
-unfolding settled_at
-settled-beyond k p high = get-beyond k.beginnings.items p high
+pub base-beyond : (k : KeyTable) (p : ℕ) → length k.fingerprints.items ≤ p → base_at k p ≡ None
+unfolding base_at
+base-beyond k p high = get-beyond k.fingerprints.items p high
 
-pub settled-same : (k n : KeyTable) → n.beginnings.items ≡ k.beginnings.items → (p : ℕ) → settled_at n p ≡ settled_at k p
-unfolding settled_at
-settled-same k n e p = ap (λ xs. unwrap_or (slice_get xs p) None) e
+pub base-same : (k n : KeyTable) → n.fingerprints.items ≡ k.fingerprints.items → (p : ℕ) → base_at n p ≡ base_at k p
+unfolding base_at
+base-same k n e p = ap (λ xs. unwrap_or (slice_get xs p) None) e
 
-pub settled-blank : (k n : KeyTable) → n.beginnings.items ≡ k.beginnings.items ++ None ∷ [] → (p : ℕ) → settled_at n p ≡ settled_at k p
-unfolding settled_at
-settled-blank k n e p = ap (λ xs. unwrap_or (slice_get xs p) None) e ∙ get-blank k.beginnings.items p
+pub base-blank : (k n : KeyTable) → n.fingerprints.items ≡ k.fingerprints.items ++ None ∷ [] → (p : ℕ) → base_at n p ≡ base_at k p
+unfolding base_at
+base-blank k n e p = ap (λ xs. unwrap_or (slice_get xs p) None) e ∙ get-blank k.fingerprints.items p
 
-settled-last : (k n : KeyTable) (o : Option ℕ) → n.beginnings.items ≡ k.beginnings.items ++ o ∷ [] → settled_at n (length k.beginnings.items) ≡ o
-unfolding settled_at
-settled-last k n o e = ap (λ xs. unwrap_or (slice_get xs (length k.beginnings.items)) None) e ∙ get-last k.beginnings.items o
+base-last : (k n : KeyTable) (o : Option ℕ) → n.fingerprints.items ≡ k.fingerprints.items ++ o ∷ [] → base_at n (length k.fingerprints.items) ≡ o
+unfolding base_at
+base-last k n o e = ap (λ xs. unwrap_or (slice_get xs (length k.fingerprints.items)) None) e ∙ get-last k.fingerprints.items o
 
-settled-before : (k n : KeyTable) (o : Option ℕ) → n.beginnings.items ≡ k.beginnings.items ++ o ∷ [] → (p : ℕ) → p < length k.beginnings.items
-    → settled_at n p ≡ settled_at k p
-unfolding settled_at
-settled-before k n o e p low = ap (λ xs. unwrap_or (slice_get xs p) None) e ∙ get-before k.beginnings.items (o ∷ []) p low
+base-before : (k n : KeyTable) (o : Option ℕ) → n.fingerprints.items ≡ k.fingerprints.items ++ o ∷ [] → (p : ℕ) → p < length k.fingerprints.items
+    → base_at n p ≡ base_at k p
+unfolding base_at
+base-before k n o e p low = ap (λ xs. unwrap_or (slice_get xs p) None) e ∙ get-before k.fingerprints.items (o ∷ []) p low
 
 -- what is read of a place is what is kept of it
-pub settled-read : (k : KeyTable) (p : ℕ) (o : Option ℕ) → p < length k.beginnings.items → o ≡ get_or k.beginnings.items p o → settled_at k p ≡ o
-unfolding settled_at
-settled-read k p o low e = get-read k.beginnings.items p o low e
+pub base-read : (k : KeyTable) (p : ℕ) (o : Option ℕ) → p < length k.fingerprints.items → o ≡ get_or k.fingerprints.items p o → base_at k p ≡ o
+unfolding base_at
+base-read k p o low e = get-read k.fingerprints.items p o low e
 
-settled-set : (k n : KeyTable) (p : ℕ) (o : Option ℕ) → n.beginnings.items ≡ slice_set k.beginnings.items p o → p < length k.beginnings.items
-    → settled_at n p ≡ o
-unfolding settled_at
-settled-set k n p o e low = ap (λ xs. unwrap_or (slice_get xs p) None) e ∙ ap (λ r. unwrap_or r None) (slice_get-set_same k.beginnings.items p o low)
+base-set : (k n : KeyTable) (p : ℕ) (o : Option ℕ) → n.fingerprints.items ≡ slice_set k.fingerprints.items p o → p < length k.fingerprints.items
+    → base_at n p ≡ o
+unfolding base_at
+base-set k n p o e low = ap (λ xs. unwrap_or (slice_get xs p) None) e ∙ ap (λ r. unwrap_or r None) (slice_get-set_same k.fingerprints.items p o low)
 
-settled-unset : (k n : KeyTable) (p : ℕ) (o : Option ℕ) → n.beginnings.items ≡ slice_set k.beginnings.items p o → (q : ℕ) → q ≢ p
-    → settled_at n q ≡ settled_at k q
-unfolding settled_at
-settled-unset k n p o e q other = ap (λ xs. unwrap_or (slice_get xs q) None) e ∙ ap (λ r. unwrap_or r None) (slice_get-set_other k.beginnings.items p q o other)
+base-unset : (k n : KeyTable) (p : ℕ) (o : Option ℕ) → n.fingerprints.items ≡ slice_set k.fingerprints.items p o → (q : ℕ) → q ≢ p
+    → base_at n q ≡ base_at k q
+unfolding base_at
+base-unset k n p o e q other = ap (λ xs. unwrap_or (slice_get xs q) None) e ∙ ap (λ r. unwrap_or r None) (slice_get-set_other k.fingerprints.items p q o other)
 
 -- whether there is this number
 is_it : (o : Option ℕ) (b : ℕ) → (o ≡ Some b) ⊎ (o ≢ Some b)
@@ -113,15 +113,15 @@ is_it (Some c) b = elim (cases_eq c b) [
 
 -- each entry is of what stands at places, or came
 only_cases : (x : ℕ → Option ℕ) (k : KeyTable) → HasBase x k → (b p : ℕ) → has_entry k.entries b p ≡ true
-    → (x p ≡ Some b) ⊎ (lists_entry k.came.items b p ≡ true)
-only_cases x k h b p has = elim (cases_Bool (lists_entry k.came.items b p)) [
+    → (x p ≡ Some b) ⊎ (contains_entry k.came.items b p ≡ true)
+only_cases x k h b p has = elim (cases_Bool (contains_entry k.came.items b p)) [
   | inl came ↦ inr came
   | inr old ↦ inl (h.only b p has old)
 ]
 
 only_from : (x : ℕ → Option ℕ) (k : KeyTable)
-    → ((b p : ℕ) → has_entry k.entries b p ≡ true → (x p ≡ Some b) ⊎ (lists_entry k.came.items b p ≡ true))
-    → (b p : ℕ) → has_entry k.entries b p ≡ true → lists_entry k.came.items b p ≡ false → x p ≡ Some b
+    → ((b p : ℕ) → has_entry k.entries b p ≡ true → (x p ≡ Some b) ⊎ (contains_entry k.came.items b p ≡ true))
+    → (b p : ℕ) → has_entry k.entries b p ≡ true → contains_entry k.came.items b p ≡ false → x p ≡ Some b
 only_from x k cases b p has none = elim (cases b p has) [
   | inl old ↦ old
   | inr came ↦ absurd (false≢true (sym none ∙ came))
@@ -129,24 +129,24 @@ only_from x k cases b p has none = elim (cases b p has) [
 
 -- ---- a table is made
 
-pub filled-first : (x : ℕ → Option ℕ) (k : KeyTable) → k.entries.keys ≡ [] → k.beginnings.items ≡ [] → k.came.items ≡ [] → IsFilled x 0 k
-filled-first x k entries beginnings came = record {
-  count = ap length beginnings;
-  settled = λ p low. absurd (omega (arith, low));
+pub filled-first : (x : ℕ → Option ℕ) (k : KeyTable) → k.entries.keys ≡ [] → k.fingerprints.items ≡ [] → k.came.items ≡ [] → IndexesFirst x 0 k
+filled-first x k entries fingerprints came = record {
+  count = ap length fingerprints;
+  base = λ p low. absurd (omega (arith, low));
   all = λ b p low e. absurd (omega (arith, low));
   only = λ b p has. absurd (no_entries k.entries entries b p has);
   none_came = came;
 }
 
-pub filled-more : (x : ℕ → Option ℕ) (k n : KeyTable) (p : ℕ) (o : Option ℕ) → x p ≡ o → n.beginnings.items ≡ k.beginnings.items ++ o ∷ []
-    → HasEntered o p k.entries n.entries → n.came.items ≡ k.came.items → IsFilled x p k → IsFilled x (p + 1) n
+pub filled-more : (x : ℕ → Option ℕ) (k n : KeyTable) (p : ℕ) (o : Option ℕ) → x p ≡ o → n.fingerprints.items ≡ k.fingerprints.items ++ o ∷ []
+    → HasStaged o p k.entries n.entries → n.came.items ≡ k.came.items → IndexesFirst x p k → IndexesFirst x (p + 1) n
 filled-more x k n p o is e w came h = record {
-  count = ap length e ∙ length-last k.beginnings.items o ∙ ap (λ m. m + 1) h.count;
-  settled = λ q low. elim (cases_eq q p) [
-    | inl same ↦ ap (settled_at n) (same ∙ sym h.count) ∙ settled-last k n o e ∙ sym is ∙ ap x (sym same)
+  count = ap length e ∙ length-last k.fingerprints.items o ∙ ap (λ m. m + 1) h.count;
+  base = λ q low. elim (cases_eq q p) [
+    | inl same ↦ ap (base_at n) (same ∙ sym h.count) ∙ base-last k n o e ∙ sym is ∙ ap x (sym same)
     | inr other ↦
         (let less : q < p = omega (arith, low, other) in
-        settled-before k n o e q (subst (λ m. q < m) (sym h.count) less) ∙ h.settled q less)
+        base-before k n o e q (subst (λ m. q < m) (sym h.count) less) ∙ h.base q less)
   ];
   all = λ b q low there. elim (cases_eq q p) [
     | inl same ↦ subst (λ r. has_entry n.entries b r ≡ true) (sym same) (w.here b (sym is ∙ ap x (sym same) ∙ there))
@@ -159,14 +159,14 @@ filled-more x k n p o is e w came h = record {
   none_came = came ∙ h.none_came;
 }
 
-pub filled-all : (kind : KeyKind) (t : Tree) (n : ℕ) (k : KeyTable) → n + 1 ≡ 2 * leaf_count t → IsFilled (begun kind t) n k → IsTableOf (begun kind t) k
+pub filled-all : (kind : KeyKind) (t : Tree) (n : ℕ) (k : KeyTable) → n + 1 ≡ 2 * leaf_count t → IndexesFirst (fingerprint_at kind t) n k → IsTableOf (fingerprint_at kind t) k
 filled-all kind t n k e h = record {
   between = record {
-    settled = λ p. elim (cases_lt p n) [
-      | inl low ↦ h.settled p low
-      | inr high ↦ settled-beyond k p (subst (λ m. m ≤ p) (sym h.count) high) ∙ sym (begun-above kind t n p e high)
+    base = λ p. elim (cases_lt p n) [
+      | inl low ↦ h.base p low
+      | inr high ↦ base-beyond k p (subst (λ m. m ≤ p) (sym h.count) high) ∙ sym (fingerprint_at-above kind t n p e high)
     ];
-    all = λ b p is. h.all b p (begun-low kind t n p b e is) is;
+    all = λ b p is. h.all b p (fingerprint_at-low kind t n p b e is) is;
     only = λ b p has old. (h.only b p has).1;
     new = λ b p came. absurd (lists-nil k.came.items h.none_came b p came);
   };
@@ -175,10 +175,10 @@ filled-all kind t n k e h = record {
 
 -- ---- keys come
 
-pub put-none : (p : ℕ) (s : BTreeSet (ℕ × ℕ)) → HasEntered None p s s
+pub put-none : (p : ℕ) (s : BTreeSet (ℕ × ℕ)) → HasStaged None p s s
 put-none p s = record { here = λ b e. absurd (none-some b e); kept = λ b q had. had; only = λ b q has. inl has }
 
-pub put-some : (b p : ℕ) (s n : BTreeSet (ℕ × ℕ)) → WithEntry s n b p → HasEntered (Some b) p s n
+pub put-some : (b p : ℕ) (s n : BTreeSet (ℕ × ℕ)) → WithEntry s n b p → HasStaged (Some b) p s n
 put-some b p s n w = record {
   here = λ c e. subst (λ d. has_entry n d p ≡ true) (same_Some b c e) w.here;
   kept = w.kept;
@@ -186,7 +186,7 @@ put-some b p s n w = record {
 }
 
 -- the entry was there
-pub put-had : (b p : ℕ) (s : BTreeSet (ℕ × ℕ)) → has_entry s b p ≡ true → HasEntered (Some b) p s s
+pub put-had : (b p : ℕ) (s : BTreeSet (ℕ × ℕ)) → has_entry s b p ≡ true → HasStaged (Some b) p s s
 put-had b p s there = record {
   here = λ c e. subst (λ d. has_entry s d p ≡ true) (same_Some b c e) there;
   kept = λ c q had. had;
@@ -194,51 +194,51 @@ put-had b p s there = record {
 }
 
 pub between-same : (x : ℕ → Option ℕ) (k n : KeyTable) → ((b p : ℕ) → has_entry n.entries b p ≡ has_entry k.entries b p)
-    → n.beginnings.items ≡ k.beginnings.items → n.came.items ≡ k.came.items → HasBase x k → HasBase x n
-between-same x k n entries beginnings came h = record {
-  settled = λ p. settled-same k n beginnings p ∙ h.settled p;
+    → n.fingerprints.items ≡ k.fingerprints.items → n.came.items ≡ k.came.items → HasBase x k → HasBase x n
+between-same x k n entries fingerprints came h = record {
+  base = λ p. base-same k n fingerprints p ∙ h.base p;
   all = λ b p e. entries b p ∙ h.all b p e;
   only = only_from x n (λ b p has. elim (only_cases x k h b p (sym (entries b p) ∙ has)) [
     | inl old ↦ inl old
-    | inr new ↦ inr (ap (λ es. lists_entry es b p) came ∙ new)
+    | inr new ↦ inr (ap (λ es. contains_entry es b p) came ∙ new)
   ]);
-  new = λ b p listed. h.new b p (ap (λ es. lists_entry es b p) (sym came) ∙ listed);
+  new = λ b p listed. h.new b p (ap (λ es. contains_entry es b p) (sym came) ∙ listed);
 }
 
-pub between-settled : (x : ℕ → Option ℕ) (k n : KeyTable) → n.entries ≡ k.entries → n.came ≡ k.came
-    → ((p : ℕ) → settled_at n p ≡ settled_at k p) → HasBase x k → HasBase x n
-between-settled x k n entries came settled h = record {
-  settled = λ p. settled p ∙ h.settled p;
+pub between-base : (x : ℕ → Option ℕ) (k n : KeyTable) → n.entries ≡ k.entries → n.came ≡ k.came
+    → ((p : ℕ) → base_at n p ≡ base_at k p) → HasBase x k → HasBase x n
+between-base x k n entries came base h = record {
+  base = λ p. base p ∙ h.base p;
   all = λ b p e. ap (λ s. has_entry s b p) entries ∙ h.all b p e;
   only = only_from x n (λ b p has. elim (only_cases x k h b p (ap (λ s. has_entry s b p) (sym entries) ∙ has)) [
     | inl old ↦ inl old
-    | inr new ↦ inr (ap (λ c. lists_entry c.items b p) came ∙ new)
+    | inr new ↦ inr (ap (λ c. contains_entry c.items b p) came ∙ new)
   ]);
-  new = λ b p listed. h.new b p (ap (λ c. lists_entry c.items b p) (sym came) ∙ listed);
+  new = λ b p listed. h.new b p (ap (λ c. contains_entry c.items b p) (sym came) ∙ listed);
 }
 
 pub between-more : (x : ℕ → Option ℕ) (k n : KeyTable) (b p : ℕ) → has_entry k.entries b p ≡ false → WithEntry k.entries n.entries b p
-    → n.came.items ≡ k.came.items ++ (b, p) ∷ [] → n.beginnings.items ≡ k.beginnings.items → HasBase x k → HasBase x n
-between-more x k n b p free w came beginnings h = record {
-  settled = λ q. settled-same k n beginnings q ∙ h.settled q;
+    → n.came.items ≡ k.came.items ++ (b, p) ∷ [] → n.fingerprints.items ≡ k.fingerprints.items → HasBase x k → HasBase x n
+between-more x k n b p free w came fingerprints h = record {
+  base = λ q. base-same k n fingerprints q ∙ h.base q;
   all = λ c q e. w.kept c q (h.all c q e);
   only = only_from x n (λ c q has. elim (w.only c q has) [
     | inl had ↦ elim (only_cases x k h c q had) [
       | inl old ↦ inl old
-      | inr new ↦ inr (ap (λ es. lists_entry es c q) came ∙ lists-kept k.came.items ((b, p) ∷ []) c q new)
+      | inr new ↦ inr (ap (λ es. contains_entry es c q) came ∙ lists-kept k.came.items ((b, p) ∷ []) c q new)
     ]
-    | inr new ↦ inr (ap (λ es. lists_entry es c q) came
-        ∙ subst (λ d. lists_entry (k.came.items ++ (b, p) ∷ []) d q ≡ true) new.0
-        (subst (λ r. lists_entry (k.came.items ++ (b, p) ∷ []) b r ≡ true) new.1 (lists-last k.came.items b p)))
+    | inr new ↦ inr (ap (λ es. contains_entry es c q) came
+        ∙ subst (λ d. contains_entry (k.came.items ++ (b, p) ∷ []) d q ≡ true) new.0
+        (subst (λ r. contains_entry (k.came.items ++ (b, p) ∷ []) b r ≡ true) new.1 (lists-last k.came.items b p)))
   ]);
-  new = λ c q listed e. elim (lists-added k.came.items b p c q (ap (λ es. lists_entry es c q) (sym came) ∙ listed)) [
+  new = λ c q listed e. elim (lists-added k.came.items b p c q (ap (λ es. contains_entry es c q) (sym came) ∙ listed)) [
     | inl old ↦ h.new c q old e
     | inr new ↦
         false≢true (sym free ∙ subst (λ d. has_entry k.entries d p ≡ true) (sym new.0) (subst (λ r. has_entry k.entries c r ≡ true) (sym new.1) (h.all c q e)))
   ];
 }
 
-pub covers-more : (y : ℕ → Option ℕ) (k n : KeyTable) (r : ℕ) (tail : List ℕ) (o : Option ℕ) → o ≡ y r → HasEntered o r k.entries n.entries
+pub covers-more : (y : ℕ → Option ℕ) (k n : KeyTable) (r : ℕ) (tail : List ℕ) (o : Option ℕ) → o ≡ y r → HasStaged o r k.entries n.entries
     → ContainsKeysBut (r ∷ tail) y k → ContainsKeysBut tail y n
 covers-more y k n r tail o is w h b p off e = elim (cases_eq p r) [
   | inl same ↦ subst (λ q. has_entry n.entries b q ≡ true) (sym same) (w.here b (is ∙ ap y (sym same) ∙ e))
@@ -246,15 +246,15 @@ covers-more y k n r tail o is w h b p off e = elim (cases_eq p r) [
 ]
 
 -- the keys at the places that changed were entered
-pub covers-all : (x : ℕ → Option ℕ) (kind : KeyKind) (t : Tree) (places : List ℕ) (count : ℕ) (k m n : KeyTable) → count + 1 ≡ 2 * leaf_count t
-    → m.entries ≡ k.entries → count ≤ length m.beginnings.items → n.beginnings ≡ m.beginnings
-    → ContainsKeysOf x k → AreSameBut places x (begun kind t) → (ContainsKeysBut places (begun kind t) m → ContainsKeysBut [] (begun kind t) n)
-    → ContainsKeysOf (begun kind t) n
-covers-all x kind t places count k m n is entries room beginnings had same put =
-    let wide : count ≤ length n.beginnings.items = subst (λ v. count ≤ length v.items) (sym beginnings) room in
+pub covers-all : (x : ℕ → Option ℕ) (kind : KeyKind) (t : Tree) (node_indices : List ℕ) (count : ℕ) (k m n : KeyTable) → count + 1 ≡ 2 * leaf_count t
+    → m.entries ≡ k.entries → count ≤ length m.fingerprints.items → n.fingerprints ≡ m.fingerprints
+    → ContainsKeysOf x k → AreSameBut node_indices x (fingerprint_at kind t) → (ContainsKeysBut node_indices (fingerprint_at kind t) m → ContainsKeysBut [] (fingerprint_at kind t) n)
+    → ContainsKeysOf (fingerprint_at kind t) n
+covers-all x kind t node_indices count k m n is entries capacity fingerprints had same put =
+    let wide : count ≤ length n.fingerprints.items = subst (λ v. count ≤ length v.items) (sym fingerprints) capacity in
     record {
       entries = λ b p there. put (λ c q off e. ap (λ s. has_entry s c q) entries ∙ had.entries c q (same q off ∙ e)) b p refl there;
-      room = λ b p there. let low = begun-low kind t count p b is there in omega (arith, low, wide);
+      capacity = λ b p there. let low = fingerprint_at-low kind t count p b is there in omega (arith, low, wide);
     }
 
 -- ---- keys go
@@ -281,22 +281,22 @@ left-gone b now p s n foreign w = record {
 
 -- keys that are covered stay so
 covers-left : (y : ℕ → Option ℕ) (k n : KeyTable) (p : ℕ) (left o : Option ℕ) → y p ≡ o → HasLeft left o p k.entries n.entries
-    → length n.beginnings.items ≡ length k.beginnings.items → ContainsKeysOf y k → ContainsKeysOf y n
+    → length n.fingerprints.items ≡ length k.fingerprints.items → ContainsKeysOf y k → ContainsKeysOf y n
 covers-left y k n p left o is w long h = record {
   entries = λ b q e. elim (w.kept b q (h.entries b q e)) [
     | inl stays ↦ stays
     | inr gone ↦ absurd (gone.0 (sym is ∙ ap y gone.1 ∙ e))
   ];
-  room = λ b q e. subst (λ m. q < m) (sym long) (h.room b q e);
+  capacity = λ b q e. subst (λ m. q < m) (sym long) (h.capacity b q e);
 }
 
-pub settling-first : (x y : ℕ → Option ℕ) (places : List ℕ) (k : KeyTable) → HasBase x k → ContainsKeysOf y k → AreSameBut places x y → IsSettling y places k
-settling-first x y places k h covers same = record {
+pub settling-first : (x y : ℕ → Option ℕ) (node_indices : List ℕ) (k : KeyTable) → HasBase x k → ContainsKeysOf y k → AreSameBut node_indices x y → IsSettling y node_indices k
+settling-first x y node_indices k h covers same = record {
   covers = covers;
-  settled = λ p off. h.settled p ∙ same p off;
+  base = λ p off. h.base p ∙ same p off;
   only = λ b p has. elim (only_cases x k h b p has) [
-    | inl old ↦ elim (cases_Bool (lists_place places p)) [
-      | inl on ↦ inr (inr (on, h.settled p ∙ old))
+    | inl old ↦ elim (cases_Bool (contains_node_index node_indices p)) [
+      | inl on ↦ inr (inr (on, h.base p ∙ old))
       | inr off ↦ inl (sym (same p off) ∙ old)
     ]
     | inr came ↦ inr (inl came)
@@ -304,19 +304,19 @@ settling-first x y places k h covers same = record {
 }
 
 -- a place beyond those that are kept, where no key stands
-pub settling-beyond : (y : ℕ → Option ℕ) (rest : List ℕ) (k : KeyTable) (p : ℕ) → length k.beginnings.items ≤ p
+pub settling-beyond : (y : ℕ → Option ℕ) (rest : List ℕ) (k : KeyTable) (p : ℕ) → length k.fingerprints.items ≤ p
     → IsSettling y (p ∷ rest) k → IsSettling y rest k
 settling-beyond y rest k p high h = record {
   covers = h.covers;
-  settled = λ q off. elim (cases_eq q p) [
-    | inl same ↦ ap (settled_at k) same ∙ settled-beyond k p high ∙ sym none ∙ ap y (sym same)
-    | inr other ↦ h.settled q (listed-other p q rest other ∙ off)
+  base = λ q off. elim (cases_eq q p) [
+    | inl same ↦ ap (base_at k) same ∙ base-beyond k p high ∙ sym none ∙ ap y (sym same)
+    | inr other ↦ h.base q (listed-other p q rest other ∙ off)
   ];
   only = λ b q has. elim (h.only b q has) [
     | inl there ↦ inl there
     | inr (inl came) ↦ inr (inl came)
     | inr (inr stood) ↦ elim (cases_eq q p) [
-      | inl same ↦ absurd (none-some b (sym (ap (settled_at k) same ∙ settled-beyond k p high) ∙ stood.1))
+      | inl same ↦ absurd (none-some b (sym (ap (base_at k) same ∙ base-beyond k p high) ∙ stood.1))
       | inr other ↦ inr (inr (sym (listed-other p q rest other) ∙ stood.0, stood.1))
     ]
   ];
@@ -324,44 +324,44 @@ settling-beyond y rest k p high h = record {
   where
     none_at : (o : Option ℕ) → y p ≡ o → y p ≡ None
     none_at None e = e
-    none_at (Some b) e = absurd (let low = h.covers.room b p e in omega (arith, low, high))
+    none_at (Some b) e = absurd (let low = h.covers.capacity b p e in omega (arith, low, high))
 
     none : y p ≡ None
     none = none_at (y p) refl
 
-pub settling-more : (y : ℕ → Option ℕ) (rest : List ℕ) (k n : KeyTable) (p : ℕ) (left o : Option ℕ) → y p ≡ o → settled_at k p ≡ left
-    → HasLeft left o p k.entries n.entries → n.beginnings.items ≡ slice_set k.beginnings.items p o → p < length k.beginnings.items
-    → length n.beginnings.items ≡ length k.beginnings.items
+pub settling-more : (y : ℕ → Option ℕ) (rest : List ℕ) (k n : KeyTable) (p : ℕ) (left o : Option ℕ) → y p ≡ o → base_at k p ≡ left
+    → HasLeft left o p k.entries n.entries → n.fingerprints.items ≡ slice_set k.fingerprints.items p o → p < length k.fingerprints.items
+    → length n.fingerprints.items ≡ length k.fingerprints.items
     → n.came.items ≡ k.came.items → IsSettling y (p ∷ rest) k → IsSettling y rest n
 settling-more y rest k n p left o is stood_at w set low long came h = record {
   covers = covers-left y k n p left o is w long h.covers;
-  settled = λ q off. elim (cases_eq q p) [
-    | inl same ↦ ap (settled_at n) same ∙ settled-set k n p o set low ∙ sym is ∙ ap y (sym same)
-    | inr other ↦ settled-unset k n p o set q other ∙ h.settled q (listed-other p q rest other ∙ off)
+  base = λ q off. elim (cases_eq q p) [
+    | inl same ↦ ap (base_at n) same ∙ base-set k n p o set low ∙ sym is ∙ ap y (sym same)
+    | inr other ↦ base-unset k n p o set q other ∙ h.base q (listed-other p q rest other ∙ off)
   ];
   only = λ b q has. elim (h.only b q (w.only b q has)) [
     | inl there ↦ inl there
-    | inr (inl new) ↦ inr (inl (ap (λ es. lists_entry es b q) came ∙ new))
+    | inr (inl new) ↦ inr (inl (ap (λ es. contains_entry es b q) came ∙ new))
     | inr (inr stood) ↦ elim (cases_eq q p) [
       | inl same ↦ elim (is_it o b) [
         | inl it ↦ inl (ap y same ∙ is ∙ it)
         | inr foreign ↦
-            absurd (false≢true (sym (w.gone b (sym stood_at ∙ ap (settled_at k) (sym same) ∙ stood.1) foreign) ∙ subst (λ r. has_entry n.entries b r ≡ true) same has))
+            absurd (false≢true (sym (w.gone b (sym stood_at ∙ ap (base_at k) (sym same) ∙ stood.1) foreign) ∙ subst (λ r. has_entry n.entries b r ≡ true) same has))
       ]
-      | inr other ↦ inr (inr (sym (listed-other p q rest other) ∙ stood.0, settled-unset k n p o set q other ∙ stood.1))
+      | inr other ↦ inr (inr (sym (listed-other p q rest other) ∙ stood.0, base-unset k n p o set q other ∙ stood.1))
     ]
   ];
 }
 
 -- an entry that came goes, unless it is the one of a key
 pub settling-came : (y : ℕ → Option ℕ) (k n : KeyTable) (b p : ℕ) (o : Option ℕ) → y p ≡ o → k.came.items ≡ n.came.items ++ (b, p) ∷ []
-    → HasLeft (Some b) o p k.entries n.entries → n.beginnings.items ≡ k.beginnings.items → IsSettling y [] k → IsSettling y [] n
-settling-came y k n b p o is came w beginnings h = record {
-  covers = covers-left y k n p (Some b) o is w (ap length beginnings) h.covers;
-  settled = λ q off. settled-same k n beginnings q ∙ h.settled q off;
+    → HasLeft (Some b) o p k.entries n.entries → n.fingerprints.items ≡ k.fingerprints.items → IsSettling y [] k → IsSettling y [] n
+settling-came y k n b p o is came w fingerprints h = record {
+  covers = covers-left y k n p (Some b) o is w (ap length fingerprints) h.covers;
+  base = λ q off. base-same k n fingerprints q ∙ h.base q off;
   only = λ c q has. elim (h.only c q (w.only c q has)) [
     | inl there ↦ inl there
-    | inr (inl new) ↦ elim (lists-added n.came.items b p c q (ap (λ es. lists_entry es c q) (sym came) ∙ new)) [
+    | inr (inl new) ↦ elim (lists-added n.came.items b p c q (ap (λ es. contains_entry es c q) (sym came) ∙ new)) [
       | inl more ↦ inr (inl more)
       | inr same ↦ elim (is_it o c) [
         | inl it ↦ inl (ap y (sym same.1) ∙ is ∙ it)
@@ -373,25 +373,25 @@ settling-came y k n b p o is came w beginnings h = record {
   ];
 }
 
-pub settling-same : (y : ℕ → Option ℕ) (rest : List ℕ) (k n : KeyTable) → n.entries ≡ k.entries → n.beginnings ≡ k.beginnings
+pub settling-same : (y : ℕ → Option ℕ) (rest : List ℕ) (k n : KeyTable) → n.entries ≡ k.entries → n.fingerprints ≡ k.fingerprints
     → n.came.items ≡ k.came.items → IsSettling y rest k → IsSettling y rest n
-settling-same y rest k n entries beginnings came h = record {
+settling-same y rest k n entries fingerprints came h = record {
   covers = record {
     entries = λ b p e. ap (λ s. has_entry s b p) entries ∙ h.covers.entries b p e;
-    room = λ b p e. subst (λ v. p < length v.items) (sym beginnings) (h.covers.room b p e);
+    capacity = λ b p e. subst (λ v. p < length v.items) (sym fingerprints) (h.covers.capacity b p e);
   };
-  settled = λ p off. settled-same k n (ap (λ v. v.items) beginnings) p ∙ h.settled p off;
+  base = λ p off. base-same k n (ap (λ v. v.items) fingerprints) p ∙ h.base p off;
   only = λ b p has. elim (h.only b p (ap (λ s. has_entry s b p) (sym entries) ∙ has)) [
     | inl there ↦ inl there
-    | inr (inl new) ↦ inr (inl (ap (λ es. lists_entry es b p) came ∙ new))
-    | inr (inr stood) ↦ inr (inr (stood.0, settled-same k n (ap (λ v. v.items) beginnings) p ∙ stood.1))
+    | inr (inl new) ↦ inr (inl (ap (λ es. contains_entry es b p) came ∙ new))
+    | inr (inr stood) ↦ inr (inr (stood.0, base-same k n (ap (λ v. v.items) fingerprints) p ∙ stood.1))
   ];
 }
 
 pub settling-last : (y : ℕ → Option ℕ) (k : KeyTable) → k.came.items ≡ [] → IsSettling y [] k → IsTableOf y k
 settling-last y k none h = record {
   between = record {
-    settled = λ p. h.settled p refl;
+    base = λ p. h.base p refl;
     all = h.covers.entries;
     only = λ b p has old. elim (h.only b p has) [
       | inl there ↦ there
@@ -405,25 +405,25 @@ settling-last y k none h = record {
 
 -- an entry that came goes again
 pub between-less : (x : ℕ → Option ℕ) (k n : KeyTable) (b p : ℕ) → k.came.items ≡ n.came.items ++ (b, p) ∷ [] → WithoutEntry k.entries n.entries b p
-    → n.beginnings.items ≡ k.beginnings.items → HasBase x k → HasBase x n
-between-less x k n b p came w beginnings h = record {
-  settled = λ q. settled-same k n beginnings q ∙ h.settled q;
+    → n.fingerprints.items ≡ k.fingerprints.items → HasBase x k → HasBase x n
+between-less x k n b p came w fingerprints h = record {
+  base = λ q. base-same k n fingerprints q ∙ h.base q;
   all = λ c q e. elim (w.kept c q (h.all c q e)) [
     | inl stays ↦ stays
     | inr gone ↦
-        absurd (h.new c q (ap (λ es. lists_entry es c q) came
-        ∙ subst (λ d. lists_entry (n.came.items ++ (b, p) ∷ []) d q ≡ true) gone.0
-        (subst (λ r. lists_entry (n.came.items ++ (b, p) ∷ []) b r ≡ true) gone.1 (lists-last n.came.items b p))) e)
+        absurd (h.new c q (ap (λ es. contains_entry es c q) came
+        ∙ subst (λ d. contains_entry (n.came.items ++ (b, p) ∷ []) d q ≡ true) gone.0
+        (subst (λ r. contains_entry (n.came.items ++ (b, p) ∷ []) b r ≡ true) gone.1 (lists-last n.came.items b p))) e)
   ];
   only = only_from x n (λ c q has. elim (only_cases x k h c q (w.only c q has)) [
     | inl old ↦ inl old
-    | inr new ↦ elim (lists-added n.came.items b p c q (ap (λ es. lists_entry es c q) (sym came) ∙ new)) [
+    | inr new ↦ elim (lists-added n.came.items b p c q (ap (λ es. contains_entry es c q) (sym came) ∙ new)) [
       | inl more ↦ inr more
       | inr same ↦
           absurd (false≢true (sym w.gone ∙ subst (λ d. has_entry n.entries d p ≡ true) (sym same.0) (subst (λ r. has_entry n.entries c r ≡ true) (sym same.1) has)))
     ]
   ]);
-  new = λ c q listed. h.new c q (ap (λ es. lists_entry es c q) came ∙ lists-kept n.came.items ((b, p) ∷ []) c q listed);
+  new = λ c q listed. h.new c q (ap (λ es. contains_entry es c q) came ∙ lists-kept n.came.items ((b, p) ∷ []) c q listed);
 }
 
 pub between-last : (x : ℕ → Option ℕ) (k : KeyTable) → k.came.items ≡ [] → HasBase x k → IsTableOf x k
@@ -431,12 +431,12 @@ between-last x k none h = record { between = h; none_came = none }
 
 -- ---- what a table covers
 
-some_room : (k : KeyTable) (p b : ℕ) → settled_at k p ≡ Some b → p < length k.beginnings.items
-some_room k p b e = elim (cases_lt p (length k.beginnings.items)) [
+some_room : (k : KeyTable) (p b : ℕ) → base_at k p ≡ Some b → p < length k.fingerprints.items
+some_room k p b e = elim (cases_lt p (length k.fingerprints.items)) [
   | inl low ↦ low
-  | inr high ↦ absurd (none-some b (sym (settled-beyond k p high) ∙ e))
+  | inr high ↦ absurd (none-some b (sym (base-beyond k p high) ∙ e))
 ]
 
 -- what a table is settled with
 pub between-covers : (x : ℕ → Option ℕ) (k : KeyTable) → HasBase x k → ContainsKeysOf x k
-between-covers x k h = record { entries = h.all; room = λ b p e. some_room k p b (h.settled p ∙ e) }
+between-covers x k h = record { entries = h.all; capacity = λ b p e. some_room k p b (h.base p ∙ e) }

@@ -4,7 +4,7 @@ use Rattle.std.specs.Prelude.{◌≡◌, ℕ, ◌*◌, ◌≤◌, ◌<◌, ◌==
 use Rattle.std.specs.List.{list_any}
 use Rattle.std.specs.Coded.{Coded-set, coded_bool, coded×, coded_ℕ, code_by}
 use Rattle.mls_tree.specs.Tree.{Tree, leaf_count, leaf_at}
-use Rattle.mls_index.specs.LeafCredentials.{LeafClass, class_of, class_at, AreClassesOf, taken_back}
+use Rattle.mls_index.specs.LeafCredentials.{LeafClass, class_of, class_at, AreClassesOf, undone}
 use Rattle.mls_index.specs.declared.credential_counts.CredentialCounts.{CredentialCounts}
 
 -- `Count t c`: the counts are those of the tree.
@@ -13,7 +13,7 @@ Count t c = AreClassesOf t c.classes.list.items
 
 -- `HaveBase t c`: the counts are those of the tree once all that was replaced is undone.
 abbrev pub HaveBase : Tree → CredentialCounts → Type 0
-HaveBase t c = AreClassesOf t (taken_back c.replaced.items c.classes.list.items)
+HaveBase t c = AreClassesOf t (undone c.replaced.items c.classes.list.items)
 
 -- `AreCountsOf t c`: the counts are those of the tree, and there is nothing to undo.
 pub record AreCountsOf (t : Tree) (c : CredentialCounts) : Type 0 where
@@ -37,16 +37,16 @@ AreCountsOf-prop t c x y = λ i. record {
   none_replaced = Coded-set coded_ℕ (length c.replaced.items) 0 x.none_replaced y.none_replaced i;
 }
 
--- `CountBut places t c`: the counts are those of the tree outside some node indices.
-pub record CountBut (places : List ℕ) (t : Tree) (c : CredentialCounts) : Type 0 where
-  pub at : (i : ℕ) → list_any (λ p. p == 2 * i) places ≡ false → class_at c.classes.list.items i ≡ class_of (leaf_at 0 t i)
+-- `CountBut node_indices t c`: the counts are those of the tree outside some node indices.
+pub record CountBut (node_indices : List ℕ) (t : Tree) (c : CredentialCounts) : Type 0 where
+  pub at : (i : ℕ) → list_any (λ p. p == 2 * i) node_indices ≡ false → class_at c.classes.list.items i ≡ class_of (leaf_at 0 t i)
 
 -- `HasCapacityFor t c`: there is an entry for each leaf of the tree.
 abbrev pub HasCapacityFor : Tree → CredentialCounts → Type 0
 HasCapacityFor t c = leaf_count t ≤ length c.classes.list.items
 
--- `IsFilled t n c`: the first n leaves of the tree are counted.
-pub record IsFilled (t : Tree) (n : ℕ) (c : CredentialCounts) : Type 0 where
+-- `IndexesFirst t n c`: the first n leaves of the tree are counted.
+pub record IndexesFirst (t : Tree) (n : ℕ) (c : CredentialCounts) : Type 0 where
   pub count : length c.classes.list.items ≡ n
   pub at : (i : ℕ) → i < n → class_at c.classes.list.items i ≡ class_of (leaf_at 0 t i)
   pub none_replaced : length c.replaced.items ≡ 0

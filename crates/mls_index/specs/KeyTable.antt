@@ -6,7 +6,7 @@ use Rattle.std.specs.Coded.{Coded-set, coded_bool, coded_ℕ, coded_option, code
 use Rattle.std.specs.List.{list_any}
 use Rattle.std.specs.Ordering.{nat_cmp, ordering_then}
 use Rattle.std.specs.declared.cmp.Ordering.{Ordering}
-use Rattle.mls_index.specs.IncrementalCheck.{lists_place}
+use Rattle.mls_index.specs.IncrementalCheck.{contains_node_index}
 use Rattle.mls_index.specs.declared.key_table.KeyTable.{KeyTable}
 
 -- `entry_cmp x y` is the order of entries, each a fingerprint and a node index.
@@ -17,24 +17,24 @@ entry_cmp x y = ordering_then (nat_cmp x.0 y.0) (nat_cmp x.1 y.1)
 unfoldable pub has_entry : BTreeSet (ℕ × ℕ) → ℕ → ℕ → Bool
 has_entry s b p = contains entry_cmp s (b, p)
 
--- `lists_entry es b p`: the list has this entry.
-unfoldable pub lists_entry : List (ℕ × ℕ) → ℕ → ℕ → Bool
-lists_entry es b p = list_any (λ e. (e.0 == b) && (e.1 == p)) es
+-- `contains_entry es b p`: the list has this entry.
+unfoldable pub contains_entry : List (ℕ × ℕ) → ℕ → ℕ → Bool
+contains_entry es b p = list_any (λ e. (e.0 == b) && (e.1 == p)) es
 
--- `AreSameBut places x y`: both functions are equal outside the listed node indices.
+-- `AreSameBut node_indices x y`: both functions are equal outside the listed node indices.
 abbrev pub AreSameBut : List ℕ → (ℕ → Option ℕ) → (ℕ → Option ℕ) → Type 0
-AreSameBut places x y = (p : ℕ) → lists_place places p ≡ false → x p ≡ y p
+AreSameBut node_indices x y = (p : ℕ) → contains_node_index node_indices p ≡ false → x p ≡ y p
 
--- `settled_at k p` is the fingerprint that the table stores for a node index of its base tree.
-unfoldable pub settled_at : KeyTable → ℕ → Option ℕ
-settled_at k p = unwrap_or (slice_get k.beginnings.items p) None
+-- `base_at k p` is the fingerprint that the table stores for a node index of its base tree.
+unfoldable pub base_at : KeyTable → ℕ → Option ℕ
+base_at k p = unwrap_or (slice_get k.fingerprints.items p) None
 
 -- `HasBase x k`: the base of the table is `x`. It has further entries only for keys that were added since.
 pub record HasBase (x : ℕ → Option ℕ) (k : KeyTable) : Type 0 where
-  pub settled : (p : ℕ) → settled_at k p ≡ x p
+  pub base : (p : ℕ) → base_at k p ≡ x p
   pub all : (b p : ℕ) → x p ≡ Some b → has_entry k.entries b p ≡ true
-  pub only : (b p : ℕ) → has_entry k.entries b p ≡ true → lists_entry k.came.items b p ≡ false → x p ≡ Some b
-  pub new : (b p : ℕ) → lists_entry k.came.items b p ≡ true → x p ≢ Some b
+  pub only : (b p : ℕ) → has_entry k.entries b p ≡ true → contains_entry k.came.items b p ≡ false → x p ≡ Some b
+  pub new : (b p : ℕ) → contains_entry k.came.items b p ≡ true → x p ≢ Some b
 
 -- `IsTableOf x k`: the entries are those of `x`, and none were added.
 pub record IsTableOf (x : ℕ → Option ℕ) (k : KeyTable) : Type 0 where
@@ -44,8 +44,8 @@ pub record IsTableOf (x : ℕ → Option ℕ) (k : KeyTable) : Type 0 where
 bool_set : (a b : Bool) → IsProp (a ≡ b)
 bool_set a b = Coded-set coded_bool a b
 
-beginning_set : (o : Option ℕ) (r : Option ℕ) → IsProp (o ≡ r)
-beginning_set o r = Coded-set (coded_option coded_ℕ) o r
+fingerprint_set : (o : Option ℕ) (r : Option ℕ) → IsProp (o ≡ r)
+fingerprint_set o r = Coded-set (coded_option coded_ℕ) o r
 
 entries_set : (es fs : List (ℕ × ℕ)) → IsProp (es ≡ fs)
 entries_set es fs = Coded-set (coded_list (coded× coded_ℕ coded_ℕ)) es fs
@@ -55,9 +55,9 @@ never g h = absurd g
 
 HasBase-prop : (x : ℕ → Option ℕ) (k : KeyTable) → IsProp (HasBase x k)
 HasBase-prop x k g h = λ i. record {
-  settled = λ p. beginning_set (settled_at k p) (x p) (g.settled p) (h.settled p) i;
+  base = λ p. fingerprint_set (base_at k p) (x p) (g.base p) (h.base p) i;
   all = λ b p is. bool_set (has_entry k.entries b p) true (g.all b p is) (h.all b p is) i;
-  only = λ b p has old. beginning_set (x p) (Some b) (g.only b p has old) (h.only b p has old) i;
+  only = λ b p has old. fingerprint_set (x p) (Some b) (g.only b p has old) (h.only b p has old) i;
   new = λ b p came is. never (g.new b p came is) (h.new b p came is) i;
 }
 
@@ -71,12 +71,12 @@ IsTableOf-prop x k g h = λ i. record {
 -- `ContainsKeysOf y k`: the table has an entry for each key of `y`, and stores a fingerprint for each such node index.
 pub record ContainsKeysOf (y : ℕ → Option ℕ) (k : KeyTable) : Type 0 where
   pub entries : (b p : ℕ) → y p ≡ Some b → has_entry k.entries b p ≡ true
-  pub room : (b p : ℕ) → y p ≡ Some b → p < length k.beginnings.items
+  pub capacity : (b p : ℕ) → y p ≡ Some b → p < length k.fingerprints.items
 
--- `IsFilled x n k`: the table has the keys of `x` at the node indices below n.
-pub record IsFilled (x : ℕ → Option ℕ) (n : ℕ) (k : KeyTable) : Type 0 where
-  pub count : length k.beginnings.items ≡ n
-  pub settled : (p : ℕ) → p < n → settled_at k p ≡ x p
+-- `IndexesFirst x n k`: the table has the keys of `x` at the node indices below n.
+pub record IndexesFirst (x : ℕ → Option ℕ) (n : ℕ) (k : KeyTable) : Type 0 where
+  pub count : length k.fingerprints.items ≡ n
+  pub base : (p : ℕ) → p < n → base_at k p ≡ x p
   pub all : (b p : ℕ) → p < n → x p ≡ Some b → has_entry k.entries b p ≡ true
   pub only : (b p : ℕ) → has_entry k.entries b p ≡ true → (p < n) × (x p ≡ Some b)
   pub none_came : k.came.items ≡ []
@@ -85,12 +85,12 @@ pub record IsFilled (x : ℕ → Option ℕ) (n : ℕ) (k : KeyTable) : Type 0 w
 -- to do.
 pub record IsSettling (y : ℕ → Option ℕ) (rest : List ℕ) (k : KeyTable) : Type 0 where
   pub covers : ContainsKeysOf y k
-  pub settled : (p : ℕ) → lists_place rest p ≡ false → settled_at k p ≡ y p
+  pub base : (p : ℕ) → contains_node_index rest p ≡ false → base_at k p ≡ y p
   pub only : (b p : ℕ) → has_entry k.entries b p ≡ true
-      → (y p ≡ Some b) ⊎ ((lists_entry k.came.items b p ≡ true) ⊎ ((lists_place rest p ≡ true) × (settled_at k p ≡ Some b)))
+      → (y p ≡ Some b) ⊎ ((contains_entry k.came.items b p ≡ true) ⊎ ((contains_node_index rest p ≡ true) × (base_at k p ≡ Some b)))
 
--- `HasEntered o p s n`: the entries `n` are `s` with one more, if there is a fingerprint for the node index.
-pub record HasEntered (o : Option ℕ) (p : ℕ) (s n : BTreeSet (ℕ × ℕ)) : Type 0 where
+-- `HasStaged o p s n`: the entries `n` are `s` with one more, if there is a fingerprint for the node index.
+pub record HasStaged (o : Option ℕ) (p : ℕ) (s n : BTreeSet (ℕ × ℕ)) : Type 0 where
   pub here : (b : ℕ) → o ≡ Some b → has_entry n b p ≡ true
   pub kept : (b q : ℕ) → has_entry s b q ≡ true → has_entry n b q ≡ true
   pub only : (b q : ℕ) → has_entry n b q ≡ true → (has_entry s b q ≡ true) ⊎ ((o ≡ Some b) × (p ≡ q))
@@ -102,6 +102,6 @@ pub record HasLeft (left now : Option ℕ) (p : ℕ) (s n : BTreeSet (ℕ × ℕ
   pub only : (b q : ℕ) → has_entry n b q ≡ true → has_entry s b q ≡ true
   pub kept : (b q : ℕ) → has_entry s b q ≡ true → (has_entry n b q ≡ true) ⊎ ((now ≢ Some b) × (p ≡ q))
 
--- `ContainsKeysBut places y k`: the table has an entry for each key of `y` outside some node indices.
+-- `ContainsKeysBut node_indices y k`: the table has an entry for each key of `y` outside some node indices.
 abbrev pub ContainsKeysBut : List ℕ → (ℕ → Option ℕ) → KeyTable → Type 0
-ContainsKeysBut places y k = (b p : ℕ) → lists_place places p ≡ false → y p ≡ Some b → has_entry k.entries b p ≡ true
+ContainsKeysBut node_indices y k = (b p : ℕ) → contains_node_index node_indices p ≡ false → y p ≡ Some b → has_entry k.entries b p ≡ true

@@ -3,7 +3,7 @@
 use Rattle.std.specs.Prelude.{◌≡◌, ◌≢◌, ℕ, List, Option, Some, None, option_map}
 use Rattle.mls_nodes.specs.NodeModel.{NodeValue, leaf_node, parent_node}
 use Rattle.mls_tree.specs.Tree.{Tree, node_at}
-use Rattle.mls_check.specs.KeyPrefix.{beginning}
+use Rattle.mls_check.specs.KeyPrefix.{key_prefix}
 use Rattle.sha2.specs.Sha256.{sha256}
 use Rattle.mls_check.specs.DistinctKeys.{encryption_key}
 use Rattle.mls_index.specs.declared.node_key.KeyKind.{KeyKind}
@@ -20,22 +20,22 @@ abbrev pub node_key : KeyKind → Option NodeValue → Option (List ℕ)
 node_key Encryption node = option_map encryption_key node
 node_key Signature node = signature_key node
 
--- `keyed kind t p` is the key of a kind at a node index.
-abbrev pub keyed : KeyKind → Tree → ℕ → Option (List ℕ)
-keyed kind t p = node_key kind (node_at t p)
+-- `key_at_node kind t p` is the key of a kind at a node index.
+abbrev pub key_at_node : KeyKind → Tree → ℕ → Option (List ℕ)
+key_at_node kind t p = node_key kind (node_at t p)
 
 -- `fingerprint key` is the first eight bytes of the SHA-256 of a key, as a number. So nobody can choose it.
 unfoldable pub fingerprint : List ℕ → ℕ
-fingerprint key = beginning (sha256 key)
+fingerprint key = key_prefix (sha256 key)
 
--- `begun kind t p` is the fingerprint of the key at a node index.
-abbrev pub begun : KeyKind → Tree → ℕ → Option ℕ
-begun kind t p = option_map fingerprint (keyed kind t p)
+-- `fingerprint_at kind t p` is the fingerprint of the key at a node index.
+abbrev pub fingerprint_at : KeyKind → Tree → ℕ → Option ℕ
+fingerprint_at kind t p = option_map fingerprint (key_at_node kind t p)
 
 -- `HasKey kind t key`: some node of the tree has this key.
 abbrev pub HasKey : KeyKind → Tree → List ℕ → Type 0
-HasKey kind t key = (p : ℕ) × (keyed kind t p ≡ Some key)
+HasKey kind t key = (p : ℕ) × (key_at_node kind t p ≡ Some key)
 
--- `IsOwnKey kind t p`: no other node of the tree has the key of the node at a node index.
-abbrev pub IsOwnKey : KeyKind → Tree → ℕ → Type 0
-IsOwnKey kind t p = (q : ℕ) (key : List ℕ) → q ≢ p → keyed kind t p ≡ Some key → keyed kind t q ≡ Some key → ⊥
+-- `IsUniqueKey kind t p`: no other node of the tree has the key of the node at a node index.
+abbrev pub IsUniqueKey : KeyKind → Tree → ℕ → Type 0
+IsUniqueKey kind t p = (q : ℕ) (key : List ℕ) → q ≢ p → key_at_node kind t p ≡ Some key → key_at_node kind t q ≡ Some key → ⊥

@@ -1,36 +1,36 @@
 -- The index of a tree's keys and of its leaves' credentials. `t` is a tree, `i` the index. Used by contracts.
 use Rattle.mls_tree.specs.Tree.{Tree}
-use Rattle.mls_index.specs.NodeKeys.{begun}
+use Rattle.mls_index.specs.NodeKeys.{fingerprint_at}
 use Rattle.mls_index.specs.KeyTable as table
 use Rattle.mls_index.specs.CredentialCounts as counts
 use Rattle.mls_index.specs.declared.node_key.KeyKind.TheVariants.{Encryption, Signature}
 use Rattle.mls_index.specs.declared.tree_index.TreeIndex.{TreeIndex}
 
--- `HasBase t i`: `i` is the index of `t` with further entries for a changed tree. `TreeIndex::refuse` removes these and
+-- `HasBase t i`: `i` is the index of `t` with further entries for a changed tree. `TreeIndex::revert` removes these and
 -- gives `IsIndexOf t`.
 pub record HasBase (t : Tree) (i : TreeIndex) : Type 0 where
-  pub encryption : table.HasBase (begun Encryption t) i.encryption
-  pub signature : table.HasBase (begun Signature t) i.signature
+  pub encryption : table.HasBase (fingerprint_at Encryption t) i.encryption
+  pub signature : table.HasBase (fingerprint_at Signature t) i.signature
   pub credentials : counts.HaveBase t i.credentials
 
 -- `IsIndexOf t i`: `i` is the index of `t`. Its entries are the keys of `t`, and its counts are those of `t`.
 pub record IsIndexOf (t : Tree) (i : TreeIndex) : Type 0 where
-  pub encryption : table.IsTableOf (begun Encryption t) i.encryption
-  pub signature : table.IsTableOf (begun Signature t) i.signature
+  pub encryption : table.IsTableOf (fingerprint_at Encryption t) i.encryption
+  pub signature : table.IsTableOf (fingerprint_at Signature t) i.signature
   pub credentials : counts.AreCountsOf t i.credentials
 
 -- `ContainsKeysOf t i`: `i` has an entry for each key of `t`, perhaps others, and its counts are those of `t`. Look-ups
 -- for `t` are then right.
 pub record ContainsKeysOf (t : Tree) (i : TreeIndex) : Type 0 where
-  pub encryption : table.ContainsKeysOf (begun Encryption t) i.encryption
-  pub signature : table.ContainsKeysOf (begun Signature t) i.signature
+  pub encryption : table.ContainsKeysOf (fingerprint_at Encryption t) i.encryption
+  pub signature : table.ContainsKeysOf (fingerprint_at Signature t) i.signature
   pub credentials : counts.Count t i.credentials
 
 -- `IsIndexOf` has at most one proof.
 pub IsIndexOf-prop : (t : Tree) (i : TreeIndex) → IsProp (IsIndexOf t i)
 IsIndexOf-prop t i g h = λ j. record {
-  encryption = table.IsTableOf-prop (begun Encryption t) i.encryption g.encryption h.encryption j;
-  signature = table.IsTableOf-prop (begun Signature t) i.signature g.signature h.signature j;
+  encryption = table.IsTableOf-prop (fingerprint_at Encryption t) i.encryption g.encryption h.encryption j;
+  signature = table.IsTableOf-prop (fingerprint_at Signature t) i.signature g.signature h.signature j;
   credentials = counts.AreCountsOf-prop t i.credentials g.credentials h.credentials j;
 }
 

@@ -67,15 +67,15 @@ fn failing_at<C: SignatureCheck>(
     rules: &LeafRules<'_, C>,
     rule: LeafRule,
     tree: &PublicTree,
-    place: u32,
+    node_index: u32,
 ) -> Result<Option<u32>, OutOfMemory>
     ensures { IfOk result (FindsFailingAt (leaf_rule (C.meaning rules.now.checker.now)
-        rules.now.context.now rules.now.required.now rule) (place ∷ []) tree.now.tree) }
+        rules.now.context.now rules.now.required.now rule) (node_index ∷ []) tree.now.tree) }
 {
-    if place % 2 == 1 {
+    if node_index % 2 == 1 {
         return Ok(None);
     }
-    let index = place / 2;
+    let index = node_index / 2;
     let Some(leaf) = tree.leaf(index) else {
         return Ok(None);
     };
@@ -108,15 +108,15 @@ pub fn first_changed_failing<C: SignatureCheck>(
     rules: &LeafRules<'_, C>,
     rule: LeafRule,
     tree: &PublicTree,
-    places: &[u32],
+    node_indices: &[u32],
 ) -> Result<Option<u32>, OutOfMemory>
     ensures { IfOk result (FindsFailingAt (leaf_rule (C.meaning rules.now.checker.now)
-        rules.now.context.now rules.now.required.now rule) places.now tree.now.tree) }
+        rules.now.context.now rules.now.required.now rule) node_indices.now tree.now.tree) }
 {
     let mut found = None;
-    let mut rest = places;
-    while let Some((place, tail)) = rest.split_first() {
-        found = smaller(found, failing_at(alloc, rules, rule, tree, *place)?);
+    let mut rest = node_indices;
+    while let Some((node_index, tail)) = rest.split_first() {
+        found = smaller(found, failing_at(alloc, rules, rule, tree, *node_index)?);
         rest = tail;
     }
     Ok(found)

@@ -5,7 +5,7 @@ ghost use Rattle.mls_tree.specs.Tree.{Tree};
 ghost use Rattle.mls_tree.specs.ChangedNodes.{AgreeExceptAt};
 ghost use Rattle.mls_check.specs.LeafValidation.{FindsFailing, supports_used_credentials};
 ghost use Rattle.mls_index.specs.IncrementalCheck.{SupportCredentials};
-ghost use Rattle.mls_index.specs.CredentialCounts.{Count, HaveBase, AreCountsOf, CountBut, HasCapacityFor, IsFilled};
+ghost use Rattle.mls_index.specs.CredentialCounts.{Count, HaveBase, AreCountsOf, CountBut, HasCapacityFor, IndexesFirst};
 
 use crate::leaf_credentials::{CountedClasses, LeafClass};
 use mls_check::OutOfMemory;
@@ -26,7 +26,7 @@ pub(crate) struct CredentialCounts {
 impl CredentialCounts {
     /// Returns counts of no leaves. Does not allocate.
     fn new(alloc: Global) -> CredentialCounts
-        ensures { (t : Tree) → IsFilled t 0 result }
+        ensures { (t : Tree) → IndexesFirst t 0 result }
     {
         CredentialCounts {
             classes: CountedClasses::new(alloc),
@@ -36,7 +36,7 @@ impl CredentialCounts {
 
     /// Counts the leaves of a tree, one after the other.
     fn fill(&mut self, tree: &PublicTree) -> Result<(), AllocError>
-        requires { IsFilled tree.now.tree 0 self.old }
+        requires { IndexesFirst tree.now.tree 0 self.old }
         ensures { OnOk result (AreCountsOf tree.now.tree self.new) }
     {
         for index in 0..tree.leaf_count() {
@@ -57,7 +57,7 @@ impl CredentialCounts {
     /// Makes entries for this many leaves.
     fn make_room(&mut self, count: u32) -> Result<(), AllocError>
         ensures same { (t : Tree) → AreCountsOf t self.old → AreCountsOf t self.new }
-        ensures room { OnOk result (count ≤ length self.new.classes.list.items) }
+        ensures capacity { OnOk result (count ≤ length self.new.classes.list.items) }
     {
         while self.classes.len() < count as usize {
             self.classes.push(LeafClass::blank())?;
@@ -67,15 +67,15 @@ impl CredentialCounts {
 
     /// Counts the leaf at a node index in place of the one that was counted there. Nothing changes for a parent, and
     /// for a leaf without an entry.
-    fn recount_at(&mut self, tree: &PublicTree, place: u32) -> Result<(), AllocError>
-        ensures between { (t : Tree) → HaveBase t self.old → HaveBase t self.new }
+    fn recount_at(&mut self, tree: &PublicTree, node_index: u32) -> Result<(), AllocError>
+        ensures index_base { (t : Tree) → HaveBase t self.old → HaveBase t self.new }
         ensures counts { OnOk result ((rest : List ℕ) → HasCapacityFor tree.now.tree self.old
-            → CountBut (place ∷ rest) tree.now.tree self.old
+            → CountBut (node_index ∷ rest) tree.now.tree self.old
             → CountBut rest tree.now.tree self.new) }
-        ensures room { length self.new.classes.list.items ≡ length self.old.classes.list.items }
+        ensures capacity { length self.new.classes.list.items ≡ length self.old.classes.list.items }
     {
-        let index = place / 2;
-        if place % 2 == 1 || index as usize >= self.classes.len() {
+        let index = node_index / 2;
+        if node_index % 2 == 1 || index as usize >= self.classes.len() {
             return Ok(());
         }
         self.replaced.try_reserve(1)?;
@@ -87,14 +87,14 @@ impl CredentialCounts {
     }
 
     /// Counts the leaves at these node indices of a tree.
-    fn insert_all(&mut self, tree: &PublicTree, places: &[u32]) -> Result<(), AllocError>
-        ensures between { (t : Tree) → HaveBase t self.old → HaveBase t self.new }
+    fn insert_all(&mut self, tree: &PublicTree, node_indices: &[u32]) -> Result<(), AllocError>
+        ensures index_base { (t : Tree) → HaveBase t self.old → HaveBase t self.new }
         ensures counts { OnOk result (HasCapacityFor tree.now.tree self.old
-            → CountBut places.now tree.now.tree self.old → Count tree.now.tree self.new) }
+            → CountBut node_indices.now tree.now.tree self.old → Count tree.now.tree self.new) }
     {
-        let mut rest = places;
-        while let Some((place, tail)) = rest.split_first() {
-            self.recount_at(tree, *place)?;
+        let mut rest = node_indices;
+        while let Some((node_index, tail)) = rest.split_first() {
+            self.recount_at(tree, *node_index)?;
             rest = tail;
         }
         Ok(())
@@ -102,14 +102,18 @@ impl CredentialCounts {
 
     /// Counts a tree that differs at these node indices from the base tree. What was counted before is undone first. A
     /// node index may be listed twice, and may be outside the tree. If an allocation fails, the base is unchanged.
-    pub(crate) fn enter(&mut self, tree: &PublicTree, places: &[u32]) -> Result<(), OutOfMemory>
-        ensures between { (t : Tree) → HaveBase t self.old → HaveBase t self.new }
+    pub(crate) fn stage(
+        &mut self,
+        tree: &PublicTree,
+        node_indices: &[u32],
+    ) -> Result<(), OutOfMemory>
+        ensures index_base { (t : Tree) → HaveBase t self.old → HaveBase t self.new }
         ensures counts { OnOk result ((t : Tree) → HaveBase t self.old
-            → AgreeExceptAt places.now t tree.now.tree → Count tree.now.tree self.new) }
+            → AgreeExceptAt node_indices.now t tree.now.tree → Count tree.now.tree self.new) }
     {
-        self.refuse();
+        self.revert();
         self.make_room(tree.leaf_count())?;
-        self.insert_all(tree, places)?;
+        self.insert_all(tree, node_indices)?;
         Ok(())
     }
 
@@ -121,7 +125,7 @@ impl CredentialCounts {
     }
 
     /// Undoes what was counted since. Does not allocate.
-    pub(crate) fn refuse(&mut self)
+    pub(crate) fn revert(&mut self)
         ensures { (t : Tree) → HaveBase t self.old → AreCountsOf t self.new }
     {
         while let Some((index, was)) = self.replaced.pop() {

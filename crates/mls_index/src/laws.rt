@@ -33,6 +33,6 @@ pub fn first_repeated_key_changed()
 
 /// The index of a tree has it as its base, and contains its keys.
 pub fn index_covers_its_tree()
-    ensures between { IndexHasBase }
-    ensures covers { IndexContainsKeys }
+    ensures index_base { IndexHasBase }
+    ensures index_contains_keys { IndexContainsKeys }
 {}

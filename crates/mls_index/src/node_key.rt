@@ -4,9 +4,9 @@ ghost use Rattle.std.specs.Prelude.{◌≡◌, ◌↔◌, ◌+◌, ◌*◌, ◌<
 ghost use Rattle.std.specs.Option.{option_copied};
 ghost use Rattle.sha2.specs.Sha256.{sha256};
 ghost use Rattle.mls_tree.specs.Tree.{leaf_count};
-ghost use Rattle.mls_index.specs.NodeKeys.{keyed, begun, fingerprint};
+ghost use Rattle.mls_index.specs.NodeKeys.{key_at_node, fingerprint_at, fingerprint};
 
-use mls_check::beginning;
+use mls_check::key_prefix;
 use mls_nodes::Node;
 use mls_tree::PublicTree;
 use sha2::{Digest, Sha256};
@@ -21,10 +21,10 @@ pub enum KeyKind {
 }
 
 /// Returns the key of a kind at a node index.
-pub(crate) fn keyed(tree: &PublicTree, kind: KeyKind, place: u32) -> Option<&[u8]>
-    ensures { option_copied result ≡ keyed kind tree.now.tree place }
+pub(crate) fn key_at_node(tree: &PublicTree, kind: KeyKind, node_index: u32) -> Option<&[u8]>
+    ensures { option_copied result ≡ key_at_node kind tree.now.tree node_index }
 {
-    match tree.node(place) {
+    match tree.node(node_index) {
         Some(Node::Leaf(leaf)) => match kind {
             KeyKind::Encryption => Some(leaf.encryption_key.as_slice()),
             KeyKind::Signature => Some(leaf.signature_key.as_slice()),
@@ -52,41 +52,41 @@ fn digest(key: &[u8]) -> [u8; 32]
 pub(crate) fn fingerprint(key: &[u8]) -> u64
     ensures { result ≡ fingerprint key.now }
 {
-    beginning(&digest(key))
+    key_prefix(&digest(key))
 }
 
 /// Returns the fingerprint of the key at a node index.
-pub(crate) fn begun(tree: &PublicTree, kind: KeyKind, place: u32) -> Option<u64>
-    ensures { result ≡ begun kind tree.now.tree place }
+pub(crate) fn fingerprint_at(tree: &PublicTree, kind: KeyKind, node_index: u32) -> Option<u64>
+    ensures { result ≡ fingerprint_at kind tree.now.tree node_index }
 {
-    match keyed(tree, kind, place) {
+    match key_at_node(tree, kind, node_index) {
         Some(key) => Some(fingerprint(key)),
         None => None,
     }
 }
 
 /// Returns whether the tree has this key at a node index.
-pub(crate) fn has_key_at(tree: &PublicTree, kind: KeyKind, place: u32, key: &[u8]) -> bool
-    ensures { IsTrue result ↔ (keyed kind tree.now.tree place ≡ Some key.now) }
+pub(crate) fn has_key_at(tree: &PublicTree, kind: KeyKind, node_index: u32, key: &[u8]) -> bool
+    ensures { IsTrue result ↔ (key_at_node kind tree.now.tree node_index ≡ Some key.now) }
 {
-    match keyed(tree, kind, place) {
+    match key_at_node(tree, kind, node_index) {
         Some(other) => other == key,
         None => false,
     }
 }
 
 /// Returns whether a fingerprint is this number.
-pub(crate) fn is_number(begun: Option<u64>, number: u64) -> bool
-    ensures { IsTrue result ↔ (begun ≡ Some number) }
+pub(crate) fn is_number(fingerprint_at: Option<u64>, number: u64) -> bool
+    ensures { IsTrue result ↔ (fingerprint_at ≡ Some number) }
 {
-    match begun {
+    match fingerprint_at {
         Some(other) => other == number,
         None => false,
     }
 }
 
 /// Returns the number of nodes of the tree.
-pub(crate) fn place_count(tree: &PublicTree) -> u32
+pub(crate) fn node_index_count(tree: &PublicTree) -> u32
     ensures count { result + 1 ≡ 2 * leaf_count tree.now.tree }
     ensures low { result < 2097152 }
 {

@@ -4,10 +4,10 @@ ghost use Rattle.std.specs.Prelude.{◌≡◌, ◌↔◌, ◌∷◌, [], IsTrue,
 ghost use Rattle.mls_tree.specs.Tree.{Tree};
 ghost use Rattle.mls_tree.specs.ChangedNodes.{AgreeExceptAt};
 ghost use Rattle.mls_check.specs.LeafValidation.{FindsFailing, supports_used_credentials};
-ghost use Rattle.mls_index.specs.NodeKeys.{HasKey, IsOwnKey};
+ghost use Rattle.mls_index.specs.NodeKeys.{HasKey, IsUniqueKey};
 ghost use Rattle.mls_index.specs.RepeatedKeys.{FindsRepeatedAt};
 ghost use Rattle.mls_index.specs.TreeIndex.{HasBase, IsIndexOf, ContainsKeysOf};
-ghost use Rattle.mls_index.specs.IncrementalCheck.{AreOwnKeys, SupportCredentials};
+ghost use Rattle.mls_index.specs.IncrementalCheck.{AreUniqueKeys, SupportCredentials};
 
 use crate::changed_leaves::smaller;
 use crate::credential_counts::CredentialCounts;
@@ -27,9 +27,9 @@ use std::alloc::Global;
 ///
 /// # Following a change of the tree
 ///
-/// The index has a base tree (`IsIndexOf`). [`enter`](TreeIndex::enter) adds the keys and leaves of a changed tree
+/// The index has a base tree (`IsIndexOf`). [`stage`](TreeIndex::stage) inserts the keys and leaves of a changed tree
 /// (`HasBase` for the base tree, `ContainsKeysOf` for the changed one); it may allocate. Then
-/// [`accept`](TreeIndex::accept) makes the changed tree the base tree, or [`refuse`](TreeIndex::refuse) removes what
+/// [`accept`](TreeIndex::accept) makes the changed tree the base tree, or [`revert`](TreeIndex::revert) removes what
 /// was added. Neither of them allocates.
 #[derive(Drop)]
 pub struct TreeIndex {
@@ -60,35 +60,39 @@ impl TreeIndex {
     /// # Errors
     ///
     /// `OutOfMemory`. Some of the keys may have been added. The base tree is unchanged.
-    pub fn enter(&mut self, tree: &PublicTree, places: &[u32]) -> Result<(), OutOfMemory>
-        ensures between { (t : Tree) → HasBase t self.old → HasBase t self.new }
-        ensures covers { OnOk result ((t : Tree) → HasBase t self.old
-            → AgreeExceptAt places.now t tree.now.tree → ContainsKeysOf tree.now.tree self.new) }
+    pub fn stage(&mut self, tree: &PublicTree, node_indices: &[u32]) -> Result<(), OutOfMemory>
+        ensures index_base { (t : Tree) → HasBase t self.old → HasBase t self.new }
+        ensures index_contains_keys { OnOk result ((t : Tree) → HasBase t self.old
+            → AgreeExceptAt node_indices.now t tree.now.tree → ContainsKeysOf tree.now.tree self.new) }
     {
-        self.encryption.enter(tree, KeyKind::Encryption, places)?;
-        self.signature.enter(tree, KeyKind::Signature, places)?;
-        self.credentials.enter(tree, places)?;
+        self.encryption
+            .stage(tree, KeyKind::Encryption, node_indices)?;
+        self.signature
+            .stage(tree, KeyKind::Signature, node_indices)?;
+        self.credentials.stage(tree, node_indices)?;
         Ok(())
     }
 
     /// Makes a tree the base tree, whose keys were added and which differs at these node indices from the base tree.
     /// Does not allocate.
-    pub fn accept(&mut self, tree: &PublicTree, places: &[u32])
+    pub fn accept(&mut self, tree: &PublicTree, node_indices: &[u32])
         ensures { (t : Tree) → HasBase t self.old → ContainsKeysOf tree.now.tree self.old
-            → AgreeExceptAt places.now t tree.now.tree → IsIndexOf tree.now.tree self.new }
+            → AgreeExceptAt node_indices.now t tree.now.tree → IsIndexOf tree.now.tree self.new }
     {
-        self.encryption.accept(tree, KeyKind::Encryption, places);
-        self.signature.accept(tree, KeyKind::Signature, places);
+        self.encryption
+            .accept(tree, KeyKind::Encryption, node_indices);
+        self.signature
+            .accept(tree, KeyKind::Signature, node_indices);
         self.credentials.accept();
     }
 
     /// Removes what was added to the index of the base tree. Does not allocate.
-    pub fn refuse(&mut self)
+    pub fn revert(&mut self)
         ensures { (t : Tree) → HasBase t self.old → IsIndexOf t self.new }
     {
-        self.encryption.refuse();
-        self.signature.refuse();
-        self.credentials.refuse();
+        self.encryption.revert();
+        self.signature.revert();
+        self.credentials.revert();
     }
 
     /// Returns whether some node of a tree has this key, if the index contains the tree's keys.
@@ -103,24 +107,24 @@ impl TreeIndex {
 
     /// Returns whether no other node of a tree has the key of the node at a node index, if the index contains the
     /// tree's keys. A node without a key of this kind shares none.
-    pub fn has_own_key(&self, tree: &PublicTree, kind: KeyKind, place: u32) -> bool
-        ensures { ContainsKeysOf tree.now.tree self.now → IsTrue result ↔ IsOwnKey kind tree.now.tree place }
+    pub fn has_unique_key(&self, tree: &PublicTree, kind: KeyKind, node_index: u32) -> bool
+        ensures { ContainsKeysOf tree.now.tree self.now → IsTrue result ↔ IsUniqueKey kind tree.now.tree node_index }
     {
         match kind {
-            KeyKind::Encryption => self.encryption.has_own_key(tree, kind, place),
-            KeyKind::Signature => self.signature.has_own_key(tree, kind, place),
+            KeyKind::Encryption => self.encryption.has_unique_key(tree, kind, node_index),
+            KeyKind::Signature => self.signature.has_unique_key(tree, kind, node_index),
         }
     }
 
     /// Returns whether the key of each node at these node indices of a tree is unique, if the index contains the tree's
     /// keys.
-    pub fn have_own_keys(&self, tree: &PublicTree, kind: KeyKind, places: &[u32]) -> bool
+    pub fn have_unique_keys(&self, tree: &PublicTree, kind: KeyKind, node_indices: &[u32]) -> bool
         ensures { ContainsKeysOf tree.now.tree self.now
-            → IsTrue result ↔ AreOwnKeys kind places.now tree.now.tree }
+            → IsTrue result ↔ AreUniqueKeys kind node_indices.now tree.now.tree }
     {
-        let mut rest = places;
-        while let Some((place, tail)) = rest.split_first() {
-            if !self.has_own_key(tree, kind, *place) {
+        let mut rest = node_indices;
+        while let Some((node_index, tail)) = rest.split_first() {
+            if !self.has_unique_key(tree, kind, *node_index) {
                 return false;
             }
             rest = tail;
@@ -147,11 +151,14 @@ impl TreeIndex {
 
     /// Returns the smaller leaf index of the leaf at a node index and of the first other leaf with its signature key, if
     /// there is one.
-    fn repeated_at(&self, tree: &PublicTree, place: u32) -> Option<u32>
-        ensures { ContainsKeysOf tree.now.tree self.now → FindsRepeatedAt (place ∷ []) tree.now.tree result }
+    fn repeated_at(&self, tree: &PublicTree, node_index: u32) -> Option<u32>
+        ensures { ContainsKeysOf tree.now.tree self.now → FindsRepeatedAt (node_index ∷ []) tree.now.tree result }
     {
-        match self.signature.first_other(tree, KeyKind::Signature, place) {
-            Some(other) => Some(place.min(other) / 2),
+        match self
+            .signature
+            .first_other(tree, KeyKind::Signature, node_index)
+        {
+            Some(other) => Some(node_index.min(other) / 2),
             None => None,
         }
     }
@@ -159,13 +166,13 @@ impl TreeIndex {
     /// Returns the smallest leaf index of a leaf whose signature key another leaf has, if one of the two is at one of
     /// these node indices (RFC 9420, 7.3). The index must contain the tree's keys. A node index may be listed twice.
     /// One key is looked up for each node index. Does not allocate.
-    pub fn first_repeated_key(&self, tree: &PublicTree, places: &[u32]) -> Option<u32>
-        ensures { ContainsKeysOf tree.now.tree self.now → FindsRepeatedAt places.now tree.now.tree result }
+    pub fn first_repeated_key(&self, tree: &PublicTree, node_indices: &[u32]) -> Option<u32>
+        ensures { ContainsKeysOf tree.now.tree self.now → FindsRepeatedAt node_indices.now tree.now.tree result }
     {
         let mut found = None;
-        let mut rest = places;
-        while let Some((place, tail)) = rest.split_first() {
-            found = smaller(found, self.repeated_at(tree, *place));
+        let mut rest = node_indices;
+        while let Some((node_index, tail)) = rest.split_first() {
+            found = smaller(found, self.repeated_at(tree, *node_index));
             rest = tail;
         }
         found

@@ -32,13 +32,13 @@ module _ {A : Type 0} (test : A → Bool) (s : A → Option (List ℕ)) (once : 
   of_no_value none x e = none x (allowed (test x) (s x) bytes e).1
 
   of_another : (v : A) → s v ≡ Some bytes → test v ≡ false → Untold
-  of_another v spelled fails x e =
+  of_another v encoded fails x e =
       let a = allowed (test x) (s x) bytes e in
-      absurd (false≢true (sym fails ∙ (ap test (once v x bytes spelled a.1) ∙ a.0)))
+      absurd (false≢true (sym fails ∙ (ap test (once v x bytes encoded a.1) ∙ a.0)))
 
   -- a value of which the test holds is spelled as before
   pub test_holds : (v : A) → s v ≡ Some bytes → test v ≡ true → tested test s v ≡ Some bytes
-  test_holds v spelled holds = rw holds spelled
+  test_holds v encoded holds = rw holds encoded
 
   all_refused : Untold → (e : CodecFault) → DecodesAll (tested test s) bytes (Err e)
   all_refused none (faults.Wire f) = none
@@ -50,13 +50,13 @@ module _ {A : Type 0} (test : A → Bool) (s : A → Option (List ℕ)) (once : 
 
   -- where the value that is spelled fails the test, and where none is spelled
   pub test_fails : (v : A) → s v ≡ Some bytes → test v ≡ false → (e : CodecFault) → DecodesAll (tested test s) bytes (Err e)
-  test_fails v spelled fails = all_refused (of_another v spelled fails)
+  test_fails v encoded fails = all_refused (of_another v encoded fails)
 
-  pub nothing_spelled : ((x : A) → s x ≡ Some bytes → ⊥) → (e : CodecFault) → DecodesAll (tested test s) bytes (Err e)
-  nothing_spelled none = all_refused (of_no_value none)
+  pub nothing_encoded : ((x : A) → s x ≡ Some bytes → ⊥) → (e : CodecFault) → DecodesAll (tested test s) bytes (Err e)
+  nothing_encoded none = all_refused (of_no_value none)
 
   pub input_fails : length bytes ≤ input_limit → (v : A) → s v ≡ Some bytes → test v ≡ false → (e : CodecFault) → DecodesInput (tested test s) bytes (Err e)
-  input_fails le v spelled fails = input_refused le (of_another v spelled fails)
+  input_fails le v encoded fails = input_refused le (of_another v encoded fails)
 
   pub input_nothing : length bytes ≤ input_limit → ((x : A) → s x ≡ Some bytes → ⊥) → (e : CodecFault) → DecodesInput (tested test s) bytes (Err e)
   input_nothing le none = input_refused le (of_no_value none)
@@ -71,39 +71,39 @@ authenticated_once = (unambiguous authenticated_content authenticated_content_at
 pub message_once : IsInjective message
 message_once x y text p q = some_is x y (sym (message_again x text p) ∙ message_again y text q)
 
-pub proposal_told : (profile : Profile) (v : Proposal) (bytes : List ℕ) → proposal v ≡ Some bytes → is_in profile (is_members_proposal v) ≡ true → proposal_in profile v ≡ Some bytes
+pub proposal_determined : (profile : Profile) (v : Proposal) (bytes : List ℕ) → proposal v ≡ Some bytes → is_in profile (is_members_proposal v) ≡ true → proposal_in profile v ≡ Some bytes
 unfolding proposal_in
-proposal_told profile v bytes = test_holds (λ x. is_in profile (is_members_proposal x)) proposal proposal_once bytes v
+proposal_determined profile v bytes = test_holds (λ x. is_in profile (is_members_proposal x)) proposal proposal_once bytes v
 
 pub proposal_foreign : (profile : Profile) (v : Proposal) (bytes : List ℕ) (e : CodecFault) → proposal v ≡ Some bytes → is_in profile (is_members_proposal v) ≡ false
     → DecodesAll (proposal_in profile) bytes (Err e)
 unfolding proposal_in
-proposal_foreign profile v bytes e spelled fails = test_fails (λ x. is_in profile (is_members_proposal x)) proposal proposal_once bytes v spelled fails e
+proposal_foreign profile v bytes e encoded fails = test_fails (λ x. is_in profile (is_members_proposal x)) proposal proposal_once bytes v encoded fails e
 
 pub proposal_none : (profile : Profile) (bytes : List ℕ) (e : CodecFault) → ((x : Proposal) → proposal x ≡ Some bytes → ⊥) → DecodesAll (proposal_in profile) bytes (Err e)
 unfolding proposal_in
-proposal_none profile bytes e none = nothing_spelled (λ x. is_in profile (is_members_proposal x)) proposal proposal_once bytes none e
+proposal_none profile bytes e none = nothing_encoded (λ x. is_in profile (is_members_proposal x)) proposal proposal_once bytes none e
 
-pub ruleset proposals_in = (proposal_told, proposal_foreign, proposal_none)
+pub ruleset proposals_in = (proposal_determined, proposal_foreign, proposal_none)
 
-pub authenticated_told : (profile : Profile) (v : AuthenticatedParts) (bytes : List ℕ) → authenticated_content v ≡ Some bytes → is_in profile (is_members_authenticated v) ≡ true → authenticated_in profile v ≡ Some bytes
+pub authenticated_determined : (profile : Profile) (v : AuthenticatedParts) (bytes : List ℕ) → authenticated_content v ≡ Some bytes → is_in profile (is_members_authenticated v) ≡ true → authenticated_in profile v ≡ Some bytes
 unfolding authenticated_in
-authenticated_told profile v bytes = test_holds (λ x. is_in profile (is_members_authenticated x)) authenticated_content authenticated_once bytes v
+authenticated_determined profile v bytes = test_holds (λ x. is_in profile (is_members_authenticated x)) authenticated_content authenticated_once bytes v
 
 pub authenticated_foreign : (profile : Profile) (v : AuthenticatedParts) (bytes : List ℕ) (e : CodecFault) → authenticated_content v ≡ Some bytes → is_in profile (is_members_authenticated v) ≡ false
     → DecodesAll (authenticated_in profile) bytes (Err e)
 unfolding authenticated_in
-authenticated_foreign profile v bytes e spelled fails = test_fails (λ x. is_in profile (is_members_authenticated x)) authenticated_content authenticated_once bytes v spelled fails e
+authenticated_foreign profile v bytes e encoded fails = test_fails (λ x. is_in profile (is_members_authenticated x)) authenticated_content authenticated_once bytes v encoded fails e
 
 pub authenticated_none : (profile : Profile) (bytes : List ℕ) (e : CodecFault) → ((x : AuthenticatedParts) → authenticated_content x ≡ Some bytes → ⊥) → DecodesAll (authenticated_in profile) bytes (Err e)
 unfolding authenticated_in
-authenticated_none profile bytes e none = nothing_spelled (λ x. is_in profile (is_members_authenticated x)) authenticated_content authenticated_once bytes none e
+authenticated_none profile bytes e none = nothing_encoded (λ x. is_in profile (is_members_authenticated x)) authenticated_content authenticated_once bytes none e
 
-pub ruleset authenticated_contents_in = (authenticated_told, authenticated_foreign, authenticated_none)
+pub ruleset authenticated_contents_in = (authenticated_determined, authenticated_foreign, authenticated_none)
 
-pub message_told : (profile : Profile) (v : Message) (bytes : List ℕ) → message_at bytes ≡ Some v → is_in profile (is_members_message v) ≡ true → message_in profile v ≡ Some bytes
+pub message_determined : (profile : Profile) (v : Message) (bytes : List ℕ) → message_at bytes ≡ Some v → is_in profile (is_members_message v) ≡ true → message_in profile v ≡ Some bytes
 unfolding message_in
-message_told profile v bytes found = test_holds (λ x. is_in profile (is_members_message x)) message message_once bytes v (message_takes bytes v found)
+message_determined profile v bytes found = test_holds (λ x. is_in profile (is_members_message x)) message message_once bytes v (message_takes bytes v found)
 
 pub message_foreign : (profile : Profile) (v : Message) (bytes : List ℕ) (e : CodecFault) → length bytes ≤ input_limit → message_at bytes ≡ Some v
     → is_in profile (is_members_message v) ≡ false → DecodesInput (message_in profile) bytes (Err e)
@@ -114,7 +114,7 @@ pub message_none : (profile : Profile) (bytes : List ℕ) (e : CodecFault) → l
     → DecodesInput (message_in profile) bytes (Err e)
 unfolding message_in
 message_none profile bytes e le found = input_nothing (λ x. is_in profile (is_members_message x)) message message_once bytes le
-    (λ x spelled. let bad = sym found ∙ message_again x bytes spelled in absurd cc) e
+    (λ x encoded. let bad = sym found ∙ message_again x bytes encoded in absurd cc) e
 
 -- what is encoded in a profile is in the profile, and is encoded
 pub encoded_in : (profile : Profile) (m : Message) (bytes : List ℕ) → message_in profile m ≡ Some bytes
@@ -132,7 +132,7 @@ message_or_none profile bytes = go (message_at bytes) refl
   where
     of_value : (m : Message) → message_at bytes ≡ Some m → (b : Bool) → is_in profile (is_members_message m) ≡ b
         → ((n : Message) × (message_in profile n ≡ Some bytes)) ⊎ ((n : Message) → message_in profile n ≡ Some bytes → ⊥)
-    of_value m found true t = inl (m, message_told profile m bytes found t)
+    of_value m found true t = inl (m, message_determined profile m bytes found t)
     of_value m found false t =
         inr (λ n e.
         let other = encoded_in profile n bytes e in
@@ -143,4 +143,4 @@ message_or_none profile bytes = go (message_at bytes) refl
     go None e = inr (λ n h. let bad = sym e ∙ message_again n bytes (encoded_in profile n bytes h).1 in absurd cc)
     go (Some m) e = of_value m e (is_in profile (is_members_message m)) refl
 
-pub ruleset messages_in = (message_told, message_foreign, message_none)
+pub ruleset messages_in = (message_determined, message_foreign, message_none)

@@ -45,27 +45,27 @@ unfolding frame_format
 frame_format_long n front h = number_long w16 wide16 n front (allowed (is_frame_format n) (number w16 n) front h).1
 
 -- A tag that has an encoding fits.
-tag_spelled : (wanted : Bool) (o : Option (List ℕ)) (front : List ℕ) → tag_if wanted o ≡ Some front → tag_fits wanted o ≡ true
+tag_encoded : (needed : Bool) (o : Option (List ℕ)) (front : List ℕ) → tag_if needed o ≡ Some front → tag_fits needed o ≡ true
 unfolding tag_if
-tag_spelled true (Some t) front e = refl
-tag_spelled true None front e = absurd cc
-tag_spelled false (Some t) front e = absurd cc
-tag_spelled false None front e = refl
+tag_encoded true (Some t) front e = refl
+tag_encoded true None front e = absurd cc
+tag_encoded false (Some t) front e = absurd cc
+tag_encoded false None front e = refl
 
-wanted_tag : (o : Option (List ℕ)) → tag_fits true o ≡ true → (t : List ℕ) × (◌≡◌ {A = Option (List ℕ)} (Some t) o)
-wanted_tag (Some t) p = (t, refl)
-wanted_tag None p = absurd cc
+needed_tag : (o : Option (List ℕ)) → tag_fits true o ≡ true → (t : List ℕ) × (◌≡◌ {A = Option (List ℕ)} (Some t) o)
+needed_tag (Some t) p = (t, refl)
+needed_tag None p = absurd cc
 
-unwanted_tag : (o : Option (List ℕ)) → tag_fits false o ≡ true → ◌≡◌ {A = Option (List ℕ)} None o
-unwanted_tag (Some t) p = absurd cc
-unwanted_tag None p = refl
+unneeded_tag : (o : Option (List ℕ)) → tag_fits false o ≡ true → ◌≡◌ {A = Option (List ℕ)} None o
+unneeded_tag (Some t) p = absurd cc
+unneeded_tag None p = refl
 
-pub tag_if_exact : (wanted : Bool) → IsExact (tag_if wanted) (tag_if_at wanted)
+pub tag_if_exact : (needed : Bool) → IsExact (tag_if needed) (tag_if_at needed)
 unfolding tag_if tag_if_at
-tag_if_exact true = only (λ o. tag_fits true o ≡ true) (tag_if true) (tag_if true) (tag_if_at true) (λ o p. refl) (tag_spelled true)
-    (made_of (λ o. tag_fits true o ≡ true) Some vector (tag_if true) vector_at vector_exact (λ t. refl) (λ t. refl) wanted_tag)
-tag_if_exact false = only (λ o. tag_fits false o ≡ true) (tag_if false) (tag_if false) (tag_if_at false) (λ o p. refl) (tag_spelled false)
-    (known (λ o. tag_fits false o ≡ true) (tag_if false) None refl refl unwanted_tag)
+tag_if_exact true = only (λ o. tag_fits true o ≡ true) (tag_if true) (tag_if true) (tag_if_at true) (λ o p. refl) (tag_encoded true)
+    (made_of (λ o. tag_fits true o ≡ true) Some vector (tag_if true) vector_at vector_exact (λ t. refl) (λ t. refl) needed_tag)
+tag_if_exact false = only (λ o. tag_fits false o ≡ true) (tag_if false) (tag_if false) (tag_if_at false) (λ o p. refl) (tag_encoded false)
+    (known (λ o. tag_fits false o ≡ true) (tag_if false) None refl refl unneeded_tag)
 
 -- ---- AuthenticatedContent
 
@@ -99,12 +99,12 @@ is_open : (a : AuthenticatedParts) → Unit {0} × (a.wire_format ≡ 1) → sig
 unfolding public_frame
 is_open a p = rw (eq-eqb a.wire_format 1 p.1) refl
 
-spelled_open : (a : AuthenticatedParts) (front : List ℕ) → public_frame a ≡ Some front → Unit {0} × (a.wire_format ≡ 1)
+encoded_open : (a : AuthenticatedParts) (front : List ℕ) → public_frame a ≡ Some front → Unit {0} × (a.wire_format ≡ 1)
 unfolding public_frame
-spelled_open a front e = (tt, eqb-true a.wire_format 1 (allowed _ (signed_frame a) front e).0)
+encoded_open a front e = (tt, eqb-true a.wire_format 1 (allowed _ (signed_frame a) front e).0)
 
 pub public_frame_exact : IsExact public_frame (signed_frame_at 1)
-public_frame_exact = only (λ a. Unit {0} × (a.wire_format ≡ 1)) signed_frame public_frame (signed_frame_at 1) is_open spelled_open (signed_frame_exact 1)
+public_frame_exact = only (λ a. Unit {0} × (a.wire_format ≡ 1)) signed_frame public_frame (signed_frame_at 1) is_open encoded_open (signed_frame_exact 1)
 
 public_frame_long : IsLong public_frame
 unfolding public_frame signed_frame

@@ -4,7 +4,7 @@ use Rattle.std.proofs.Common.{◌≡◌, ◌≢◌, ℕ, List, [], Option, Some,
 use Rattle.std.specs.Int.{w8, w32, w64}
 use Rattle.mls_wire.specs.Encoding.{◌⊕◌, number, vector}
 use Rattle.mls_wire.specs.Parsing.{number_at, vector_at}
-use Rattle.mls_wire.specs.ExactParsers.{IsExact, IsLong, Any, field_then, made_of, tag_is, known, never, spelled_as}
+use Rattle.mls_wire.specs.ExactParsers.{IsExact, IsLong, Any, field_then, made_of, tag_is, known, never, encoded_as}
 use Rattle.mls_wire.specs.IntegersExact.{wide8, wide32, wide64, number_exact, number_long}
 use Rattle.mls_wire.specs.VectorsExact.{vector_exact, vector_long}
 use Rattle.mls_wire.specs.EncodingConcat.{long_left}
@@ -74,7 +74,7 @@ no_sender n w x y z NewMemberCommit p = z (sym p.1)
 
 pub sender_exact : IsExact sender sender_at
 unfolding sender_at
-sender_exact = spelled_as Any sender _ sender_at sender_parts
+sender_exact = encoded_as Any sender _ sender_at sender_parts
     (field_then Any sender_kind (number w8) sender_body (number_at w8) _ (number_exact w8 wide8)
     (λ n. tag_is sender_kind _ _ _ n 1 (made_of _ Member (number w32) _ (number_at w32) (number_exact w32 wide32) (λ x. (tt, refl)) (λ x. refl) is_a_member)
     (λ w. tag_is sender_kind _ _ _ n 2 (made_of _ External (number w32) _ (number_at w32) (number_exact w32 wide32) (λ x. (tt, refl)) (λ x. refl) is_external)
@@ -131,7 +131,7 @@ no_content n x y z (contents.Commit _) p = z (sym p.1)
 
 pub content_exact : IsExact content content_at
 unfolding content_at
-content_exact = spelled_as Any content _ content_at content_parts
+content_exact = encoded_as Any content _ content_at content_parts
     (field_then Any content_kind (number w8) content_body (number_at w8) _ (number_exact w8 wide8)
     (λ n. tag_is content_kind _ _ _ n 1 (made_of _ contents.Application vector _ vector_at vector_exact (λ x. (tt, refl)) (λ x. refl) is_application)
     (λ x. tag_is content_kind _ _ _ n 2 (made_of _ contents.Proposal proposal _ proposal_at proposal_exact (λ x. (tt, refl)) (λ x. refl) is_a_proposal)

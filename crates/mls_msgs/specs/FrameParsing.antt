@@ -18,7 +18,7 @@ frame_format_at i = do
 
 -- A tag, if there is to be one.
 unfoldable pub tag_if_at : Bool → Input → Option (Option (List ℕ) × Input)
-tag_if_at wanted i = if wanted then (vector_at i >>= λ x. Some (Some x.0, x.1)) else Some (None, i)
+tag_if_at needed i = if needed then (vector_at i >>= λ x. Some (Some x.0, x.1)) else Some (None, i)
 
 -- The signature, and a confirmation tag exactly for a commit.
 unfoldable pub frame_auth_at : Bool → Input → Option ((List ℕ × Option (List ℕ)) × Input)

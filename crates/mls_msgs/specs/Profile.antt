@@ -63,9 +63,9 @@ abbrev pub is_in : Profile → Bool → Bool
 is_in Members b = b
 is_in Full b = true
 
--- `tested test spelling x` is the encoding of `x` by `spelling`, if `test x` is true.
+-- `tested test encoding x` is the encoding of `x` by `encoding`, if `test x` is true.
 abbrev pub tested : {A : Type 0} → (A → Bool) → (A → Option (List ℕ)) → A → Option (List ℕ)
-tested test spelling x = if test x then spelling x else None
+tested test encoding x = if test x then encoding x else None
 
 -- `proposal_in profile p` is the encoding of the proposal `p`, if it is in `profile`.
 unfoldable pub proposal_in : Profile → Proposal → Option (List ℕ)

@@ -4,7 +4,7 @@ use Rattle.std.proofs.Common.{◌≡◌, ◌≢◌, ℕ, List, Option, refl, sym
 use Rattle.std.specs.Int.{w8, w16, w32}
 use Rattle.mls_wire.specs.Encoding.{◌⊕◌, number, vector, list}
 use Rattle.mls_wire.specs.Parsing.{number_at, vector_at, list_at}
-use Rattle.mls_wire.specs.ExactParsers.{IsExact, IsLong, Any, field_then, made_of, tag_is, never, spelled_as}
+use Rattle.mls_wire.specs.ExactParsers.{IsExact, IsLong, Any, field_then, made_of, tag_is, never, encoded_as}
 use Rattle.mls_wire.specs.IntegersExact.{wide8, wide16, wide32, number_exact, number_long}
 use Rattle.mls_wire.specs.VectorsExact.{vector_exact}
 use Rattle.mls_wire.specs.EncodingConcat.{long_left}
@@ -147,7 +147,7 @@ no_proposal n a b c d e f g (proposals.ContextExtensions _) p = g (sym p.1)
 
 pub proposal_exact : IsExact proposal proposal_at
 unfolding proposal_at
-proposal_exact = spelled_as Any proposal _ proposal_at proposal_parts
+proposal_exact = encoded_as Any proposal _ proposal_at proposal_parts
     (field_then Any proposal_kind (number w16) proposal_body (number_at w16) _ (number_exact w16 wide16)
     (λ n. tag_is proposal_kind _ _ _ n 1 (made_of _ proposals.Add key_package _ key_package_at key_package_exact (λ x. (tt, refl)) (λ x. refl) is_add)
     (λ a. tag_is proposal_kind _ _ _ n 2 (made_of _ proposals.Update leaf _ leaf_at leaf_exact (λ x. (tt, refl)) (λ x. refl) is_update)
@@ -199,7 +199,7 @@ no_entry n x y (entries.Reference _) p = y (sym p.1)
 
 pub proposal_or_ref_exact : IsExact proposal_or_ref proposal_or_ref_at
 unfolding proposal_or_ref_at
-proposal_or_ref_exact = spelled_as Any proposal_or_ref _ proposal_or_ref_at entry_parts
+proposal_or_ref_exact = encoded_as Any proposal_or_ref _ proposal_or_ref_at entry_parts
     (field_then Any entry_kind (number w8) entry_body (number_at w8) _ (number_exact w8 wide8)
     (λ n. tag_is entry_kind _ _ _ n 1 (made_of _ entries.Proposal proposal _ proposal_at proposal_exact (λ x. (tt, refl)) (λ x. refl) is_proposal)
     (λ x. tag_is entry_kind _ _ _ n 2 (made_of _ entries.Reference vector _ vector_at vector_exact (λ x. (tt, refl)) (λ x. refl) is_reference)

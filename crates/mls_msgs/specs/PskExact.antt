@@ -5,7 +5,7 @@ use Rattle.std.specs.Int.{w8, w16, w64}
 use Rattle.mls_wire.specs.Input.{Input}
 use Rattle.mls_wire.specs.Encoding.{◌⊕◌, number, vector, list}
 use Rattle.mls_wire.specs.Parsing.{number_at, vector_at, list_at}
-use Rattle.mls_wire.specs.ExactParsers.{Exact, IsExact, IsLong, Any, field_then, made_of, tag_is, known, never, spelled_as}
+use Rattle.mls_wire.specs.ExactParsers.{Exact, IsExact, IsLong, Any, field_then, made_of, tag_is, known, never, encoded_as}
 use Rattle.mls_wire.specs.IntegersExact.{wide8, wide16, wide64, number_exact, number_long}
 use Rattle.mls_wire.specs.VectorsExact.{vector_exact, vector_long}
 use Rattle.mls_wire.specs.EncodingConcat.{long_left}
@@ -59,7 +59,7 @@ no_usage n x y z Branch p = z (sym p.1)
 
 pub psk_usage_exact : IsExact psk_usage psk_usage_at
 unfolding psk_usage_at
-psk_usage_exact = spelled_as Any psk_usage _ psk_usage_at usage_parts
+psk_usage_exact = encoded_as Any psk_usage _ psk_usage_at usage_parts
     (field_then Any usage_kind (number w8) usage_body (number_at w8) _ (number_exact w8 wide8)
     (λ n. tag_is usage_kind _ _ _ n 1 (known _ _ Application (tt, refl) refl is_application)
     (λ x. tag_is usage_kind _ _ _ n 2 (known _ _ ReInit (tt, refl) refl is_reinit)
@@ -141,7 +141,7 @@ no_kind n x y (Resumption _ _ _) p = y (sym p.1)
 
 pub psk_kind_exact : IsExact psk_kind psk_kind_at
 unfolding psk_kind_at
-psk_kind_exact = spelled_as Any psk_kind _ psk_kind_at psk_parts
+psk_kind_exact = encoded_as Any psk_kind _ psk_kind_at psk_parts
     (field_then Any psk_type (number w8) psk_body (number_at w8) _ (number_exact w8 wide8)
     (λ n. tag_is psk_type _ _ _ n 1 (made_of _ External vector _ vector_at vector_exact (λ x. (tt, refl)) (λ x. refl) is_external)
     (λ x. tag_is psk_type _ _ _ n 2 resumption_exact

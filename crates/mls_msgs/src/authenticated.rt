@@ -15,7 +15,7 @@ ghost use Rattle.mls_msgs.specs.FrameParsing.{tag_if_at, frame_auth_at, frame_fo
 
 use crate::bad_tag::bad_tag;
 use crate::framed_content::FramedContent;
-use crate::profile::{Profile, fault_found, judge_frame};
+use crate::profile::{Profile, check_frame, fault_found};
 use mls_wire::{
     CodecFault, Decode, Draft, Encode, Opaque, Reader, add_sizes, bytes_of, read_all_of,
 };
@@ -112,12 +112,12 @@ impl Authenticated {
 pub(crate) fn read_tag(
     alloc: Global,
     reader: &mut Reader<'_>,
-    wanted: bool,
+    needed: bool,
 ) -> Result<Option<Opaque>, CodecFault>
-    ensures read { GivesOrFull (tag_if_at wanted) reader.old reader.new result }
-    ensures fits { IfOk result (λ t. IsTrue (tag_fits wanted t)) }
+    ensures read { GivesOrFull (tag_if_at needed) reader.old reader.new result }
+    ensures fits { IfOk result (λ t. IsTrue (tag_fits needed t)) }
 {
-    if wanted {
+    if needed {
         Ok(Some(Opaque::read(alloc, reader)?))
     } else {
         Ok(None)
@@ -212,7 +212,7 @@ fn read_frame_format(alloc: Global, reader: &mut Reader<'_>) -> Result<u16, Code
     let mut ahead = reader.fork();
     let wire_format = u16::read(alloc, &mut ahead)?;
     if wire_format != 1 && wire_format != 2 {
-        return Err(bad_tag(wire_format, reader.place()));
+        return Err(bad_tag(wire_format, reader.position()));
     }
     *reader = ahead;
     Ok(wire_format)
@@ -223,7 +223,7 @@ impl Decode for Authenticated {
     ghost use Rattle.mls_msgs.specs.FrameParsing.{authenticated_content_at};
     ghost use Rattle.mls_msgs.specs.AuthenticatedExact.{authenticated_content_exact, authenticated_content_long};
 
-    ghost spelling = { authenticated_content };
+    ghost encoding = { authenticated_content };
 
     ghost reading = { authenticated_content_at };
 
@@ -282,14 +282,14 @@ impl Encode for Authenticated {
     }
 }
 
-/// Refuses an AuthenticatedContent that has a proposal type outside the members' profile, as [`judge_frame`] does.
-fn judge_authenticated(alloc: Global, bytes: &[u8]) -> Result<(), CodecFault>
+/// Refuses an AuthenticatedContent that has a proposal type outside the members' profile, as [`check_frame`] does.
+fn check_authenticated(alloc: Global, bytes: &[u8]) -> Result<(), CodecFault>
     ensures { OnOk result
         (passes is_members_authenticated (authenticated_content_at (at 0 bytes.now)) ≡ true) }
 {
     let mut reader = Reader::new(bytes);
     let _wire_format = read_frame_format(alloc, &mut reader)?;
-    judge_frame(alloc, reader)
+    check_frame(alloc, reader)
 }
 
 /// Decodes the AuthenticatedContent (RFC 9420, 6) that the bytes encode. Each of its proposals must be in `profile`.
@@ -314,11 +314,11 @@ pub fn decode_authenticated_in(
             if profile.has_authenticated(&auth) {
                 return Ok(auth);
             }
-            Err(fault_found(judge_authenticated(alloc, bytes)))
+            Err(fault_found(check_authenticated(alloc, bytes)))
         }
         Err(CodecFault::OutOfMemory) => Err(CodecFault::OutOfMemory),
         Err(CodecFault::Wire(fault)) => {
-            Err(profile.fault_of(judge_authenticated(alloc, bytes), fault))
+            Err(profile.fault_of(check_authenticated(alloc, bytes), fault))
         }
     }
 }

@@ -51,7 +51,7 @@ impl<T> Deref for Boxed<T> {
 }
 
 impl<T: Decode> Decode for Boxed<T> {
-    ghost spelling = { T.spelling };
+    ghost encoding = { T.encoding };
 
     ghost reading = { T.reading };
 

@@ -55,7 +55,7 @@ impl Decode for Ciphertext {
     ghost use Rattle.mls_msgs.specs.Parsing.{ciphertext_at};
     ghost use Rattle.mls_msgs.specs.CommitExact.{ciphertext_exact, ciphertext_long};
 
-    ghost spelling = { ciphertext };
+    ghost encoding = { ciphertext };
 
     ghost reading = { ciphertext_at };
 
@@ -94,7 +94,7 @@ impl Decode for PathNode {
     ghost use Rattle.mls_msgs.specs.Parsing.{path_node_at};
     ghost use Rattle.mls_msgs.specs.CommitExact.{path_node_exact, path_node_long};
 
-    ghost spelling = { path_node };
+    ghost encoding = { path_node };
 
     ghost reading = { path_node_at };
 
@@ -133,7 +133,7 @@ impl Decode for UpdatePath {
     ghost use Rattle.mls_msgs.specs.Parsing.{update_path_at};
     ghost use Rattle.mls_msgs.specs.CommitExact.{update_path_exact, update_path_long};
 
-    ghost spelling = { update_path };
+    ghost encoding = { update_path };
 
     ghost reading = { update_path_at };
 
@@ -169,7 +169,7 @@ impl Decode for Commit {
     ghost use Rattle.mls_msgs.specs.Parsing.{commit_at};
     ghost use Rattle.mls_msgs.specs.CommitExact.{commit_exact, commit_long};
 
-    ghost spelling = { commit };
+    ghost encoding = { commit };
 
     ghost reading = { commit_at };
 

@@ -93,7 +93,7 @@ impl Decode for Sender {
     ghost use Rattle.mls_msgs.specs.Parsing.{sender_at};
     ghost use Rattle.mls_msgs.specs.FrameExact.{sender_exact, sender_long};
 
-    ghost spelling = { sender };
+    ghost encoding = { sender };
 
     ghost reading = { sender_at };
 
@@ -105,7 +105,7 @@ impl Decode for Sender {
             2 => Sender::External(u32::read(alloc, &mut ahead)?),
             3 => Sender::NewMemberProposal,
             4 => Sender::NewMemberCommit,
-            kind => return Err(bad_tag(u16::from(kind), reader.place())),
+            kind => return Err(bad_tag(u16::from(kind), reader.position())),
         };
         *reader = ahead;
         Ok(sender)
@@ -148,7 +148,7 @@ impl Decode for Content {
     ghost use Rattle.mls_msgs.specs.Parsing.{content_at};
     ghost use Rattle.mls_msgs.specs.FrameExact.{content_exact, content_long};
 
-    ghost spelling = { content };
+    ghost encoding = { content };
 
     ghost reading = { content_at };
 
@@ -159,7 +159,7 @@ impl Decode for Content {
             1 => Content::Application(Opaque::read(alloc, &mut ahead)?),
             2 => Content::Proposal(Proposal::read(alloc, &mut ahead)?),
             3 => Content::Commit(Commit::read(alloc, &mut ahead)?),
-            kind => return Err(bad_tag(u16::from(kind), reader.place())),
+            kind => return Err(bad_tag(u16::from(kind), reader.position())),
         };
         *reader = ahead;
         Ok(content)
@@ -204,7 +204,7 @@ impl Decode for FramedContent {
     ghost use Rattle.mls_msgs.specs.Parsing.{framed_content_at};
     ghost use Rattle.mls_msgs.specs.FrameExact.{framed_content_exact, framed_content_long};
 
-    ghost spelling = { framed_content };
+    ghost encoding = { framed_content };
 
     ghost reading = { framed_content_at };
 

@@ -24,7 +24,7 @@ impl Decode for GroupInfo {
     ghost use Rattle.mls_msgs.specs.Parsing.{group_info_at};
     ghost use Rattle.mls_msgs.specs.MessageExact.{group_info_exact, group_info_long};
 
-    ghost spelling = { group_info };
+    ghost encoding = { group_info };
 
     ghost reading = { group_info_at };
 

@@ -26,7 +26,7 @@ impl Decode for KeyPackage {
     ghost use Rattle.mls_msgs.specs.Parsing.{key_package_at};
     ghost use Rattle.mls_msgs.specs.ProposalExact.{key_package_exact, key_package_long};
 
-    ghost spelling = { key_package };
+    ghost encoding = { key_package };
 
     ghost reading = { key_package_at };
 

@@ -16,7 +16,7 @@ ghost use Rattle.mls_msgs.specs.MessageParsing.{header_at, rest_at, message_at};
 use crate::bad_tag::bad_tag;
 use crate::group_info::GroupInfo;
 use crate::key_package::KeyPackage;
-use crate::profile::{Profile, fault_found, judge_frame};
+use crate::profile::{Profile, check_frame, fault_found};
 use crate::public_message::PublicMessage;
 use mls_wire::{
     CodecFault, Decode, Draft, Encode, MAX_INPUT, Opaque, Reader, WireFault, WireFaultKind,
@@ -63,7 +63,7 @@ fn read_header(alloc: Global, reader: &mut Reader<'_>) -> Result<u16, CodecFault
     let mut ahead = reader.fork();
     let version = u16::read(alloc, &mut ahead)?;
     if version != 1 {
-        return Err(bad_tag(version, reader.place()));
+        return Err(bad_tag(version, reader.position()));
     }
     let wire_format = u16::read(alloc, &mut ahead)?;
     *reader = ahead;
@@ -107,14 +107,14 @@ fn message_of(alloc: Global, bytes: &[u8]) -> Result<Message, CodecFault>
     }
 }
 
-/// Refuses a message that has a proposal type outside the members' profile, as [`judge_frame`] does.
-fn judge_message(alloc: Global, bytes: &[u8]) -> Result<(), CodecFault>
+/// Refuses a message that has a proposal type outside the members' profile, as [`check_frame`] does.
+fn check_message(alloc: Global, bytes: &[u8]) -> Result<(), CodecFault>
     ensures { OnOk result (message_passes (message_at bytes.now) ≡ true) }
 {
     let mut reader = Reader::new(bytes);
     let wire_format = read_header(alloc, &mut reader)?;
     if wire_format == 1 {
-        return judge_frame(alloc, reader);
+        return check_frame(alloc, reader);
     }
     Ok(())
 }
@@ -149,10 +149,10 @@ pub fn decode_message_in(
             if profile.has_message(&message) {
                 return Ok(message);
             }
-            Err(fault_found(judge_message(alloc, bytes)))
+            Err(fault_found(check_message(alloc, bytes)))
         }
         Err(CodecFault::OutOfMemory) => Err(CodecFault::OutOfMemory),
-        Err(CodecFault::Wire(fault)) => Err(profile.fault_of(judge_message(alloc, bytes), fault)),
+        Err(CodecFault::Wire(fault)) => Err(profile.fault_of(check_message(alloc, bytes), fault)),
     }
 }
 

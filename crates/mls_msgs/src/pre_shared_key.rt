@@ -49,7 +49,7 @@ impl Decode for PskUsage {
     ghost use Rattle.mls_msgs.specs.Parsing.{psk_usage_at};
     ghost use Rattle.mls_msgs.specs.PskExact.{psk_usage_exact, psk_usage_long};
 
-    ghost spelling = { psk_usage };
+    ghost encoding = { psk_usage };
 
     ghost reading = { psk_usage_at };
 
@@ -60,7 +60,7 @@ impl Decode for PskUsage {
             1 => PskUsage::Application,
             2 => PskUsage::ReInit,
             3 => PskUsage::Branch,
-            kind => return Err(bad_tag(u16::from(kind), reader.place())),
+            kind => return Err(bad_tag(u16::from(kind), reader.position())),
         };
         *reader = ahead;
         Ok(usage)
@@ -111,7 +111,7 @@ impl Decode for PskKind {
     ghost use Rattle.mls_msgs.specs.Parsing.{psk_kind_at};
     ghost use Rattle.mls_msgs.specs.PskExact.{psk_kind_exact, psk_kind_long};
 
-    ghost spelling = { psk_kind };
+    ghost encoding = { psk_kind };
 
     ghost reading = { psk_kind_at };
 
@@ -121,7 +121,7 @@ impl Decode for PskKind {
         let kind = match u8::read(alloc, &mut ahead)? {
             1 => PskKind::External(Opaque::read(alloc, &mut ahead)?),
             2 => read_resumption(alloc, &mut ahead)?,
-            kind => return Err(bad_tag(u16::from(kind), reader.place())),
+            kind => return Err(bad_tag(u16::from(kind), reader.position())),
         };
         *reader = ahead;
         Ok(kind)
@@ -174,7 +174,7 @@ impl Decode for PreSharedKeyId {
     ghost use Rattle.mls_msgs.specs.Parsing.{psk_id_at};
     ghost use Rattle.mls_msgs.specs.PskExact.{psk_id_exact, psk_id_long};
 
-    ghost spelling = { psk_id };
+    ghost encoding = { psk_id };
 
     ghost reading = { psk_id_at };
 

@@ -119,14 +119,15 @@ impl Profile {
         }
     }
 
-    /// Returns the fault of bytes that are refused: in the members' profile that of `judged`, if it has one, and else
-    /// `otherwise`. `judged` must be what a reader of the members' profile found up to the end of the proposals.
+    /// Returns the fault of bytes that are refused: in the members' profile that of `checked`, if it has one, and
+    /// `otherwise` if not. `checked` must be what a reader of the members' profile found up to the end of the
+    /// proposals.
     pub(crate) fn fault_of(
         self,
-        judged: Result<(), CodecFault>,
+        checked: Result<(), CodecFault>,
         otherwise: WireFault,
     ) -> CodecFault {
-        match (self, judged) {
+        match (self, checked) {
             (Profile::Members, Err(fault)) => fault,
             _ => CodecFault::Wire(otherwise),
         }
@@ -134,35 +135,35 @@ impl Profile {
 }
 
 /// Returns the fault of a judgement that found one.
-pub(crate) fn fault_found(judged: Result<(), CodecFault>) -> CodecFault
-    requires { IsErr judged }
+pub(crate) fn fault_found(checked: Result<(), CodecFault>) -> CodecFault
+    requires { IsErr checked }
 {
-    match judged {
+    match checked {
         Ok(()) => unreachable!(),
         Err(fault) => fault,
     }
 }
 
 /// Refuses a proposal type outside the members' profile: `BadTag` at its offset. Nothing after the type is read.
-pub(crate) fn judge_proposal(alloc: Global, reader: &Reader<'_>) -> Result<(), CodecFault>
+pub(crate) fn check_proposal(alloc: Global, reader: &Reader<'_>) -> Result<(), CodecFault>
     ensures { OnOk result (passes is_members_proposal (proposal_at reader.now) ≡ true) }
 {
     let mut ahead = reader.fork();
     let kind = u16::read(alloc, &mut ahead)?;
     if kind == 4 || kind == 5 || kind == 6 {
-        return Err(bad_tag(kind, reader.place()));
+        return Err(bad_tag(kind, reader.position()));
     }
     Ok(())
 }
 
-/// Refuses an entry of a proposal list whose proposal type is outside the members' profile, as [`judge_proposal`] does.
-fn judge_entry(alloc: Global, reader: &Reader<'_>) -> Result<(), CodecFault>
+/// Refuses an entry of a proposal list whose proposal type is outside the members' profile, as [`check_proposal`] does.
+fn check_entry(alloc: Global, reader: &Reader<'_>) -> Result<(), CodecFault>
     ensures { OnOk result (passes is_members_entry (proposal_or_ref_at reader.now) ≡ true) }
 {
     let mut ahead = reader.fork();
     let kind = u8::read(alloc, &mut ahead)?;
     if kind == 1 {
-        return judge_proposal(alloc, &ahead);
+        return check_proposal(alloc, &ahead);
     }
     Ok(())
 }
@@ -179,44 +180,44 @@ fn skip<T: Decode>(alloc: Global, reader: &mut Reader<'_>) -> Result<(), CodecFa
 
 /// Refuses the first entry of a proposal list that cannot be read, or whose proposal type is outside the members'
 /// profile.
-fn judge_list(alloc: Global, mut body: Reader<'_>) -> Result<(), CodecFault>
+fn check_list(alloc: Global, mut body: Reader<'_>) -> Result<(), CodecFault>
     ensures { OnOk result (entries_pass
         (items_at proposal_or_ref_at (length body.entry.left) body.entry) ≡ true) }
 {
     while !body.at_end() {
-        judge_entry(alloc, &body)?;
+        check_entry(alloc, &body)?;
         skip::<ProposalOrRef>(alloc, &mut body)?;
     }
     Ok(())
 }
 
-/// Refuses a commit as [`judge_list`] refuses its list.
-fn judge_commit(alloc: Global, mut reader: Reader<'_>) -> Result<(), CodecFault>
+/// Refuses a commit as [`check_list`] refuses its list.
+fn check_commit(alloc: Global, mut reader: Reader<'_>) -> Result<(), CodecFault>
     ensures { OnOk result
         (passes (λ c. are_members_entries c.proposals) (commit_at reader.entry) ≡ true) }
 {
     let body = reader.read_sub()?;
-    judge_list(alloc, body)
+    check_list(alloc, body)
 }
 
 /// Refuses a content that cannot be read up to the end of its proposals, or that has a proposal type outside the
 /// members' profile.
-fn judge_content(alloc: Global, mut reader: Reader<'_>) -> Result<(), CodecFault>
+fn check_content(alloc: Global, mut reader: Reader<'_>) -> Result<(), CodecFault>
     ensures { OnOk result (passes is_members_content (content_at reader.entry) ≡ true) }
 {
     let kind = u8::read(alloc, &mut reader)?;
     if kind == 2 {
-        return judge_proposal(alloc, &reader);
+        return check_proposal(alloc, &reader);
     }
     if kind == 3 {
-        return judge_commit(alloc, reader);
+        return check_commit(alloc, reader);
     }
     Ok(())
 }
 
 /// Refuses a FramedContent that cannot be read up to the end of its proposals, or that has a proposal type outside the
 /// members' profile. Nothing after such a type is read.
-pub(crate) fn judge_frame(alloc: Global, mut reader: Reader<'_>) -> Result<(), CodecFault>
+pub(crate) fn check_frame(alloc: Global, mut reader: Reader<'_>) -> Result<(), CodecFault>
     ensures { OnOk result (passes (λ f. is_members_content f.content)
         (framed_content_at reader.entry) ≡ true) }
 {
@@ -224,5 +225,5 @@ pub(crate) fn judge_frame(alloc: Global, mut reader: Reader<'_>) -> Result<(), C
     skip::<u64>(alloc, &mut reader)?;
     skip::<Sender>(alloc, &mut reader)?;
     skip::<Opaque>(alloc, &mut reader)?;
-    judge_content(alloc, reader)
+    check_content(alloc, reader)
 }

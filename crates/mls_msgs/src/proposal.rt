@@ -11,7 +11,7 @@ use crate::bad_tag::bad_tag;
 use crate::boxed::Boxed;
 use crate::key_package::KeyPackage;
 use crate::pre_shared_key::PreSharedKeyId;
-use crate::profile::{Profile, fault_found, judge_proposal};
+use crate::profile::{Profile, check_proposal, fault_found};
 use crate::reinit::ReInit;
 use mls_nodes::{Extensions, LeafNode};
 use mls_wire::{
@@ -54,7 +54,7 @@ impl Decode for Proposal {
     ghost use Rattle.mls_msgs.specs.Parsing.{proposal_at};
     ghost use Rattle.mls_msgs.specs.ProposalExact.{proposal_exact, proposal_long};
 
-    ghost spelling = { proposal };
+    ghost encoding = { proposal };
 
     ghost reading = { proposal_at };
 
@@ -69,7 +69,7 @@ impl Decode for Proposal {
             5 => Proposal::ReInit(Boxed::read(alloc, &mut ahead)?),
             6 => Proposal::ExternalInit(Boxed::read(alloc, &mut ahead)?),
             7 => Proposal::ContextExtensions(Boxed::read(alloc, &mut ahead)?),
-            kind => return Err(bad_tag(kind, reader.place())),
+            kind => return Err(bad_tag(kind, reader.position())),
         };
         *reader = ahead;
         Ok(proposal)
@@ -134,7 +134,7 @@ impl Decode for ProposalOrRef {
     ghost use Rattle.mls_msgs.specs.Parsing.{proposal_or_ref_at};
     ghost use Rattle.mls_msgs.specs.ProposalExact.{proposal_or_ref_exact, proposal_or_ref_long};
 
-    ghost spelling = { proposal_or_ref };
+    ghost encoding = { proposal_or_ref };
 
     ghost reading = { proposal_or_ref_at };
 
@@ -144,7 +144,7 @@ impl Decode for ProposalOrRef {
         let entry = match u8::read(alloc, &mut ahead)? {
             1 => ProposalOrRef::Proposal(Proposal::read(alloc, &mut ahead)?),
             2 => ProposalOrRef::Reference(BoxedOpaque::read(alloc, &mut ahead)?),
-            kind => return Err(bad_tag(u16::from(kind), reader.place())),
+            kind => return Err(bad_tag(u16::from(kind), reader.position())),
         };
         *reader = ahead;
         Ok(entry)
@@ -217,11 +217,11 @@ pub fn decode_proposal_in(
             if profile.has_proposal(&proposal) {
                 return Ok(proposal);
             }
-            Err(fault_found(judge_proposal(alloc, &Reader::new(bytes))))
+            Err(fault_found(check_proposal(alloc, &Reader::new(bytes))))
         }
         Err(CodecFault::OutOfMemory) => Err(CodecFault::OutOfMemory),
         Err(CodecFault::Wire(fault)) => {
-            Err(profile.fault_of(judge_proposal(alloc, &Reader::new(bytes)), fault))
+            Err(profile.fault_of(check_proposal(alloc, &Reader::new(bytes)), fault))
         }
     }
 }

@@ -73,7 +73,7 @@ impl Decode for PublicMessage {
     ghost use Rattle.mls_msgs.specs.FrameParsing.{public_message_at};
     ghost use Rattle.mls_msgs.specs.AuthenticatedExact.{public_message_exact, public_message_long};
 
-    ghost spelling = { public_message };
+    ghost encoding = { public_message };
 
     ghost reading = { public_message_at };
 

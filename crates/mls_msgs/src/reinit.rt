@@ -23,7 +23,7 @@ impl Decode for ReInit {
     ghost use Rattle.mls_msgs.specs.Parsing.{reinit_at};
     ghost use Rattle.mls_msgs.specs.PskExact.{reinit_exact, reinit_long};
 
-    ghost spelling = { reinit };
+    ghost encoding = { reinit };
 
     ghost reading = { reinit_at };
 

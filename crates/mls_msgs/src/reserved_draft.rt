@@ -7,7 +7,7 @@ use std::alloc::Global;
 
 /// Creates an empty draft with capacity for `size` bytes. If there is no size, `TooLong` at offset 0, before anything
 /// is allocated.
-pub(crate) fn draft_with_room(alloc: Global, size: Option<usize>) -> Result<Draft, CodecFault>
+pub(crate) fn draft_with_capacity(alloc: Global, size: Option<usize>) -> Result<Draft, CodecFault>
     ensures { MakesRoom size result }
 {
     let Some(size) = size else {

@@ -9,7 +9,7 @@ ghost use Rattle.mls_msgs.specs.Tbs.{given_context, content_tbs, package_tbs, in
 use crate::authenticated::Authenticated;
 use crate::group_info::GroupInfo;
 use crate::key_package::KeyPackage;
-use crate::reserved_draft::draft_with_room;
+use crate::reserved_draft::draft_with_capacity;
 use mls_nodes::GroupContext;
 use mls_wire::{CodecFault, Draft, Encode, add_sizes};
 use std::alloc::Global;
@@ -117,7 +117,7 @@ pub fn content_tbs(
         (content_tbs auth.now (option_map (λ c. c.now) context.entry))
         (seen (λ bytes. bytes.items) result) }
 {
-    let mut draft = draft_with_room(alloc, size_of_content_tbs(auth, context))?;
+    let mut draft = draft_with_capacity(alloc, size_of_content_tbs(auth, context))?;
     put_content_tbs(alloc, auth, context, &mut draft)?;
     Ok(draft.finish())
 }
@@ -128,7 +128,7 @@ pub fn content_tbs(
 pub fn package_tbs(alloc: Global, key_package: &KeyPackage) -> Result<Vec<u8>, CodecFault>
     ensures made { MakesPiece (package_tbs key_package.now) (seen (λ bytes. bytes.items) result) }
 {
-    let mut draft = draft_with_room(alloc, key_package.size_unsigned())?;
+    let mut draft = draft_with_capacity(alloc, key_package.size_unsigned())?;
     key_package.put_unsigned(alloc, &mut draft)?;
     Ok(draft.finish())
 }
@@ -139,7 +139,7 @@ pub fn package_tbs(alloc: Global, key_package: &KeyPackage) -> Result<Vec<u8>, C
 pub fn info_tbs(alloc: Global, info: &GroupInfo) -> Result<Vec<u8>, CodecFault>
     ensures made { MakesPiece (info_tbs info.now) (seen (λ bytes. bytes.items) result) }
 {
-    let mut draft = draft_with_room(alloc, info.size_unsigned())?;
+    let mut draft = draft_with_capacity(alloc, info.size_unsigned())?;
     info.put_unsigned(alloc, &mut draft)?;
     Ok(draft.finish())
 }
@@ -150,7 +150,7 @@ pub fn info_tbs(alloc: Global, info: &GroupInfo) -> Result<Vec<u8>, CodecFault>
 pub fn confirmed_input(alloc: Global, auth: &Authenticated) -> Result<Vec<u8>, CodecFault>
     ensures made { MakesPiece (confirmed_input auth.now) (seen (λ bytes. bytes.items) result) }
 {
-    let mut draft = draft_with_room(alloc, size_of_confirmed_input(auth))?;
+    let mut draft = draft_with_capacity(alloc, size_of_confirmed_input(auth))?;
     put_confirmed_input(alloc, auth, &mut draft)?;
     Ok(draft.finish())
 }

@@ -14,14 +14,14 @@ use Rattle.mls_wire.specs.VectorsExact.{body_takes, body_again}
 use Rattle.mls_nodes.specs.NodesExact.{node_exact}
 use Rattle.mls_nodes.specs.NodeModel.{NodeValue, leaf_node, parent_node, entry_value}
 use Rattle.mls_nodes.specs.Layout.{node}
-use Rattle.mls_nodes.specs.RatchetTreeEncoding.{stands_at, stand_from, is_placed, ends_set, ratchet_tree}
+use Rattle.mls_nodes.specs.RatchetTreeEncoding.{fits_at, fit_from, has_valid_layout, ends_set, ratchet_tree}
 use Rattle.std.specs.Prelude.{IfOk, IfErr}
 use Rattle.std.proofs.Common.{Vec, Global, zero, replicate, ◌*◌}
 use Rattle.std.proofs.lemmas.List.{map_push}
 use Rattle.mls_wire.specs.ReadContracts.{seen}
 use Rattle.mls_nodes.specs.RatchetTreeEncoding.{full_from, full_size, filled}
 use Rattle.mls_nodes.specs.FilledTree.{full_from-doubles}
-use Rattle.mls_nodes.specs.Parsing.{node_at, node_in, leaf_at, parent_at, placed, tree_at, FindsNodes, GivesNode}
+use Rattle.mls_nodes.specs.Parsing.{node_at, node_in, leaf_at, parent_at, well_laid_out, tree_at, FindsNodes, GivesNode}
 use Rattle.mls_nodes.specs.RatchetTreeContracts.{DecodesTree}
 use Rattle.mls_nodes.specs.declared.leaf.LeafNode.{LeafNode}
 use Rattle.mls_nodes.specs.declared.parent.ParentNode.{ParentNode}
@@ -34,59 +34,59 @@ and_assoc : (a b c : Bool) → (a && (b && c)) ≡ ((a && b) && c)
 and_assoc true b c = refl
 and_assoc false b c = refl
 
-pub stand_push : (p : ℕ) (xs : List (Option NodeValue)) (x : Option NodeValue) (more : List (Option NodeValue)) → stand_from p (xs ++ x ∷ more) ≡ (stand_from p xs && (stands_at (p + length xs) x && stand_from (p + length xs + 1) more))
-stand_push p [] x more = ap (λ (n : ℕ). stands_at n x && stand_from (n + 1) more) (omega arith)
+pub stand_push : (p : ℕ) (xs : List (Option NodeValue)) (x : Option NodeValue) (more : List (Option NodeValue)) → fit_from p (xs ++ x ∷ more) ≡ (fit_from p xs && (fits_at (p + length xs) x && fit_from (p + length xs + 1) more))
+stand_push p [] x more = ap (λ (n : ℕ). fits_at n x && fit_from (n + 1) more) (omega arith)
 stand_push p (y ∷ xs) x more =
     let e : (p + 1) + length xs ≡ p + suc (length xs) = omega arith in
-    ap (λ (b : Bool). stands_at p y && b) (stand_push (p + 1) xs x more ∙ ap (λ (n : ℕ). stand_from (p + 1) xs && (stands_at n x && stand_from (n + 1) more)) e)
-    ∙ and_assoc (stands_at p y) (stand_from (p + 1) xs) _
+    ap (λ (b : Bool). fits_at p y && b) (stand_push (p + 1) xs x more ∙ ap (λ (n : ℕ). fit_from (p + 1) xs && (fits_at n x && fit_from (n + 1) more)) e)
+    ∙ and_assoc (fits_at p y) (fit_from (p + 1) xs) _
 
-refused : (ns : List (Option NodeValue)) → stand_from 0 ns ≡ false → placed (Some ns) ≡ None
+refused : (ns : List (Option NodeValue)) → fit_from 0 ns ≡ false → well_laid_out (Some ns) ≡ None
 refused ns e = rw e refl
 
-pub wrong_place : (xs : List (Option NodeValue)) (x : Option NodeValue) (o total : Option (List (Option NodeValue))) → stands_at (length xs) x ≡ false → with_front (xs ++ x ∷ []) o ≡ total → placed total ≡ None
-wrong_place xs x None total h e = ap placed (sym e)
-wrong_place xs x (Some more) total h e =
-    let here : stands_at (0 + length xs) x ≡ false = ap (λ (n : ℕ). stands_at n x) (omega arith) ∙ h in
-    let bad : stand_from 0 (xs ++ x ∷ more) ≡ false = stand_push 0 xs x more ∙ and_right (stand_from 0 xs) _ (and_left _ (stand_from (0 + length xs + 1) more) here) in
+pub wrong_node_index : (xs : List (Option NodeValue)) (x : Option NodeValue) (o total : Option (List (Option NodeValue))) → fits_at (length xs) x ≡ false → with_front (xs ++ x ∷ []) o ≡ total → well_laid_out total ≡ None
+wrong_node_index xs x None total h e = ap well_laid_out (sym e)
+wrong_node_index xs x (Some more) total h e =
+    let here : fits_at (0 + length xs) x ≡ false = ap (λ (n : ℕ). fits_at n x) (omega arith) ∙ h in
+    let bad : fit_from 0 (xs ++ x ∷ more) ≡ false = stand_push 0 xs x more ∙ and_right (fit_from 0 xs) _ (and_left _ (fit_from (0 + length xs + 1) more) here) in
     let same : (xs ++ x ∷ []) ++ more ≡ xs ++ x ∷ more = append_assoc xs (x ∷ []) more in
-    ap placed (sym e) ∙ refused ((xs ++ x ∷ []) ++ more) (ap (stand_from 0) same ∙ bad)
+    ap well_laid_out (sym e) ∙ refused ((xs ++ x ∷ []) ++ more) (ap (fit_from 0) same ∙ bad)
 
 pub entry_short : Shortens (optional_at node_at)
 entry_short = shortens (optional node) (optional_at node_at) (optional_exact node node_at node_exact) (optional_long node)
 
-crowded : (ns : List (Option NodeValue)) → 2097151 < length ns → placed (Some ns) ≡ None
-crowded ns lt = rw (and_right (stand_from 0 ns) _ (lt-leb (length ns) 2097151 lt)) refl
+crowded : (ns : List (Option NodeValue)) → 2097151 < length ns → well_laid_out (Some ns) ≡ None
+crowded ns lt = rw (and_right (fit_from 0 ns) _ (lt-leb (length ns) 2097151 lt)) refl
 
-pub too_many : (xs ys : List (Option NodeValue)) (total : Option (List (Option NodeValue))) → 2097151 ≤ length xs → 0 < length ys → with_front xs (Some ys) ≡ total → placed total ≡ None
-too_many xs ys total le some e = ap placed (sym e) ∙ crowded (xs ++ ys) (omega (arith, length-append xs ys))
+pub too_many : (xs ys : List (Option NodeValue)) (total : Option (List (Option NodeValue))) → 2097151 ≤ length xs → 0 < length ys → with_front xs (Some ys) ≡ total → well_laid_out total ≡ None
+too_many xs ys total le some e = ap well_laid_out (sym e) ∙ crowded (xs ++ ys) (omega (arith, length-append xs ys))
 
-too_many_of : (i : Input) (xs : List (Option NodeValue)) (o total : Option (List (Option NodeValue))) → items_at (optional_at node_at) (length i.left) i ≡ o → 2097151 ≤ length xs → (i.left ≡ [] → ⊥) → with_front xs o ≡ total → placed total ≡ None
-too_many_of i xs None total r le some e = ap placed (sym e)
+too_many_of : (i : Input) (xs : List (Option NodeValue)) (o total : Option (List (Option NodeValue))) → items_at (optional_at node_at) (length i.left) i ≡ o → 2097151 ≤ length xs → (i.left ≡ [] → ⊥) → with_front xs o ≡ total → well_laid_out total ≡ None
+too_many_of i xs None total r le some e = ap well_laid_out (sym e)
 too_many_of i xs (Some ys) total r le some e = too_many xs ys total le (items_some (optional node) (optional_at node_at) (optional_exact node node_at node_exact) i ys some r) e
 
 pub too_many_entries : (i : Input) (xs : List (Option NodeValue)) (total : Option (List (Option NodeValue))) → 2097151 ≤ length xs → (i.left ≡ [] → ⊥)
-    → with_front xs (items_at (optional_at node_at) (length i.left) i) ≡ total → placed total ≡ None
+    → with_front xs (items_at (optional_at node_at) (length i.left) i) ≡ total → well_laid_out total ≡ None
 too_many_entries i xs total le some e = too_many_of i xs (items_at (optional_at node_at) (length i.left) i) total refl le some e
 
-pub stand_more : (xs : List (Option NodeValue)) (x : Option NodeValue) → stand_from 0 xs ≡ true → stands_at (length xs) x ≡ true → stand_from 0 (xs ++ x ∷ []) ≡ true
+pub stand_more : (xs : List (Option NodeValue)) (x : Option NodeValue) → fit_from 0 xs ≡ true → fits_at (length xs) x ≡ true → fit_from 0 (xs ++ x ∷ []) ≡ true
 stand_more xs x p q =
-    let here : stands_at (0 + length xs) x ≡ true = ap (λ (n : ℕ). stands_at n x) (omega arith) ∙ q in
+    let here : fits_at (0 + length xs) x ≡ true = ap (λ (n : ℕ). fits_at n x) (omega arith) ∙ q in
     stand_push 0 xs x [] ∙ and_from _ _ p (and_from _ _ here refl)
 
-pub all_placed : (xs : List (Option NodeValue)) → stand_from 0 xs ≡ true → length xs ≤ 2097151 → placed (Some xs) ≡ Some xs
-all_placed xs p le = rw (p, le-leb (length xs) 2097151 le) refl
+pub all_well_laid_out : (xs : List (Option NodeValue)) → fit_from 0 xs ≡ true → length xs ≤ 2097151 → well_laid_out (Some xs) ≡ Some xs
+all_well_laid_out xs p le = rw (p, le-leb (length xs) 2097151 le) refl
 
 -- ---- an entry whose kind is judged before its body
 
 -- what was read, where it may stand at a place
 abbrev kept : ℕ → Option (NodeValue × Input) → Option (NodeValue × Input)
-kept place None = None
-kept place (Some n) = cond (stands_at place (Some n.0)) (Some n) None
+kept node_index None = None
+kept node_index (Some n) = cond (fits_at node_index (Some n.0)) (Some n) None
 
 abbrev entry_kept : ℕ → Option (Option NodeValue × Input) → Option (Option NodeValue × Input)
-entry_kept place None = None
-entry_kept place (Some x) = cond (stands_at place x.0) (Some x) None
+entry_kept node_index None = None
+entry_kept node_index (Some x) = cond (fits_at node_index x.0) (Some x) None
 
 pub both_none : {A : Type 0} (b : Bool) → ◌≡◌ {A = Option A} (cond b None None) None
 both_none true = refl
@@ -95,25 +95,25 @@ both_none false = refl
 one_kind : (k : ℕ) → eqb k 1 ≡ true → eqb k 2 ≡ true → ⊥
 one_kind k p q = absurd (omega (arith, eqb-true k 1 p, eqb-true k 2 q))
 
-judged : (place k : ℕ) (a b : Bool) → eqb k 1 ≡ a → eqb k 2 ≡ b → (l : Option (LeafNode × Input)) (o : Option (ParentNode × Input))
-    → cond (a && eqb (place % 2) 0) (l >>= λ x. Some (leaf_node x.0, x.1)) (cond (b && eqb (place % 2) 1) (o >>= λ x. Some (parent_node x.0, x.1)) None)
-    ≡ kept place (cond a (l >>= λ x. Some (leaf_node x.0, x.1)) (cond b (o >>= λ x. Some (parent_node x.0, x.1)) None))
-judged place k true true p q l o = absurd (one_kind k p q)
-judged place k true false p q None o = both_none (eqb (place % 2) 0)
-judged place k true false p q (Some x) o = refl
-judged place k false true p q l None = both_none (eqb (place % 2) 1)
-judged place k false true p q l (Some x) = refl
-judged place k false false p q l o = refl
+checked : (node_index k : ℕ) (a b : Bool) → eqb k 1 ≡ a → eqb k 2 ≡ b → (l : Option (LeafNode × Input)) (o : Option (ParentNode × Input))
+    → cond (a && eqb (node_index % 2) 0) (l >>= λ x. Some (leaf_node x.0, x.1)) (cond (b && eqb (node_index % 2) 1) (o >>= λ x. Some (parent_node x.0, x.1)) None)
+    ≡ kept node_index (cond a (l >>= λ x. Some (leaf_node x.0, x.1)) (cond b (o >>= λ x. Some (parent_node x.0, x.1)) None))
+checked node_index k true true p q l o = absurd (one_kind k p q)
+checked node_index k true false p q None o = both_none (eqb (node_index % 2) 0)
+checked node_index k true false p q (Some x) o = refl
+checked node_index k false true p q l None = both_none (eqb (node_index % 2) 1)
+checked node_index k false true p q l (Some x) = refl
+checked node_index k false false p q l o = refl
 
-judged_of : (place : ℕ) (o : Option (ℕ × Input))
-    → (o >>= λ kind. cond (eqb kind.0 1 && eqb (place % 2) 0) (leaf_at kind.1 >>= λ x. Some (leaf_node x.0, x.1)) (cond (eqb kind.0 2 && eqb (place % 2) 1) (parent_at kind.1 >>= λ x. Some (parent_node x.0, x.1)) None))
-    ≡ kept place (o >>= λ kind. cond (eqb kind.0 1) (leaf_at kind.1 >>= λ x. Some (leaf_node x.0, x.1)) (cond (eqb kind.0 2) (parent_at kind.1 >>= λ x. Some (parent_node x.0, x.1)) None))
-judged_of place None = refl
-judged_of place (Some kind) = judged place kind.0 (eqb kind.0 1) (eqb kind.0 2) refl refl (leaf_at kind.1) (parent_at kind.1)
+checked_of : (node_index : ℕ) (o : Option (ℕ × Input))
+    → (o >>= λ kind. cond (eqb kind.0 1 && eqb (node_index % 2) 0) (leaf_at kind.1 >>= λ x. Some (leaf_node x.0, x.1)) (cond (eqb kind.0 2 && eqb (node_index % 2) 1) (parent_at kind.1 >>= λ x. Some (parent_node x.0, x.1)) None))
+    ≡ kept node_index (o >>= λ kind. cond (eqb kind.0 1) (leaf_at kind.1 >>= λ x. Some (leaf_node x.0, x.1)) (cond (eqb kind.0 2) (parent_at kind.1 >>= λ x. Some (parent_node x.0, x.1)) None))
+checked_of node_index None = refl
+checked_of node_index (Some kind) = checked node_index kind.0 (eqb kind.0 1) (eqb kind.0 2) refl refl (leaf_at kind.1) (parent_at kind.1)
 
-node_in-kept : (place : ℕ) (i : Input) → node_in place i ≡ kept place (node_at i)
+node_in-kept : (node_index : ℕ) (i : Input) → node_in node_index i ≡ kept node_index (node_at i)
 unfolding node_in node_at
-node_in-kept place i = judged_of place (number_at w8 i)
+node_in-kept node_index i = checked_of node_index (number_at w8 i)
 
 abbrev set : Option (NodeValue × Input) → Option (Option NodeValue × Input)
 set o = o >>= λ x. Some (Some x.0, x.1)
@@ -122,66 +122,66 @@ set_test : (b : Bool) (n : NodeValue × Input) → set (cond b (Some n) None) �
 set_test true n = refl
 set_test false n = refl
 
-set_kept : (place : ℕ) (o : Option (NodeValue × Input)) → set (kept place o) ≡ entry_kept place (set o)
-set_kept place None = refl
-set_kept place (Some n) = set_test (stands_at place (Some n.0)) n
+set_kept : (node_index : ℕ) (o : Option (NodeValue × Input)) → set (kept node_index o) ≡ entry_kept node_index (set o)
+set_kept node_index None = refl
+set_kept node_index (Some n) = set_test (fits_at node_index (Some n.0)) n
 
-there_kept : (place : ℕ) (b : Bool) (i : Input) → cond b (set (node_in place i)) (Some (None, i)) ≡ entry_kept place (cond b (set (node_at i)) (Some (None, i)))
-there_kept place true i = ap set (node_in-kept place i) ∙ set_kept place (node_at i)
-there_kept place false i = refl
+there_kept : (node_index : ℕ) (b : Bool) (i : Input) → cond b (set (node_in node_index i)) (Some (None, i)) ≡ entry_kept node_index (cond b (set (node_at i)) (Some (None, i)))
+there_kept node_index true i = ap set (node_in-kept node_index i) ∙ set_kept node_index (node_at i)
+there_kept node_index false i = refl
 
-entry_of : (place : ℕ) (o : Option (Bool × Input))
-    → (o >>= λ there. cond there.0 (set (node_in place there.1)) (Some (None, there.1)))
-    ≡ entry_kept place (o >>= λ there. cond there.0 (set (node_at there.1)) (Some (None, there.1)))
-entry_of place None = refl
-entry_of place (Some there) = there_kept place there.0 there.1
+entry_of : (node_index : ℕ) (o : Option (Bool × Input))
+    → (o >>= λ there. cond there.0 (set (node_in node_index there.1)) (Some (None, there.1)))
+    ≡ entry_kept node_index (o >>= λ there. cond there.0 (set (node_at there.1)) (Some (None, there.1)))
+entry_of node_index None = refl
+entry_of node_index (Some there) = there_kept node_index there.0 there.1
 
-entry_in-kept : (place : ℕ) (i : Input) → optional_at (node_in place) i ≡ entry_kept place (optional_at node_at i)
+entry_in-kept : (node_index : ℕ) (i : Input) → optional_at (node_in node_index) i ≡ entry_kept node_index (optional_at node_at i)
 unfolding optional_at
-entry_in-kept place i = entry_of place (flag_at i)
+entry_in-kept node_index i = entry_of node_index (flag_at i)
 
-kept_is : (place : ℕ) (o : Option (Option NodeValue × Input)) (x : Option NodeValue) (j : Input) → entry_kept place o ≡ Some (x, j) → (o ≡ Some (x, j)) × (stands_at place x ≡ true)
-kept_is place None x j e = absurd cc
-kept_is place (Some y) x j e =
-    let a = allowed (stands_at place y.0) (Some y) (x, j) e in
-    (a.1, subst (λ (z : Option NodeValue × Input). stands_at place z.0 ≡ true) (some_is y (x, j) a.1) a.0)
+kept_is : (node_index : ℕ) (o : Option (Option NodeValue × Input)) (x : Option NodeValue) (j : Input) → entry_kept node_index o ≡ Some (x, j) → (o ≡ Some (x, j)) × (fits_at node_index x ≡ true)
+kept_is node_index None x j e = absurd cc
+kept_is node_index (Some y) x j e =
+    let a = allowed (fits_at node_index y.0) (Some y) (x, j) e in
+    (a.1, subst (λ (z : Option NodeValue × Input). fits_at node_index z.0 ≡ true) (some_is y (x, j) a.1) a.0)
 
 -- an entry that was read is one, and may stand at its place
-pub entry_found : (place : ℕ) (i : Input) (x : Option NodeValue) (j : Input) → optional_at (node_in place) i ≡ Some (x, j) → (optional_at node_at i ≡ Some (x, j)) × (stands_at place x ≡ true)
-entry_found place i x j e = kept_is place (optional_at node_at i) x j (sym (entry_in-kept place i) ∙ e)
+pub entry_found : (node_index : ℕ) (i : Input) (x : Option NodeValue) (j : Input) → optional_at (node_in node_index) i ≡ Some (x, j) → (optional_at node_at i ≡ Some (x, j)) × (fits_at node_index x ≡ true)
+entry_found node_index i x j e = kept_is node_index (optional_at node_at i) x j (sym (entry_in-kept node_index i) ∙ e)
 
 refused_test : {A : Type 0} (b : Bool) (x : A) → cond b (Some x) None ≡ None → b ≡ false
 refused_test true x e = absurd cc
 refused_test false x e = refl
 
 entry_lost : (xs : List (Option NodeValue)) (i : Input) (o : Option (Option NodeValue × Input)) (total : Option (List (Option NodeValue))) → (i.left ≡ [] → ⊥) → optional_at node_at i ≡ o → entry_kept (length xs) o ≡ None
-    → with_front xs (items_at (optional_at node_at) (length i.left) i) ≡ total → placed total ≡ None
-entry_lost xs i None total some read none e = ap placed (items_stop (optional_at node_at) entry_short xs i total some read e)
+    → with_front xs (items_at (optional_at node_at) (length i.left) i) ≡ total → well_laid_out total ≡ None
+entry_lost xs i None total some read none e = ap well_laid_out (items_stop (optional_at node_at) entry_short xs i total some read e)
 entry_lost xs i (Some y) total some read none e =
-    wrong_place xs y.0 _ total (refused_test (stands_at (length xs) y.0) y none) (items_go_on (optional_at node_at) entry_short xs i y.0 y.1 total some read e)
+    wrong_node_index xs y.0 _ total (refused_test (fits_at (length xs) y.0) y none) (items_go_on (optional_at node_at) entry_short xs i y.0 y.1 total some read e)
 
 -- where no entry was read there is no tree
 pub entry_refused : (i : Input) (xs : List (Option NodeValue)) (total : Option (List (Option NodeValue))) → (i.left ≡ [] → ⊥) → optional_at (node_in (length xs)) i ≡ None
-    → with_front xs (items_at (optional_at node_at) (length i.left) i) ≡ total → placed total ≡ None
+    → with_front xs (items_at (optional_at node_at) (length i.left) i) ≡ total → well_laid_out total ≡ None
 entry_refused i xs total some none e = entry_lost xs i (optional_at node_at i) total some refl (sym (entry_in-kept (length xs) i) ∙ none) e
 
-pub entry_fault : (e : NodeFault) (place : ℕ) (i new : Input) (xs : List (Option NodeValue)) (total : Option (List (Option NodeValue))) → (i.left ≡ [] → ⊥) → place ≡ length xs
-    → GivesNode (optional_at (node_in place)) i new (Err e) → with_front xs (items_at (optional_at node_at) (length i.left) i) ≡ total → FindsNodes {A = List (Option NodeValue)} (placed total) (Err e)
-entry_fault nodes.OutOfMemory place i new xs total some p h e = tt
-entry_fault (nodes.Wire f) place i new xs total some p h e = entry_refused i xs total some (subst (λ (n : ℕ). optional_at (node_in n) i ≡ None) p h) e
-entry_fault (nodes.WrongNodeKind f) place i new xs total some p h e = entry_refused i xs total some (subst (λ (n : ℕ). optional_at (node_in n) i ≡ None) p h) e
-entry_fault nodes.LastBlank place i new xs total some p h e = entry_refused i xs total some (subst (λ (n : ℕ). optional_at (node_in n) i ≡ None) p h) e
-entry_fault nodes.EmptyTree place i new xs total some p h e = entry_refused i xs total some (subst (λ (n : ℕ). optional_at (node_in n) i ≡ None) p h) e
-entry_fault nodes.TooManyLeaves place i new xs total some p h e = entry_refused i xs total some (subst (λ (n : ℕ). optional_at (node_in n) i ≡ None) p h) e
+pub entry_fault : (e : NodeFault) (node_index : ℕ) (i new : Input) (xs : List (Option NodeValue)) (total : Option (List (Option NodeValue))) → (i.left ≡ [] → ⊥) → node_index ≡ length xs
+    → GivesNode (optional_at (node_in node_index)) i new (Err e) → with_front xs (items_at (optional_at node_at) (length i.left) i) ≡ total → FindsNodes {A = List (Option NodeValue)} (well_laid_out total) (Err e)
+entry_fault nodes.OutOfMemory node_index i new xs total some p h e = tt
+entry_fault (nodes.Wire f) node_index i new xs total some p h e = entry_refused i xs total some (subst (λ (n : ℕ). optional_at (node_in n) i ≡ None) p h) e
+entry_fault (nodes.WrongNodeKind f) node_index i new xs total some p h e = entry_refused i xs total some (subst (λ (n : ℕ). optional_at (node_in n) i ≡ None) p h) e
+entry_fault nodes.LastBlank node_index i new xs total some p h e = entry_refused i xs total some (subst (λ (n : ℕ). optional_at (node_in n) i ≡ None) p h) e
+entry_fault nodes.EmptyTree node_index i new xs total some p h e = entry_refused i xs total some (subst (λ (n : ℕ). optional_at (node_in n) i ≡ None) p h) e
+entry_fault nodes.TooManyLeaves node_index i new xs total some p h e = entry_refused i xs total some (subst (λ (n : ℕ). optional_at (node_in n) i ≡ None) p h) e
 
 -- ---- whole trees
 
-placed_is : (o : Option (List (Option NodeValue))) (ns : List (Option NodeValue)) → placed o ≡ Some ns → (o ≡ Some ns) × ((stand_from 0 ns && nat_le (length ns) 2097151) ≡ true)
-placed_is None ns e = absurd cc
-placed_is (Some xs) ns e =
-    let a = allowed (stand_from 0 xs && nat_le (length xs) 2097151) (Some xs) ns e in
+well_laid_out_is : (o : Option (List (Option NodeValue))) (ns : List (Option NodeValue)) → well_laid_out o ≡ Some ns → (o ≡ Some ns) × ((fit_from 0 ns && nat_le (length ns) 2097151) ≡ true)
+well_laid_out_is None ns e = absurd cc
+well_laid_out_is (Some xs) ns e =
+    let a = allowed (fit_from 0 xs && nat_le (length xs) 2097151) (Some xs) ns e in
     let same = some_is xs ns a.1 in
-    (ap (λ (x : List (Option NodeValue)). Some x) same, subst (λ (x : List (Option NodeValue)). (stand_from 0 x && nat_le (length x) 2097151) ≡ true) same a.0)
+    (ap (λ (x : List (Option NodeValue)). Some x) same, subst (λ (x : List (Option NodeValue)). (fit_from 0 x && nat_le (length x) 2097151) ≡ true) same a.0)
 
 entries_exact : IsExact (optional node) (optional_at node_at)
 entries_exact = optional_exact node node_at node_exact
@@ -190,26 +190,26 @@ pub tree_takes : (bytes : List ℕ) (ns : List (Option NodeValue)) → tree_at b
 unfolding tree_at ratchet_tree list
 tree_takes bytes ns e =
     let f = optional_at node_at in
-    let a = bind_some (body_at (at 0 bytes)) (λ body. placed (items_at f (length body.0.left) body.0) >>= λ xs. cond (ends_set xs) (cond (eqb (length body.1.left) 0) (Some xs) None) None) ns e in
+    let a = bind_some (body_at (at 0 bytes)) (λ body. well_laid_out (items_at f (length body.0.left) body.0) >>= λ xs. cond (ends_set xs) (cond (eqb (length body.1.left) 0) (Some xs) None) None) ns e in
     let body = a.0.0 in
     let rest = a.0.1 in
-    let b = bind_some (placed (items_at f (length body.left) body)) (λ xs. cond (ends_set xs) (cond (eqb (length rest.left) 0) (Some xs) None) None) ns a.2 in
+    let b = bind_some (well_laid_out (items_at f (length body.left) body)) (λ xs. cond (ends_set xs) (cond (eqb (length rest.left) 0) (Some xs) None) None) ns a.2 in
     let c = allowed (ends_set b.0) (cond (eqb (length rest.left) 0) (Some b.0) None) ns b.2 in
     let d = allowed (eqb (length rest.left) 0) (Some b.0) ns c.1 in
-    let p = placed_is _ b.0 b.1 in
+    let p = well_laid_out_is _ b.0 b.1 in
     let t = (body_takes (at 0 bytes) body rest a.1).0 in
     let none : rest.left ≡ [] = nil_from_length rest.left (eqb-true _ _ d.0) in
     let all : bytes ≡ t.0 = t.2 ∙ ap (λ (r : List ℕ). t.0 ++ r) none ∙ append-nil t.0 in
     let text : items (optional node) b.0 ≡ Some body.left = items_take (optional node) f entries_exact (length body.left) body b.0 p.0 in
     let whole : sized (items (optional node) b.0) ≡ Some bytes = sized_of _ body.left text ∙ t.1 ∙ ap (λ (r : List ℕ). Some r) (sym all) in
-    subst (λ (x : List (Option NodeValue)). cond (is_placed x && ends_set x) (sized (items (optional node) x)) None ≡ Some bytes) (some_is b.0 ns d.1) (rw (p.1, c.0) whole)
+    subst (λ (x : List (Option NodeValue)). cond (has_valid_layout x && ends_set x) (sized (items (optional node) x)) None ≡ Some bytes) (some_is b.0 ns d.1) (rw (p.1, c.0) whole)
 
 pub tree_again : (bytes : List ℕ) (ns : List (Option NodeValue)) → ratchet_tree ns ≡ Some bytes → tree_at bytes ≡ Some ns
 unfolding tree_at ratchet_tree list
 tree_again bytes ns e =
     let f = optional_at node_at in
-    let a = allowed (is_placed ns && ends_set ns) (sized (items (optional node) ns)) bytes e in
-    let p = and_parts (stand_from 0 ns && nat_le (length ns) 2097151) (ends_set ns) a.0 in
+    let a = allowed (has_valid_layout ns && ends_set ns) (sized (items (optional node) ns)) bytes e in
+    let p = and_parts (fit_from 0 ns && nat_le (length ns) 2097151) (ends_set ns) a.0 in
     let b = sized_parts (items (optional node) ns) bytes a.1 in
     let c = body_again b.0 bytes [] 0 b.2 in
     let read : body_at (at 0 bytes) ≡ Some (at c.0 b.0, at (0 + length bytes) []) = ap (λ (r : List ℕ). body_at (at 0 r)) (sym (append-nil bytes)) ∙ c.1 in
@@ -221,9 +221,9 @@ tree_again bytes ns e =
 pub tree_few : (bytes : List ℕ) (nodes : List (Option NodeValue)) → tree_at bytes ≡ Some nodes → length nodes ≤ 2097151
 unfolding ratchet_tree
 tree_few bytes nodes e =
-    let a = allowed (is_placed nodes && ends_set nodes) (list (optional node) nodes) bytes (tree_takes bytes nodes e) in
-    let b = and_parts (is_placed nodes) (ends_set nodes) a.0 in
-    leb-true (length nodes) 2097151 (and_parts (stand_from 0 nodes) _ b.0).1
+    let a = allowed (has_valid_layout nodes && ends_set nodes) (list (optional node) nodes) bytes (tree_takes bytes nodes e) in
+    let b = and_parts (has_valid_layout nodes) (ends_set nodes) a.0 in
+    leb-true (length nodes) 2097151 (and_parts (fit_from 0 nodes) _ b.0).1
 
 pub is_refused : (e : NodeFault) (bytes : List ℕ) → FindsNodes {A = List (Option NodeValue)} (tree_at bytes) (Err e) → DecodesTree bytes (Err e)
 is_refused nodes.OutOfMemory bytes h = tt

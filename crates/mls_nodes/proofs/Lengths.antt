@@ -19,7 +19,7 @@ use Rattle.mls_nodes.specs.declared.parent.ParentNode.{ParentNode}
 use Rattle.mls_nodes.specs.declared.context.GroupContext.{GroupContext}
 use Rattle.mls_nodes.specs.Extension.{extension}
 use Rattle.mls_nodes.specs.Layout.{credential, codes, capabilities, lifetime, source, leaf, unsigned_leaf, unmerged, parent, group_context}
-use Rattle.mls_nodes.specs.LeafNodeTBS.{leaf_place, leaf_tbs}
+use Rattle.mls_nodes.specs.LeafNodeTBS.{tbs_suffix, leaf_tbs}
 
 -- a text has a length
 abbrev pub HasLength : Option (List ℕ) → ℕ → Type 0
@@ -138,24 +138,24 @@ context_has x a b c d n v u t pa pb pc pd s =
     (omega arith)
 
 -- what ties a leaf to its place
-pub place_free : (l : Lifetime) (group_id : List ℕ) (i : ℕ) → HasLength (leaf_place (KeyPackage l) group_id i) 0
-unfolding leaf_place
-place_free l group_id i = refl
+pub suffix_free : (l : Lifetime) (group_id : List ℕ) (i : ℕ) → HasLength (tbs_suffix (KeyPackage l) group_id i) 0
+unfolding tbs_suffix
+suffix_free l group_id i = refl
 
-place_number : (group_id : List ℕ) (i n : ℕ) → i < 2 ^ 32 → HasLength (vector group_id) n → HasLength (vector group_id ⊕ number w32 i) (n + 4)
-place_number group_id i n lt e = after_each (vector group_id) (number w32 i) n 4 (n + 4) e (number_w32 i lt) refl
+suffix_number : (group_id : List ℕ) (i n : ℕ) → i < 2 ^ 32 → HasLength (vector group_id) n → HasLength (vector group_id ⊕ number w32 i) (n + 4)
+suffix_number group_id i n lt e = after_each (vector group_id) (number w32 i) n 4 (n + 4) e (number_w32 i lt) refl
 
-pub place_of_update : (group_id : List ℕ) (i n : ℕ) → i < 2 ^ 32 → HasLength (vector group_id) n → HasLength (leaf_place Update group_id i) (n + 4)
-unfolding leaf_place
-place_of_update group_id i n lt e = place_number group_id i n lt e
+pub suffix_of_update : (group_id : List ℕ) (i n : ℕ) → i < 2 ^ 32 → HasLength (vector group_id) n → HasLength (tbs_suffix Update group_id i) (n + 4)
+unfolding tbs_suffix
+suffix_of_update group_id i n lt e = suffix_number group_id i n lt e
 
-pub place_of_commit : (hash group_id : List ℕ) (i n : ℕ) → i < 2 ^ 32 → HasLength (vector group_id) n → HasLength (leaf_place (Commit hash) group_id i) (n + 4)
-unfolding leaf_place
-place_of_commit hash group_id i n lt e = place_number group_id i n lt e
+pub suffix_of_commit : (hash group_id : List ℕ) (i n : ℕ) → i < 2 ^ 32 → HasLength (vector group_id) n → HasLength (tbs_suffix (Commit hash) group_id i) (n + 4)
+unfolding tbs_suffix
+suffix_of_commit hash group_id i n lt e = suffix_number group_id i n lt e
 
 pub tbs_has : (x : LeafNode) (group_id : List ℕ) (i a b c d e f g n : ℕ)
     → HasLength (vector x.encryption_key) a → HasLength (vector x.signature_key) b → HasLength (credential x.credential) c → HasLength (capabilities x.capabilities) d
-    → HasLength (source x.source) e → HasLength (list extension x.extensions) f → HasLength (leaf_place x.source group_id i) g
+    → HasLength (source x.source) e → HasLength (list extension x.extensions) f → HasLength (tbs_suffix x.source group_id i) g
     → n ≡ a + b + c + d + e + f + g → HasLength (leaf_tbs x group_id i) n
 unfolding leaf_tbs unsigned_leaf
 tbs_has x group_id i a b c d e f g n pa pb pc pd pe pf pg s =

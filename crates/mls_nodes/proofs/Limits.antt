@@ -47,7 +47,7 @@ numbers_with (y ∷ xs) (suc i) x text lt e =
 
 -- a short list fits with one number more
 pub numbers_more : (xs : List ℕ) (i x : ℕ) → i ≤ length xs → x < 4294967296 → length xs < 1048576 → IsSome (list (number w32) xs) → IsSome (list (number w32) (insert xs i x))
-numbers_more xs i x inside lt room h =
+numbers_more xs i x inside lt capacity h =
     let a = list_some (number w32) xs h in
     let b = numbers_with xs i x a.0 lt a.1 in
     let all = insert xs i x in

@@ -61,13 +61,13 @@ in_read None r h =
     (sym (ap (λ x. x.extensions) e), sym (ap (λ x. x.proposals) e), sym (ap (λ x. x.credentials) e))
 in_read (Some body) r h = DecodesAll-exact required_capabilities required_capabilities_at required_capabilities_exact body (Ok r) h
 
-pub required_by-tells : (extensions : List Extension) (r : RequiredCapabilities) → required_by extensions ≡ Some r → RequiresBy extensions r
+pub required_by-determines : (extensions : List Extension) (r : RequiredCapabilities) → required_by extensions ≡ Some r → RequiresBy extensions r
 unfolding required_by
-required_by-tells extensions r h = in_read (extension_of 3 extensions) r h
+required_by-determines extensions r h = in_read (extension_of 3 extensions) r h
 
-pub required_by-told : (extensions : List Extension) (r : RequiredCapabilities) → RequiresBy extensions r → required_by extensions ≡ Some r
+pub required_by-determined : (extensions : List Extension) (r : RequiredCapabilities) → RequiresBy extensions r → required_by extensions ≡ Some r
 unfolding required_by
-required_by-told extensions r h = read_in (extension_of 3 extensions) r h
+required_by-determined extensions r h = read_in (extension_of 3 extensions) r h
 
 -- what a call that looks for requirements answered is what is read
 found_in : (body : Option (List ℕ)) (result : Result RequiredCapabilities CodecFault) → FindsRequirements body result → Finds (requirements_in body) result

@@ -30,10 +30,10 @@ in_read : (body : Option (List ℕ)) (r : List ExternalSender) → senders_in bo
 in_read None r h = sym (same_Some _ r h)
 in_read (Some body) r h = DecodesAll-exact (list external_sender) (list_at external_sender_at) external_senders_exact body (Ok r) h
 
-pub senders_by-tells : (extensions : List Extension) (r : List ExternalSender) → senders_by extensions ≡ Some r → HasSenders extensions r
+pub senders_by-determines : (extensions : List Extension) (r : List ExternalSender) → senders_by extensions ≡ Some r → HasSenders extensions r
 unfolding senders_by
-senders_by-tells extensions r h = in_read (extension_of 5 extensions) r h
+senders_by-determines extensions r h = in_read (extension_of 5 extensions) r h
 
-pub senders_by-told : (extensions : List Extension) (r : List ExternalSender) → HasSenders extensions r → senders_by extensions ≡ Some r
+pub senders_by-determined : (extensions : List Extension) (r : List ExternalSender) → HasSenders extensions r → senders_by extensions ≡ Some r
 unfolding senders_by
-senders_by-told extensions r h = read_in (extension_of 5 extensions) r h
+senders_by-determined extensions r h = read_in (extension_of 5 extensions) r h

@@ -22,14 +22,14 @@ use Rattle.mls_nodes.specs.FilledTree.{ends_more, trimmed-filled}
 use Rattle.mls_wire.specs.Encoding.{IsUniquelyDecodable}
 use Rattle.mls_nodes.specs.Parsing.{node_at}
 use Rattle.mls_nodes.specs.NodesExact.{node_exact, tested_unambiguous}
-use Rattle.mls_nodes.specs.RatchetTreeWriting.{FitsPlaces, WritesTree}
+use Rattle.mls_nodes.specs.RatchetTreeWriting.{FitsNodeIndices, WritesTree}
 use Rattle.mls_nodes.proofs.Entries.{both_none, stand_push, stand_more}
 use Rattle.mls_nodes.specs.declared.node.Node.{Node}
 use Rattle.mls_nodes.specs.declared.fault.NodeFault.{NodeFault}
 use Rattle.mls_nodes.specs.declared.fault.NodeFault.TheVariants as nodes
 use Rattle.mls_nodes.specs.NodeModel.{NodeValue, node_value, entry_value}
 use Rattle.mls_nodes.specs.Layout.{node}
-use Rattle.mls_nodes.specs.RatchetTreeEncoding.{stands_at, stand_from, IsFirstMisplaced, ends_set, is_placed, ratchet_tree, before, trimmed, filled}
+use Rattle.mls_nodes.specs.RatchetTreeEncoding.{fits_at, fit_from, IsFirstMisplaced, ends_set, has_valid_layout, ratchet_tree, before, trimmed, filled}
 
 pub trimmed-blank : (xs : List (Option NodeValue)) → trimmed (xs ++ None ∷ []) ≡ trimmed xs
 trimmed-blank [] = refl
@@ -83,14 +83,14 @@ no_end es count e = rw e refl
 -- ---- entries at their places
 
 -- one entry more that may stand at its place
-pub stand_next : (es : List (Option Node)) (place : ℕ) (x : Option Node) → place < length es → x ≡ get_or es place x → stand_from 0 (take place (map entry_value es)) ≡ true → stands_at place (entry_value x) ≡ true → stand_from 0 (take (place + 1) (map entry_value es)) ≡ true
-stand_next es place x lt is before here =
+pub stand_next : (es : List (Option Node)) (node_index : ℕ) (x : Option Node) → node_index < length es → x ≡ get_or es node_index x → fit_from 0 (take node_index (map entry_value es)) ≡ true → fits_at node_index (entry_value x) ≡ true → fit_from 0 (take (node_index + 1) (map entry_value es)) ≡ true
+stand_next es node_index x lt is before here =
     let xs = map entry_value es in
-    let lt2 : place < length xs = omega (arith, length-map es entry_value) in
-    let at : entry_value x ≡ get_or xs place (entry_value x) = entry_at es place x lt is in
-    let more : take (place + 1) xs ≡ take place xs ++ entry_value x ∷ [] = rw (take_more xs place (entry_value x) lt2, ← at) refl in
-    let len : length (take place xs) ≡ place = omega (arith, length-take place xs) in
-    rw more (stand_more (take place xs) (entry_value x) before (ap (λ (n : ℕ). stands_at n (entry_value x)) len ∙ here))
+    let lt2 : node_index < length xs = omega (arith, length-map es entry_value) in
+    let at : entry_value x ≡ get_or xs node_index (entry_value x) = entry_at es node_index x lt is in
+    let more : take (node_index + 1) xs ≡ take node_index xs ++ entry_value x ∷ [] = rw (take_more xs node_index (entry_value x) lt2, ← at) refl in
+    let len : length (take node_index xs) ≡ node_index = omega (arith, length-take node_index xs) in
+    rw more (stand_more (take node_index xs) (entry_value x) before (ap (λ (n : ℕ). fits_at n (entry_value x)) len ∙ here))
 
 -- ---- what was written
 
@@ -102,17 +102,17 @@ pub some_at_all : (es : List (Option Node)) → length es ≢ 0 → map entry_va
 some_at_all [] some e = some refl
 some_at_all (x ∷ es) some e = absurd cc
 
-pub misjudged : (e : NodeFault) (ns : List (Option NodeValue)) → ns ≢ [] → FitsPlaces {A = Unit {0}} ns (Err e) → WritesTree ns (Err e)
-misjudged (nodes.WrongNodeKind place) ns some h = (some, h)
+pub misjudged : (e : NodeFault) (ns : List (Option NodeValue)) → ns ≢ [] → FitsNodeIndices {A = Unit {0}} ns (Err e) → WritesTree ns (Err e)
+misjudged (nodes.WrongNodeKind node_index) ns some h = (some, h)
 misjudged nodes.TooManyLeaves ns some h = (some, h)
 misjudged (nodes.Wire f) ns some h = absurd h
 misjudged nodes.OutOfMemory ns some h = absurd h
 misjudged nodes.EmptyTree ns some h = absurd h
 misjudged nodes.LastBlank ns some h = absurd h
 
-pub unwritten : (e : CodecFault) (ns : List (Option NodeValue)) → ns ≢ [] → is_placed ns ≡ true → MakesPiece (list (optional node) ns) (Err e) → WritesTree ns (Err (node_fault e))
-unwritten (codec.Wire f) ns some placed h = (some, h.0, h.1)
-unwritten codec.OutOfMemory ns some placed h = (some, placed, h)
+pub unwritten : (e : CodecFault) (ns : List (Option NodeValue)) → ns ≢ [] → has_valid_layout ns ≡ true → MakesPiece (list (optional node) ns) (Err e) → WritesTree ns (Err (node_fault e))
+unwritten (codec.Wire f) ns some well_laid_out h = (some, h.0, h.1)
+unwritten codec.OutOfMemory ns some well_laid_out h = (some, well_laid_out, h)
 
 -- an entry at its place among the others
 slice_get-split : {A : Type 0} (xs : List A) (i : ℕ) (x : A) → slice_get xs i ≡ Some x → (xs ≡ take i xs ++ x ∷ drop (i + 1) xs) × (length (take i xs) ≡ i)
@@ -123,41 +123,41 @@ slice_get-split {A = A} xs i x e =
 
 -- ---- the answer
 
-misplaced : (ns : List (Option NodeValue)) (place : ℕ) → IsFirstMisplaced ns place → is_placed ns ≡ false
-misplaced ns place h =
-    let at = slice_get-split ns place h.1 h.2 in
-    let push = stand_push 0 (take place ns) h.1 (drop (place + 1) ns) in
-    let here : stands_at (0 + length (take place ns)) h.1 ≡ false = ap (λ (n : ℕ). stands_at n h.1) (omega (arith, at.1)) ∙ h.3 in
-    let bad : stand_from 0 ns ≡ false = ap (stand_from 0) at.0 ∙ push ∙ and_right (stand_from 0 (take place ns)) _ (and_left _ _ here) in
-    and_left (stand_from 0 ns) _ bad
+misplaced : (ns : List (Option NodeValue)) (node_index : ℕ) → IsFirstMisplaced ns node_index → has_valid_layout ns ≡ false
+misplaced ns node_index h =
+    let at = slice_get-split ns node_index h.1 h.2 in
+    let push = stand_push 0 (take node_index ns) h.1 (drop (node_index + 1) ns) in
+    let here : fits_at (0 + length (take node_index ns)) h.1 ≡ false = ap (λ (n : ℕ). fits_at n h.1) (omega (arith, at.1)) ∙ h.3 in
+    let bad : fit_from 0 ns ≡ false = ap (fit_from 0) at.0 ∙ push ∙ and_right (fit_from 0 (take node_index ns)) _ (and_left _ _ here) in
+    and_left (fit_from 0 ns) _ bad
 
-not_placed : (ns : List (Option NodeValue)) → is_placed ns ≡ false → ratchet_tree ns ≡ None
+not_well_laid_out : (ns : List (Option NodeValue)) → has_valid_layout ns ≡ false → ratchet_tree ns ≡ None
 unfolding ratchet_tree
-not_placed ns e = rw e refl
+not_well_laid_out ns e = rw e refl
 
-not_spelled : (ns : List (Option NodeValue)) → list (optional node) ns ≡ None → ratchet_tree ns ≡ None
+not_encoded : (ns : List (Option NodeValue)) → list (optional node) ns ≡ None → ratchet_tree ns ≡ None
 unfolding ratchet_tree
-not_spelled ns e = rw e (both_none (is_placed ns && ends_set ns))
+not_encoded ns e = rw e (both_none (has_valid_layout ns && ends_set ns))
 
 no_tree : ratchet_tree [] ≡ None
 unfolding ratchet_tree
 no_tree = refl
 
-is_tree : (ns : List (Option NodeValue)) (bytes : List ℕ) → is_placed ns ≡ true → ends_set ns ≡ true → list (optional node) ns ≡ Some bytes → ratchet_tree ns ≡ Some bytes
+is_tree : (ns : List (Option NodeValue)) (bytes : List ℕ) → has_valid_layout ns ≡ true → ends_set ns ≡ true → list (optional node) ns ≡ Some bytes → ratchet_tree ns ≡ Some bytes
 unfolding ratchet_tree
 is_tree ns bytes p q e = rw (p, q) e
 
-too_long : (ns : List (Option NodeValue)) → 2097151 < length ns → is_placed ns ≡ false
-too_long ns lt = and_right (stand_from 0 ns) _ (lt-leb (length ns) 2097151 lt)
+too_long : (ns : List (Option NodeValue)) → 2097151 < length ns → has_valid_layout ns ≡ false
+too_long ns lt = and_right (fit_from 0 ns) _ (lt-leb (length ns) 2097151 lt)
 
-tree_of : (nodes : List (Option NodeValue)) (bytes : List ℕ) → trimmed nodes ≢ [] → is_placed (trimmed nodes) ≡ true → list (optional node) (trimmed nodes) ≡ Some bytes → ratchet_tree (trimmed nodes) ≡ Some bytes
+tree_of : (nodes : List (Option NodeValue)) (bytes : List ℕ) → trimmed nodes ≢ [] → has_valid_layout (trimmed nodes) ≡ true → list (optional node) (trimmed nodes) ≡ Some bytes → ratchet_tree (trimmed nodes) ≡ Some bytes
 tree_of nodes bytes some p e =
     elim (trimmed-ends nodes) [
       | inl none ↦ absurd (some none)
       | inr ends ↦ is_tree (trimmed nodes) bytes p ends e
     ]
 
-tree_there : (nodes : List (Option NodeValue)) → trimmed nodes ≢ [] → is_placed (trimmed nodes) ≡ true → (o : Option (List ℕ)) → list (optional node) (trimmed nodes) ≡ o → IsSome o → IsSome (ratchet_tree (trimmed nodes))
+tree_there : (nodes : List (Option NodeValue)) → trimmed nodes ≢ [] → has_valid_layout (trimmed nodes) ≡ true → (o : Option (List ℕ)) → list (optional node) (trimmed nodes) ≡ o → IsSome o → IsSome (ratchet_tree (trimmed nodes))
 tree_there nodes some p None e h = absurd cc
 tree_there nodes some p (Some bytes) e h = rw (tree_of nodes bytes some p e) refl
 
@@ -165,9 +165,9 @@ pub is_encoded : (nodes : List (Option NodeValue)) (r : Result (List ℕ) NodeFa
 is_encoded ns (Ok bytes) h = tree_of ns bytes h.0 h.1 h.2
 is_encoded ns (Err nodes.OutOfMemory) h = tree_there ns h.0 h.1 (list (optional node) (trimmed ns)) refl h.2
 is_encoded ns (Err nodes.EmptyTree) h = ap ratchet_tree h ∙ no_tree
-is_encoded ns (Err (nodes.WrongNodeKind place)) h = not_placed (trimmed ns) (misplaced (trimmed ns) place h.1)
-is_encoded ns (Err nodes.TooManyLeaves) h = not_placed (trimmed ns) (too_long (trimmed ns) h.1)
-is_encoded ns (Err (nodes.Wire f)) h = not_spelled (trimmed ns) h.1
+is_encoded ns (Err (nodes.WrongNodeKind node_index)) h = not_well_laid_out (trimmed ns) (misplaced (trimmed ns) node_index h.1)
+is_encoded ns (Err nodes.TooManyLeaves) h = not_well_laid_out (trimmed ns) (too_long (trimmed ns) h.1)
+is_encoded ns (Err (nodes.Wire f)) h = not_encoded (trimmed ns) h.1
 is_encoded ns (Err nodes.LastBlank) h = absurd h
 
 module _ {A : Type 0} (view : A → List ℕ) where
@@ -180,8 +180,8 @@ module _ {A : Type 0} (view : A → List ℕ) where
   is_empty_tree ns (Err (nodes.Wire f)) h = (λ e. absurd cc, λ e. absurd (h.0 e))
   is_empty_tree ns (Err nodes.LastBlank) h = absurd h
 
-  pub is_misplaced : (ns : List (Option NodeValue)) (r : Result A NodeFault) → WritesTree ns (seen view r) → (place : ℕ) → r ≡ Err (nodes.WrongNodeKind place) → IsFirstMisplaced ns place
-  is_misplaced ns r h place e = (subst (λ (x : Result A NodeFault). WritesTree ns (seen view x)) e h).1
+  pub is_misplaced : (ns : List (Option NodeValue)) (r : Result A NodeFault) → WritesTree ns (seen view r) → (node_index : ℕ) → r ≡ Err (nodes.WrongNodeKind node_index) → IsFirstMisplaced ns node_index
+  is_misplaced ns r h node_index e = (subst (λ (x : Result A NodeFault). WritesTree ns (seen view x)) e h).1
 
   pub is_too_long : (ns : List (Option NodeValue)) (r : Result A NodeFault) → WritesTree ns (seen view r) → r ≡ Err nodes.TooManyLeaves → 2097151 < length ns
   is_too_long ns r h e = (subst (λ (x : Result A NodeFault). WritesTree ns (seen view x)) e h).1
@@ -196,9 +196,9 @@ module _ {A : Type 0} (view : A → List ℕ) where
 
 pub ratchet_tree_unambiguous : IsUniquelyDecodable ratchet_tree
 unfolding ratchet_tree
-ratchet_tree_unambiguous = tested_unambiguous (λ ns. is_placed ns && ends_set ns) (list (optional node))
+ratchet_tree_unambiguous = tested_unambiguous (λ ns. has_valid_layout ns && ends_set ns) (list (optional node))
     (unambiguous (list (optional node)) (list_at (optional_at node_at)) (list_exact (optional node) (optional_at node_at) (optional_exact node node_at node_exact) (optional_long node)))
 
 pub tree_again_trimmed : (ns : List (Option NodeValue)) (bytes : List ℕ) → ratchet_tree ns ≡ Some bytes → trimmed (filled ns) ≡ ns
 unfolding ratchet_tree
-tree_again_trimmed ns bytes e = trimmed-filled ns (and_parts (is_placed ns) (ends_set ns) (allowed (is_placed ns && ends_set ns) (list (optional node) ns) bytes e).0).1
+tree_again_trimmed ns bytes e = trimmed-filled ns (and_parts (has_valid_layout ns) (ends_set ns) (allowed (has_valid_layout ns && ends_set ns) (list (optional node) ns) bytes e).0).1

@@ -26,7 +26,7 @@ abbrev pub senders_in : Option (List ℕ) → Option (List ExternalSender)
 senders_in None = Some []
 senders_in (Some body) = whole_at (list_at external_sender_at) body
 
--- `senders_by extensions` is the external senders as a function. By the theorem `senders_are_told` it agrees with
+-- `senders_by extensions` is the external senders as a function. By the theorem `senders_are_determined` it agrees with
 -- `HasSenders`.
 unfoldable pub senders_by : List Extension → Option (List ExternalSender)
 senders_by extensions = senders_in (extension_of 5 extensions)

@@ -70,7 +70,7 @@ full_size-least count k le = full_from-least count 1 count 0 k refl (omega arith
 -- There are as many entries as in a full tree.
 length-filled : (nodes : List (Option NodeValue)) → length (filled nodes) ≡ full_size (length nodes)
 length-filled nodes =
-    let room = full_size-enough (length nodes) in
+    let capacity = full_size-enough (length nodes) in
     let blanks = length-replicate {A = Option NodeValue} (full_size (length nodes) - length nodes) None in
     omega (arith, length-append nodes (replicate (full_size (length nodes) - length nodes) None))
 
@@ -79,8 +79,8 @@ pub filled-full : (nodes : List (Option NodeValue)) → (d : ℕ) × (length (fi
 filled-full nodes = let a = full_size-full (length nodes) in (a.0, omega (arith, length-filled nodes, a.1))
 
 -- It is not below the number of given nodes.
-pub filled-room : (nodes : List (Option NodeValue)) → length nodes ≤ length (filled nodes)
-filled-room nodes = omega (arith, length-filled nodes, full_size-enough (length nodes))
+pub filled-capacity : (nodes : List (Option NodeValue)) → length nodes ≤ length (filled nodes)
+filled-capacity nodes = omega (arith, length-filled nodes, full_size-enough (length nodes))
 
 -- It is the least such number.
 pub filled-least : (nodes : List (Option NodeValue)) (d : ℕ) → length nodes ≤ 2 ^ (d + 1) - 1 → length (filled nodes) ≤ 2 ^ (d + 1) - 1

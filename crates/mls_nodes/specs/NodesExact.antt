@@ -5,8 +5,8 @@ use Rattle.std.specs.Int.{w8, w16, w32, w64}
 use Rattle.mls_wire.specs.Encoding.{◌⊕◌, number, vector, list}
 use Rattle.mls_wire.specs.Input.{Input}
 use Rattle.mls_wire.specs.Parsing.{◌>>=◌, number_at, vector_at, list_at}
-use Rattle.mls_wire.specs.ReadContracts.{Takes}
-use Rattle.mls_wire.specs.ExactParsers.{IsExact, IsLong, Any, field_then, made_of, tag_is, known, never, spelled_as}
+use Rattle.mls_wire.specs.ReadContracts.{IsEncodedAt}
+use Rattle.mls_wire.specs.ExactParsers.{IsExact, IsLong, Any, field_then, made_of, tag_is, known, never, encoded_as}
 use Rattle.mls_wire.specs.OptionBind.{bind_some, some_is, allowed}
 use Rattle.mls_wire.specs.IntegersExact.{wide8, wide16, wide32, wide64, number_exact, number_long}
 use Rattle.mls_wire.specs.VectorsExact.{vector_exact, vector_long}
@@ -55,7 +55,7 @@ module _ {A : Type 0} (test : A → Bool) (s : A → Option (List ℕ)) (f : Inp
         let a = bind_some (f i) (λ y. cond (test y.0) (Some (y.0, y.1)) None) (x, j) e in
         let b = allowed (test a.0.0) (Some (a.0.0, a.0.1)) (x, j) a.2 in
         let one = (exact.takes i a.0.0 a.0.1 a.1).1 in
-        subst (λ (y : A × Input). Any y.0 × Takes (λ z. cond (test z) (s z) None) y.0 i y.1) (some_is (a.0.0, a.0.1) (x, j) b.1) (tt, (one.0, rw b.0 one.1, one.2, one.3));
+        subst (λ (y : A × Input). Any y.0 × IsEncodedAt (λ z. cond (test z) (s z) None) y.0 i y.1) (some_is (a.0.0, a.0.1) (x, j) b.1) (tt, (one.0, rw b.0 one.1, one.2, one.3));
     again = λ x front rest offset p e.
         let a = allowed (test x) (s x) front e in
         let one = exact.again x front rest offset tt a.1 in
@@ -123,7 +123,7 @@ no_credential n x y (X509 _) p = y (sym p.1)
 
 pub credential_exact : IsExact credential credential_at
 unfolding credential_at
-credential_exact = spelled_as Any credential _ credential_at credential_parts
+credential_exact = encoded_as Any credential _ credential_at credential_parts
     (field_then Any credential_kind (number w16) credential_body (number_at w16) _ (number_exact w16 wide16)
     (λ n. tag_is credential_kind _ _ _ n 1 (made_of _ Basic vector _ vector_at vector_exact (λ x. (tt, refl)) (λ x. refl) is_basic)
     (λ x. tag_is credential_kind _ _ _ n 2 (made_of _ X509 (list vector) _ (list_at vector_at) chain_exact (λ x. (tt, refl)) (λ x. refl) is_x509)
@@ -169,7 +169,7 @@ no_source n x y z (Commit _) p = z (sym p.1)
 
 pub source_exact : IsExact source source_at
 unfolding source_at
-source_exact = spelled_as Any source _ source_at source_parts
+source_exact = encoded_as Any source _ source_at source_parts
     (field_then Any source_kind (number w8) source_body (number_at w8) _ (number_exact w8 wide8)
     (λ n. tag_is source_kind _ _ _ n 1 (made_of _ KeyPackage lifetime _ lifetime_at lifetime_exact (λ x. (tt, refl)) (λ x. refl) is_key_package)
     (λ x. tag_is source_kind _ _ _ n 2 (known _ _ Update (tt, refl) refl is_update)
@@ -257,7 +257,7 @@ no_node k x y (parent_node _) p = y (sym p.1)
 
 pub node_exact : IsExact node node_at
 unfolding node_at
-node_exact = spelled_as Any node _ node_at node_parts
+node_exact = encoded_as Any node _ node_at node_parts
     (field_then Any node_kind (number w8) node_body (number_at w8) _ (number_exact w8 wide8)
     (λ k. tag_is node_kind _ _ _ k 1 (made_of _ leaf_node leaf _ leaf_at leaf_exact (λ x. (tt, refl)) (λ x. refl) is_leaf)
     (λ x. tag_is node_kind _ _ _ k 2 (made_of _ parent_node parent _ parent_at parent_exact (λ x. (tt, refl)) (λ x. refl) is_parent)

@@ -6,7 +6,7 @@ use Rattle.mls_wire.specs.Input.{Input, at}
 use Rattle.mls_wire.specs.Parsing.{◌>>=◌, number_at, vector_at, list_at, body_at, items_at, optional_at}
 use Rattle.mls_nodes.specs.Limits.{leaf_limit}
 use Rattle.mls_nodes.specs.NodeModel.{NodeValue, leaf_node, parent_node}
-use Rattle.mls_nodes.specs.RatchetTreeEncoding.{is_placed, ends_set}
+use Rattle.mls_nodes.specs.RatchetTreeEncoding.{has_valid_layout, ends_set}
 use Rattle.mls_nodes.specs.declared.credential.Credential.{Credential}
 use Rattle.mls_nodes.specs.declared.credential.Credential.TheVariants.{Basic, X509}
 use Rattle.mls_nodes.specs.declared.leaf_source.LeafSource.{LeafSource}
@@ -112,12 +112,13 @@ node_at i = do
       else if nat_eq kind.0 2 then (parent_at kind.1 >>= λ x. Some (parent_node x.0, x.1))
       else None
 
--- `node_in place i` is the node at the front, which may be at this node index. Its type is checked before its body.
+-- `node_in node_index i` is the node at the front, which may be at this node index. Its type is checked before its
+-- body.
 unfoldable pub node_in : ℕ → Input → Option (NodeValue × Input)
-node_in place i = do
+node_in node_index i = do
   kind ← number_at w8 i
-  if nat_eq kind.0 1 && nat_eq (place % 2) 0 then (leaf_at kind.1 >>= λ x. Some (leaf_node x.0, x.1))
-      else if nat_eq kind.0 2 && nat_eq (place % 2) 1 then (parent_at kind.1 >>= λ x. Some (parent_node x.0, x.1))
+  if nat_eq kind.0 1 && nat_eq (node_index % 2) 0 then (leaf_at kind.1 >>= λ x. Some (leaf_node x.0, x.1))
+      else if nat_eq kind.0 2 && nat_eq (node_index % 2) 1 then (parent_at kind.1 >>= λ x. Some (parent_node x.0, x.1))
       else None
 
 -- `required_capabilities_at i` is the required capabilities at the front (RFC 9420, 11.1).
@@ -158,16 +159,16 @@ group_context_at i = do
     extensions.1,
   )
 
--- `placed nodes` is the entries, if each may be at its node index.
-abbrev pub placed : Option (List (Option NodeValue)) → Option (List (Option NodeValue))
-placed None = None
-placed (Some nodes) = if is_placed nodes then Some nodes else None
+-- `well_laid_out nodes` is the entries, if each may be at its node index.
+abbrev pub well_laid_out : Option (List (Option NodeValue)) → Option (List (Option NodeValue))
+well_laid_out None = None
+well_laid_out (Some nodes) = if has_valid_layout nodes then Some nodes else None
 
 -- `tree_at bytes` is the entries of a ratchet_tree up to the last non-blank one, read from all of the bytes.
 unfoldable pub tree_at : List ℕ → Option (List (Option NodeValue))
 tree_at bytes = do
   body ← body_at (at 0 bytes)
-  nodes ← placed (items_at (optional_at node_at) (length body.0.left) body.0)
+  nodes ← well_laid_out (items_at (optional_at node_at) (length body.0.left) body.0)
   if ends_set nodes then (if nat_eq (length body.1.left) 0 then Some nodes else None) else None
 
 -- `FindsNodes found result`: a call returned what was found. On error nothing was, or the call ran out of memory.

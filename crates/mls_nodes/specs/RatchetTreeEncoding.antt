@@ -6,17 +6,17 @@ use Rattle.mls_nodes.specs.Limits.{entry_limit}
 use Rattle.mls_nodes.specs.NodeModel.{NodeValue, leaf_node, parent_node}
 use Rattle.mls_nodes.specs.Layout.{node}
 
--- `stands_at place n`: the entry may be at this node index. Leaves are at even ones, parents at odd ones (RFC 9420,
+-- `fits_at node_index n`: the entry may be at this node index. Leaves are at even ones, parents at odd ones (RFC 9420,
 -- Appendix C).
-abbrev pub stands_at : ℕ → Option NodeValue → Bool
-stands_at place None = true
-stands_at place (Some (leaf_node l)) = nat_eq (place % 2) 0
-stands_at place (Some (parent_node p)) = nat_eq (place % 2) 1
+abbrev pub fits_at : ℕ → Option NodeValue → Bool
+fits_at node_index None = true
+fits_at node_index (Some (leaf_node l)) = nat_eq (node_index % 2) 0
+fits_at node_index (Some (parent_node p)) = nat_eq (node_index % 2) 1
 
--- `stand_from place nodes`: each entry may be at its node index, the first one at `place`.
-abbrev pub stand_from : ℕ → List (Option NodeValue) → Bool
-stand_from place [] = true
-stand_from place (x ∷ xs) = stands_at place x && stand_from (place + 1) xs
+-- `fit_from node_index nodes`: each entry may be at its node index, the first one at `node_index`.
+abbrev pub fit_from : ℕ → List (Option NodeValue) → Bool
+fit_from node_index [] = true
+fit_from node_index (x ∷ xs) = fits_at node_index x && fit_from (node_index + 1) xs
 
 -- `is_set n`: there is an entry, and it is non-blank.
 abbrev pub is_set : Option (Option NodeValue) → Bool
@@ -28,18 +28,19 @@ is_set None = false
 abbrev pub ends_set : List (Option NodeValue) → Bool
 ends_set nodes = is_set (slice_get nodes (length nodes - 1))
 
--- `is_placed nodes`: each entry may be at its node index, and there are no more than a tree of 1,048,576 leaves has.
-abbrev pub is_placed : List (Option NodeValue) → Bool
-is_placed nodes = stand_from 0 nodes && nat_le (length nodes) entry_limit
+-- `has_valid_layout nodes`: each entry may be at its node index, and there are no more than a tree of 1,048,576 leaves
+-- has.
+abbrev pub has_valid_layout : List (Option NodeValue) → Bool
+has_valid_layout nodes = fit_from 0 nodes && nat_le (length nodes) entry_limit
 
 -- `ratchet_tree nodes` is the encoding of the entries of a tree up to the last non-blank one, each at a node index of
 -- its kind (RFC 9420, 12.4.3.3).
 unfoldable pub ratchet_tree : List (Option NodeValue) → Option (List ℕ)
-ratchet_tree nodes = if is_placed nodes && ends_set nodes then list (optional node) nodes else None
+ratchet_tree nodes = if has_valid_layout nodes && ends_set nodes then list (optional node) nodes else None
 
--- `IsFirstMisplaced nodes place`: `place` is the first node index whose entry may not be there.
+-- `IsFirstMisplaced nodes node_index`: `node_index` is the first node index whose entry may not be there.
 abbrev pub IsFirstMisplaced : List (Option NodeValue) → ℕ → Type 0
-IsFirstMisplaced nodes place = (stand_from 0 (take place nodes) ≡ true) × (x : Option NodeValue) × (slice_get nodes place ≡ Some x) × (stands_at place x ≡ false)
+IsFirstMisplaced nodes node_index = (fit_from 0 (take node_index nodes) ≡ true) × (x : Option NodeValue) × (slice_get nodes node_index ≡ Some x) × (fits_at node_index x ≡ false)
 
 -- `before x xs` is `xs` with `x` in front. A blank entry in front of nothing is left out.
 abbrev pub before : Option NodeValue → List (Option NodeValue) → List (Option NodeValue)

@@ -7,21 +7,21 @@ use Rattle.mls_nodes.specs.declared.fault.NodeFault.TheVariants as faults
 use Rattle.mls_nodes.specs.Limits.{entry_limit}
 use Rattle.mls_nodes.specs.NodeModel.{NodeValue}
 use Rattle.mls_nodes.specs.Layout.{node}
-use Rattle.mls_nodes.specs.RatchetTreeEncoding.{is_placed, IsFirstMisplaced}
+use Rattle.mls_nodes.specs.RatchetTreeEncoding.{has_valid_layout, IsFirstMisplaced}
 
 -- The result of a call that checks node indices.
-abbrev pub FitsPlaces : {A : Type 0} → List (Option NodeValue) → Result A NodeFault → Type 0
-FitsPlaces nodes (Ok x) = is_placed nodes ≡ true
-FitsPlaces nodes (Err (faults.WrongNodeKind place)) = IsFirstMisplaced nodes place
-FitsPlaces nodes (Err faults.TooManyLeaves) = entry_limit < length nodes
-FitsPlaces nodes (Err e) = ⊥
+abbrev pub FitsNodeIndices : {A : Type 0} → List (Option NodeValue) → Result A NodeFault → Type 0
+FitsNodeIndices nodes (Ok x) = has_valid_layout nodes ≡ true
+FitsNodeIndices nodes (Err (faults.WrongNodeKind node_index)) = IsFirstMisplaced nodes node_index
+FitsNodeIndices nodes (Err faults.TooManyLeaves) = entry_limit < length nodes
+FitsNodeIndices nodes (Err e) = ⊥
 
 -- What a call that writes entries without blanks at their end answered, fault by fault.
 abbrev pub WritesTree : List (Option NodeValue) → Result (List ℕ) NodeFault → Type 0
-WritesTree nodes (Ok bytes) = (nodes ≢ []) × (is_placed nodes ≡ true) × (list (optional node) nodes ≡ Some bytes)
-WritesTree nodes (Err faults.OutOfMemory) = (nodes ≢ []) × (is_placed nodes ≡ true) × IsSome (list (optional node) nodes)
+WritesTree nodes (Ok bytes) = (nodes ≢ []) × (has_valid_layout nodes ≡ true) × (list (optional node) nodes ≡ Some bytes)
+WritesTree nodes (Err faults.OutOfMemory) = (nodes ≢ []) × (has_valid_layout nodes ≡ true) × IsSome (list (optional node) nodes)
 WritesTree nodes (Err faults.EmptyTree) = nodes ≡ []
-WritesTree nodes (Err (faults.WrongNodeKind place)) = (nodes ≢ []) × IsFirstMisplaced nodes place
+WritesTree nodes (Err (faults.WrongNodeKind node_index)) = (nodes ≢ []) × IsFirstMisplaced nodes node_index
 WritesTree nodes (Err faults.TooManyLeaves) = (nodes ≢ []) × (entry_limit < length nodes)
 WritesTree nodes (Err (faults.Wire f)) = (nodes ≢ []) × (list (optional node) nodes ≡ None) × (f ≡ too_long_at 0)
 WritesTree nodes (Err faults.LastBlank) = ⊥

@@ -40,6 +40,6 @@ requirements_in None = Some (record { extensions = []; proposals = []; credentia
 requirements_in (Some body) = whole_at required_capabilities_at body
 
 -- `required_by extensions` is what a group with these extensions requires, as a function (RFC 9420, 11.1). By the
--- theorem `requirements_are_told` it agrees with `RequiresBy`.
+-- theorem `requirements_are_determined` it agrees with `RequiresBy`.
 unfoldable pub required_by : List Extension → Option RequiredCapabilities
 required_by extensions = requirements_in (extension_of 3 extensions)

@@ -37,7 +37,7 @@ impl Decode for Capabilities {
     ghost use Rattle.mls_nodes.specs.Parsing.{capabilities_at};
     ghost use Rattle.mls_nodes.specs.NodesExact.{capabilities_exact, capabilities_long};
 
-    ghost spelling = { capabilities };
+    ghost encoding = { capabilities };
 
     ghost reading = { capabilities_at };
 

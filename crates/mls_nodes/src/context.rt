@@ -52,7 +52,7 @@ impl Decode for GroupContext {
     ghost use Rattle.mls_nodes.specs.Parsing.{group_context_at};
     ghost use Rattle.mls_nodes.specs.NodesExact.{group_context_exact, group_context_long};
 
-    ghost spelling = { group_context };
+    ghost encoding = { group_context };
 
     ghost reading = { group_context_at };
 
@@ -129,7 +129,7 @@ pub fn read_context(alloc: Global, reader: &mut Reader<'_>) -> Result<GroupConte
 /// `TooLong` at 0 for more than [`MAX_INPUT`](mls_wire::MAX_INPUT) bytes; another wire fault if and only if the bytes
 /// are no such encoding; or `OutOfMemory`.
 pub fn decode_context(alloc: Global, bytes: &[u8]) -> Result<GroupContext, CodecFault>
-    ensures spelled { DecodesInput group_context bytes.now result }
+    ensures encoded { DecodesInput group_context bytes.now result }
     ensures long { input_limit < length bytes.now → result ≡ Err (CodecFault.Wire (too_long_at 0)) }
 {
     read_input(alloc, bytes)

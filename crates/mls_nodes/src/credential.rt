@@ -32,7 +32,7 @@ impl Decode for Credential {
     ghost use Rattle.mls_nodes.specs.Parsing.{credential_at};
     ghost use Rattle.mls_nodes.specs.NodesExact.{credential_exact, credential_long};
 
-    ghost spelling = { credential };
+    ghost encoding = { credential };
 
     ghost reading = { credential_at };
 
@@ -45,7 +45,7 @@ impl Decode for Credential {
             kind => {
                 return Err(CodecFault::Wire(WireFault {
                     kind: WireFaultKind::BadTag(kind),
-                    at: reader.place(),
+                    at: reader.position(),
                 }));
             }
         };

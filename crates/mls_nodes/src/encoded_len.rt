@@ -7,7 +7,7 @@ ghost use Rattle.mls_wire.specs.Limits.{vector_limit};
 ghost use Rattle.mls_wire.specs.Encoding.{length_form, items, list, number, vector};
 ghost use Rattle.mls_nodes.specs.Limits.{leaf_limit};
 ghost use Rattle.mls_nodes.specs.Layout.{capabilities, credential, group_context, leaf, parent, source, unmerged};
-ghost use Rattle.mls_nodes.specs.LeafNodeTBS.{leaf_place, leaf_tbs};
+ghost use Rattle.mls_nodes.specs.LeafNodeTBS.{tbs_suffix, leaf_tbs};
 
 use crate::capabilities::Capabilities;
 use crate::context::GroupContext;
@@ -44,7 +44,7 @@ fn length_of_vector(bytes: &Opaque) -> u64
 
 /// Returns the length of the items of a list.
 fn length_of_items<T: Encode>(values: &Items<T>) -> u64
-    ensures length { option_map length (items T.spelling values.now) ≡ Some result }
+    ensures length { option_map length (items T.encoding values.now) ≡ Some result }
     ensures small { result ≤ vector_limit }
 {
     let mut total = 0;
@@ -56,7 +56,7 @@ fn length_of_items<T: Encode>(values: &Items<T>) -> u64
 
 /// Returns the length of the encoding of a list.
 fn length_of_list<T: Encode>(values: &Items<T>) -> u64
-    ensures length { option_map length (list T.spelling values.now) ≡ Some result }
+    ensures length { option_map length (list T.encoding values.now) ≡ Some result }
     ensures small { result ≤ vector_limit + 4 }
 {
     let body = length_of_items(values);
@@ -179,8 +179,8 @@ impl GroupContext {
 }
 
 /// Returns the length of the group id and the leaf index in a LeafNodeTBS.
-fn length_of_place(source: &LeafSource, group_id: &Opaque, index: u32) -> u64
-    ensures length { option_map length (leaf_place source.now group_id.now index) ≡ Some result }
+fn length_of_tbs_suffix(source: &LeafSource, group_id: &Opaque, index: u32) -> u64
+    ensures length { option_map length (tbs_suffix source.now group_id.now index) ≡ Some result }
     ensures small { result ≤ vector_limit + 8 }
 {
     let _index = index;
@@ -201,6 +201,6 @@ pub fn leaf_tbs_len(leaf: &LeafNode, group_id: &Opaque, index: u32) -> u64
     let capabilities = length_of_capabilities(&leaf.capabilities);
     let source = length_of_source(&leaf.source);
     let extensions = length_of_list(&leaf.extensions);
-    let place = length_of_place(&leaf.source, group_id, index);
-    encryption_key + signature_key + credential + capabilities + source + extensions + place
+    let suffix = length_of_tbs_suffix(&leaf.source, group_id, index);
+    encryption_key + signature_key + credential + capabilities + source + extensions + suffix
 }

@@ -25,7 +25,7 @@ impl Decode for Extension {
     ghost use Rattle.mls_nodes.specs.Parsing.{extension_at};
     ghost use Rattle.mls_nodes.specs.NodesExact.{extension_exact, extension_long};
 
-    ghost spelling = { extension };
+    ghost encoding = { extension };
 
     ghost reading = { extension_at };
 

@@ -39,7 +39,7 @@ pub fn unambiguous()
 pub fn filling()
     ensures full { (nodes : List (Option NodeValue))
         → (d : ℕ) × (length (filled nodes) ≡ 2 ^ (d + 1) - 1) }
-    ensures room { (nodes : List (Option NodeValue)) → length nodes ≤ length (filled nodes) }
+    ensures capacity { (nodes : List (Option NodeValue)) → length nodes ≤ length (filled nodes) }
     ensures least { (nodes : List (Option NodeValue)) (d : ℕ)
         → length nodes ≤ 2 ^ (d + 1) - 1
         → length (filled nodes) ≤ 2 ^ (d + 1) - 1 }
@@ -53,14 +53,14 @@ pub fn filling()
 
 /// What a group with these extensions requires is a function of the extensions: `required_by` returns it, and `None` if
 /// the data is no encoding of required capabilities.
-pub fn requirements_are_told()
+pub fn requirements_are_determined()
     ensures { (extensions : List Extension) (required : RequiredCapabilities)
         → (required_by extensions ≡ Some required) ↔ RequiresBy extensions required }
 {}
 
 /// The external senders of a group with these extensions are a function of the extensions: `senders_by` returns them,
 /// and `None` if the data is no encoding of a list of senders.
-pub fn senders_are_told()
+pub fn senders_are_determined()
     ensures { (extensions : List Extension) (senders : List ExternalSender)
         → (senders_by extensions ≡ Some senders) ↔ HasSenders extensions senders }
 {}

@@ -52,7 +52,7 @@ impl Decode for LeafNode {
     ghost use Rattle.mls_nodes.specs.Parsing.{leaf_at};
     ghost use Rattle.mls_nodes.specs.NodesExact.{leaf_exact, leaf_long};
 
-    ghost spelling = { leaf };
+    ghost encoding = { leaf };
 
     ghost reading = { leaf_at };
 

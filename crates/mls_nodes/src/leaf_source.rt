@@ -45,7 +45,7 @@ impl Decode for Lifetime {
     ghost use Rattle.mls_nodes.specs.Parsing.{lifetime_at};
     ghost use Rattle.mls_nodes.specs.NodesExact.{lifetime_exact, lifetime_long};
 
-    ghost spelling = { lifetime };
+    ghost encoding = { lifetime };
 
     ghost reading = { lifetime_at };
 
@@ -71,7 +71,7 @@ impl Decode for LeafSource {
     ghost use Rattle.mls_nodes.specs.Parsing.{source_at};
     ghost use Rattle.mls_nodes.specs.NodesExact.{source_exact, source_long};
 
-    ghost spelling = { source };
+    ghost encoding = { source };
 
     ghost reading = { source_at };
 
@@ -87,7 +87,7 @@ impl Decode for LeafSource {
             kind => {
                 return Err(CodecFault::Wire(WireFault {
                     kind: WireFaultKind::BadTag(u16::from(kind)),
-                    at: reader.place(),
+                    at: reader.position(),
                 }));
             }
         };

@@ -22,7 +22,7 @@ impl Decode for ParentNode {
     ghost use Rattle.mls_nodes.specs.Parsing.{parent_at};
     ghost use Rattle.mls_nodes.specs.NodesExact.{parent_exact, parent_long};
 
-    ghost spelling = { parent };
+    ghost encoding = { parent };
 
     ghost reading = { parent_at };
 

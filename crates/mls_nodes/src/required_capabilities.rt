@@ -41,7 +41,7 @@ impl Decode for RequiredCapabilities {
     ghost use Rattle.mls_nodes.specs.Parsing.{required_capabilities_at};
     ghost use Rattle.mls_nodes.specs.NodesExact.{required_capabilities_exact, required_capabilities_long};
 
-    ghost spelling = { required_capabilities };
+    ghost encoding = { required_capabilities };
 
     ghost reading = { required_capabilities_at };
 

@@ -39,7 +39,7 @@ impl Decode for ExternalSender {
     ghost use Rattle.mls_nodes.specs.Parsing.{external_sender_at};
     ghost use Rattle.mls_nodes.specs.NodesExact.{external_sender_exact, external_sender_long};
 
-    ghost spelling = { external_sender };
+    ghost encoding = { external_sender };
 
     ghost reading = { external_sender_at };
 

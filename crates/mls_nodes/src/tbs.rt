@@ -2,7 +2,7 @@
 
 ghost use Rattle.mls_wire.specs.ReadContracts.{seen};
 ghost use Rattle.mls_wire.specs.WriteContracts.{MakesPiece, Puts};
-ghost use Rattle.mls_nodes.specs.LeafNodeTBS.{leaf_place, leaf_tbs};
+ghost use Rattle.mls_nodes.specs.LeafNodeTBS.{tbs_suffix, leaf_tbs};
 
 use crate::encoded_len::leaf_tbs_len;
 use crate::leaf::LeafNode;
@@ -11,15 +11,15 @@ use mls_wire::{CodecFault, Draft, Encode, Opaque};
 use std::alloc::Global;
 
 /// Adds the group id and the leaf index, for the sources update and commit.
-#[tactic(auto, using(mls_wire::specs::WriteSequences::written), unfolding(crate::specs::LeafNodeTBS::leaf_place))]
-fn put_place(
+#[tactic(auto, using(mls_wire::specs::WriteSequences::written), unfolding(crate::specs::LeafNodeTBS::tbs_suffix))]
+fn put_tbs_suffix(
     alloc: Global,
     source: &LeafSource,
     group_id: &Opaque,
     index: u32,
     draft: &mut Draft,
 ) -> Result<(), CodecFault>
-    ensures { Puts (leaf_place source.now group_id.now index) draft.old draft.new result }
+    ensures { Puts (tbs_suffix source.now group_id.now index) draft.old draft.new result }
 {
     match source {
         LeafSource::KeyPackage(_) => draft.put_bytes(&[]),
@@ -43,7 +43,7 @@ pub fn put_leaf_tbs(
     ensures { Puts (leaf_tbs leaf.now group_id.now index) draft.old draft.new result }
 {
     leaf.put_unsigned(alloc, draft)?;
-    put_place(alloc, &leaf.source, group_id, index, draft)
+    put_tbs_suffix(alloc, &leaf.source, group_id, index, draft)
 }
 
 /// Returns the LeafNodeTBS: the leaf node without its signature, and for the sources update and commit the group id and

@@ -20,7 +20,7 @@ pub const MAX_UNMERGED: usize = 1048576;
 pub struct Unmerged {
     leaves: Items<u32>,
     /// If true, no leaf is less than the one before it, so a binary search finds a leaf. Lists of valid trees are sorted.
-    /// Other lists keep their order, and are searched from the first leaf on.
+    /// Other lists are unchanged, and are searched from the first leaf on.
     is_sorted: bool,
 }
 
@@ -37,7 +37,7 @@ impl Model for Unmerged {
     ghost invariant = { λ a. (length a.leaves ≤ leaf_limit) × OnTrue a.is_sorted (IsNonDecreasing a.leaves) };
 }
 
-/// Returns whether a leaf may be inserted at a position of a sorted list, so that it stays sorted.
+/// Returns whether a leaf may be inserted at a position of a sorted list, so that it remains sorted.
 fn is_between(leaves: &[u32], index: usize, leaf: u32) -> bool
     requires { index ≤ length leaves.now }
     ensures { OnTrue result (IsNonDecreasing leaves.now → IsNonDecreasing (insert leaves.now index leaf)) }
@@ -100,9 +100,9 @@ impl Unmerged {
     /// Inserts a leaf at a position of the list. If an allocation fails, the list is unchanged.
     pub fn insert(&mut self, index: usize, leaf: u32) -> Result<(), AllocError>
         requires inside { index ≤ length self.old }
-        requires room { length self.old < leaf_limit }
-        ensures ok { OnOk result (self.new ≡ insert self.old index leaf) }
-        ensures err { OnErr result (self.new ≡ self.old) }
+        requires capacity { length self.old < leaf_limit }
+        ensures changed { OnOk result (self.new ≡ insert self.old index leaf) }
+        ensures unchanged_on_error { OnErr result (self.new ≡ self.old) }
     {
         let is_sorted = self.is_sorted && is_between(self.leaves.as_slice(), index, leaf);
         match self.leaves.insert(index, leaf) {
@@ -159,7 +159,7 @@ impl Decode for Unmerged {
     ghost use Rattle.mls_nodes.specs.Parsing.{unmerged_at};
     ghost use Rattle.mls_nodes.specs.NodesExact.{unmerged_exact, unmerged_long};
 
-    ghost spelling = { unmerged };
+    ghost encoding = { unmerged };
 
     ghost reading = { unmerged_at };
 
@@ -171,7 +171,7 @@ impl Decode for Unmerged {
         if leaves.as_slice().len() > MAX_UNMERGED {
             return Err(CodecFault::Wire(WireFault {
                 kind: WireFaultKind::TooLong,
-                at: reader.place(),
+                at: reader.position(),
             }));
         }
         *reader = ahead;

@@ -27,7 +27,7 @@ use Rattle.mls_report.proofs.StartsExist.{interim_of, starts_or_not}
 use Rattle.mls_report.specs.Finding.{finding_verdict}
 use Rattle.mls_report.specs.Show.{IsMessageIn}
 use Rattle.mls_report.specs.ReportsExist.{TreeFindingExists, StartFindingExists}
-use Rattle.mls_report.specs.StartInputs.{IsInfo, IsNoMessage, IsHanded, IsHandedUnread, IsReadAs, IsStarted, IsStartFinding, started_of}
+use Rattle.mls_report.specs.StartInputs.{IsInfo, IsNoMessage, IsSupplied, IsSuppliedUnread, IsReadAs, IsStarted, IsStartFinding, started_of}
 use Rattle.mls_report.specs.ValidateTree.{IsContext, IsNoContext, IsTreeFinding}
 use Rattle.mls_report.specs.declared.finding.Finding.{Finding}
 use Rattle.mls_report.specs.declared.finding.Finding.TheVariants.{ContextUnreadable, InfoUnreadable, NotGroupInfo, TreeUnreadable, UnsupportedVersion, UnsupportedSuite, RequirementsUnreadable, TreeRefused, MembersRefused, StartRefused, TreeValid, Starts}
@@ -41,9 +41,9 @@ context_or_not bytes = go (read_or_not group_context group_context_at group_cont
   where
     go : ((c : GroupContext) × (group_context c ≡ Some bytes)) ⊎ ((c : GroupContext) → group_context c ≡ Some bytes → ⊥)
         → (length bytes ≤ input_limit) ⊎ (length bytes ≤ input_limit → ⊥) → ((c : GroupContext) × IsContext bytes c) ⊎ IsNoContext bytes
-    go (inr none) fits = inr (λ c h. none c h.spelled)
+    go (inr none) fits = inr (λ c h. none c h.encoded)
     go (inl c) (inr over) = inr (λ d h. over h.bounded)
-    go (inl c) (inl le) = inl (c.0, record { spelled = c.1; bounded = le })
+    go (inl c) (inl le) = inl (c.0, record { encoded = c.1; bounded = le })
 
 module _ (G : VerifyFn) (context_bytes tree_bytes : List ℕ) where
   abbrev Found : Type 0
@@ -101,14 +101,14 @@ message_or_not profile bytes = go (message_or_none profile bytes) (fits_or_not b
   where
     go : ((m : Message) × (message_in profile m ≡ Some bytes)) ⊎ ((m : Message) → message_in profile m ≡ Some bytes → ⊥) → (length bytes ≤ input_limit) ⊎ (length bytes ≤ input_limit → ⊥)
         → ((m : Message) × IsMessageIn profile bytes m) ⊎ IsNoMessage profile bytes
-    go (inr none) fits = inr (λ m h. none m h.spelled)
+    go (inr none) fits = inr (λ m h. none m h.encoded)
     go (inl m) (inr over) = inr (λ n h. over h.bounded)
-    go (inl m) (inl le) = inl (m.0, record { spelled = m.1; bounded = le })
+    go (inl m) (inl le) = inl (m.0, record { encoded = m.1; bounded = le })
 
 -- the tree that is handed in can be read, or not
-handed_or_not : (bytes : Option (List ℕ)) → ((t : Option RatchetTree) × IsHanded bytes t) ⊎ IsHandedUnread bytes
-handed_or_not None = inl (None, tt)
-handed_or_not (Some bytes) = elim (tree_or_not bytes) [ inl t ↦ inl (Some t.0, t.1) | inr none ↦ inr none ]
+supplied_or_not : (bytes : Option (List ℕ)) → ((t : Option RatchetTree) × IsSupplied bytes t) ⊎ IsSuppliedUnread bytes
+supplied_or_not None = inl (None, tt)
+supplied_or_not (Some bytes) = elim (tree_or_not bytes) [ inl t ↦ inl (Some t.0, t.1) | inr none ↦ inr none ]
 
 module _ (profile : Profile) (G : VerifyFn) (info_bytes : List ℕ) (tree_bytes : Option (List ℕ)) where
   -- a follower starts, or something is found for which none does
@@ -116,18 +116,18 @@ module _ (profile : Profile) (G : VerifyFn) (info_bytes : List ℕ) (tree_bytes 
   Begun = ((s : State) × IsStarted profile G info_bytes tree_bytes s)
       ⊎ ((finding : Finding) × IsStartFinding profile G info_bytes tree_bytes finding × (finding_verdict finding ≡ No))
 
-  by_inputs : (info : GroupInfo) (handed : Option RatchetTree) → IsReadAs profile info_bytes tree_bytes info handed → Begun
-  by_inputs info handed h =
-      let interim = interim_of info info_bytes (encoded_in profile (messages.GroupInfo info) info_bytes h.is_info.spelled).1 in
-      elim (starts_or_not profile G info handed interim.0 interim.1) [
-        | inl s ↦ inl (s.0, record { info = info; handed = handed; is_read = h; start = s.1 })
-        | inr f ↦ inr (StartRefused f.0, (info, handed, h, f.1, f.2), refl)
+  by_inputs : (info : GroupInfo) (supplied : Option RatchetTree) → IsReadAs profile info_bytes tree_bytes info supplied → Begun
+  by_inputs info supplied h =
+      let interim = interim_of info info_bytes (encoded_in profile (messages.GroupInfo info) info_bytes h.is_info.encoded).1 in
+      elim (starts_or_not profile G info supplied interim.0 interim.1) [
+        | inl s ↦ inl (s.0, record { info = info; supplied = supplied; is_read = h; start = s.1 })
+        | inr f ↦ inr (StartRefused f.0, (info, supplied, h, f.1, f.2), refl)
       ]
 
   by_info : (info : GroupInfo) → IsInfo profile info_bytes info → Begun
   by_info info h =
-      elim (handed_or_not tree_bytes) [
-        | inl t ↦ by_inputs info t.0 (record { is_info = h; is_handed = t.1 })
+      elim (supplied_or_not tree_bytes) [
+        | inl t ↦ by_inputs info t.0 (record { is_info = h; is_supplied = t.1 })
         | inr none ↦ inr (TreeUnreadable EmptyTree, (info, h, none, λ own. cc), refl)
       ]
 

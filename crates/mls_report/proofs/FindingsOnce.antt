@@ -25,11 +25,11 @@ use Rattle.mls_msgs.specs.declared.message.Message.{Message}
 use Rattle.mls_msgs.specs.declared.message.Message.TheVariants as messages
 use Rattle.mls_follow.specs.Start.{IsStart, IsStartFault}
 use Rattle.mls_follow.specs.State.{State}
-use Rattle.mls_report.proofs.InOrder.{first_then, no_more, MetBefore, one_place, other_place}
+use Rattle.mls_report.proofs.InOrder.{first_then, no_more, MetBefore, one_position, other_place}
 use Rattle.mls_report.proofs.StartsOnce.{one_tree_of, one_members_fault, no_members_fault, one_start, no_fault_of_start, one_start_fault}
 use Rattle.mls_report.specs.UniqueReports.{AreAlike, TreeFindingIsUnique, StartFindingIsUnique, StartIsUnique}
 use Rattle.mls_report.specs.Show.{IsMessageIn}
-use Rattle.mls_report.specs.StartInputs.{IsInfo, IsHanded, IsHandedUnread, IsReadAs, IsStarted, IsStartFinding, started_of}
+use Rattle.mls_report.specs.StartInputs.{IsInfo, IsSupplied, IsSuppliedUnread, IsReadAs, IsStarted, IsStartFinding, started_of}
 use Rattle.mls_report.specs.ValidateTree.{IsContext, IsTreeFinding}
 use Rattle.mls_report.specs.declared.finding.Finding.{Finding}
 use Rattle.mls_report.specs.declared.finding.Finding.TheVariants.{ContextUnreadable, InfoUnreadable, NotGroupInfo, TreeUnreadable, UnsupportedVersion, UnsupportedSuite, RequirementsUnreadable, TreeRefused, MembersRefused, StartRefused, StateRefused, TreeValid, Starts}
@@ -37,10 +37,10 @@ use Rattle.mls_report.specs.declared.finding.Finding.TheVariants.{ContextUnreada
 -- ---- what is read is one
 
 one_context : (bytes : List ℕ) (c d : GroupContext) → IsContext bytes c → IsContext bytes d → c ≡ d
-one_context bytes c d a b = one_value group_context group_context_at group_context_exact c d bytes a.spelled b.spelled
+one_context bytes c d a b = one_value group_context group_context_at group_context_exact c d bytes a.encoded b.encoded
 
 one_message : (profile : Profile) (bytes : List ℕ) (m n : Message) → IsMessageIn profile bytes m → IsMessageIn profile bytes n → m ≡ n
-one_message profile bytes m n a b = messages_once profile m n bytes a.spelled b.spelled
+one_message profile bytes m n a b = messages_once profile m n bytes a.encoded b.encoded
 
 info_in : (x y : GroupInfo) → messages.GroupInfo x ≡ messages.GroupInfo y → x ≡ y
 info_in x y e = cc
@@ -48,31 +48,31 @@ info_in x y e = cc
 pub one_info : (profile : Profile) (bytes : List ℕ) (x y : GroupInfo) → IsInfo profile bytes x → IsInfo profile bytes y → x ≡ y
 one_info profile bytes x y a b = info_in x y (one_message profile bytes (messages.GroupInfo x) (messages.GroupInfo y) a b)
 
-pub one_handed : (bytes : Option (List ℕ)) (t u : Option RatchetTree) → IsHanded bytes t → IsHanded bytes u → t ≡ u
-one_handed None None None a b = refl
-one_handed None (Some t) u a b = absurd a
-one_handed None None (Some u) a b = absurd b
-one_handed (Some bytes) None u a b = absurd a
-one_handed (Some bytes) (Some t) None a b = absurd b
-one_handed (Some bytes) (Some t) (Some u) a b = ap (λ (x : RatchetTree). Some x) (one_tree_of bytes t u a b)
+pub one_supplied : (bytes : Option (List ℕ)) (t u : Option RatchetTree) → IsSupplied bytes t → IsSupplied bytes u → t ≡ u
+one_supplied None None None a b = refl
+one_supplied None (Some t) u a b = absurd a
+one_supplied None None (Some u) a b = absurd b
+one_supplied (Some bytes) None u a b = absurd a
+one_supplied (Some bytes) (Some t) None a b = absurd b
+one_supplied (Some bytes) (Some t) (Some u) a b = ap (λ (x : RatchetTree). Some x) (one_tree_of bytes t u a b)
 
-not_handed : (bytes : Option (List ℕ)) (t : Option RatchetTree) → IsHandedUnread bytes → IsHanded bytes t → ⊥
-not_handed None t a b = absurd a
-not_handed (Some bytes) None a b = absurd b
-not_handed (Some bytes) (Some t) a b = a b.nodes b.is_tree
+not_supplied : (bytes : Option (List ℕ)) (t : Option RatchetTree) → IsSuppliedUnread bytes → IsSupplied bytes t → ⊥
+not_supplied None t a b = absurd a
+not_supplied (Some bytes) None a b = absurd b
+not_supplied (Some bytes) (Some t) a b = a b.nodes b.is_tree
 
 -- ---- a context and a tree
 
-abbrev tree_place : Finding → ℕ
-tree_place (ContextUnreadable x) = 0
-tree_place UnsupportedVersion = 1
-tree_place UnsupportedSuite = 2
-tree_place (TreeUnreadable x) = 3
-tree_place RequirementsUnreadable = 4
-tree_place (TreeRefused x) = 5
-tree_place (MembersRefused x) = 6
-tree_place (TreeValid x) = 7
-tree_place _ = 8
+abbrev tree_position : Finding → ℕ
+tree_position (ContextUnreadable x) = 0
+tree_position UnsupportedVersion = 1
+tree_position UnsupportedSuite = 2
+tree_position (TreeUnreadable x) = 3
+tree_position RequirementsUnreadable = 4
+tree_position (TreeRefused x) = 5
+tree_position (MembersRefused x) = 6
+tree_position (TreeValid x) = 7
+tree_position _ = 8
 
 module _ (G : VerifyFn) (context_bytes tree_bytes : List ℕ) where
   abbrev Found : Finding → Type 0
@@ -112,7 +112,7 @@ module _ (G : VerifyFn) (context_bytes tree_bytes : List ℕ) where
       no_more))))))
 
   -- a condition that fails is not met
-  fails : (f : Finding) → Found f → Met (tree_place f) → ⊥
+  fails : (f : Finding) → Found f → Met (tree_position f) → ⊥
   fails (ContextUnreadable x) a m = a m.0 m.1
   fails UnsupportedVersion a m = a.2 (ap (λ (c : GroupContext). c.version) (same_context a.0 m.0 a.1 m.1) ∙ m.2)
   fails UnsupportedSuite a m = a.2.unsupported (subst (λ (c : GroupContext). IsSupported c.cipher_suite) (same_context m.0 a.0 m.1 a.1) m.2)
@@ -151,7 +151,7 @@ module _ (G : VerifyFn) (context_bytes tree_bytes : List ℕ) where
   met_valid : (c : GroupContext) (t : RatchetTree) (r : RequiredCapabilities) → IsGiven c → HasValidTree c (IsTreeOf tree_bytes) t r → MetBefore Met 6
   met_valid c t r h x = below_more Met 5 (met_readable c t r h x.readable) (c, t, h, x.readable.has_tree.uses, x.valid)
 
-  met_before : (f : Finding) → Found f → MetBefore Met (tree_place f)
+  met_before : (f : Finding) → Found f → MetBefore Met (tree_position f)
   met_before (ContextUnreadable x) a = below_none Met
   met_before UnsupportedVersion a = met_version a.0 a.1
   met_before UnsupportedSuite a = met_suite a.0 a.1 a.2.version
@@ -165,7 +165,7 @@ module _ (G : VerifyFn) (context_bytes tree_bytes : List ℕ) where
   met_before _ a = absurd a
 
   -- two findings of one condition
-  alike : (f g : Finding) → tree_place f ≡ tree_place g → Found f → Found g → AreAlike f g
+  alike : (f g : Finding) → tree_position f ≡ tree_position g → Found f → Found g → AreAlike f g
   alike (ContextUnreadable x) (ContextUnreadable y) e a b = tt
   alike UnsupportedVersion UnsupportedVersion e a b = refl
   alike UnsupportedSuite UnsupportedSuite e a b = refl
@@ -192,23 +192,23 @@ module _ (G : VerifyFn) (context_bytes tree_bytes : List ℕ) where
   alike (StartRefused x) g e a b = absurd a
   alike (StateRefused x) g e a b = absurd a
   alike (Starts x) g e a b = absurd a
-  alike f g e a b = absurd (other_place (tree_place f) (tree_place g) refl e)
+  alike f g e a b = absurd (other_place (tree_position f) (tree_position g) refl e)
 
 pub one_tree_finding : TreeFindingIsUnique
 one_tree_finding G context_bytes tree_bytes f g a b =
     alike G context_bytes tree_bytes f g
-    (one_place tree_place (Met G context_bytes tree_bytes) (Found G context_bytes tree_bytes)
+    (one_position tree_position (Met G context_bytes tree_bytes) (Found G context_bytes tree_bytes)
     (met_before G context_bytes tree_bytes) (fails G context_bytes tree_bytes) f g a b) a b
 
 -- ---- a group info and a tree
 
-abbrev start_place : Finding → ℕ
-start_place (InfoUnreadable x) = 0
-start_place NotGroupInfo = 1
-start_place (TreeUnreadable x) = 2
-start_place (StartRefused x) = 3
-start_place (Starts x) = 4
-start_place _ = 5
+abbrev start_position : Finding → ℕ
+start_position (InfoUnreadable x) = 0
+start_position NotGroupInfo = 1
+start_position (TreeUnreadable x) = 2
+start_position (StartRefused x) = 3
+start_position (Starts x) = 4
+start_position _ = 5
 
 module _ (profile : Profile) (G : VerifyFn) (info_bytes : List ℕ) (tree_bytes : Option (List ℕ)) where
   abbrev Begins : Finding → Type 0
@@ -218,14 +218,14 @@ module _ (profile : Profile) (G : VerifyFn) (info_bytes : List ℕ) (tree_bytes 
   moved : (P : GroupInfo → Option RatchetTree → Type 0) (x y : GroupInfo) (t u : Option RatchetTree) → IsReadAs profile info_bytes tree_bytes x t
       → IsReadAs profile info_bytes tree_bytes y u → P x t → P y u
   moved P x y t u a b p =
-      subst (λ (h : Option RatchetTree). P y h) (one_handed tree_bytes t u a.is_handed b.is_handed)
+      subst (λ (h : Option RatchetTree). P y h) (one_supplied tree_bytes t u a.is_supplied b.is_supplied)
       (subst (λ (z : GroupInfo). P z t) (one_info profile info_bytes x y a.is_info b.is_info) p)
 
   -- the start is one
   same_start : (s u : State) → IsStarted profile G info_bytes tree_bytes s → IsStarted profile G info_bytes tree_bytes u → s ≡ u
   same_start s u a b =
-      one_start profile G b.info b.handed s u
-      (moved (λ (x : GroupInfo) (h : Option RatchetTree). IsStart profile G x h s) a.info b.info a.handed b.handed a.is_read b.is_read a.start) b.start
+      one_start profile G b.info b.supplied s u
+      (moved (λ (x : GroupInfo) (h : Option RatchetTree). IsStart profile G x h s) a.info b.info a.supplied b.supplied a.is_read b.is_read a.start) b.start
 
   -- another message is no group info
   no_other : (m : Message) (x : GroupInfo) → IsMessageIn profile info_bytes m → ((info : GroupInfo) → m ≢ messages.GroupInfo info) → IsInfo profile info_bytes x → ⊥
@@ -236,18 +236,18 @@ module _ (profile : Profile) (G : VerifyFn) (info_bytes : List ℕ) (tree_bytes 
   Ready =
       first_then ((m : Message) × IsMessageIn profile info_bytes m)
       (first_then ((info : GroupInfo) × IsInfo profile info_bytes info)
-      (first_then ((handed : Option RatchetTree) × IsHanded tree_bytes handed)
+      (first_then ((supplied : Option RatchetTree) × IsSupplied tree_bytes supplied)
       (first_then ((s : State) × IsStarted profile G info_bytes tree_bytes s)
       no_more)))
 
   -- a condition that fails is not met
-  not_ready : (f : Finding) → Begins f → Ready (start_place f) → ⊥
+  not_ready : (f : Finding) → Begins f → Ready (start_position f) → ⊥
   not_ready (InfoUnreadable x) a m = a m.0 m.1
   not_ready NotGroupInfo a m = no_other a.0 m.0 a.1 a.2 m.1
-  not_ready (TreeUnreadable x) a m = not_handed tree_bytes m.0 a.2 m.1
+  not_ready (TreeUnreadable x) a m = not_supplied tree_bytes m.0 a.2 m.1
   not_ready (StartRefused x) a m =
       no_fault_of_start profile G a.0 a.1 m.0 x a.3
-      (moved (λ (z : GroupInfo) (h : Option RatchetTree). IsStart profile G z h m.0) m.1.info a.0 m.1.handed a.1 m.1.is_read a.2 m.1.start) a.4
+      (moved (λ (z : GroupInfo) (h : Option RatchetTree). IsStart profile G z h m.0) m.1.info a.0 m.1.supplied a.1 m.1.is_read a.2 m.1.start) a.4
   not_ready (Starts x) a m = absurd m
   not_ready _ a m = absurd a
 
@@ -256,19 +256,19 @@ module _ (profile : Profile) (G : VerifyFn) (info_bytes : List ℕ) (tree_bytes 
   ready_info : (info : GroupInfo) → IsInfo profile info_bytes info → MetBefore Ready 2
   ready_info info h = below_more Ready 1 (below_more Ready 0 (below_none Ready) (messages.GroupInfo info, h)) (info, h)
 
-  ready_both : (info : GroupInfo) (handed : Option RatchetTree) → IsReadAs profile info_bytes tree_bytes info handed → MetBefore Ready 3
-  ready_both info handed h = below_more Ready 2 (ready_info info h.is_info) (handed, h.is_handed)
+  ready_both : (info : GroupInfo) (supplied : Option RatchetTree) → IsReadAs profile info_bytes tree_bytes info supplied → MetBefore Ready 3
+  ready_both info supplied h = below_more Ready 2 (ready_info info h.is_info) (supplied, h.is_supplied)
 
-  ready_before : (f : Finding) → Begins f → MetBefore Ready (start_place f)
+  ready_before : (f : Finding) → Begins f → MetBefore Ready (start_position f)
   ready_before (InfoUnreadable x) a = below_none Ready
   ready_before NotGroupInfo a = below_more Ready 0 (below_none Ready) (a.0, a.1)
   ready_before (TreeUnreadable x) a = ready_info a.0 a.1
   ready_before (StartRefused x) a = ready_both a.0 a.1 a.2
-  ready_before (Starts x) a = below_more Ready 3 (ready_both a.1.info a.1.handed a.1.is_read) (a.0, a.1)
+  ready_before (Starts x) a = below_more Ready 3 (ready_both a.1.info a.1.supplied a.1.is_read) (a.0, a.1)
   ready_before _ a = absurd a
 
   -- two findings of one condition
-  alike_start : (f g : Finding) → start_place f ≡ start_place g → Begins f → Begins g → AreAlike f g
+  alike_start : (f g : Finding) → start_position f ≡ start_position g → Begins f → Begins g → AreAlike f g
   alike_start (InfoUnreadable x) (InfoUnreadable y) e a b = tt
   alike_start NotGroupInfo NotGroupInfo e a b = refl
   alike_start (TreeUnreadable x) (TreeUnreadable y) e a b = tt
@@ -276,17 +276,17 @@ module _ (profile : Profile) (G : VerifyFn) (info_bytes : List ℕ) (tree_bytes 
       ap StartRefused (one_start_fault G b.0 b.1 x y a.3 b.3
       (moved (λ (z : GroupInfo) (h : Option RatchetTree). IsStartFault G z h x) a.0 b.0 a.1 b.1 a.2 b.2 a.4) b.4)
   alike_start (Starts x) (Starts y) e a b = ap Starts (a.2 ∙ ap started_of (same_start a.0 b.0 a.1 b.1) ∙ sym b.2)
-  alike_start (InfoUnreadable x) g e a b = absurd (other_place 0 (start_place g) refl e)
-  alike_start NotGroupInfo g e a b = absurd (other_place 1 (start_place g) refl e)
-  alike_start (TreeUnreadable x) g e a b = absurd (other_place 2 (start_place g) refl e)
-  alike_start (StartRefused x) g e a b = absurd (other_place 3 (start_place g) refl e)
-  alike_start (Starts x) g e a b = absurd (other_place 4 (start_place g) refl e)
+  alike_start (InfoUnreadable x) g e a b = absurd (other_place 0 (start_position g) refl e)
+  alike_start NotGroupInfo g e a b = absurd (other_place 1 (start_position g) refl e)
+  alike_start (TreeUnreadable x) g e a b = absurd (other_place 2 (start_position g) refl e)
+  alike_start (StartRefused x) g e a b = absurd (other_place 3 (start_position g) refl e)
+  alike_start (Starts x) g e a b = absurd (other_place 4 (start_position g) refl e)
   alike_start _ g e a b = absurd a
 
 pub one_start_finding : StartFindingIsUnique
 one_start_finding profile G info_bytes tree_bytes f g a b =
     alike_start profile G info_bytes tree_bytes f g
-    (one_place start_place (Ready profile G info_bytes tree_bytes) (Begins profile G info_bytes tree_bytes)
+    (one_position start_position (Ready profile G info_bytes tree_bytes) (Begins profile G info_bytes tree_bytes)
     (ready_before profile G info_bytes tree_bytes) (not_ready profile G info_bytes tree_bytes) f g a b) a b
 
 pub one_started : StartIsUnique

@@ -22,7 +22,7 @@ length_in G s v = length_valid s.context.cipher_suite s.context.tree_hash s.tree
 
 -- so of the state in which a follower starts
 pub length_started : (profile : Profile) (G : VerifyFn) (info_bytes : List ℕ) (tree_bytes : Option (List ℕ)) (s : State) → IsStarted profile G info_bytes tree_bytes s → length s.context.tree_hash ≤ 64
-length_started profile G info_bytes tree_bytes s h = length_in G s (start_valid profile G h.info h.handed s h.start)
+length_started profile G info_bytes tree_bytes s h = length_in G s (start_valid profile G h.info h.supplied s h.start)
 
 -- or resumes
 pub length_resumed : (G : VerifyFn) (bytes : List ℕ) (s : State) → IsResumed G bytes s → length s.context.tree_hash ≤ 64

@@ -16,15 +16,15 @@ no_more k = ⊥
 abbrev pub MetBefore : (ℕ → Type 0) → ℕ → Type 0
 MetBefore Met n = (k : ℕ) → k < n → Met k
 
-module _ {A : Type 0} (place : A → ℕ) (Met : ℕ → Type 0) (Said : A → Type 0)
-    (before : (x : A) → Said x → MetBefore Met (place x)) (fails : (x : A) → Said x → Met (place x) → ⊥) where
+module _ {A : Type 0} (position : A → ℕ) (Met : ℕ → Type 0) (Said : A → Type 0)
+    (before : (x : A) → Said x → MetBefore Met (position x)) (fails : (x : A) → Said x → Met (position x) → ⊥) where
   -- what is said has one place
-  pub one_place : (x y : A) → Said x → Said y → place x ≡ place y
-  one_place x y a b = by_order (nat_lt (place x) (place y)) refl (nat_lt (place y) (place x)) refl
+  pub one_position : (x y : A) → Said x → Said y → position x ≡ position y
+  one_position x y a b = by_order (nat_lt (position x) (position y)) refl (nat_lt (position y) (position x)) refl
     where
-      by_order : (p : Bool) → nat_lt (place x) (place y) ≡ p → (q : Bool) → nat_lt (place y) (place x) ≡ q → place x ≡ place y
-      by_order true e q f = absurd (fails x a (before y b (place x) (grind (arith, nat_tests))))
-      by_order false e true f = absurd (fails y b (before x a (place y) (grind (arith, nat_tests))))
+      by_order : (p : Bool) → nat_lt (position x) (position y) ≡ p → (q : Bool) → nat_lt (position y) (position x) ≡ q → position x ≡ position y
+      by_order true e q f = absurd (fails x a (before y b (position x) (grind (arith, nat_tests))))
+      by_order false e true f = absurd (fails y b (before x a (position y) (grind (arith, nat_tests))))
       by_order false e false f = grind (arith, nat_tests)
 
 -- two numbers that a test tells apart

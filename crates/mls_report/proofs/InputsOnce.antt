@@ -12,7 +12,7 @@ use Rattle.mls_report.proofs.FindingsOnce.{one_start_finding, one_started}
 use Rattle.mls_report.specs.Finding.{finding_verdict}
 use Rattle.mls_report.specs.UniqueReports.{AreAlike}
 use Rattle.mls_report.specs.ReadAll.{ReadsAll}
-use Rattle.mls_report.specs.StartInputs.{ReadsHanded, ReadsBoth, ReadsAndStarts, ReadsAndDeclines, IsStarted, IsStartFinding, started_of}
+use Rattle.mls_report.specs.StartInputs.{ReadsSupplied, ReadsBoth, ReadsAndStarts, ReadsAndDeclines, IsStarted, IsStartFinding, started_of}
 use Rattle.mls_report.specs.declared.finding.Finding.{Finding}
 use Rattle.mls_report.specs.declared.finding.Finding.TheVariants.{ContextUnreadable, InfoUnreadable, NotGroupInfo, TreeUnreadable, UnsupportedVersion, UnsupportedSuite, RequirementsUnreadable, TreeRefused, MembersRefused, StartRefused, StateRefused, TreeValid, Starts}
 use Rattle.mls_report.specs.declared.finding.Started.{Started}
@@ -49,7 +49,7 @@ pub one_input : (all : List ℕ) (left behind : Option (List ℕ)) (bytes more :
 one_input all left behind bytes more a b = taken_is all left bytes a ∙ sym (taken_is all behind more b)
 
 pub one_tree_input : (all : Option (List ℕ)) (left behind : Option (Option (List ℕ))) (bytes more : Option (List ℕ))
-    → ReadsHanded (option_map Some all) left bytes → ReadsHanded (option_map Some all) behind more → bytes ≡ more
+    → ReadsSupplied (option_map Some all) left bytes → ReadsSupplied (option_map Some all) behind more → bytes ≡ more
 one_tree_input None None None None None a b = refl
 one_tree_input None (Some l) behind bytes more a b = absurd a
 one_tree_input None None (Some l) bytes more a b = absurd b

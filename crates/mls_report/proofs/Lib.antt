@@ -5,10 +5,10 @@ pub mod Outcomes
 pub mod Replaying
 mod ReplayInputs
 pub mod Answered
-pub mod AskedLogs
+pub mod SignatureLogs
 pub mod StartLists
 pub mod StartLines
-pub mod AskedStarts
+pub mod SignatureStarts
 pub mod InOrder
 pub mod FindingsOnce
 pub mod InputsOnce

@@ -67,7 +67,7 @@ wire_fault_is_one_line f =
 
 pub node_fault_is_one_line : (f : NodeFault) → IsOneLine (node_fault_text f)
 node_fault_is_one_line (fault.Wire f) = wire_fault_is_one_line f
-node_fault_is_one_line (fault.WrongNodeKind place) = IsOneLine-append (codes "WrongNodeKind ") (decimal place) (IsOneLine-tested (codes "WrongNodeKind ") refl) (IsOneLine-decimal place)
+node_fault_is_one_line (fault.WrongNodeKind position) = IsOneLine-append (codes "WrongNodeKind ") (decimal position) (IsOneLine-tested (codes "WrongNodeKind ") refl) (IsOneLine-decimal position)
 node_fault_is_one_line fault.LastBlank = IsOneLine-tested (codes "LastBlank") refl
 node_fault_is_one_line fault.EmptyTree = IsOneLine-tested (codes "EmptyTree") refl
 node_fault_is_one_line fault.TooManyLeaves = IsOneLine-tested (codes "TooManyLeaves") refl

@@ -9,7 +9,7 @@ use Rattle.mls_wire.specs.Logs.{length_size, IsRecord, IsBadLength, IsTruncatedR
 use Rattle.mls_wire.specs.Parsing.{length_at}
 use Rattle.mls_wire.specs.Encoding.{length_form}
 use Rattle.mls_check.specs.Signatures.{VerifyFn}
-use Rattle.mls_follow.specs.Runs.{Call, IsRun, IsAnswered}
+use Rattle.mls_follow.specs.Runs.{Call, IsRun, HasAnswer}
 use Rattle.mls_follow.specs.State.{State}
 use Rattle.mls_report.proofs.TurnsOnce.{MessageLines}
 use Rattle.mls_report.specs.Replay.{ProcessedMessage, IsLogEnd}
@@ -108,25 +108,25 @@ module _ (most first : ℕ) (bytes : List ℕ) where
 module _ (G : VerifyFn) where
   -- whatever messages come, there is an answer to the next
   abbrev pub IsAnswering : State → Type 0
-  IsAnswering s = (calls : List Call) (last : State) (bytes : List ℕ) → IsRun G s calls last → IsAnswered G last bytes
+  IsAnswering s = (calls : List Call) (last : State) (bytes : List ℕ) → IsRun G s calls last → HasAnswer G last bytes
 
-  pub record IsTold (most : ℕ) (s : State) (log : List ℕ) : Type 0 where
+  pub record IsLogReported (most : ℕ) (s : State) (log : List ℕ) : Type 0 where
     pub turns : List ProcessedMessage
     pub broken : Bool
-    pub told : MessageLines G most s log turns broken
+    pub printed : MessageLines G most s log turns broken
 
-  none_told : (most : ℕ) (s : State) → IsTold most s []
+  none_told : (most : ℕ) (s : State) → IsLogReported most s []
   none_told most s = record {
     turns = [];
     broken = false;
-    told = record { taken = tt; bounded = omega arith; records = []; are_records = refl; rest = []; left = []; read = refl; log_end = (refl, refl) };
+    printed = record { taken = tt; bounded = omega arith; records = []; are_records = refl; rest = []; left = []; read = refl; log_end = (refl, refl) };
   }
 
-  breaks_told : (most : ℕ) (s : State) (log : List ℕ) → Breaks most log → IsTold most s log
-  breaks_told most s log b = record {
+  breaks_reported : (most : ℕ) (s : State) (log : List ℕ) → Breaks most log → IsLogReported most s log
+  breaks_reported most s log b = record {
     turns = [];
     broken = true;
-    told = record {
+    printed = record {
       taken = tt;
       bounded = omega arith;
       records = [];
@@ -139,15 +139,15 @@ module _ (G : VerifyFn) where
   }
 
   -- one message, and what is told behind it
-  one_more : (most : ℕ) (s : State) (log : List ℕ) (n : Begins log) (answer : IsAnswered G s n.body) → IsTold most answer.1 n.after → IsTold (suc most) s log
+  one_more : (most : ℕ) (s : State) (log : List ℕ) (n : Begins log) (answer : HasAnswer G s n.body) → IsLogReported most answer.1 n.after → IsLogReported (suc most) s log
   one_more most s log n answer rest =
       let turn : ProcessedMessage = record { bytes = n.body; answer = answer.0; state = answer.1 } in
-      let behind = rest.told in
+      let behind = rest.printed in
       let fewer = behind.bounded in
       record {
         turns = turn ∷ rest.turns;
         broken = rest.broken;
-        told = record {
+        printed = record {
           taken = (answer.2, behind.taken);
           bounded = omega (arith, fewer);
           records = n.read ++ behind.records;
@@ -164,18 +164,18 @@ module _ (G : VerifyFn) where
       }
 
   -- the answer to a message leads to a state of the same kind
-  still_answering : (s : State) (bytes : List ℕ) → IsAnswering s → (answer : IsAnswered G s bytes) → IsAnswering answer.1
+  still_answering : (s : State) (bytes : List ℕ) → IsAnswering s → (answer : HasAnswer G s bytes) → IsAnswering answer.1
   still_answering s bytes all answer calls last more run =
       all (record { bytes = bytes; answer = answer.0 } ∷ calls) last more (answer.1, answer.2.takes, run)
 
-  pub log_told : (most : ℕ) (s : State) (log : List ℕ) → IsAnswering s → IsTold most s log
-  log_told most s [] all = none_told most s
-  log_told zero s (first ∷ bytes) all =
-      breaks_told zero s (first ∷ bytes) (record { rest = first ∷ []; left = bytes; is_break = inl (refl, refl); log_is = refl })
-  log_told (suc most) s (first ∷ bytes) all =
+  pub log_reported : (most : ℕ) (s : State) (log : List ℕ) → IsAnswering s → IsLogReported most s log
+  log_reported most s [] all = none_told most s
+  log_reported zero s (first ∷ bytes) all =
+      breaks_reported zero s (first ∷ bytes) (record { rest = first ∷ []; left = bytes; is_break = inl (refl, refl); log_is = refl })
+  log_reported (suc most) s (first ∷ bytes) all =
       elim (comes most first bytes) [
         | inl n ↦
             (let answer = all [] s n.body refl in
-            one_more most s (first ∷ bytes) n answer (log_told most answer.1 n.after (still_answering s n.body all answer)))
-        | inr b ↦ breaks_told (suc most) s (first ∷ bytes) b
+            one_more most s (first ∷ bytes) n answer (log_reported most answer.1 n.after (still_answering s n.body all answer)))
+        | inr b ↦ breaks_reported (suc most) s (first ∷ bytes) b
       ]

@@ -13,8 +13,8 @@ use Rattle.mls_report.specs.declared.verdict.RunFault.{RunFault}
 use Rattle.mls_report.specs.declared.verdict.RunFault.TheVariants.{Read, Write, Memory}
 use Rattle.mls_report.specs.declared.verdict.Verdict.{Verdict}
 use Rattle.mls_report.specs.declared.verdict.Verdict.TheVariants.{No}
-use Rattle.mls_report.specs.Replay.{ProcessedMessage, AreProcessed, state_after, processed_line, processed_lines, one_if, accepted_count, refused_count, message_limit, still_to_come, AreRecords, Follows, TellsPart, IsVerdict, last_lines, ending, ReplaysFrom, ReplaysTo, ReplaysPartFrom}
-use Rattle.mls_report.specs.ReplaySteps.{ReadsUndecided, TellsTurn, StopsAt, FollowsLog, ReplaysLog, ReturnsAfter, WritesDecline, WritesDeclinePart}
+use Rattle.mls_report.specs.Replay.{ProcessedMessage, AreProcessed, state_after, processed_line, processed_lines, one_if, accepted_count, refused_count, message_limit, still_to_come, AreRecords, Follows, ReportsPart, IsVerdict, last_lines, ending, ReplaysFrom, ReplaysTo, ReplaysPartFrom}
+use Rattle.mls_report.specs.ReplaySteps.{ReadsUndecided, ReportsMessage, StopsAt, FollowsLog, ReplaysLog, ReturnsAfter, WritesDecline, WritesDeclinePart}
 use Rattle.mls_report.specs.Finding.{finding_verdict}
 use Rattle.mls_report.specs.StartSteps.{Says}
 use Rattle.mls_report.specs.declared.finding.Finding.{Finding}
@@ -96,13 +96,13 @@ so_far-none G s l w = record {
 pub so_far-snoc :
     (G : VerifyFn) (s : State) (l0 l1 l2 w0 w1 w2 : Option (List ℕ)) (ts : List ProcessedMessage) (now : State) (n : ℕ) (body : List ℕ) (read : List ℕ) (new : State) (b : Bool)
     → SoFar G s l0 l1 w0 w1 ts now → n ≡ 1 + length ts → length ts < message_limit → IsRecord read body → Consumes l1 l2 read
-    → (told : TellsTurn G now n body new w1 w2 b)
-    → SoFar G s l0 l2 w0 w2 (ts ++ record { bytes = body; answer = told.answer; state = new } ∷ []) new
-so_far-snoc G s l0 l1 l2 w0 w1 w2 ts now n body read new b f count below r taken told =
-    let t : ProcessedMessage = record { bytes = body; answer = told.answer; state = new } in
+    → (printed : ReportsMessage G now n body new w1 w2 b)
+    → SoFar G s l0 l2 w0 w2 (ts ++ record { bytes = body; answer = printed.answer; state = new } ∷ []) new
+so_far-snoc G s l0 l1 l2 w0 w1 w2 ts now n body read new b f count below r taken printed =
+    let t : ProcessedMessage = record { bytes = body; answer = printed.answer; state = new } in
     record {
-      follows = follows-snoc G s l0 l1 l2 ts t read f.follows below r taken (subst (λ (st : State). IsAnswer G st body told.answer new) f.state told.is_answer);
-      wrote = subst (Appends w0 w2) (sym (lines-snoc 1 ts t n count)) (Appends-trans w0 w1 w2 _ _ f.wrote told.wrote);
+      follows = follows-snoc G s l0 l1 l2 ts t read f.follows below r taken (subst (λ (st : State). IsAnswer G st body printed.answer new) f.state printed.is_answer);
+      wrote = subst (Appends w0 w2) (sym (lines-snoc 1 ts t n count)) (Appends-trans w0 w1 w2 _ _ f.wrote printed.wrote);
       state = sym (state_after-snoc s ts t);
     }
 
@@ -116,7 +116,7 @@ pub still : (ts : List ProcessedMessage) (most : ℕ) → most + length ts ≡ m
 still ts most e = omega arith
 
 pub part-read : (G : VerifyFn) (s : State) (l0 l1 l2 w0 w1 : Option (List ℕ)) (ts : List ProcessedMessage) (now : State) (most : ℕ) (e : RunFault)
-    → SoFar G s l0 l1 w0 w1 ts now → most + length ts ≡ message_limit → ReadsUndecided l1 l2 most → e ≢ Write → TellsPart G s l0 l2 w0 w1 e
+    → SoFar G s l0 l1 w0 w1 ts now → most + length ts ≡ message_limit → ReadsUndecided l1 l2 most → e ≢ Write → ReportsPart G s l0 l2 w0 w1 e
 part-read G s l0 l1 l2 w0 w1 ts now most Read f count u other = record {
   turns = ts;
   rest = u.rest;
@@ -135,7 +135,7 @@ part-read G s l0 l1 l2 w0 w1 ts now most Memory f count u other = record {
 
 pub part-turn : (G : VerifyFn) (s : State) (l0 l1 l2 w0 w1 w2 : Option (List ℕ)) (ts : List ProcessedMessage) (now : State) (n : ℕ) (body read : List ℕ) (e : RunFault)
     → SoFar G s l0 l1 w0 w1 ts now → n ≡ 1 + length ts → length ts < message_limit → IsRecord read body → Consumes l1 l2 read
-    → StopsAt G now n body w1 w2 e → TellsPart G s l0 l2 w0 w2 e
+    → StopsAt G now n body w1 w2 e → ReportsPart G s l0 l2 w0 w2 e
 part-turn G s l0 l1 l2 w0 w1 w2 ts now n body read Read f count below r taken stops = absurd stops
 part-turn G s l0 l1 l2 w0 w1 w2 ts now n body read Write f count below r taken stops =
     let t : ProcessedMessage = record { bytes = body; answer = stops.answer; state = stops.new } in
@@ -202,10 +202,10 @@ counts-bounded G s l0 l1 w0 w1 now a r broken f =
     let all = f.counted in
     omega arith
 
-pub told-log : (G : VerifyFn) (s : State) (l0 l1 w0 w1 w2 : Option (List ℕ)) (now : State) (a r : ℕ) (broken : Bool) (verdict : Verdict)
+pub printed-log : (G : VerifyFn) (s : State) (l0 l1 w0 w1 w2 : Option (List ℕ)) (now : State) (a r : ℕ) (broken : Bool) (verdict : Verdict)
     → FollowsLog G s l0 l1 w0 w1 now a r broken → Appends w1 w2 (last_lines broken a r now.context.epoch) → IsVerdict broken r verdict
     → ReplaysLog G s l0 l1 w0 w2 verdict now
-told-log G s l0 l1 w0 w1 w2 now a r broken verdict f wrote v =
+printed-log G s l0 l1 w0 w1 w2 now a r broken verdict f wrote v =
     let taken = f.taken in
     let counted = f.counted in
     let refused : r ≡ refused_count f.turns = omega arith in (
@@ -222,7 +222,7 @@ told-log G s l0 l1 w0 w1 w2 now a r broken verdict f wrote v =
     )
 
 pub part-ending : (G : VerifyFn) (s : State) (l0 l1 w0 w1 w2 : Option (List ℕ)) (now : State) (a r : ℕ) (broken : Bool)
-    → FollowsLog G s l0 l1 w0 w1 now a r broken → AppendsPrefix w1 w2 (last_lines broken a r now.context.epoch) → TellsPart G s l0 l1 w0 w2 Write
+    → FollowsLog G s l0 l1 w0 w1 now a r broken → AppendsPrefix w1 w2 (last_lines broken a r now.context.epoch) → ReportsPart G s l0 l1 w0 w2 Write
 part-ending G s l0 l1 w0 w1 w2 now a r broken f p = inr (record {
   turns = f.turns;
   rest = f.rest;
@@ -236,7 +236,7 @@ part-ending G s l0 l1 w0 w1 w2 now a r broken f p = inr (record {
 })
 
 pub part-followed : (G : VerifyFn) (s : State) (l0 l1 w0 w1 : Option (List ℕ)) (now : State) (a r : ℕ) (broken : Bool)
-    → FollowsLog G s l0 l1 w0 w1 now a r broken → TellsPart G s l0 l1 w0 w1 Memory
+    → FollowsLog G s l0 l1 w0 w1 now a r broken → ReportsPart G s l0 l1 w0 w1 Memory
 part-followed G s l0 l1 w0 w1 now a r broken f = record {
   turns = f.turns;
   rest = f.rest;
@@ -270,10 +270,10 @@ module _ (K G : VerifyFn) (same : K ≡ G) (Starts : State → Type 0) (Declines
   replays-to verdict None h = absurd h
   replays-to verdict (Some last) h =
       let moved : ReplaysLog G s l0 l1 w0 w1 verdict last = subst (λ (g : VerifyFn). ReplaysLog g s l0 l1 w0 w1 verdict last) same h in
-      (record { state = s; starts = starts; tells = moved.0 }, moved.1)
+      (record { state = s; starts = starts; reports = moved.0 }, moved.1)
 
-  pub replays-after : (fault : RunFault) → TellsPart K s l0 l1 w0 w1 fault → ReplaysPartFrom G Starts Declines l0 l1 w0 w1 fault
-  replays-after fault h = inr (record { state = s; starts = starts; tells = subst (λ (g : VerifyFn). TellsPart g s l0 l1 w0 w1 fault) same h })
+  pub replays-after : (fault : RunFault) → ReportsPart K s l0 l1 w0 w1 fault → ReplaysPartFrom G Starts Declines l0 l1 w0 w1 fault
+  replays-after fault h = inr (record { state = s; starts = starts; reports = subst (λ (g : VerifyFn). ReportsPart g s l0 l1 w0 w1 fault) same h })
 
 module _ (G : VerifyFn) (Starts : State → Type 0) (Declines : Finding → Type 0) (no : (f : Finding) → Declines f → finding_verdict f ≡ No)
     (failure : StartFailure) (declines : Says Declines failure) (l w0 w1 : Option (List ℕ)) where

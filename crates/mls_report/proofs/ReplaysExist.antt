@@ -7,16 +7,16 @@ use Rattle.mls_msgs.specs.declared.profile.Profile.{Profile}
 use Rattle.mls_follow.proofs.Holding.{run_answered}
 use Rattle.mls_follow.proofs.ResumedOrNot.{some_resumption}
 use Rattle.mls_follow.proofs.StoredRuns.{resumed_answered}
-use Rattle.mls_follow.specs.Runs.{Call, IsRun, IsAnswered}
+use Rattle.mls_follow.specs.Runs.{Call, IsRun, HasAnswer}
 use Rattle.mls_follow.specs.State.{State}
 use Rattle.mls_follow.proofs.Readings.{fits_or_not}
 use Rattle.mls_report.proofs.FindingsExist.{begun}
-use Rattle.mls_report.proofs.LogsExist.{IsTold, log_told}
+use Rattle.mls_report.proofs.LogsExist.{IsLogReported, log_reported}
 use Rattle.mls_report.specs.Finding.{finding_line}
 use Rattle.mls_report.specs.ReadAll.{ReadsAll}
 use Rattle.mls_report.specs.Replay.{message_limit, IsVerdict, ReplaysFrom, processed_lines, ending, refused_count}
 use Rattle.mls_report.specs.ReportsExist.{ReplayExists, StateFindingExists, StateReplayExists}
-use Rattle.mls_report.specs.StartInputs.{ReadsHanded, ReadsBoth, IsStarted, ReadsAndStarts, ReadsAndDeclines, started_of}
+use Rattle.mls_report.specs.StartInputs.{ReadsSupplied, ReadsBoth, IsStarted, ReadsAndStarts, ReadsAndDeclines, started_of}
 use Rattle.mls_report.specs.StateInputs.{ReadsAndResumes, ReadsAndDeclinesState}
 use Rattle.mls_report.specs.declared.finding.Finding.{Finding}
 use Rattle.mls_report.specs.declared.finding.Finding.TheVariants.{StateRefused, Starts}
@@ -48,12 +48,12 @@ read_input all =
     above : (xs : List ℕ) → (length xs ≤ input_limit → ⊥) → input_limit + 1 ≤ length xs
     above xs over = omega (arith, over)
 
-pub record IsHandedRead (all : Option (List ℕ)) : Type 0 where
+pub record IsSuppliedRead (all : Option (List ℕ)) : Type 0 where
   pub bytes : Option (List ℕ)
   pub left : Option (Option (List ℕ))
-  pub reads : ReadsHanded (option_map Some all) left bytes
+  pub reads : ReadsSupplied (option_map Some all) left bytes
 
-pub read_optional_tree : (all : Option (List ℕ)) → IsHandedRead all
+pub read_optional_tree : (all : Option (List ℕ)) → IsSuppliedRead all
 read_optional_tree None = record { bytes = None; left = None; reads = tt }
 read_optional_tree (Some all) = let r = read_input all in record { bytes = Some r.bytes; left = Some (Some r.left); reads = r.reads }
 
@@ -75,23 +75,23 @@ module _ (G : VerifyFn) (Begins : State → Type 0) (Declines : Finding → Type
     pub replays : ReplaysFrom G Begins Declines (Some log_bytes) left (Some []) (Some text) verdict
 
   -- a follower starts
-  pub replayed : (s : State) → Begins s → ((calls : List Call) (last : State) (bytes : List ℕ) → IsRun G s calls last → IsAnswered G last bytes) → IsReplayed
+  pub replayed : (s : State) → Begins s → ((calls : List Call) (last : State) (bytes : List ℕ) → IsRun G s calls last → HasAnswer G last bytes) → IsReplayed
   replayed s starts answering =
-      let log : IsTold G message_limit s log_bytes = log_told G message_limit s log_bytes answering in
+      let log : IsLogReported G message_limit s log_bytes = log_reported G message_limit s log_bytes answering in
       let verdict = verdict_there log.broken (refused_count log.turns) in
       record {
         text = processed_lines 1 log.turns ++ ending log.broken s log.turns;
         verdict = verdict.0;
-        left = Some log.told.left;
+        left = Some log.printed.left;
         replays = inr (record {
           state = s;
           starts = starts;
-          tells = record {
+          reports = record {
             turns = log.turns;
-            rest = log.told.rest;
+            rest = log.printed.rest;
             broken = log.broken;
-            follows = record { taken = log.told.taken; bounded = log.told.bounded; records = log.told.records; are_records = log.told.are_records; log_read = log.told.read };
-            log_end = log.told.log_end;
+            follows = record { taken = log.printed.taken; bounded = log.printed.bounded; records = log.printed.records; are_records = log.printed.are_records; log_read = log.printed.read };
+            log_end = log.printed.log_end;
             wrote = refl;
             verdict_is = verdict.1;
           };
@@ -109,7 +109,7 @@ module _ (G : VerifyFn) (Begins : State → Type 0) (Declines : Finding → Type
 
 -- ---- from a group info
 
-module _ (profile : Profile) (G : VerifyFn) (info_bytes : List ℕ) (tree_bytes : Option (List ℕ)) (log_bytes : List ℕ) (info : IsRead info_bytes) (tree : IsHandedRead tree_bytes) where
+module _ (profile : Profile) (G : VerifyFn) (info_bytes : List ℕ) (tree_bytes : Option (List ℕ)) (log_bytes : List ℕ) (info : IsRead info_bytes) (tree : IsSuppliedRead tree_bytes) where
   abbrev Begins : State → Type 0
   Begins = ReadsAndStarts profile G (Some info_bytes) (Some info.left) (option_map Some tree_bytes) tree.left
 
@@ -125,7 +125,7 @@ module _ (profile : Profile) (G : VerifyFn) (info_bytes : List ℕ) (tree_bytes 
         | inl s ↦
             (let started : IsStarted profile G info.bytes tree.bytes s.0 = s.1 in
             replayed G Begins Declines log_bytes s.0 (record { info_bytes = info.bytes; tree_bytes = tree.bytes; both_read = both; started = started })
-            (λ calls last bytes run. run_answered profile G started.info started.handed s.0 last calls bytes started.start run))
+            (λ calls last bytes run. run_answered profile G started.info started.supplied s.0 last calls bytes started.start run))
         | inr f ↦ declined G Begins Declines log_bytes f.0 (record { info_bytes = info.bytes; tree_bytes = tree.bytes; both_read = both; found = f.1; verdict = f.2 })
       ]
 

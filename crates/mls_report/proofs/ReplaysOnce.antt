@@ -9,7 +9,7 @@ use Rattle.mls_report.proofs.StatesOnce.{one_state_decline, decline_or_resume, o
 use Rattle.mls_report.proofs.TurnsOnce.{one_log}
 use Rattle.mls_report.specs.Finding.{finding_line}
 use Rattle.mls_report.specs.UniqueReports.{AreAlike, AreAlikeTexts, EndsLog, ReplayIsUnique, StateReplayIsUnique}
-use Rattle.mls_report.specs.Replay.{ProcessedMessage, IsVerdict, ReplaysFrom, TellsDecline, TellsReplay, processed_lines, ending, refused_count}
+use Rattle.mls_report.specs.Replay.{ProcessedMessage, IsVerdict, ReplaysFrom, ReportsDecline, ReportsReplay, processed_lines, ending, refused_count}
 use Rattle.mls_report.specs.StartInputs.{ReadsAndStarts, ReadsAndDeclines}
 use Rattle.mls_report.specs.StateInputs.{ReadsAndResumes, ReadsAndDeclinesState}
 use Rattle.mls_report.specs.declared.finding.Finding.{Finding}
@@ -35,26 +35,26 @@ module _ (G : VerifyFn) (log_bytes : List ℕ) (Starts More : State → Type 0) 
     (apart_too : (f : Finding) (s : State) → Others f → Starts s → ⊥)
     (one_state : (s t : State) → Starts s → More t → s ≡ t) where
   -- no follower starts, twice
-  both_decline : (l m : Option (List ℕ)) (before after text other : List ℕ) (v o : Verdict) → TellsDecline Declines (Some log_bytes) l (Some before) (Some (before ++ text)) v
-      → TellsDecline Others (Some log_bytes) m (Some after) (Some (after ++ other)) o → AreAlikeTexts text other × (v ≡ o)
+  both_decline : (l m : Option (List ℕ)) (before after text other : List ℕ) (v o : Verdict) → ReportsDecline Declines (Some log_bytes) l (Some before) (Some (before ++ text)) v
+      → ReportsDecline Others (Some log_bytes) m (Some after) (Some (after ++ other)) o → AreAlikeTexts text other × (v ≡ o)
   both_decline l m before after text other v o a b =
       (inr (a.finding, b.finding, alike a.finding b.finding a.declines b.declines, written_is before text (finding_line a.finding) a.wrote, written_is after other (finding_line b.finding) b.wrote), a.verdict_is ∙ sym b.verdict_is)
 
   -- a follower starts, twice
-  both_replay : (l m : Option (List ℕ)) (before after text other : List ℕ) (v o : Verdict) → TellsReplay G Starts (Some log_bytes) l (Some before) (Some (before ++ text)) v
-      → TellsReplay G More (Some log_bytes) m (Some after) (Some (after ++ other)) o → AreAlikeTexts text other × (v ≡ o)
+  both_replay : (l m : Option (List ℕ)) (before after text other : List ℕ) (v o : Verdict) → ReportsReplay G Starts (Some log_bytes) l (Some before) (Some (before ++ text)) v
+      → ReportsReplay G More (Some log_bytes) m (Some after) (Some (after ++ other)) o → AreAlikeTexts text other × (v ≡ o)
   both_replay l m before after text other v o a b =
       let es = one_state a.state b.state a.starts b.starts in
-      let ends : EndsLog G a.state (Some log_bytes) l a.tells.turns a.tells.broken = record { rest = a.tells.rest; follows = a.tells.follows; log_end = a.tells.log_end } in
-      let other_ends : EndsLog G b.state (Some log_bytes) m b.tells.turns b.tells.broken = record { rest = b.tells.rest; follows = b.tells.follows; log_end = b.tells.log_end } in
-      let moved = subst (λ (s : State). EndsLog G s (Some log_bytes) l a.tells.turns a.tells.broken) es ends in
-      let log = one_log G b.state log_bytes l m a.tells.turns b.tells.turns a.tells.broken b.tells.broken moved other_ends in
-      let same : processed_lines 1 a.tells.turns ++ ending a.tells.broken a.state a.tells.turns ≡ processed_lines 1 b.tells.turns ++ ending b.tells.broken b.state b.tells.turns =
+      let ends : EndsLog G a.state (Some log_bytes) l a.reports.turns a.reports.broken = record { rest = a.reports.rest; follows = a.reports.follows; log_end = a.reports.log_end } in
+      let other_ends : EndsLog G b.state (Some log_bytes) m b.reports.turns b.reports.broken = record { rest = b.reports.rest; follows = b.reports.follows; log_end = b.reports.log_end } in
+      let moved = subst (λ (s : State). EndsLog G s (Some log_bytes) l a.reports.turns a.reports.broken) es ends in
+      let log = one_log G b.state log_bytes l m a.reports.turns b.reports.turns a.reports.broken b.reports.broken moved other_ends in
+      let same : processed_lines 1 a.reports.turns ++ ending a.reports.broken a.state a.reports.turns ≡ processed_lines 1 b.reports.turns ++ ending b.reports.broken b.state b.reports.turns =
       λ i. processed_lines 1 (log.0 i) ++ ending (log.1 i) (es i) (log.0 i) in (
-        inl (written_is before text _ a.tells.wrote ∙ same ∙ sym (written_is after other _ b.tells.wrote)),
-        yes_or_no b.tells.broken (refused_count b.tells.turns) v o
-            (subst (λ (z : List ProcessedMessage). IsVerdict b.tells.broken (refused_count z) v) log.0
-            (subst (λ (z : Bool). IsVerdict z (refused_count a.tells.turns) v) log.1 a.tells.verdict_is)) b.tells.verdict_is,
+        inl (written_is before text _ a.reports.wrote ∙ same ∙ sym (written_is after other _ b.reports.wrote)),
+        yes_or_no b.reports.broken (refused_count b.reports.turns) v o
+            (subst (λ (z : List ProcessedMessage). IsVerdict b.reports.broken (refused_count z) v) log.0
+            (subst (λ (z : Bool). IsVerdict z (refused_count a.reports.turns) v) log.1 a.reports.verdict_is)) b.reports.verdict_is,
       )
 
   pub one_report : (l m : Option (List ℕ)) (before after text other : List ℕ) (v o : Verdict) → ReplaysFrom G Starts Declines (Some log_bytes) l (Some before) (Some (before ++ text)) v

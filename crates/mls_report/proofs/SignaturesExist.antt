@@ -16,13 +16,13 @@ use Rattle.mls_follow.specs.declared.taken.Taken.{Taken}
 use Rattle.mls_signatures.specs.SignaturesToVerify.{start_signatures}
 use Rattle.mls_signatures.specs.declared.signature_to_verify.SignatureToVerify.{SignatureToVerify}
 use Rattle.mls_report.proofs.FindingsExist.{begun}
-use Rattle.mls_report.proofs.LogsExist.{IsAnswering, IsTold, log_told}
-use Rattle.mls_report.proofs.ReplaysExist.{IsRead, IsHandedRead, read_input, read_optional_tree}
+use Rattle.mls_report.proofs.LogsExist.{IsAnswering, IsLogReported, log_reported}
+use Rattle.mls_report.proofs.ReplaysExist.{IsRead, IsSuppliedRead, read_input, read_optional_tree}
 use Rattle.mls_report.proofs.TurnsOnce.{MessageLines}
 use Rattle.mls_report.specs.Finding.{finding_line}
 use Rattle.mls_report.specs.Replay.{ProcessedMessage, AreProcessed, message_limit}
 use Rattle.mls_report.specs.ReportsExist.{SignaturesExist, StateSignaturesExist}
-use Rattle.mls_report.specs.SignaturesReport.{HasSignatures, LoggedMessage, HaveSignatures, turns_of, log_lines, break_line, log_verdict, all_read, wanted_lines, TellsLogIf, ReadsStartSignatures, ReadsStateSignatures, SignaturesFrom}
+use Rattle.mls_report.specs.SignaturesReport.{HasSignatures, LoggedMessage, HaveSignatures, turns_of, log_lines, break_line, log_verdict, all_read, needed_lines, ReportsLogIf, ReadsStartSignatures, ReadsStateSignatures, SignaturesFrom}
 use Rattle.mls_report.specs.SignaturesSteps.{signatures_of_state}
 use Rattle.mls_report.specs.StartInputs.{ReadsBoth, ReadsAndDeclines, IsStarted}
 use Rattle.mls_report.specs.StateInputs.{ReadsAndDeclinesState}
@@ -37,29 +37,29 @@ own : (e : Refusal) → (◌≡◌ {A = Result Taken Refusal} (Err e) (Err OutOf
 own e memory same = memory (ap Err same)
 
 -- a message that is processed has signatures, or it is none
-some_wanted : (s : State) (bytes : List ℕ) (answer : Result Taken Refusal) (new : State) → IsAnswer all_good s bytes answer new
-    → (wanted : Option (List SignatureToVerify)) × HasSignatures s bytes wanted
-some_wanted s bytes (Ok taken) new h =
+some_needed : (s : State) (bytes : List ℕ) (answer : Result Taken Refusal) (new : State) → IsAnswer all_good s bytes answer new
+    → (needed : Option (List SignatureToVerify)) × HasSignatures s bytes needed
+some_needed s bytes (Ok taken) new h =
     let message = h.takes.0 in
-    (Some (message_signatures s message.message), record { message = message.message; spelled = message.spelled; same = refl })
-some_wanted s bytes (Err e) new h =
+    (Some (message_signatures s message.message), record { message = message.message; encoded = message.encoded; same = refl })
+some_needed s bytes (Err e) new h =
     elim (h.takes.1 (own e h.memory)) [
       | inl none ↦ (None, none.1)
-      | inr message ↦ (Some (message_signatures s message.message), record { message = message.message; spelled = message.spelled; same = refl })
+      | inr message ↦ (Some (message_signatures s message.message), record { message = message.message; encoded = message.encoded; same = refl })
     ]
 
 -- so have those of a log
 record HaveSome (s : State) (turns : List ProcessedMessage) : Type 0 where
-  asked : List LoggedMessage
-  are : turns ≡ turns_of asked
-  wants : HaveSignatures s asked
+  logged : List LoggedMessage
+  are : turns ≡ turns_of logged
+  has_signatures : HaveSignatures s logged
 
-some_asked : (s : State) (turns : List ProcessedMessage) → AreProcessed all_good s turns → HaveSome s turns
-some_asked s [] h = record { asked = []; are = refl; wants = tt }
-some_asked s (turn ∷ turns) h =
-    let first = some_wanted s turn.bytes turn.answer turn.state h.0 in
-    let rest = some_asked turn.state turns h.1 in
-    record { asked = record { turn = turn; wanted = first.0 } ∷ rest.asked; are = (λ i. turn ∷ rest.are i); wants = (first.1, rest.wants) }
+some_logged : (s : State) (turns : List ProcessedMessage) → AreProcessed all_good s turns → HaveSome s turns
+some_logged s [] h = record { logged = []; are = refl; has_signatures = tt }
+some_logged s (turn ∷ turns) h =
+    let first = some_needed s turn.bytes turn.answer turn.state h.0 in
+    let rest = some_logged turn.state turns h.1 in
+    record { logged = record { turn = turn; needed = first.0 } ∷ rest.logged; are = (λ i. turn ∷ rest.are i); has_signatures = (first.1, rest.has_signatures) }
 
 -- ---- the lines of a log
 
@@ -69,27 +69,27 @@ module _ (R : VerifyFn) (s : State) (answering : IsAnswering all_good s) where
     more : List ℕ
     verdict : Verdict
     left : Option (Option (List ℕ))
-    tells : (mid : List ℕ) → TellsLogIf R s (option_map Some log) left (Some mid) (Some (mid ++ more)) verdict
+    reports : (mid : List ℕ) → ReportsLogIf R s (option_map Some log) left (Some mid) (Some (mid ++ more)) verdict
 
   some_behind : (log : Option (List ℕ)) → HasBehind log
-  some_behind None = record { more = []; verdict = Yes; left = None; tells = λ mid. (refl, refl) }
+  some_behind None = record { more = []; verdict = Yes; left = None; reports = λ mid. (refl, refl) }
   some_behind (Some log) =
-      let there : IsTold all_good message_limit s log = log_told all_good message_limit s log answering in
-      let some = some_asked s there.turns there.told.taken in
-      let told = subst (λ (turns : List ProcessedMessage). MessageLines all_good message_limit s log turns there.broken) some.are there.told in
+      let there : IsLogReported all_good message_limit s log = log_reported all_good message_limit s log answering in
+      let some = some_logged s there.turns there.printed.taken in
+      let printed = subst (λ (turns : List ProcessedMessage). MessageLines all_good message_limit s log turns there.broken) some.are there.printed in
       record {
-        more = log_lines R 1 some.asked ++ break_line there.broken (length some.asked);
-        verdict = log_verdict there.broken (all_read some.asked);
-        left = Some (Some told.left);
-        tells = λ mid. record {
-          asked = some.asked;
-          rest = told.rest;
+        more = log_lines R 1 some.logged ++ break_line there.broken (length some.logged);
+        verdict = log_verdict there.broken (all_read some.logged);
+        left = Some (Some printed.left);
+        reports = λ mid. record {
+          logged = some.logged;
+          rest = printed.rest;
           broken = there.broken;
-          asks = record {
-            follows = record { taken = told.taken; bounded = told.bounded; records = told.records; are_records = told.are_records; log_read = told.read };
-            wants = some.wants;
+          processes = record {
+            follows = record { taken = printed.taken; bounded = printed.bounded; records = printed.records; are_records = printed.are_records; log_read = printed.read };
+            has_signatures = some.has_signatures;
           };
-          log_end = told.log_end;
+          log_end = printed.log_end;
           wrote = refl;
           verdict_is = refl;
         };
@@ -106,20 +106,20 @@ module _ (R : VerifyFn) (Begins : State → List SignatureToVerify → Type 0) (
     signatures : SignaturesFrom R Begins Declines (option_map Some log_bytes) left (Some []) (Some text) verdict
 
   -- a follower starts
-  reported : (s : State) (wanted : List SignatureToVerify) → Begins s wanted → IsAnswering all_good s → IsReported
-  reported s wanted begins answering =
+  reported : (s : State) (needed : List SignatureToVerify) → Begins s needed → IsAnswering all_good s → IsReported
+  reported s needed begins answering =
       let behind : HasBehind R s answering log_bytes = some_behind R s answering log_bytes in
       record {
-        text = wanted_lines R wanted ++ behind.more;
+        text = needed_lines R needed ++ behind.more;
         verdict = behind.verdict;
         left = behind.left;
         signatures = inr (record {
           state = s;
-          wanted = wanted;
+          needed = needed;
           opens = begins;
-          between = Some (wanted_lines R wanted);
+          between = Some (needed_lines R needed);
           wrote = refl;
-          tells = behind.tells (wanted_lines R wanted);
+          reports = behind.reports (needed_lines R needed);
         });
       }
 
@@ -134,7 +134,7 @@ module _ (R : VerifyFn) (Begins : State → List SignatureToVerify → Type 0) (
 
 -- ---- from a GroupInfo
 
-from_inputs : (profile : Profile) (R : VerifyFn) (info_bytes : List ℕ) (tree_bytes log_bytes : Option (List ℕ)) (info : IsRead info_bytes) (tree : IsHandedRead tree_bytes)
+from_inputs : (profile : Profile) (R : VerifyFn) (info_bytes : List ℕ) (tree_bytes log_bytes : Option (List ℕ)) (info : IsRead info_bytes) (tree : IsSuppliedRead tree_bytes)
     → IsReported R (ReadsStartSignatures profile (Some info_bytes) (Some info.left) (option_map Some tree_bytes) tree.left)
     (ReadsAndDeclines profile all_good (Some info_bytes) (Some info.left) (option_map Some tree_bytes) tree.left) log_bytes
 from_inputs profile R info_bytes tree_bytes log_bytes info tree =
@@ -150,11 +150,11 @@ from_inputs profile R info_bytes tree_bytes log_bytes info tree =
             tree_bytes = tree.bytes;
             both_read = both;
             info = started.info;
-            handed = started.handed;
+            supplied = started.supplied;
             is_read = started.is_read;
-            starts = record { start = started.start; wanted_is = refl };
+            starts = record { start = started.start; needed_is = refl };
           })
-          (λ calls last bytes run. run_answered profile all_good started.info started.handed s.0 last calls bytes started.start run))
+          (λ calls last bytes run. run_answered profile all_good started.info started.supplied s.0 last calls bytes started.start run))
       | inr f ↦
           declined R Begins Declines log_bytes f.0
           (record { info_bytes = info.bytes; tree_bytes = tree.bytes; both_read = both; found = f.1; verdict = f.2 })
@@ -177,7 +177,7 @@ from_file R state_bytes log_bytes state =
     elim (some_resumption all_good state.bytes) [
       | inl s ↦
           reported R Begins Declines log_bytes s.0 (signatures_of_state s.0)
-          (record { resumes = record { bytes = state.bytes; read = state.reads; resumed = s.1 }; wanted_is = refl })
+          (record { resumes = record { bytes = state.bytes; read = state.reads; resumed = s.1 }; needed_is = refl })
           (λ calls last bytes run. resumed_answered all_good state.bytes bytes s.0 last calls s.1 run)
       | inr f ↦
           declined R Begins Declines log_bytes (StateRefused f.0)

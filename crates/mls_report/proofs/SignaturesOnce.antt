@@ -16,7 +16,7 @@ use Rattle.mls_report.proofs.StatesOnce.{one_state_decline, decline_or_resume, o
 use Rattle.mls_report.proofs.TurnsOnce.{one_log}
 use Rattle.mls_report.specs.Finding.{finding_line}
 use Rattle.mls_report.specs.Replay.{ProcessedMessage}
-use Rattle.mls_report.specs.SignaturesReport.{HasSignatures, LoggedMessage, HaveSignatures, turns_of, log_lines, break_line, log_verdict, all_read, wanted_lines, TellsAsked, TellsLogIf, ReadsStartSignatures, ReadsStateSignatures, DeclinesSignatures, TellsSignatures, SignaturesFrom}
+use Rattle.mls_report.specs.SignaturesReport.{HasSignatures, LoggedMessage, HaveSignatures, turns_of, log_lines, break_line, log_verdict, all_read, needed_lines, ReportsSignatureLog, ReportsLogIf, ReadsStartSignatures, ReadsStateSignatures, DeclinesSignatures, ReportsSignatures, SignaturesFrom}
 use Rattle.mls_report.specs.SignaturesSteps.{signatures_of_state}
 use Rattle.mls_report.specs.StartInputs.{IsInfo, ReadsAndStarts, ReadsAndDeclines}
 use Rattle.mls_report.specs.StateInputs.{ReadsAndDeclinesState}
@@ -26,13 +26,13 @@ use Rattle.mls_report.specs.declared.verdict.Verdict.{Verdict}
 
 -- ---- the signatures of messages
 
-pub one_wanted : MessageSignaturesAreUnique
-one_wanted s bytes None None a b = refl
-one_wanted s bytes None (Some v) a b = absurd (a b.message b.spelled)
-one_wanted s bytes (Some w) None a b = absurd (b a.message a.spelled)
-one_wanted s bytes (Some w) (Some v) a b =
+pub one_needed : MessageSignaturesAreUnique
+one_needed s bytes None None a b = refl
+one_needed s bytes None (Some v) a b = absurd (a b.message b.encoded)
+one_needed s bytes (Some w) None a b = absurd (b a.message a.encoded)
+one_needed s bytes (Some w) (Some v) a b =
     ap (λ (x : List SignatureToVerify). Some x)
-    (a.same ∙ ap (message_signatures s) (one_message a.message b.message bytes a.spelled b.spelled) ∙ sym b.same)
+    (a.same ∙ ap (message_signatures s) (one_message a.message b.message bytes a.encoded b.encoded) ∙ sym b.same)
 
 head_is : (x y : ProcessedMessage) (xs ys : List ProcessedMessage) → x ∷ xs ≡ y ∷ ys → x ≡ y
 head_is x y xs ys e = cc
@@ -41,33 +41,33 @@ tail_is : (x y : ProcessedMessage) (xs ys : List ProcessedMessage) → x ∷ xs 
 tail_is x y xs ys e = cc
 
 -- messages that are processed alike have the same signatures
-one_asked : (s : State) (asked others : List LoggedMessage) → turns_of asked ≡ turns_of others → HaveSignatures s asked → HaveSignatures s others → asked ≡ others
-one_asked s [] [] e a b = refl
-one_asked s [] (y ∷ ys) e a b = absurd cc
-one_asked s (x ∷ xs) [] e a b = absurd cc
-one_asked s (x ∷ xs) (y ∷ ys) e a b =
+one_logged : (s : State) (logged others : List LoggedMessage) → turns_of logged ≡ turns_of others → HaveSignatures s logged → HaveSignatures s others → logged ≡ others
+one_logged s [] [] e a b = refl
+one_logged s [] (y ∷ ys) e a b = absurd cc
+one_logged s (x ∷ xs) [] e a b = absurd cc
+one_logged s (x ∷ xs) (y ∷ ys) e a b =
     let turn = head_is x.turn y.turn (turns_of xs) (turns_of ys) e in
-    let wanted = one_wanted s y.turn.bytes x.wanted y.wanted (subst (λ (t : ProcessedMessage). HasSignatures s t.bytes x.wanted) turn a.0) b.0 in
-    let rest = one_asked y.turn.state xs ys (tail_is x.turn y.turn (turns_of xs) (turns_of ys) e) (subst (λ (t : ProcessedMessage). HaveSignatures t.state xs) turn a.1) b.1 in
-    λ i. record { turn = turn i; wanted = wanted i } ∷ rest i
+    let needed = one_needed s y.turn.bytes x.needed y.needed (subst (λ (t : ProcessedMessage). HasSignatures s t.bytes x.needed) turn a.0) b.0 in
+    let rest = one_logged y.turn.state xs ys (tail_is x.turn y.turn (turns_of xs) (turns_of ys) e) (subst (λ (t : ProcessedMessage). HaveSignatures t.state xs) turn a.1) b.1 in
+    λ i. record { turn = turn i; needed = needed i } ∷ rest i
 
 -- ---- the lines of a log
 
 module _ (R : VerifyFn) (s : State) where
   -- of a log, twice
   module _ (log : List ℕ) (left behind : Option (List ℕ)) (w x y z : Option (List ℕ)) (v o : Verdict)
-      (a : TellsAsked R s (Some log) left w x v) (b : TellsAsked R s (Some log) behind y z o) where
-    one_told : (log_lines R 1 a.asked ++ break_line a.broken (length a.asked) ≡ log_lines R 1 b.asked ++ break_line b.broken (length b.asked)) × (v ≡ o)
-    one_told =
-        let ends : EndsLog all_good s (Some log) left (turns_of a.asked) a.broken = record { rest = a.rest; follows = a.asks.follows; log_end = a.log_end } in
-        let others : EndsLog all_good s (Some log) behind (turns_of b.asked) b.broken = record { rest = b.rest; follows = b.asks.follows; log_end = b.log_end } in
-        let same = one_log all_good s log left behind (turns_of a.asked) (turns_of b.asked) a.broken b.broken ends others in
-        let asked = one_asked s a.asked b.asked same.0 a.asks.wants b.asks.wants in
-        (λ i. log_lines R 1 (asked i) ++ break_line (same.1 i) (length (asked i)), a.verdict_is ∙ (λ i. log_verdict (same.1 i) (all_read (asked i))) ∙ sym b.verdict_is)
+      (a : ReportsSignatureLog R s (Some log) left w x v) (b : ReportsSignatureLog R s (Some log) behind y z o) where
+    one_reported : (log_lines R 1 a.logged ++ break_line a.broken (length a.logged) ≡ log_lines R 1 b.logged ++ break_line b.broken (length b.logged)) × (v ≡ o)
+    one_reported =
+        let ends : EndsLog all_good s (Some log) left (turns_of a.logged) a.broken = record { rest = a.rest; follows = a.processes.follows; log_end = a.log_end } in
+        let others : EndsLog all_good s (Some log) behind (turns_of b.logged) b.broken = record { rest = b.rest; follows = b.processes.follows; log_end = b.log_end } in
+        let same = one_log all_good s log left behind (turns_of a.logged) (turns_of b.logged) a.broken b.broken ends others in
+        let logged = one_logged s a.logged b.logged same.0 a.processes.has_signatures b.processes.has_signatures in
+        (λ i. log_lines R 1 (logged i) ++ break_line (same.1 i) (length (logged i)), a.verdict_is ∙ (λ i. log_verdict (same.1 i) (all_read (logged i))) ∙ sym b.verdict_is)
 
   -- the same was written behind the start
   one_behind : (log : Option (List ℕ)) (left behind : Option (Option (List ℕ))) (w x y z : Option (List ℕ)) (v o : Verdict)
-      → TellsLogIf R s (option_map Some log) left w x v → TellsLogIf R s (option_map Some log) behind y z o
+      → ReportsLogIf R s (option_map Some log) left w x v → ReportsLogIf R s (option_map Some log) behind y z o
       → (more : List ℕ) × Appends w x more × Appends y z more × (v ≡ o)
   one_behind None None None w x y z v o a b = ([], a.0, b.0, a.1 ∙ sym b.1)
   one_behind None (Some l) behind w x y z v o a b = absurd a
@@ -75,8 +75,8 @@ module _ (R : VerifyFn) (s : State) where
   one_behind (Some log) None behind w x y z v o a b = absurd a
   one_behind (Some log) (Some l) None w x y z v o a b = absurd b
   one_behind (Some log) (Some l) (Some m) w x y z v o a b =
-      let same = one_told log l m w x y z v o a b in
-      (log_lines R 1 a.asked ++ break_line a.broken (length a.asked), a.wrote, subst (λ (lines : List ℕ). Appends y z lines) (sym same.0) b.wrote, same.1)
+      let same = one_reported log l m w x y z v o a b in
+      (log_lines R 1 a.logged ++ break_line a.broken (length a.logged), a.wrote, subst (λ (lines : List ℕ). Appends y z lines) (sym same.0) b.wrote, same.1)
 
 -- what was written after two steps
 written_both : (before : List ℕ) (between : Option (List ℕ)) (text line more : List ℕ) → Appends (Some before) between line → Appends between (Some (before ++ text)) more → text ≡ line ++ more
@@ -103,24 +103,24 @@ module _ (R : VerifyFn) (log_bytes : Option (List ℕ)) (Starts More : State →
         (inr (a.finding, b.finding, alike a.finding b.finding a.declines b.declines, written_is before text (finding_line a.finding) a.wrote, written_is after other (finding_line b.finding) b.wrote), a.verdict_is ∙ sym b.verdict_is)
 
     -- a follower starts, twice
-    both_tell : TellsSignatures R Starts Log l (Some before) (Some (before ++ text)) v
-        → TellsSignatures R More Log m (Some after) (Some (after ++ other)) o → AreAlikeTexts text other × (v ≡ o)
-    both_tell a b =
-        let same = one_start a.state b.state a.wanted b.wanted a.opens b.opens in
-        let moved = subst (λ (s : State). TellsLogIf R s Log l a.between (Some (before ++ text)) v) same.0 a.tells in
-        let tail = one_behind R b.state log_bytes l m a.between (Some (before ++ text)) b.between (Some (after ++ other)) v o moved b.tells in (
-          inl (written_both before a.between text (wanted_lines R a.wanted) tail.0 a.wrote tail.1
-              ∙ ap (λ (ws : List SignatureToVerify). wanted_lines R ws ++ tail.0) same.1
-              ∙ sym (written_both after b.between other (wanted_lines R b.wanted) tail.0 b.wrote tail.2)),
+    both_report : ReportsSignatures R Starts Log l (Some before) (Some (before ++ text)) v
+        → ReportsSignatures R More Log m (Some after) (Some (after ++ other)) o → AreAlikeTexts text other × (v ≡ o)
+    both_report a b =
+        let same = one_start a.state b.state a.needed b.needed a.opens b.opens in
+        let moved = subst (λ (s : State). ReportsLogIf R s Log l a.between (Some (before ++ text)) v) same.0 a.reports in
+        let tail = one_behind R b.state log_bytes l m a.between (Some (before ++ text)) b.between (Some (after ++ other)) v o moved b.reports in (
+          inl (written_both before a.between text (needed_lines R a.needed) tail.0 a.wrote tail.1
+              ∙ ap (λ (ws : List SignatureToVerify). needed_lines R ws ++ tail.0) same.1
+              ∙ sym (written_both after b.between other (needed_lines R b.needed) tail.0 b.wrote tail.2)),
           tail.3,
         )
 
     pub either : SignaturesFrom R Starts Declines Log l (Some before) (Some (before ++ text)) v
         → SignaturesFrom R More Others Log m (Some after) (Some (after ++ other)) o → AreAlikeTexts text other × (v ≡ o)
     either (inl a) (inl b) = both_decline a b
-    either (inl a) (inr b) = absurd (apart a.finding b.state b.wanted a.declines b.opens)
-    either (inr a) (inl b) = absurd (apart_too b.finding a.state a.wanted b.declines a.opens)
-    either (inr a) (inr b) = both_tell a b
+    either (inl a) (inr b) = absurd (apart a.finding b.state b.needed a.declines b.opens)
+    either (inr a) (inl b) = absurd (apart_too b.finding a.state a.needed b.declines a.opens)
+    either (inr a) (inr b) = both_report a b
 
 -- ---- from a GroupInfo
 
@@ -129,33 +129,33 @@ module _ (profile : Profile) (info_bytes : List ℕ) (tree_bytes : Option (List 
   Tree = option_map Some tree_bytes
 
   -- a follower starts
-  opened : (i : Option (List ℕ)) (t : Option (Option (List ℕ))) (s : State) (wanted : List SignatureToVerify) → ReadsStartSignatures profile (Some info_bytes) i Tree t s wanted
+  opened : (i : Option (List ℕ)) (t : Option (Option (List ℕ))) (s : State) (needed : List SignatureToVerify) → ReadsStartSignatures profile (Some info_bytes) i Tree t s needed
       → ReadsAndStarts profile all_good (Some info_bytes) i Tree t s
-  opened i t s wanted a = record {
+  opened i t s needed a = record {
     info_bytes = a.info_bytes;
     tree_bytes = a.tree_bytes;
     both_read = a.both_read;
-    started = record { info = a.info; handed = a.handed; is_read = a.is_read; start = a.starts.start };
+    started = record { info = a.info; supplied = a.supplied; is_read = a.is_read; start = a.starts.start };
   }
 
   module _ (i j : Option (List ℕ)) (t u : Option (Option (List ℕ))) where
-    same_info : (s z : State) (wanted others : List SignatureToVerify) (a : ReadsStartSignatures profile (Some info_bytes) i Tree t s wanted)
+    same_info : (s z : State) (needed others : List SignatureToVerify) (a : ReadsStartSignatures profile (Some info_bytes) i Tree t s needed)
         (b : ReadsStartSignatures profile (Some info_bytes) j Tree u z others) → a.info ≡ b.info
-    same_info s z wanted others a b =
+    same_info s z needed others a b =
         let bytes = one_input info_bytes i j a.info_bytes b.info_bytes a.both_read.info b.both_read.info in
         one_info profile b.info_bytes a.info b.info (subst (λ (x : List ℕ). IsInfo profile x a.info) bytes a.is_read.is_info) b.is_read.is_info
 
     -- from one GroupInfo, and so with the same signatures
-    pub one_start_list : (s z : State) (wanted others : List SignatureToVerify) → ReadsStartSignatures profile (Some info_bytes) i Tree t s wanted
-        → ReadsStartSignatures profile (Some info_bytes) j Tree u z others → (s ≡ z) × (wanted ≡ others)
-    one_start_list s z wanted others a b =
-        let state = one_opening profile all_good info_bytes tree_bytes i j t u s z (opened i t s wanted a) (opened j u z others b) in
-        let info = same_info s z wanted others a b in
-        (state, a.starts.wanted_is ∙ (λ k. start_signatures (info k) (state k).tree) ∙ sym b.starts.wanted_is)
+    pub one_start_list : (s z : State) (needed others : List SignatureToVerify) → ReadsStartSignatures profile (Some info_bytes) i Tree t s needed
+        → ReadsStartSignatures profile (Some info_bytes) j Tree u z others → (s ≡ z) × (needed ≡ others)
+    one_start_list s z needed others a b =
+        let state = one_opening profile all_good info_bytes tree_bytes i j t u s z (opened i t s needed a) (opened j u z others b) in
+        let info = same_info s z needed others a b in
+        (state, a.starts.needed_is ∙ (λ k. start_signatures (info k) (state k).tree) ∙ sym b.starts.needed_is)
 
-    pub decline_or_list : (f : Finding) (s : State) (wanted : List SignatureToVerify) → ReadsAndDeclines profile all_good (Some info_bytes) i Tree t f
-        → ReadsStartSignatures profile (Some info_bytes) j Tree u s wanted → ⊥
-    decline_or_list f s wanted a b = decline_or_start profile all_good info_bytes tree_bytes i j t u f s a (opened j u s wanted b)
+    pub decline_or_list : (f : Finding) (s : State) (needed : List SignatureToVerify) → ReadsAndDeclines profile all_good (Some info_bytes) i Tree t f
+        → ReadsStartSignatures profile (Some info_bytes) j Tree u s needed → ⊥
+    decline_or_list f s needed a b = decline_or_start profile all_good info_bytes tree_bytes i j t u f s a (opened j u s needed b)
 
 pub one_report : SignaturesAreUnique
 one_report profile R info_bytes tree_bytes log_bytes text other verdict more a b =
@@ -173,15 +173,15 @@ one_report profile R info_bytes tree_bytes log_bytes text other verdict more a b
 -- ---- from the file of a state
 
 module _ (state_bytes : List ℕ) (i j : Option (List ℕ)) where
-  one_state_list : (s z : State) (wanted others : List SignatureToVerify) → ReadsStateSignatures (Some state_bytes) i s wanted
-      → ReadsStateSignatures (Some state_bytes) j z others → (s ≡ z) × (wanted ≡ others)
-  one_state_list s z wanted others a b =
+  one_state_list : (s z : State) (needed others : List SignatureToVerify) → ReadsStateSignatures (Some state_bytes) i s needed
+      → ReadsStateSignatures (Some state_bytes) j z others → (s ≡ z) × (needed ≡ others)
+  one_state_list s z needed others a b =
       let state = one_resuming all_good state_bytes i j s z a.resumes b.resumes in
-      (state, a.wanted_is ∙ ap signatures_of_state state ∙ sym b.wanted_is)
+      (state, a.needed_is ∙ ap signatures_of_state state ∙ sym b.needed_is)
 
-  decline_or_state : (f : Finding) (s : State) (wanted : List SignatureToVerify) → ReadsAndDeclinesState all_good (Some state_bytes) i f
-      → ReadsStateSignatures (Some state_bytes) j s wanted → ⊥
-  decline_or_state f s wanted a b = decline_or_resume all_good state_bytes i j f s a b.resumes
+  decline_or_state : (f : Finding) (s : State) (needed : List SignatureToVerify) → ReadsAndDeclinesState all_good (Some state_bytes) i f
+      → ReadsStateSignatures (Some state_bytes) j s needed → ⊥
+  decline_or_state f s needed a b = decline_or_resume all_good state_bytes i j f s a b.resumes
 
 pub one_state_report : StateSignaturesAreUnique
 one_state_report R state_bytes log_bytes text other verdict more a b =

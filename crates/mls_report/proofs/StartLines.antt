@@ -11,7 +11,7 @@ use Rattle.mls_signatures.proofs.LeafLists.{of_leaf_in, signatures_below, signat
 use Rattle.mls_signatures.specs.declared.signature_to_verify.SignatureToVerify.{SignatureToVerify}
 use Rattle.mls_follow.specs.MessageSignatures.{state_signatures}
 use Rattle.mls_follow.specs.State.{State}
-use Rattle.mls_report.specs.SignaturesReport.{line_unless, wanted_lines}
+use Rattle.mls_report.specs.SignaturesReport.{line_unless, needed_lines}
 use Rattle.mls_report.specs.SignaturesSteps.{signatures_of_leaf, StopsInLines}
 use Rattle.mls_report.specs.declared.verdict.RunFault.{RunFault}
 use Rattle.mls_report.specs.declared.verdict.RunFault.TheVariants.{Read, Write, Memory}
@@ -114,8 +114,8 @@ stops-writing (Err e) lines ws a b text part own is = subst (StopsInLines lines 
 
 -- ---- the lines of `signatures`
 
-pub wanted_lines-both : (R : VerifyFn) (ws vs : List SignatureToVerify) → wanted_lines R (ws ++ vs) ≡ wanted_lines R ws ++ wanted_lines R vs
-wanted_lines-both R [] vs = refl
-wanted_lines-both R (w ∷ ws) vs =
-    ap (λ (text : List ℕ). line_unless R w ++ text) (wanted_lines-both R ws vs)
-    ∙ sym (append_assoc (line_unless R w) (wanted_lines R ws) (wanted_lines R vs))
+pub needed_lines-both : (R : VerifyFn) (ws vs : List SignatureToVerify) → needed_lines R (ws ++ vs) ≡ needed_lines R ws ++ needed_lines R vs
+needed_lines-both R [] vs = refl
+needed_lines-both R (w ∷ ws) vs =
+    ap (λ (text : List ℕ). line_unless R w ++ text) (needed_lines-both R ws vs)
+    ∙ sym (append_assoc (line_unless R w) (needed_lines R ws) (needed_lines R vs))

@@ -5,7 +5,7 @@ use Rattle.std.proofs.lemmas.Bool.Decides.{nat_tests}
 use Rattle.mls_tree.specs.RatchetTree.{RatchetTree}
 use Rattle.mls_tree.specs.Tree.{Tree, leaf_at}
 use Rattle.mls_check.specs.GroupTree.{IsSupportedContext}
-use Rattle.mls_check.specs.LeafValidation.{all_leaves, has_own_signature_key, member_rule, LeavesAreValid}
+use Rattle.mls_check.specs.LeafValidation.{all_leaves, has_unique_signature_key, member_rule, LeavesAreValid}
 use Rattle.mls_check.specs.Signatures.{VerifyFn}
 use Rattle.mls_msgs.specs.declared.group_info.GroupInfo.{GroupInfo}
 use Rattle.mls_nodes.specs.declared.required_capabilities.RequiredCapabilities.{RequiredCapabilities}
@@ -24,8 +24,8 @@ use Rattle.mls_report.proofs.StartsOnce.{one_tree}
 -- ---- that of the GroupInfo
 
 module _ (info : GroupInfo) (h : RatchetTree) (signatures : List SignatureToVerify) (is : signatures ≡ info_signatures info (leaf_at 0 h.tree info.signer)) where
-  pub info-handed : AreInfoSignatures info (Some h) signatures
-  info-handed t uses = is ∙ ap (λ (v : RatchetTree). info_signatures info (leaf_at 0 v.tree info.signer)) (sym uses)
+  pub info-supplied : AreInfoSignatures info (Some h) signatures
+  info-supplied t uses = is ∙ ap (λ (v : RatchetTree). info_signatures info (leaf_at 0 v.tree info.signer)) (sym uses)
 
   pub info-own : UsesTree None info.extensions h → AreInfoSignatures info None signatures
   info-own own t uses =
@@ -47,14 +47,14 @@ all_if true signatures e = refl
 all_if false signatures e = absurd cc
 
 own_keys : (G : VerifyFn) (suite : ℕ) (group_id : List ℕ) (required : RequiredCapabilities) (t : Tree) → LeavesAreValid G suite group_id required t
-    → all_leaves (has_own_signature_key t) 0 t ≡ true
+    → all_leaves (has_unique_signature_key t) 0 t ≡ true
 unfolding member_rule
 own_keys G suite group_id required t h = h.rules 4
 
 -- the leaves are valid, so none is a duplicate
-pub start-has : (profile : Profile) (info : GroupInfo) (handed : Option RatchetTree) (s : State) (signatures : List SignatureToVerify) → IsStart profile all_good info handed s
-    → AreInfoSignatures info handed signatures → StartHasSignatures profile info handed s (signatures ++ state_signatures s)
-start-has profile info handed s signatures start of_info =
+pub start-has : (profile : Profile) (info : GroupInfo) (supplied : Option RatchetTree) (s : State) (signatures : List SignatureToVerify) → IsStart profile all_good info supplied s
+    → AreInfoSignatures info supplied signatures → StartHasSignatures profile info supplied s (signatures ++ state_signatures s)
+start-has profile info supplied s signatures start of_info =
     let members = start.has_signer.has_members in
     let first : State = initial_state profile info start.tree start.interim in
     let whole : start_signatures info first.tree ≡ info_signatures info (leaf_at 0 start.tree.tree info.signer) ++ state_signatures first =
@@ -62,4 +62,4 @@ start-has profile info handed s signatures start of_info =
     ∙ all_if (is_supported info) (info_signatures info (leaf_at 0 start.tree.tree info.signer) ++ state_signatures first) (supported info members.valid_tree.readable.has_tree.followed) in
     let here : signatures ++ state_signatures first ≡ start_signatures info first.tree =
     ap (λ (ws : List SignatureToVerify). ws ++ state_signatures first) (of_info start.tree members.valid_tree.readable.has_tree.uses) ∙ sym whole in
-    record { start = start; wanted_is = subst (λ (z : State). signatures ++ state_signatures z ≡ start_signatures info z.tree) (sym start.state) here }
+    record { start = start; needed_is = subst (λ (z : State). signatures ++ state_signatures z ≡ start_signatures info z.tree) (sym start.state) here }

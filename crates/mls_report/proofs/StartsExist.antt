@@ -34,9 +34,9 @@ use Rattle.mls_follow.proofs.Starting.{tree_fails}
 
 -- ---- the interim transcript hash
 
-tag_spelled : (info : GroupInfo) (bytes : List ℕ) → message (messages.GroupInfo info) ≡ Some bytes → (text : List ℕ) × (vector info.confirmation_tag ≡ Some text)
+tag_encoded : (info : GroupInfo) (bytes : List ℕ) → message (messages.GroupInfo info) ≡ Some bytes → (text : List ℕ) × (vector info.confirmation_tag ≡ Some text)
 unfolding message group_info
-tag_spelled info bytes e =
+tag_encoded info bytes e =
     let signed = number w32 info.signer ⊕ vector info.signature in
     let all = joined (header 4) (group_context info.context ⊕ (list extension info.extensions ⊕ (vector info.confirmation_tag ⊕ signed))) bytes e in
     let behind_context = joined (group_context info.context) (list extension info.extensions ⊕ (vector info.confirmation_tag ⊕ signed)) all.1 all.3 in
@@ -48,7 +48,7 @@ tag_spelled info bytes e =
 pub interim_of : (info : GroupInfo) (bytes : List ℕ) → message (messages.GroupInfo info) ≡ Some bytes → (interim : List ℕ) × (info_interim info ≡ Some interim)
 unfolding interim_hash
 interim_of info bytes e =
-    let tag = tag_spelled info bytes e in
+    let tag = tag_encoded info bytes e in
     let H = hash_of info.context.cipher_suite in
     (H (info.context.confirmed ++ tag.0), ap (option_map (λ (input : List ℕ). H (info.context.confirmed ++ input))) tag.1)
 
@@ -66,36 +66,36 @@ own_fault (groups.Tree fault) own = λ e. cc
 own_fault (groups.Member fault) own = λ e. cc
 own_fault groups.OutOfMemory own = absurd (own refl)
 
-module _ (profile : Profile) (G : VerifyFn) (info : GroupInfo) (handed : Option RatchetTree) (interim : List ℕ) (hashed : info_interim info ≡ Some interim) where
+module _ (profile : Profile) (G : VerifyFn) (info : GroupInfo) (supplied : Option RatchetTree) (interim : List ℕ) (hashed : info_interim info ≡ Some interim) where
   abbrev pub StartsOrNot : Type 0
-  StartsOrNot = ((s : State) × IsStart profile G info handed s) ⊎ ((fault : StartFault) × (fault ≢ OutOfMemory) × IsStartFault G info handed fault)
+  StartsOrNot = ((s : State) × IsStart profile G info supplied s) ⊎ ((fault : StartFault) × (fault ≢ OutOfMemory) × IsStartFault G info supplied fault)
 
   uses_or_not : (o : Option RatchetTree) → ((t : RatchetTree) × UsesTree o info.extensions t) ⊎ UsesNoTree o info.extensions
   uses_or_not None = in_extension (extension_of 2 info.extensions)
   uses_or_not (Some t) = inl (t, refl)
 
-  by_signature : (t : RatchetTree) (signer : LeafNode) → HasSigner G info handed t signer → (b : Bool) → is_info_signed G info signer ≡ b → StartsOrNot
+  by_signature : (t : RatchetTree) (signer : LeafNode) → HasSigner G info supplied t signer → (b : Bool) → is_info_signed G info signer ≡ b → StartsOrNot
   by_signature t signer h true e =
       inl (initial_state profile info t interim, record { tree = t; signer = signer; has_signer = h; signed = e; interim = interim; hashed = hashed; state = refl })
   by_signature t signer h false e = inr (InfoSignature, λ own. cc, record { tree = t; signer = signer; has_signer = h; unsigned = e })
 
-  by_signer : (t : RatchetTree) (required : RequiredCapabilities) → HasMembers G info.context (UsesTree handed info.extensions) t required → (o : Option LeafNode) → leaf_at 0 t.tree info.signer ≡ o → StartsOrNot
+  by_signer : (t : RatchetTree) (required : RequiredCapabilities) → HasMembers G info.context (UsesTree supplied info.extensions) t required → (o : Option LeafNode) → leaf_at 0 t.tree info.signer ≡ o → StartsOrNot
   by_signer t required h None e = inr (SignerNotMember, λ own. cc, record { tree = t; required = required; has_members = h; blank = e })
   by_signer t required h (Some signer) e =
       by_signature t signer (record { required = required; has_members = h; set = e }) (is_info_signed G info signer) refl
 
-  by_tree : IsSupportedContext info.context → (t : RatchetTree) → UsesTree handed info.extensions t → StartsOrNot
+  by_tree : IsSupportedContext info.context → (t : RatchetTree) → UsesTree supplied info.extensions t → StartsOrNot
   by_tree followed t uses =
       elim (group_tree_or_fault G info.context t followed) [
         | inl m ↦
-            (let too = λ (u : RatchetTree) (e : u ≡ t). subst (UsesTree handed info.extensions) (sym e) uses in
-            by_signer t m.0 (members_too G info.context (λ u. u ≡ t) (UsesTree handed info.extensions) too t m.0 m.1) (leaf_at 0 t.tree info.signer) refl)
-        | inr f ↦ inr (start_fault_of f.0, own_fault f.0 f.1, tree_fails G info t f.0 f.2 handed uses)
+            (let too = λ (u : RatchetTree) (e : u ≡ t). subst (UsesTree supplied info.extensions) (sym e) uses in
+            by_signer t m.0 (members_too G info.context (λ u. u ≡ t) (UsesTree supplied info.extensions) too t m.0 m.1) (leaf_at 0 t.tree info.signer) refl)
+        | inr f ↦ inr (start_fault_of f.0, own_fault f.0 f.1, tree_fails G info t f.0 f.2 supplied uses)
       ]
 
   by_use : IsSupportedContext info.context → StartsOrNot
   by_use followed =
-      elim (uses_or_not handed) [
+      elim (uses_or_not supplied) [
         | inl u ↦ by_tree followed u.0 u.1
         | inr none ↦ inr (NoTree, λ own. cc, record { followed = followed; none = none })
       ]
@@ -105,10 +105,10 @@ module _ (profile : Profile) (G : VerifyFn) (info : GroupInfo) (handed : Option 
   by_suite version (inr none) = inr (UnsupportedSuite, λ own. cc, record { version = version; unsupported = none })
 
 -- a follower starts, or there is a fault
-pub starts_or_not : (profile : Profile) (G : VerifyFn) (info : GroupInfo) (handed : Option RatchetTree) (interim : List ℕ) → info_interim info ≡ Some interim
-    → ((s : State) × IsStart profile G info handed s) ⊎ ((fault : StartFault) × (fault ≢ OutOfMemory) × IsStartFault G info handed fault)
-starts_or_not profile G info handed interim hashed =
+pub starts_or_not : (profile : Profile) (G : VerifyFn) (info : GroupInfo) (supplied : Option RatchetTree) (interim : List ℕ) → info_interim info ≡ Some interim
+    → ((s : State) × IsStart profile G info supplied s) ⊎ ((fault : StartFault) × (fault ≢ OutOfMemory) × IsStartFault G info supplied fault)
+starts_or_not profile G info supplied interim hashed =
     elim (same_or_not info.context.version 1) [
-      | inl version ↦ by_suite profile G info handed interim hashed version (supported_or_not info.context.cipher_suite)
+      | inl version ↦ by_suite profile G info supplied interim hashed version (supported_or_not info.context.cipher_suite)
       | inr other ↦ inr (UnsupportedVersion, λ own. cc, other)
     ]

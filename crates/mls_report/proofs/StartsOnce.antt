@@ -30,21 +30,21 @@ use Rattle.mls_follow.specs.State.{State}
 use Rattle.mls_follow.specs.Start.{UsesTree, IsTreeIn, HasSigner, is_info_signed, initial_state, IsStart, IsStartFault}
 use Rattle.mls_follow.specs.declared.start_fault.StartFault.{StartFault}
 use Rattle.mls_follow.specs.declared.start_fault.StartFault.TheVariants.{UnsupportedVersion, UnsupportedSuite, NoTree, RequirementsUnreadable, Tree, Member, SignerNotMember, InfoSignature, OutOfMemory}
-use Rattle.mls_report.proofs.InOrder.{first_then, no_more, MetBefore, one_place, other_place}
+use Rattle.mls_report.proofs.InOrder.{first_then, no_more, MetBefore, one_position, other_place}
 use Rattle.mls_msgs.specs.declared.profile.Profile.{Profile}
 
 -- ---- what is read is one
 
 pub one_tree_of : (bytes : List ℕ) (t u : RatchetTree) → IsTreeOf bytes t → IsTreeOf bytes u → t ≡ u
 one_tree_of bytes t u a b =
-    let same : a.nodes ≡ b.nodes = ratchet_tree_unambiguous.once a.nodes b.nodes bytes a.is_tree.spelled b.is_tree.spelled in
+    let same : a.nodes ≡ b.nodes = ratchet_tree_unambiguous.once a.nodes b.nodes bytes a.is_tree.encoded b.is_tree.encoded in
     RatchetTree-listing t u (a.full ∙ ap filled same ∙ sym b.full)
 
 one_tree_in : (body : Option (List ℕ)) (t u : RatchetTree) → IsTreeIn body t → IsTreeIn body u → t ≡ u
 one_tree_in None t u a b = absurd a
 one_tree_in (Some body) t u a b = one_tree_of body t u a b
 
-pub one_tree : (handed : Option RatchetTree) (extensions : List Extension) (t u : RatchetTree) → UsesTree handed extensions t → UsesTree handed extensions u → t ≡ u
+pub one_tree : (supplied : Option RatchetTree) (extensions : List Extension) (t u : RatchetTree) → UsesTree supplied extensions t → UsesTree supplied extensions u → t ≡ u
 one_tree (Some h) extensions t u a b = a ∙ sym b
 one_tree None extensions t u a b = one_tree_in (extension_of 2 extensions) t u a b
 
@@ -67,33 +67,33 @@ no_members_fault G c d r s t u f ec er et of a m =
 
 -- ---- the eight conditions
 
-abbrev place : StartFault → ℕ
-place UnsupportedVersion = 0
-place UnsupportedSuite = 1
-place NoTree = 2
-place RequirementsUnreadable = 3
-place (Tree fault) = 4
-place (Member fault) = 5
-place SignerNotMember = 6
-place InfoSignature = 7
-place OutOfMemory = 8
+abbrev position : StartFault → ℕ
+position UnsupportedVersion = 0
+position UnsupportedSuite = 1
+position NoTree = 2
+position RequirementsUnreadable = 3
+position (Tree fault) = 4
+position (Member fault) = 5
+position SignerNotMember = 6
+position InfoSignature = 7
+position OutOfMemory = 8
 
-module _ (G : VerifyFn) (info : GroupInfo) (handed : Option RatchetTree) where
+module _ (G : VerifyFn) (info : GroupInfo) (supplied : Option RatchetTree) where
   abbrev H : List ℕ → List ℕ
   H = hash_of info.context.cipher_suite
 
   abbrev Uses : RatchetTree → Type 0
-  Uses t = UsesTree handed info.extensions t
+  Uses t = UsesTree supplied info.extensions t
 
   abbrev HasLeaf : RatchetTree → LeafNode → Type 0
   HasLeaf t x = leaf_at 0 t.tree info.signer ≡ Some x
 
   -- this fails first, for no want of memory
   abbrev Refuses : StartFault → Type 0
-  Refuses f = (f ≢ OutOfMemory) × IsStartFault G info handed f
+  Refuses f = (f ≢ OutOfMemory) × IsStartFault G info supplied f
 
   same_tree : (t u : RatchetTree) → Uses t → Uses u → t ≡ u
-  same_tree t u a b = one_tree handed info.extensions t u a b
+  same_tree t u a b = one_tree supplied info.extensions t u a b
 
   same_leaf : (t u : RatchetTree) (x y : LeafNode) → Uses t → Uses u → HasLeaf t x → HasLeaf u y → x ≡ y
   same_leaf t u x y a b p q = same_Some x y (sym p ∙ ap (λ (v : RatchetTree). leaf_at 0 v.tree info.signer) (same_tree t u a b) ∙ q)
@@ -112,7 +112,7 @@ module _ (G : VerifyFn) (info : GroupInfo) (handed : Option RatchetTree) where
       no_more)))))))
 
   -- a condition that fails is not met
-  fails : (f : StartFault) → Refuses f → Met (place f) → ⊥
+  fails : (f : StartFault) → Refuses f → Met (position f) → ⊥
   fails UnsupportedVersion (own, a) m = a m
   fails UnsupportedSuite (own, a) m = a.unsupported m
   fails NoTree (own, a) m = a.none m.0 m.1
@@ -139,30 +139,30 @@ module _ (G : VerifyFn) (info : GroupInfo) (handed : Option RatchetTree) where
   met_followed : IsSupportedContext info.context → MetBefore Met 2
   met_followed h = below_more Met 1 (met_version h.version) h.suite
 
-  met_tree : (t : RatchetTree) → HasTree info.context (UsesTree handed info.extensions) t → MetBefore Met 3
+  met_tree : (t : RatchetTree) → HasTree info.context (UsesTree supplied info.extensions) t → MetBefore Met 3
   met_tree t h = below_more Met 2 (met_followed h.followed) (t, h.uses)
 
-  met_readable : (t : RatchetTree) (r : RequiredCapabilities) → IsReadable info.context (UsesTree handed info.extensions) t r → MetBefore Met 4
+  met_readable : (t : RatchetTree) (r : RequiredCapabilities) → IsReadable info.context (UsesTree supplied info.extensions) t r → MetBefore Met 4
   met_readable t r h = below_more Met 3 (met_tree t h.has_tree) (r, h.requires)
 
-  met_valid : (t : RatchetTree) (r : RequiredCapabilities) → HasValidTree info.context (UsesTree handed info.extensions) t r → MetBefore Met 5
+  met_valid : (t : RatchetTree) (r : RequiredCapabilities) → HasValidTree info.context (UsesTree supplied info.extensions) t r → MetBefore Met 5
   met_valid t r h = below_more Met 4 (met_readable t r h.readable) (t, h.readable.has_tree.uses, h.valid)
 
-  met_members : (t : RatchetTree) (r : RequiredCapabilities) → HasMembers G info.context (UsesTree handed info.extensions) t r → MetBefore Met 6
+  met_members : (t : RatchetTree) (r : RequiredCapabilities) → HasMembers G info.context (UsesTree supplied info.extensions) t r → MetBefore Met 6
   met_members t r h =
       below_more Met 5 (met_valid t r h.valid_tree) (t, r, h.valid_tree.readable.has_tree.uses, h.valid_tree.readable.requires, h.members)
 
-  met_signer : (t : RatchetTree) (x : LeafNode) → HasSigner G info handed t x → MetBefore Met 7
+  met_signer : (t : RatchetTree) (x : LeafNode) → HasSigner G info supplied t x → MetBefore Met 7
   met_signer t x h =
       below_more Met 6 (met_members t h.required h.has_members) (t, x, h.has_members.valid_tree.readable.has_tree.uses, h.set)
 
   -- where a follower starts, all are met
-  met_start : (profile : Profile) (s : State) → IsStart profile G info handed s → MetBefore Met 8
+  met_start : (profile : Profile) (s : State) → IsStart profile G info supplied s → MetBefore Met 8
   met_start profile s a =
       below_more Met 7 (met_signer a.tree a.signer a.has_signer)
       (a.tree, a.signer, a.has_signer.has_members.valid_tree.readable.has_tree.uses, a.has_signer.set, a.signed)
 
-  met_before : (f : StartFault) → Refuses f → MetBefore Met (place f)
+  met_before : (f : StartFault) → Refuses f → MetBefore Met (position f)
   met_before UnsupportedVersion (own, a) = below_none Met
   met_before UnsupportedSuite (own, a) = met_version a.version
   met_before NoTree (own, a) = met_followed a.followed
@@ -173,15 +173,15 @@ module _ (G : VerifyFn) (info : GroupInfo) (handed : Option RatchetTree) where
   met_before InfoSignature (own, a) = met_signer a.tree a.signer a.has_signer
   met_before OutOfMemory (own, a) = absurd (own refl)
 
-  own_place : (f : StartFault) → f ≢ OutOfMemory → place f < 8
-  own_place OutOfMemory own = absurd (own refl)
-  own_place _ own = omega arith
+  own_position : (f : StartFault) → f ≢ OutOfMemory → position f < 8
+  own_position OutOfMemory own = absurd (own refl)
+  own_position _ own = omega arith
 
-  no_fault : (profile : Profile) (s : State) (f : StartFault) → Refuses f → IsStart profile G info handed s → ⊥
-  no_fault profile s f a start = fails f a (met_start profile s start (place f) (own_place f a.0))
+  no_fault : (profile : Profile) (s : State) (f : StartFault) → Refuses f → IsStart profile G info supplied s → ⊥
+  no_fault profile s f a start = fails f a (met_start profile s start (position f) (own_position f a.0))
 
   -- two faults of one condition
-  same_fault : (f g : StartFault) → place f ≡ place g → Refuses f → Refuses g → f ≡ g
+  same_fault : (f g : StartFault) → position f ≡ position g → Refuses f → Refuses g → f ≡ g
   same_fault UnsupportedVersion UnsupportedVersion e a b = refl
   same_fault UnsupportedSuite UnsupportedSuite e a b = refl
   same_fault NoTree NoTree e a b = refl
@@ -196,24 +196,24 @@ module _ (G : VerifyFn) (info : GroupInfo) (handed : Option RatchetTree) where
   same_fault SignerNotMember SignerNotMember e a b = refl
   same_fault InfoSignature InfoSignature e a b = refl
   same_fault OutOfMemory OutOfMemory e a b = refl
-  same_fault f g e a b = absurd (other_place (place f) (place g) refl e)
+  same_fault f g e a b = absurd (other_place (position f) (position g) refl e)
 
   one_fault : (f g : StartFault) → Refuses f → Refuses g → f ≡ g
-  one_fault f g a b = same_fault f g (one_place place Met Refuses met_before fails f g a b) a b
+  one_fault f g a b = same_fault f g (one_position position Met Refuses met_before fails f g a b) a b
 
-  one_state : (profile : Profile) (s u : State) → IsStart profile G info handed s → IsStart profile G info handed u → s ≡ u
+  one_state : (profile : Profile) (s u : State) → IsStart profile G info supplied s → IsStart profile G info supplied u → s ≡ u
   one_state profile s u a b =
       let et = same_tree a.tree b.tree a.has_signer.has_members.valid_tree.readable.has_tree.uses b.has_signer.has_members.valid_tree.readable.has_tree.uses in
       let ei = same_Some a.interim b.interim (sym a.hashed ∙ b.hashed) in
       a.state ∙ (λ i. initial_state profile info (et i) (ei i)) ∙ sym b.state
 
-pub one_start : (profile : Profile) (G : VerifyFn) (info : GroupInfo) (handed : Option RatchetTree) (s u : State) → IsStart profile G info handed s → IsStart profile G info handed u → s ≡ u
-one_start profile G info handed = one_state G info handed profile
+pub one_start : (profile : Profile) (G : VerifyFn) (info : GroupInfo) (supplied : Option RatchetTree) (s u : State) → IsStart profile G info supplied s → IsStart profile G info supplied u → s ≡ u
+one_start profile G info supplied = one_state G info supplied profile
 
-pub no_fault_of_start : (profile : Profile) (G : VerifyFn) (info : GroupInfo) (handed : Option RatchetTree) (s : State) (fault : StartFault) → fault ≢ OutOfMemory → IsStart profile G info handed s
-    → IsStartFault G info handed fault → ⊥
-no_fault_of_start profile G info handed s f own start fails = no_fault G info handed profile s f (own, fails) start
+pub no_fault_of_start : (profile : Profile) (G : VerifyFn) (info : GroupInfo) (supplied : Option RatchetTree) (s : State) (fault : StartFault) → fault ≢ OutOfMemory → IsStart profile G info supplied s
+    → IsStartFault G info supplied fault → ⊥
+no_fault_of_start profile G info supplied s f own start fails = no_fault G info supplied profile s f (own, fails) start
 
-pub one_start_fault : (G : VerifyFn) (info : GroupInfo) (handed : Option RatchetTree) (fault other : StartFault) → fault ≢ OutOfMemory → other ≢ OutOfMemory
-    → IsStartFault G info handed fault → IsStartFault G info handed other → fault ≡ other
-one_start_fault G info handed f g own other a b = one_fault G info handed f g (own, a) (other, b)
+pub one_start_fault : (G : VerifyFn) (info : GroupInfo) (supplied : Option RatchetTree) (fault other : StartFault) → fault ≢ OutOfMemory → other ≢ OutOfMemory
+    → IsStartFault G info supplied fault → IsStartFault G info supplied other → fault ≡ other
+one_start_fault G info supplied f g own other a b = one_fault G info supplied f g (own, a) (other, b)

@@ -73,9 +73,9 @@ module _ (G : VerifyFn) where
       (behind log a.records a.are_records.0 a.are_records.1 a.rest a.left a.are_records.4 a.read) a.are_records.2
 
   -- the rest of what is told, behind the first message
-  told_behind : (most : ℕ) (s : State) (log : List ℕ) (turn : ProcessedMessage) (turns : List ProcessedMessage) (broken : Bool) (a : MessageLines most s log (turn ∷ turns) broken)
+  reported_after : (most : ℕ) (s : State) (log : List ℕ) (turn : ProcessedMessage) (turns : List ProcessedMessage) (broken : Bool) (a : MessageLines most s log (turn ∷ turns) broken)
       → MessageLines (most - 1) turn.state (behind_first most s log turn turns broken a) turns broken
-  told_behind most s log turn turns broken a =
+  reported_after most s log turn turns broken a =
       let same : most - length (turn ∷ turns) ≡ (most - 1) - length turns = omega (arith) in
       record {
         taken = a.taken.1;
@@ -94,30 +94,30 @@ module _ (G : VerifyFn) where
       let same = only_answer G s u.bytes t.answer u.answer t.state u.state (subst (λ (x : List ℕ). IsAnswer G s x t.answer t.state) e a) b in
       λ i. record { bytes = e i; answer = same.0 i; state = same.1 i }
 
-  one_told : (most : ℕ) (s : State) (log : List ℕ) (turns others : List ProcessedMessage) (broken end : Bool) → MessageLines most s log turns broken → MessageLines most s log others end
+  one_reported : (most : ℕ) (s : State) (log : List ℕ) (turns others : List ProcessedMessage) (broken end : Bool) → MessageLines most s log turns broken → MessageLines most s log others end
       → (turns ≡ others) × (broken ≡ end)
-  one_told most s log [] [] broken end a b =
+  one_reported most s log [] [] broken end a b =
       let met = meets_once log a.left b.left most [] [] (end_step broken) (end_step end) (at_end most s log broken a) (at_end most s log end b) in
       (refl, one_end broken end met.0)
-  one_told most s log [] (u ∷ us) broken end a b =
+  one_reported most s log [] (u ∷ us) broken end a b =
       let met = meets_once log a.left (behind_first most s log u us end b) most [] u.bytes (end_step broken) steps.Record (at_end most s log broken a) (at_record most s log u us end b) in
       absurd (no_record broken met.0)
-  one_told most s log (t ∷ ts) [] broken end a b =
+  one_reported most s log (t ∷ ts) [] broken end a b =
       let met = meets_once log b.left (behind_first most s log t ts broken a) most [] t.bytes (end_step end) steps.Record (at_end most s log end b) (at_record most s log t ts broken a) in
       absurd (no_record end met.0)
-  one_told most s log (t ∷ ts) (u ∷ us) broken end a b =
+  one_reported most s log (t ∷ ts) (u ∷ us) broken end a b =
       let met = meets_once log (behind_first most s log t ts broken a) (behind_first most s log u us end b) most t.bytes u.bytes steps.Record steps.Record
       (at_record most s log t ts broken a) (at_record most s log u us end b) in
       let turn = one_turn s t u (met.2 refl) a.taken.0 b.taken.0 in
-      let rest = told_behind most s log u us end b in
+      let rest = reported_after most s log u us end b in
       let moved = subst (λ (x : List ℕ). MessageLines (most - 1) u.state x us end) (sym met.1) rest in
       let back = subst (λ (x : ProcessedMessage). MessageLines (most - 1) x.state (behind_first most s log t ts broken a) us end) (sym turn) moved in
-      let others = one_told (most - 1) t.state (behind_first most s log t ts broken a) ts us broken end (told_behind most s log t ts broken a) back in
+      let others = one_reported (most - 1) t.state (behind_first most s log t ts broken a) ts us broken end (reported_after most s log t ts broken a) back in
       (λ i. turn i ∷ others.0 i, others.1)
 
-  told : (s : State) (log : List ℕ) (left : Option (List ℕ)) (turns : List ProcessedMessage) (broken : Bool) → EndsLog G s (Some log) left turns broken → MessageLines message_limit s log turns broken
-  told s log None turns broken h = absurd (h.follows.log_read)
-  told s log (Some left) turns broken h = record {
+  printed : (s : State) (log : List ℕ) (left : Option (List ℕ)) (turns : List ProcessedMessage) (broken : Bool) → EndsLog G s (Some log) left turns broken → MessageLines message_limit s log turns broken
+  printed s log None turns broken h = absurd (h.follows.log_read)
+  printed s log (Some left) turns broken h = record {
     taken = h.follows.taken;
     bounded = h.follows.bounded;
     records = h.follows.records;
@@ -129,4 +129,4 @@ module _ (G : VerifyFn) where
   }
 
 pub one_log : LogIsUnique
-one_log G s log left other turns others broken end a b = one_told G message_limit s log turns others broken end (told G s log left turns broken a) (told G s log other others end b)
+one_log G s log left other turns others broken end a b = one_reported G message_limit s log turns others broken end (printed G s log left turns broken a) (printed G s log other others end b)

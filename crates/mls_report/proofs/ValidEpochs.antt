@@ -11,7 +11,7 @@ use Rattle.mls_report.specs.Replay.{ProcessedMessage, AreProcessed}
 use Rattle.mls_report.specs.ValidEpochs.{StartedEpochsAreValid, ReportedEpochsAreValid, ResumedEpochsAreValid}
 
 pub started_valid : StartedEpochsAreValid
-started_valid profile G info_bytes tree_bytes s started = start_valid profile G started.info started.handed s started.start
+started_valid profile G info_bytes tree_bytes s started = start_valid profile G started.info started.supplied s started.start
 
 turns_valid : (G : VerifyFn) (s : State) (turns : List ProcessedMessage) → IsValidState G s → AreProcessed G s turns → All (λ (t : ProcessedMessage). IsValidState G t.state) turns
 turns_valid G s [] valid taken = All-nil (λ (t : ProcessedMessage). IsValidState G t.state)
@@ -20,8 +20,8 @@ turns_valid G s (turn ∷ turns) valid taken =
     run_valid G s ((record { bytes = turn.bytes; answer = turn.answer }) ∷ []) turn.state valid (turn.state, taken.0.takes, refl) in
     All-cons (λ (t : ProcessedMessage). IsValidState G t.state) turn turns here (turns_valid G turn.state turns here taken.1)
 
-pub told_valid : ReportedEpochsAreValid
-told_valid profile G info_bytes tree_bytes s log0 log1 turns rest started follows =
+pub reported_valid : ReportedEpochsAreValid
+reported_valid profile G info_bytes tree_bytes s log0 log1 turns rest started follows =
     turns_valid G s turns (started_valid profile G info_bytes tree_bytes s started) follows.taken
 
 pub resumed_valid : ResumedEpochsAreValid

@@ -13,22 +13,22 @@ use Rattle.mls_report.specs.Replay.{Follows}
 use Rattle.mls_report.specs.SignaturesReport.{LoggedMessage, ProcessesLog, StartHasSignatures, turns_of}
 use Rattle.mls_msgs.specs.declared.profile.Profile.{Profile}
 
--- `CoversWanted R wanted`: `R` accepts each signature of a message, if the message can be read.
-abbrev pub CoversWanted : VerifyFn → Option (List SignatureToVerify) → Type 0
-CoversWanted R None = Unit {0}
-CoversWanted R (Some wanted) = Covers R wanted
+-- `CoversNeeded R needed`: `R` accepts each signature of a message, if the message can be read.
+abbrev pub CoversNeeded : VerifyFn → Option (List SignatureToVerify) → Type 0
+CoversNeeded R None = Unit {0}
+CoversNeeded R (Some needed) = Covers R needed
 
--- `CoversAsked R asked`: `R` accepts each signature of the messages.
-abbrev pub CoversAsked : VerifyFn → List LoggedMessage → Type 0
-CoversAsked R [] = Unit {0}
-CoversAsked R (a ∷ asked) = CoversWanted R a.wanted × CoversAsked R asked
+-- `CoversLogged R logged`: `R` accepts each signature of the messages.
+abbrev pub CoversLogged : VerifyFn → List LoggedMessage → Type 0
+CoversLogged R [] = Unit {0}
+CoversLogged R (a ∷ logged) = CoversNeeded R a.needed × CoversLogged R logged
 
 -- If `R` accepts each signature that `signatures` prints of a start and a log, a follower with `R` and the same profile
 -- starts in the same state, returns the same result for each message, and moves to the same state.
 abbrev pub CoveredReportsReplay : Type 0
 CoveredReportsReplay =
-    (profile : Profile) (R : VerifyFn) (info : GroupInfo) (handed : Option RatchetTree) (s : State) (wanted : List SignatureToVerify)
-    (log0 log1 : Option (List ℕ)) (asked : List LoggedMessage) (rest : List ℕ)
-    → StartHasSignatures profile info handed s wanted → Covers R wanted → ProcessesLog s log0 log1 asked rest
-    → CoversAsked R asked
-    → IsStart profile R info handed s × Follows R s log0 log1 (turns_of asked) rest
+    (profile : Profile) (R : VerifyFn) (info : GroupInfo) (supplied : Option RatchetTree) (s : State) (needed : List SignatureToVerify)
+    (log0 log1 : Option (List ℕ)) (logged : List LoggedMessage) (rest : List ℕ)
+    → StartHasSignatures profile info supplied s needed → Covers R needed → ProcessesLog s log0 log1 logged rest
+    → CoversLogged R logged
+    → IsStart profile R info supplied s × Follows R s log0 log1 (turns_of logged) rest

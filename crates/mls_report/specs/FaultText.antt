@@ -33,7 +33,7 @@ wire_fault_text f = wire_kind_text f.kind ++ (codes " " ++ decimal f.at)
 -- `node_fault_text f` is why a ratchet_tree cannot be read.
 abbrev pub node_fault_text : NodeFault → List ℕ
 node_fault_text (fault.Wire f) = wire_fault_text f
-node_fault_text (fault.WrongNodeKind place) = codes "WrongNodeKind " ++ decimal place
+node_fault_text (fault.WrongNodeKind node_index) = codes "WrongNodeKind " ++ decimal node_index
 node_fault_text fault.LastBlank = codes "LastBlank"
 node_fault_text fault.EmptyTree = codes "EmptyTree"
 node_fault_text fault.TooManyLeaves = codes "TooManyLeaves"
@@ -43,10 +43,10 @@ node_fault_text fault.OutOfMemory = codes "OutOfMemory"
 -- 12.4.3.1).
 abbrev pub tree_fault_text : TreeFault → List ℕ
 tree_fault_text trees.HashDiffers = codes "1 HashDiffers"
-tree_fault_text (trees.UnmergedUnsorted place) = codes "2 UnmergedUnsorted " ++ decimal place
-tree_fault_text (trees.UnmergedUnsound place) = codes "3 UnmergedUnsound " ++ decimal place
-tree_fault_text (trees.KeyRepeated place) = codes "4 KeyRepeated " ++ decimal place
-tree_fault_text (trees.ParentHashInvalid place) = codes "5 ParentHashInvalid " ++ decimal place
+tree_fault_text (trees.UnmergedUnsorted node_index) = codes "2 UnmergedUnsorted " ++ decimal node_index
+tree_fault_text (trees.UnmergedUnsound node_index) = codes "3 UnmergedUnsound " ++ decimal node_index
+tree_fault_text (trees.KeyRepeated node_index) = codes "4 KeyRepeated " ++ decimal node_index
+tree_fault_text (trees.ParentHashInvalid node_index) = codes "5 ParentHashInvalid " ++ decimal node_index
 tree_fault_text trees.OutOfMemory = codes "OutOfMemory"
 
 -- `member_fault_text f` is why a leaf node is not valid, by number and name, with the leaf index (RFC 9420, 7.3).

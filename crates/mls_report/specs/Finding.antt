@@ -48,22 +48,23 @@ finding_verdict _ = No
 
 -- ---- the report of a finding
 
--- `TellsFinding IsFound written0 written1 verdict`: this is found, its line was written whole, and the verdict is its.
-pub record TellsFinding (IsFound : Finding → Type 0) (written0 written1 : Option (List ℕ))
+-- `ReportsFinding IsFound written0 written1 verdict`: this is found, its line was written whole, and the verdict is
+-- its.
+pub record ReportsFinding (IsFound : Finding → Type 0) (written0 written1 : Option (List ℕ))
     (verdict : Verdict) : Type 0 where
   pub finding : Finding
   pub found : IsFound finding
   pub wrote : Appends written0 written1 (finding_line finding)
   pub verdict_is : verdict ≡ finding_verdict finding
 
--- `TellsFindingPrefix IsFound written0 written1`: this is found, and a prefix of its line was written.
-pub record TellsFindingPrefix (IsFound : Finding → Type 0)
+-- `ReportsFindingPrefix IsFound written0 written1`: this is found, and a prefix of its line was written.
+pub record ReportsFindingPrefix (IsFound : Finding → Type 0)
     (written0 written1 : Option (List ℕ)) : Type 0 where
   pub finding : Finding
   pub found : IsFound finding
   pub wrote : AppendsPrefix written0 written1 (finding_line finding)
 
--- `TellsFindingPart IsFound written0 written1`: nothing was written, or a prefix of the line of what is found.
-abbrev pub TellsFindingPart : (Finding → Type 0) → Option (List ℕ) → Option (List ℕ) → Type 0
-TellsFindingPart IsFound written0 written1 =
-    Appends written0 written1 [] ⊎ TellsFindingPrefix IsFound written0 written1
+-- `ReportsFindingPart IsFound written0 written1`: nothing was written, or a prefix of the line of what is found.
+abbrev pub ReportsFindingPart : (Finding → Type 0) → Option (List ℕ) → Option (List ℕ) → Type 0
+ReportsFindingPart IsFound written0 written1 =
+    Appends written0 written1 [] ⊎ ReportsFindingPrefix IsFound written0 written1

@@ -55,7 +55,7 @@ abbrev pub refusal_text : Refusal → List ℕ
 refusal_text (Member fault) = codes "25 " ++ decimal (member_number fault)
 refusal_text e = decimal (number_of e)
 
--- `ended_text ended` is the word behind a commit after which the group is over (RFC 9420, 11.2), else nothing.
+-- `ended_text ended` is the word that follows a commit after which the group is over (RFC 9420, 11.2), else nothing.
 abbrev pub ended_text : Bool → List ℕ
 ended_text false = []
 ended_text true = codes " ended"
@@ -149,9 +149,9 @@ pub record Follows (G : VerifyFn) (s : State) (log0 log1 : Option (List ℕ)) (t
 
 -- ---- the report of a follower that has started
 
--- `TellsLog G s log0 log1 written0 written1 verdict`: the line of each message was written, the log has ended or is
+-- `ReportsLog G s log0 log1 written0 written1 verdict`: the line of each message was written, the log has ended or is
 -- broken, and the last lines were written.
-pub record TellsLog (G : VerifyFn) (s : State) (log0 log1 written0 written1 : Option (List ℕ))
+pub record ReportsLog (G : VerifyFn) (s : State) (log0 log1 written0 written1 : Option (List ℕ))
     (verdict : Verdict) : Type 0 where
   pub turns : List ProcessedMessage
   pub rest : List ℕ
@@ -213,21 +213,21 @@ pub record StopsWithoutMemory (G : VerifyFn) (s : State) (log0 log1 written0 wri
   pub left_over : IsLeftOver (still_to_come turns) rest log1
   pub wrote : Appends written0 written1 (processed_lines 1 turns)
 
--- `TellsPart G s log0 log1 written0 written1 fault`: what was written if the report of the log was not written whole,
+-- `ReportsPart G s log0 log1 written0 written1 fault`: what was written if the report of the log was not written whole,
 -- by the fault that is returned.
-abbrev pub TellsPart : VerifyFn → State → Option (List ℕ) → Option (List ℕ) → Option (List ℕ)
+abbrev pub ReportsPart : VerifyFn → State → Option (List ℕ) → Option (List ℕ) → Option (List ℕ)
     → Option (List ℕ) → RunFault → Type 0
-TellsPart G s log0 log1 written0 written1 Read = StopsReading G s log0 log1 written0 written1
-TellsPart G s log0 log1 written0 written1 Write =
+ReportsPart G s log0 log1 written0 written1 Read = StopsReading G s log0 log1 written0 written1
+ReportsPart G s log0 log1 written0 written1 Write =
     StopsInLine G s log0 log1 written0 written1 ⊎ StopsInEnding G s log0 log1 written0 written1
-TellsPart G s log0 log1 written0 written1 Memory = StopsWithoutMemory G s log0 log1 written0 written1
+ReportsPart G s log0 log1 written0 written1 Memory = StopsWithoutMemory G s log0 log1 written0 written1
 
 -- ---- the whole report. `Starts s`: the inputs were read, and a follower starts or resumes from them in the state `s`.
 -- `Declines finding`: the inputs were read, and no follower does, for this finding.
 
--- `TellsDecline Declines log0 log1 written0 written1 verdict`: no follower starts, the log was not read, and one line
+-- `ReportsDecline Declines log0 log1 written0 written1 verdict`: no follower starts, the log was not read, and one line
 -- says why.
-pub record TellsDecline (Declines : Finding → Type 0) (log0 log1 written0 written1 : Option (List ℕ))
+pub record ReportsDecline (Declines : Finding → Type 0) (log0 log1 written0 written1 : Option (List ℕ))
     (verdict : Verdict) : Type 0 where
   pub finding : Finding
   pub declines : Declines finding
@@ -235,34 +235,35 @@ pub record TellsDecline (Declines : Finding → Type 0) (log0 log1 written0 writ
   pub wrote : Appends written0 written1 (finding_line finding)
   pub verdict_is : verdict ≡ No
 
--- `TellsReplay G Starts log0 log1 written0 written1 verdict`: a follower starts, and the report of the log was written.
-pub record TellsReplay (G : VerifyFn) (Starts : State → Type 0) (log0 log1 written0 written1 : Option (List ℕ))
+-- `ReportsReplay G Starts log0 log1 written0 written1 verdict`: a follower starts, and the report of the log was
+-- written.
+pub record ReportsReplay (G : VerifyFn) (Starts : State → Type 0) (log0 log1 written0 written1 : Option (List ℕ))
     (verdict : Verdict) : Type 0 where
   pub state : State
   pub starts : Starts state
-  pub tells : TellsLog G state log0 log1 written0 written1 verdict
+  pub reports : ReportsLog G state log0 log1 written0 written1 verdict
 
 -- `ReplaysFrom G Starts Declines log0 log1 written0 written1 verdict`: the report was written whole.
 abbrev pub ReplaysFrom : VerifyFn → (State → Type 0) → (Finding → Type 0) → Option (List ℕ) → Option (List ℕ)
     → Option (List ℕ) → Option (List ℕ) → Verdict → Type 0
 ReplaysFrom G Starts Declines log0 log1 written0 written1 verdict =
-    TellsDecline Declines log0 log1 written0 written1 verdict
-    ⊎ TellsReplay G Starts log0 log1 written0 written1 verdict
+    ReportsDecline Declines log0 log1 written0 written1 verdict
+    ⊎ ReportsReplay G Starts log0 log1 written0 written1 verdict
 
 -- `ReplaysTo G Starts Declines log0 log1 written0 written1 verdict last`: the report was written whole, and `last` is
 -- the state after the last whole message of the log; None if no follower starts.
 abbrev pub ReplaysTo : VerifyFn → (State → Type 0) → (Finding → Type 0) → Option (List ℕ) → Option (List ℕ)
     → Option (List ℕ) → Option (List ℕ) → Verdict → Option State → Type 0
 ReplaysTo G Starts Declines log0 log1 written0 written1 verdict None =
-    TellsDecline Declines log0 log1 written0 written1 verdict
+    ReportsDecline Declines log0 log1 written0 written1 verdict
 ReplaysTo G Starts Declines log0 log1 written0 written1 verdict (Some last) =
-    (told : TellsReplay G Starts log0 log1 written0 written1 verdict)
-    × (last ≡ state_after told.state told.tells.turns)
+    (printed : ReportsReplay G Starts log0 log1 written0 written1 verdict)
+    × (last ≡ state_after printed.state printed.reports.turns)
 
 -- ---- a part of the report
 
--- `TellsNothing log0 log1 written0 written1`: nothing was written, and the log was not read.
-pub record TellsNothing (log0 log1 written0 written1 : Option (List ℕ)) : Type 0 where
+-- `ReportsNothing log0 log1 written0 written1`: nothing was written, and the log was not read.
+pub record ReportsNothing (log0 log1 written0 written1 : Option (List ℕ)) : Type 0 where
   pub unread : log1 ≡ log0
   pub wrote : Appends written0 written1 []
 
@@ -276,10 +277,10 @@ pub record StopsInDecline (Declines : Finding → Type 0) (log0 log1 written0 wr
 -- `StopsBefore Declines log0 log1 written0 written1 fault`: no follower has started, by the fault that is returned.
 abbrev pub StopsBefore : (Finding → Type 0) → Option (List ℕ) → Option (List ℕ) → Option (List ℕ)
     → Option (List ℕ) → RunFault → Type 0
-StopsBefore Declines log0 log1 written0 written1 Read = TellsNothing log0 log1 written0 written1
+StopsBefore Declines log0 log1 written0 written1 Read = ReportsNothing log0 log1 written0 written1
 StopsBefore Declines log0 log1 written0 written1 Write =
     StopsInDecline Declines log0 log1 written0 written1
-StopsBefore Declines log0 log1 written0 written1 Memory = TellsNothing log0 log1 written0 written1
+StopsBefore Declines log0 log1 written0 written1 Memory = ReportsNothing log0 log1 written0 written1
 
 -- `StopsAfter G Starts log0 log1 written0 written1 fault`: a follower has started, and the report of the log was not
 -- written whole.
@@ -287,7 +288,7 @@ pub record StopsAfter (G : VerifyFn) (Starts : State → Type 0) (log0 log1 writ
     (fault : RunFault) : Type 0 where
   pub state : State
   pub starts : Starts state
-  pub tells : TellsPart G state log0 log1 written0 written1 fault
+  pub reports : ReportsPart G state log0 log1 written0 written1 fault
 
 -- `ReplaysPartFrom G Starts Declines log0 log1 written0 written1 fault`: what was written if the report was not written
 -- whole, by the fault that is returned. It is a prefix of what the bytes that were read determine.

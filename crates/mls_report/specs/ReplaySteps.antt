@@ -10,7 +10,7 @@ use Rattle.mls_follow.specs.State.{State}
 use Rattle.mls_follow.specs.declared.refusal.Refusal.{Refusal}
 use Rattle.mls_follow.specs.declared.taken.Taken.{Taken}
 use Rattle.mls_report.specs.Finding.{finding_line, finding_verdict}
-use Rattle.mls_report.specs.Replay.{ProcessedMessage, Follows, IsLogEnd, TellsLog, accepted_count, answer_text, state_after, still_to_come, processed_lines}
+use Rattle.mls_report.specs.Replay.{ProcessedMessage, Follows, IsLogEnd, ReportsLog, accepted_count, answer_text, state_after, still_to_come, processed_lines}
 use Rattle.mls_report.specs.declared.finding.Finding.{Finding}
 use Rattle.mls_report.specs.declared.read_inputs.StartFailure.{StartFailure}
 use Rattle.mls_report.specs.declared.read_inputs.StartFailure.TheVariants.{Found}
@@ -29,7 +29,7 @@ abbrev pub answer_line : ℕ → Result Taken Refusal → State → List ℕ
 answer_line n answer s = decimal n ++ (answer_text answer s ++ codes "\n")
 
 -- Message n was processed and reported.
-pub record TellsTurn (G : VerifyFn) (s : State) (n : ℕ) (bytes : List ℕ) (new : State)
+pub record ReportsMessage (G : VerifyFn) (s : State) (n : ℕ) (bytes : List ℕ) (new : State)
     (written0 written1 : Option (List ℕ)) (is_accepted : Bool) : Type 0 where
   pub answer : Result Taken Refusal
   pub is_answer : IsAnswer G s bytes answer new
@@ -66,9 +66,9 @@ pub record FollowsLog (G : VerifyFn) (s : State) (log0 log1 written0 written1 : 
 abbrev pub ReplaysLog : VerifyFn → State → Option (List ℕ) → Option (List ℕ) → Option (List ℕ) → Option (List ℕ)
     → Verdict → State → Type 0
 ReplaysLog G s log0 log1 written0 written1 verdict last =
-    (told : TellsLog G s log0 log1 written0 written1 verdict) × (last ≡ state_after s told.turns)
+    (printed : ReportsLog G s log0 log1 written0 written1 verdict) × (last ≡ state_after s printed.turns)
 
--- The same, where a follower is returned.
+-- The same, if a follower is returned.
 abbrev pub ReturnsAfter : VerifyFn → State → Option (List ℕ) → Option (List ℕ) → Option (List ℕ) → Option (List ℕ)
     → Verdict → Option State → Type 0
 ReturnsAfter G s log0 log1 written0 written1 verdict None = ⊥

@@ -41,7 +41,7 @@ pub record IsNoTreeReport (bytes text : List ℕ) (verdict : Verdict) : Type 0 w
 -- `IsMessageIn profile bytes m`: the bytes are the encoding of the message, which is in `profile`, within the limit of an
 -- input (RFC 9420, 6).
 pub record IsMessageIn (profile : Profile) (bytes : List ℕ) (m : Message) : Type 0 where
-  pub spelled : message_in profile m ≡ Some bytes
+  pub encoded : message_in profile m ≡ Some bytes
   pub bounded : length bytes ≤ input_limit
 
 -- `IsMessage bytes m`: the bytes are the encoding of the message, which is in the members' profile, within the limit of an

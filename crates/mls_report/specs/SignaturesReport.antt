@@ -1,6 +1,6 @@
 -- The report `signatures`: a line for each signature to verify that has no receipt. `R` is the verification function of
--- the receipts, `asked` are messages with their signatures; `log0`, `log1`, `written0`, `written1` as in `Replay`. Used
--- by contracts.
+-- the receipts, `logged` are messages with their signatures; `log0`, `log1`, `written0`, `written1` as in `Replay`.
+-- Used by contracts.
 use Rattle.std.specs.Prelude.{List, [], ◌∷◌, ℕ, ◌+◌, ◌++◌, ◌&&◌, codes, length, map, Bool, true, false, if◌then◌else◌, is_some, Option, Some, None, option_map, ◌≡◌, ◌⊎◌}
 use Rattle.std.specs.Fmt.{decimal}
 use Rattle.std.specs.Io.KnownBytes.{Appends}
@@ -38,10 +38,10 @@ abbrev pub receipt_text : Option (List ℕ) → List ℕ
 receipt_text None = codes "-"
 receipt_text (Some digest) = hex_text digest
 
--- `wanted_line w` is the line of a signature: its receipt, the suite, the key, the SignContent (RFC 9420, 5.1.2) and
+-- `signature_line w` is the line of a signature: its receipt, the suite, the key, the SignContent (RFC 9420, 5.1.2) and
 -- the signature.
-abbrev pub wanted_line : SignatureToVerify → List ℕ
-wanted_line w =
+abbrev pub signature_line : SignatureToVerify → List ℕ
+signature_line w =
     receipt_text (option_map sha256 (receipt_input w.suite w.key w.content w.signature))
     ++ (codes " " ++ (decimal w.suite
     ++ (codes " " ++ (hex_text w.key
@@ -50,50 +50,50 @@ wanted_line w =
 
 -- `line_unless R w` is this line, unless the signature has a receipt.
 abbrev pub line_unless : VerifyFn → SignatureToVerify → List ℕ
-line_unless R w = if R w.suite w.key w.content w.signature then [] else wanted_line w
+line_unless R w = if R w.suite w.key w.content w.signature then [] else signature_line w
 
--- `wanted_lines R ws` is the lines of the signatures of a list without a receipt.
-abbrev pub wanted_lines : VerifyFn → List SignatureToVerify → List ℕ
-wanted_lines R [] = []
-wanted_lines R (w ∷ ws) = line_unless R w ++ wanted_lines R ws
+-- `needed_lines R ws` is the lines of the signatures of a list without a receipt.
+abbrev pub needed_lines : VerifyFn → List SignatureToVerify → List ℕ
+needed_lines R [] = []
+needed_lines R (w ∷ ws) = line_unless R w ++ needed_lines R ws
 
 -- ---- the messages of a log
 
--- `HasSignatures s bytes wanted`: `wanted` is the signatures of a message in a state, or `None` if the bytes are no
+-- `HasSignatures s bytes needed`: `needed` is the signatures of a message in a state, or `None` if the bytes are no
 -- message.
 abbrev pub HasSignatures : State → List ℕ → Option (List SignatureToVerify) → Type 0
 HasSignatures s bytes None = EncodesNoMessage s.profile bytes
-HasSignatures s bytes (Some wanted) = AreSignaturesOf s bytes wanted
+HasSignatures s bytes (Some needed) = AreSignaturesOf s bytes needed
 
 -- A message of a log, and its signatures in the state before it.
 pub record LoggedMessage : Type 0 where
   pub turn : ProcessedMessage
-  pub wanted : Option (List SignatureToVerify)
+  pub needed : Option (List SignatureToVerify)
 
--- `turns_of asked` is the messages as they are processed.
+-- `turns_of logged` is the messages as they are processed.
 abbrev pub turns_of : List LoggedMessage → List ProcessedMessage
-turns_of asked = map (λ a. a.turn) asked
+turns_of logged = map (λ a. a.turn) logged
 
--- `HaveSignatures s asked`: the messages have these signatures, from the state `s` on.
+-- `HaveSignatures s logged`: the messages have these signatures, from the state `s` on.
 abbrev pub HaveSignatures : State → List LoggedMessage → Type 0
 HaveSignatures s [] = Unit {0}
-HaveSignatures s (a ∷ asked) = HasSignatures s a.turn.bytes a.wanted × HaveSignatures a.turn.state asked
+HaveSignatures s (a ∷ logged) = HasSignatures s a.turn.bytes a.needed × HaveSignatures a.turn.state logged
 
--- `signature_lines R n wanted` is the lines of message n: of its signatures, or, if it cannot be read, the line of
+-- `signature_lines R n needed` is the lines of message n: of its signatures, or, if it cannot be read, the line of
 -- `replay`.
 abbrev pub signature_lines : VerifyFn → ℕ → Option (List SignatureToVerify) → List ℕ
 signature_lines R n None = decimal n ++ codes " refused 1\n"
-signature_lines R n (Some wanted) = wanted_lines R wanted
+signature_lines R n (Some needed) = needed_lines R needed
 
--- `log_lines R n asked` is the lines of messages, the first of which has number n.
+-- `log_lines R n logged` is the lines of messages, the first of which has number n.
 abbrev pub log_lines : VerifyFn → ℕ → List LoggedMessage → List ℕ
 log_lines R n [] = []
-log_lines R n (a ∷ asked) = signature_lines R n a.wanted ++ log_lines R (n + 1) asked
+log_lines R n (a ∷ logged) = signature_lines R n a.needed ++ log_lines R (n + 1) logged
 
--- `all_read asked`: each message could be read.
+-- `all_read logged`: each message could be read.
 abbrev pub all_read : List LoggedMessage → Bool
 all_read [] = true
-all_read (a ∷ asked) = is_some a.wanted && all_read asked
+all_read (a ∷ logged) = is_some a.needed && all_read logged
 
 -- `break_line broken count` is the line of a broken log after this number of messages, as in `replay`.
 abbrev pub break_line : Bool → ℕ → List ℕ
@@ -106,102 +106,102 @@ log_verdict true readable = No
 log_verdict false true = Yes
 log_verdict false false = No
 
--- `ProcessesLog s log0 log1 asked rest`: the messages of the records that were read of a log are processed as by
+-- `ProcessesLog s log0 log1 logged rest`: the messages of the records that were read of a log are processed as by
 -- `replay`, each signature being good, and have these signatures. After these records the bytes `rest` were read.
-pub record ProcessesLog (s : State) (log0 log1 : Option (List ℕ)) (asked : List LoggedMessage) (rest : List ℕ)
+pub record ProcessesLog (s : State) (log0 log1 : Option (List ℕ)) (logged : List LoggedMessage) (rest : List ℕ)
     : Type 0 where
-  pub follows : Follows all_good s log0 log1 (turns_of asked) rest
-  pub wants : HaveSignatures s asked
+  pub follows : Follows all_good s log0 log1 (turns_of logged) rest
+  pub has_signatures : HaveSignatures s logged
 
 -- ---- the report of a log
 
--- `TellsAsked R s log0 log1 written0 written1 verdict`: the lines of each message were written, and the log has ended
--- or is broken.
-pub record TellsAsked (R : VerifyFn) (s : State) (log0 log1 written0 written1 : Option (List ℕ))
+-- `ReportsSignatureLog R s log0 log1 written0 written1 verdict`: the lines of each message were written, and the log
+-- has ended or is broken.
+pub record ReportsSignatureLog (R : VerifyFn) (s : State) (log0 log1 written0 written1 : Option (List ℕ))
     (verdict : Verdict) : Type 0 where
-  pub asked : List LoggedMessage
+  pub logged : List LoggedMessage
   pub rest : List ℕ
   pub broken : Bool
-  pub asks : ProcessesLog s log0 log1 asked rest
-  pub log_end : IsLogEnd (still_to_come (turns_of asked)) rest log1 broken
-  pub wrote : Appends written0 written1 (log_lines R 1 asked ++ break_line broken (length asked))
-  pub verdict_is : verdict ≡ log_verdict broken (all_read asked)
+  pub processes : ProcessesLog s log0 log1 logged rest
+  pub log_end : IsLogEnd (still_to_come (turns_of logged)) rest log1 broken
+  pub wrote : Appends written0 written1 (log_lines R 1 logged ++ break_line broken (length logged))
+  pub verdict_is : verdict ≡ log_verdict broken (all_read logged)
 
--- `AskedReading R s log0 log1 written0 written1`: the log failed. The lines of each whole message that was read were
--- written, and the bytes after these determine nothing more.
-pub record AskedReading (R : VerifyFn) (s : State) (log0 log1 written0 written1 : Option (List ℕ)) :
+-- `SignatureLogReading R s log0 log1 written0 written1`: the log failed. The lines of each whole message that was read
+-- were written, and the bytes after these determine nothing more.
+pub record SignatureLogReading (R : VerifyFn) (s : State) (log0 log1 written0 written1 : Option (List ℕ)) :
     Type 0 where
-  pub asked : List LoggedMessage
+  pub logged : List LoggedMessage
   pub rest : List ℕ
-  pub asks : ProcessesLog s log0 log1 asked rest
-  pub undecided : IsIncomplete (still_to_come (turns_of asked)) rest
-  pub wrote : Appends written0 written1 (log_lines R 1 asked)
+  pub processes : ProcessesLog s log0 log1 logged rest
+  pub undecided : IsIncomplete (still_to_come (turns_of logged)) rest
+  pub wrote : Appends written0 written1 (log_lines R 1 logged)
 
--- `AskedInLines R s log0 log1 written0 written1`: the output failed in the lines of the last message that was read.
--- Nothing was read after that message.
-pub record AskedInLines (R : VerifyFn) (s : State) (log0 log1 written0 written1 : Option (List ℕ)) :
+-- `SignatureLogInLines R s log0 log1 written0 written1`: the output failed in the lines of the last message that was
+-- read. Nothing was read after that message.
+pub record SignatureLogInLines (R : VerifyFn) (s : State) (log0 log1 written0 written1 : Option (List ℕ)) :
     Type 0 where
-  pub asked : List LoggedMessage
+  pub logged : List LoggedMessage
   pub last : LoggedMessage
-  pub asks : ProcessesLog s log0 log1 (asked ++ last ∷ []) []
+  pub processes : ProcessesLog s log0 log1 (logged ++ last ∷ []) []
   pub part : List ℕ
   pub more : List ℕ
-  pub lines_are : signature_lines R (length asked + 1) last.wanted ≡ part ++ more
-  pub wrote : Appends written0 written1 (log_lines R 1 asked ++ part)
+  pub lines_are : signature_lines R (length logged + 1) last.needed ≡ part ++ more
+  pub wrote : Appends written0 written1 (log_lines R 1 logged ++ part)
 
--- `AskedInBreak R s log0 log1 written0 written1`: the output failed in the line of a broken log.
-pub record AskedInBreak (R : VerifyFn) (s : State) (log0 log1 written0 written1 : Option (List ℕ)) :
+-- `SignatureLogInBreak R s log0 log1 written0 written1`: the output failed in the line of a broken log.
+pub record SignatureLogInBreak (R : VerifyFn) (s : State) (log0 log1 written0 written1 : Option (List ℕ)) :
     Type 0 where
-  pub asked : List LoggedMessage
+  pub logged : List LoggedMessage
   pub rest : List ℕ
-  pub asks : ProcessesLog s log0 log1 asked rest
-  pub log_end : IsLogEnd (still_to_come (turns_of asked)) rest log1 true
+  pub processes : ProcessesLog s log0 log1 logged rest
+  pub log_end : IsLogEnd (still_to_come (turns_of logged)) rest log1 true
   pub part : List ℕ
   pub more : List ℕ
-  pub line_is : break_line true (length asked) ≡ part ++ more
-  pub wrote : Appends written0 written1 (log_lines R 1 asked ++ part)
+  pub line_is : break_line true (length logged) ≡ part ++ more
+  pub wrote : Appends written0 written1 (log_lines R 1 logged ++ part)
 
--- `AskedWithoutMemory R s log0 log1 written0 written1`: memory ran out. The lines of each message that was read were
--- written, except the one at which it ran out.
-pub record AskedWithoutMemory (R : VerifyFn) (s : State) (log0 log1 written0 written1 : Option (List ℕ)) :
+-- `SignatureLogWithoutMemory R s log0 log1 written0 written1`: memory ran out. The lines of each message that was read
+-- were written, except the one at which it ran out.
+pub record SignatureLogWithoutMemory (R : VerifyFn) (s : State) (log0 log1 written0 written1 : Option (List ℕ)) :
     Type 0 where
-  pub asked : List LoggedMessage
+  pub logged : List LoggedMessage
   pub rest : List ℕ
-  pub asks : ProcessesLog s log0 log1 asked rest
-  pub left_over : IsLeftOver (still_to_come (turns_of asked)) rest log1
-  pub wrote : Appends written0 written1 (log_lines R 1 asked)
+  pub processes : ProcessesLog s log0 log1 logged rest
+  pub left_over : IsLeftOver (still_to_come (turns_of logged)) rest log1
+  pub wrote : Appends written0 written1 (log_lines R 1 logged)
 
--- `AskedPart R s log0 log1 written0 written1 fault`: what was written if the report of the log was not written whole,
--- by the fault that is returned.
-abbrev pub AskedPart : VerifyFn → State → Option (List ℕ) → Option (List ℕ) → Option (List ℕ)
+-- `SignatureLogPart R s log0 log1 written0 written1 fault`: what was written if the report of the log was not written
+-- whole, by the fault that is returned.
+abbrev pub SignatureLogPart : VerifyFn → State → Option (List ℕ) → Option (List ℕ) → Option (List ℕ)
     → Option (List ℕ) → RunFault → Type 0
-AskedPart R s log0 log1 written0 written1 Read = AskedReading R s log0 log1 written0 written1
-AskedPart R s log0 log1 written0 written1 Write =
-    AskedInLines R s log0 log1 written0 written1 ⊎ AskedInBreak R s log0 log1 written0 written1
-AskedPart R s log0 log1 written0 written1 Memory =
-    AskedWithoutMemory R s log0 log1 written0 written1
+SignatureLogPart R s log0 log1 written0 written1 Read = SignatureLogReading R s log0 log1 written0 written1
+SignatureLogPart R s log0 log1 written0 written1 Write =
+    SignatureLogInLines R s log0 log1 written0 written1 ⊎ SignatureLogInBreak R s log0 log1 written0 written1
+SignatureLogPart R s log0 log1 written0 written1 Memory =
+    SignatureLogWithoutMemory R s log0 log1 written0 written1
 
--- `TellsLogIf R s log0 log1 written0 written1 verdict`: the report of the log was written, or there is no log, and the
--- verdict is Yes.
-abbrev pub TellsLogIf : VerifyFn → State → Option (Option (List ℕ)) → Option (Option (List ℕ))
+-- `ReportsLogIf R s log0 log1 written0 written1 verdict`: the report of the log was written, or there is no log, and
+-- the verdict is Yes.
+abbrev pub ReportsLogIf : VerifyFn → State → Option (Option (List ℕ)) → Option (Option (List ℕ))
     → Option (List ℕ) → Option (List ℕ) → Verdict → Type 0
-TellsLogIf R s None None written0 written1 verdict =
+ReportsLogIf R s None None written0 written1 verdict =
     Appends written0 written1 [] × (verdict ≡ Yes)
-TellsLogIf R s (Some log0) (Some log1) written0 written1 verdict =
-    TellsAsked R s log0 log1 written0 written1 verdict
-TellsLogIf R s _ _ written0 written1 verdict = ⊥
+ReportsLogIf R s (Some log0) (Some log1) written0 written1 verdict =
+    ReportsSignatureLog R s log0 log1 written0 written1 verdict
+ReportsLogIf R s _ _ written0 written1 verdict = ⊥
 
 -- `LogPartIf R s log0 log1 ..`: a part of the lines of the log was written, before this fault. Without a log there is
 -- no such part.
 abbrev pub LogPartIf : VerifyFn → State → Option (Option (List ℕ)) → Option (Option (List ℕ))
     → Option (List ℕ) → Option (List ℕ) → RunFault → Type 0
 LogPartIf R s (Some log0) (Some log1) written0 written1 fault =
-    AskedPart R s log0 log1 written0 written1 fault
+    SignatureLogPart R s log0 log1 written0 written1 fault
 LogPartIf R s _ _ written0 written1 fault = ⊥
 
--- ---- the whole report. `Starts s wanted`: the inputs were read, a follower starts or resumes from them in the state
--- `s`, each signature being good, and `wanted` are the signatures of that. `Declines finding`: the inputs were read, and
--- no follower does although each signature is good, for this finding.
+-- ---- the whole report. `Starts s needed`: the inputs were read, a follower starts or resumes from them in the state
+-- `s`, each signature being good, and `needed` are the signatures of that. `Declines finding`: the inputs were read,
+-- and no follower does although each signature is good, for this finding.
 
 -- `DeclinesSignatures Declines ..`: no follower starts. The log was not read, and one line says why.
 pub record DeclinesSignatures (Declines : Finding → Type 0) (log0 log1 : Option (Option (List ℕ)))
@@ -212,24 +212,24 @@ pub record DeclinesSignatures (Declines : Finding → Type 0) (log0 log1 : Optio
   pub wrote : Appends written0 written1 (finding_line finding)
   pub verdict_is : verdict ≡ No
 
--- `TellsSignatures R Starts ..`: a follower starts. The lines of the start were written, and then those of the log, if
--- there is one.
-pub record TellsSignatures (R : VerifyFn) (Starts : State → List SignatureToVerify → Type 0)
+-- `ReportsSignatures R Starts ..`: a follower starts. The lines of the start were written, and then those of the log,
+-- if there is one.
+pub record ReportsSignatures (R : VerifyFn) (Starts : State → List SignatureToVerify → Type 0)
     (log0 log1 : Option (Option (List ℕ))) (written0 written1 : Option (List ℕ)) (verdict : Verdict)
     : Type 0 where
   pub state : State
-  pub wanted : List SignatureToVerify
-  pub opens : Starts state wanted
+  pub needed : List SignatureToVerify
+  pub opens : Starts state needed
   pub between : Option (List ℕ)
-  pub wrote : Appends written0 between (wanted_lines R wanted)
-  pub tells : TellsLogIf R state log0 log1 between written1 verdict
+  pub wrote : Appends written0 between (needed_lines R needed)
+  pub reports : ReportsLogIf R state log0 log1 between written1 verdict
 
 -- `SignaturesFrom R Starts Declines ..`: the report was written whole.
 abbrev pub SignaturesFrom : VerifyFn → (State → List SignatureToVerify → Type 0) → (Finding → Type 0)
     → Option (Option (List ℕ)) → Option (Option (List ℕ)) → Option (List ℕ) → Option (List ℕ) → Verdict → Type 0
 SignaturesFrom R Starts Declines log0 log1 written0 written1 verdict =
     DeclinesSignatures Declines log0 log1 written0 written1 verdict
-    ⊎ TellsSignatures R Starts log0 log1 written0 written1 verdict
+    ⊎ ReportsSignatures R Starts log0 log1 written0 written1 verdict
 
 -- ---- a part of the report
 
@@ -251,10 +251,10 @@ pub record SignaturesInDecline (Declines : Finding → Type 0) (log0 log1 : Opti
 pub record SignaturesInStart (R : VerifyFn) (Starts : State → List SignatureToVerify → Type 0)
     (log0 log1 : Option (Option (List ℕ))) (written0 written1 : Option (List ℕ)) : Type 0 where
   pub state : State
-  pub wanted : List SignatureToVerify
-  pub opens : Starts state wanted
+  pub needed : List SignatureToVerify
+  pub opens : Starts state needed
   pub unread : log1 ≡ log0
-  pub wrote : AppendsPrefix written0 written1 (wanted_lines R wanted)
+  pub wrote : AppendsPrefix written0 written1 (needed_lines R needed)
 
 -- `SignaturesWithoutMemory R Starts ..`: memory ran out in the lines of the start. The lines of the signatures before
 -- were written whole.
@@ -265,7 +265,7 @@ pub record SignaturesWithoutMemory (R : VerifyFn) (Starts : State → List Signa
   pub rest : List SignatureToVerify
   pub opens : Starts state (front ++ rest)
   pub unread : log1 ≡ log0
-  pub wrote : Appends written0 written1 (wanted_lines R front)
+  pub wrote : Appends written0 written1 (needed_lines R front)
 
 -- `SignaturesBefore R Starts Declines .. fault`: nothing of the log was read, by the fault that is returned.
 abbrev pub SignaturesBefore : VerifyFn → (State → List SignatureToVerify → Type 0) → (Finding → Type 0)
@@ -283,11 +283,11 @@ pub record SignaturesAfter (R : VerifyFn) (Starts : State → List SignatureToVe
     (log0 log1 : Option (Option (List ℕ))) (written0 written1 : Option (List ℕ)) (fault : RunFault)
     : Type 0 where
   pub state : State
-  pub wanted : List SignatureToVerify
-  pub opens : Starts state wanted
+  pub needed : List SignatureToVerify
+  pub opens : Starts state needed
   pub between : Option (List ℕ)
-  pub wrote : Appends written0 between (wanted_lines R wanted)
-  pub tells : LogPartIf R state log0 log1 between written1 fault
+  pub wrote : Appends written0 between (needed_lines R needed)
+  pub reports : LogPartIf R state log0 log1 between written1 fault
 
 -- `SignaturesPartFrom R Starts Declines .. fault`: what was written if the report was not written whole, by the fault
 -- that is returned. It is a prefix of what the bytes that were read determine.
@@ -299,23 +299,23 @@ SignaturesPartFrom R Starts Declines log0 log1 written0 written1 fault =
 
 -- ---- from a GroupInfo, and a tree if one is passed. The group is followed in `profile`
 
--- `StartHasSignatures profile info handed s wanted`: a follower starts from a GroupInfo and a tree in this state, each
--- signature being good, and the start has these signatures.
-pub record StartHasSignatures (profile : Profile) (info : GroupInfo) (handed : Option RatchetTree)
-    (s : State) (wanted : List SignatureToVerify) : Type 0 where
-  pub start : IsStart profile all_good info handed s
-  pub wanted_is : wanted ≡ start_signatures info s.tree
+-- `StartHasSignatures profile info supplied s needed`: a follower starts from a GroupInfo and a tree in this state,
+-- each signature being good, and the start has these signatures.
+pub record StartHasSignatures (profile : Profile) (info : GroupInfo) (supplied : Option RatchetTree)
+    (s : State) (needed : List SignatureToVerify) : Type 0 where
+  pub start : IsStart profile all_good info supplied s
+  pub needed_is : needed ≡ start_signatures info s.tree
 
--- `ReadsStartSignatures profile info0 info1 tree0 tree1 s wanted`: both were read, and so a follower starts from them.
+-- `ReadsStartSignatures profile info0 info1 tree0 tree1 s needed`: both were read, and so a follower starts from them.
 pub record ReadsStartSignatures (profile : Profile) (info0 info1 : Option (List ℕ))
-    (tree0 tree1 : Option (Option (List ℕ))) (s : State) (wanted : List SignatureToVerify) : Type 0 where
+    (tree0 tree1 : Option (Option (List ℕ))) (s : State) (needed : List SignatureToVerify) : Type 0 where
   pub info_bytes : List ℕ
   pub tree_bytes : Option (List ℕ)
   pub both_read : ReadsBoth info0 info1 tree0 tree1 info_bytes tree_bytes
   pub info : GroupInfo
-  pub handed : Option RatchetTree
-  pub is_read : IsReadAs profile info_bytes tree_bytes info handed
-  pub starts : StartHasSignatures profile info handed s wanted
+  pub supplied : Option RatchetTree
+  pub is_read : IsReadAs profile info_bytes tree_bytes info supplied
+  pub starts : StartHasSignatures profile info supplied s needed
 
 module _ (profile : Profile) (R : VerifyFn) (info0 info1 : Option (List ℕ))
     (tree0 tree1 log0 log1 : Option (Option (List ℕ))) (written0 written1 : Option (List ℕ)) where
@@ -333,12 +333,12 @@ module _ (profile : Profile) (R : VerifyFn) (info0 info1 : Option (List ℕ))
 
 -- ---- from the file of a state
 
--- `ReadsStateSignatures state0 state1 s wanted`: the file was read, a follower resumes from it in this state, each
+-- `ReadsStateSignatures state0 state1 s needed`: the file was read, a follower resumes from it in this state, each
 -- signature being good, and the resumption has these signatures.
-pub record ReadsStateSignatures (state0 state1 : Option (List ℕ)) (s : State) (wanted : List SignatureToVerify)
+pub record ReadsStateSignatures (state0 state1 : Option (List ℕ)) (s : State) (needed : List SignatureToVerify)
     : Type 0 where
   pub resumes : ReadsAndResumes all_good state0 state1 s
-  pub wanted_is : wanted ≡ resumption_signatures s.context s.tree s.known
+  pub needed_is : needed ≡ resumption_signatures s.context s.tree s.known
 
 module _ (R : VerifyFn) (state0 state1 : Option (List ℕ)) (log0 log1 : Option (Option (List ℕ)))
     (written0 written1 : Option (List ℕ)) where

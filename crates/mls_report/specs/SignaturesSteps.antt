@@ -15,52 +15,52 @@ use Rattle.mls_follow.specs.declared.refusal.Refusal.{Refusal}
 use Rattle.mls_follow.specs.declared.taken.Taken.{Taken}
 use Rattle.mls_signatures.specs.declared.signature_to_verify.SignatureToVerify.{SignatureToVerify}
 use Rattle.mls_follow.specs.CoveredLogs.{all_good}
-use Rattle.mls_report.specs.SignaturesReport.{HasSignatures, signature_lines, wanted_lines, StartHasSignatures, TellsLogIf, LogPartIf}
+use Rattle.mls_report.specs.SignaturesReport.{HasSignatures, signature_lines, needed_lines, StartHasSignatures, ReportsLogIf, LogPartIf}
 use Rattle.mls_report.specs.StartInputs.{IsReadAs}
 use Rattle.mls_report.specs.declared.verdict.RunFault.{RunFault}
 use Rattle.mls_report.specs.declared.verdict.RunFault.TheVariants.{Read, Write, Memory}
 use Rattle.mls_report.specs.declared.verdict.Verdict.{Verdict}
 
 -- The text of message n, and whether it is decodable.
-pub record TellsWanted (R : VerifyFn) (s : State) (n : ℕ) (bytes text : List ℕ) (is_read : Bool)
+pub record ReportsMessageSignatures (R : VerifyFn) (s : State) (n : ℕ) (bytes text : List ℕ) (is_read : Bool)
     : Type 0 where
-  pub wanted : Option (List SignatureToVerify)
-  pub wants : HasSignatures s bytes wanted
-  pub text_is : text ≡ signature_lines R n wanted
-  pub read : is_read ≡ is_some wanted
+  pub needed : Option (List SignatureToVerify)
+  pub has_signatures : HasSignatures s bytes needed
+  pub text_is : text ≡ signature_lines R n needed
+  pub read : is_read ≡ is_some needed
 
 -- The needed signatures of message n were reported, and it was processed.
-pub record AsksTurn (R : VerifyFn) (s : State) (n : ℕ) (bytes : List ℕ) (new : State)
+pub record WritesSignatures (R : VerifyFn) (s : State) (n : ℕ) (bytes : List ℕ) (new : State)
     (written0 written1 : Option (List ℕ)) (is_read : Bool) : Type 0 where
-  pub wanted : Option (List SignatureToVerify)
-  pub wants : HasSignatures s bytes wanted
+  pub needed : Option (List SignatureToVerify)
+  pub has_signatures : HasSignatures s bytes needed
   pub answer : Result Taken Refusal
   pub is_answer : IsAnswer all_good s bytes answer new
-  pub wrote : Appends written0 written1 (signature_lines R n wanted)
-  pub read : is_read ≡ is_some wanted
+  pub wrote : Appends written0 written1 (signature_lines R n needed)
+  pub read : is_read ≡ is_some needed
 
 -- Message n was processed, and the output failed in its lines.
-pub record StopsAsked (R : VerifyFn) (s : State) (n : ℕ) (bytes : List ℕ)
+pub record StopsInSignatures (R : VerifyFn) (s : State) (n : ℕ) (bytes : List ℕ)
     (written0 written1 : Option (List ℕ)) : Type 0 where
-  pub wanted : Option (List SignatureToVerify)
-  pub wants : HasSignatures s bytes wanted
+  pub needed : Option (List SignatureToVerify)
+  pub has_signatures : HasSignatures s bytes needed
   pub answer : Result Taken Refusal
   pub new : State
   pub is_answer : IsAnswer all_good s bytes answer new
-  pub wrote : AppendsPrefix written0 written1 (signature_lines R n wanted)
+  pub wrote : AppendsPrefix written0 written1 (signature_lines R n needed)
 
 -- The needed signatures of message n were not reported, with this fault.
-abbrev pub StopsAsking : VerifyFn → State → ℕ → List ℕ → Option (List ℕ) → Option (List ℕ) → RunFault → Type 0
-StopsAsking R s n bytes written0 written1 Read = ⊥
-StopsAsking R s n bytes written0 written1 Write = StopsAsked R s n bytes written0 written1
-StopsAsking R s n bytes written0 written1 Memory = Appends written0 written1 []
+abbrev pub StopsInMessage : VerifyFn → State → ℕ → List ℕ → Option (List ℕ) → Option (List ℕ) → RunFault → Type 0
+StopsInMessage R s n bytes written0 written1 Read = ⊥
+StopsInMessage R s n bytes written0 written1 Write = StopsInSignatures R s n bytes written0 written1
+StopsInMessage R s n bytes written0 written1 Memory = Appends written0 written1 []
 
 -- ---- the signatures of a start
 
 -- The list is the signature of the GroupInfo, by the tree that the start uses.
 abbrev pub AreInfoSignatures : GroupInfo → Option RatchetTree → List SignatureToVerify → Type 0
-AreInfoSignatures info handed signatures =
-    (t : RatchetTree) → UsesTree handed info.extensions t
+AreInfoSignatures info supplied signatures =
+    (t : RatchetTree) → UsesTree supplied info.extensions t
     → signatures ≡ info_signatures info (leaf_at 0 t.tree info.signer)
 
 -- From the bytes of a GroupInfo, and of a tree if there is a file of it, a follower with the profile starts in this state,
@@ -68,9 +68,9 @@ AreInfoSignatures info handed signatures =
 pub record StartsWithSignatures (profile : Profile) (info_bytes : List ℕ) (tree_bytes : Option (List ℕ))
     (s : State) (signatures : List SignatureToVerify) : Type 0 where
   pub info : GroupInfo
-  pub handed : Option RatchetTree
-  pub is_read : IsReadAs profile info_bytes tree_bytes info handed
-  pub starts : StartHasSignatures profile info handed s signatures
+  pub supplied : Option RatchetTree
+  pub is_read : IsReadAs profile info_bytes tree_bytes info supplied
+  pub starts : StartHasSignatures profile info supplied s signatures
 
 -- The signature of the leaf of a state's tree at a leaf index.
 abbrev pub signatures_of_leaf : State → ℕ → List SignatureToVerify
@@ -101,30 +101,30 @@ StopsInLines lines signatures written0 written1 Memory = LinesWithoutMemory line
 -- ---- the report from a start on
 
 -- The lines of the start were written, and then the lines of the log.
-pub record TellsBehind (R : VerifyFn) (s : State) (wanted : List SignatureToVerify)
+pub record ReportsAfterStart (R : VerifyFn) (s : State) (needed : List SignatureToVerify)
     (log0 log1 : Option (Option (List ℕ))) (written0 written1 : Option (List ℕ)) (verdict : Verdict)
     : Type 0 where
   pub between : Option (List ℕ)
-  pub wrote : Appends written0 between (wanted_lines R wanted)
-  pub tells : TellsLogIf R s log0 log1 between written1 verdict
+  pub wrote : Appends written0 between (needed_lines R needed)
+  pub reports : ReportsLogIf R s log0 log1 between written1 verdict
 
 -- The lines of the start were not written whole, with this fault. The log was not read.
-pub record StopsInStart (R : VerifyFn) (wanted : List SignatureToVerify) (log0 log1 : Option (Option (List ℕ)))
+pub record StopsInStart (R : VerifyFn) (needed : List SignatureToVerify) (log0 log1 : Option (Option (List ℕ)))
     (written0 written1 : Option (List ℕ)) (fault : RunFault) : Type 0 where
   pub unread : log1 ≡ log0
-  pub stops : StopsInLines (wanted_lines R) wanted written0 written1 fault
+  pub stops : StopsInLines (needed_lines R) needed written0 written1 fault
 
 -- The lines of the start were written whole, but not the lines of the log, with this fault.
-pub record StopsBehind (R : VerifyFn) (s : State) (wanted : List SignatureToVerify)
+pub record StopsBehind (R : VerifyFn) (s : State) (needed : List SignatureToVerify)
     (log0 log1 : Option (Option (List ℕ))) (written0 written1 : Option (List ℕ)) (fault : RunFault)
     : Type 0 where
   pub between : Option (List ℕ)
-  pub wrote : Appends written0 between (wanted_lines R wanted)
-  pub tells : LogPartIf R s log0 log1 between written1 fault
+  pub wrote : Appends written0 between (needed_lines R needed)
+  pub reports : LogPartIf R s log0 log1 between written1 fault
 
 -- The lines of the start and the lines of the log were not written whole, with this fault.
 abbrev pub BehindPart : VerifyFn → State → List SignatureToVerify → Option (Option (List ℕ))
     → Option (Option (List ℕ)) → Option (List ℕ) → Option (List ℕ) → RunFault → Type 0
-BehindPart R s wanted log0 log1 written0 written1 fault =
-    StopsInStart R wanted log0 log1 written0 written1 fault
-    ⊎ StopsBehind R s wanted log0 log1 written0 written1 fault
+BehindPart R s needed log0 log1 written0 written1 fault =
+    StopsInStart R needed log0 log1 written0 written1 fault
+    ⊎ StopsBehind R s needed log0 log1 written0 written1 fault

@@ -38,22 +38,22 @@ abbrev pub IsOtherMessage : Profile → List ℕ → Type 0
 IsOtherMessage profile bytes =
     (m : Message) × IsMessageIn profile bytes m × ((info : GroupInfo) → m ≢ messages.GroupInfo info)
 
--- `IsHanded bytes handed`: `handed` is the tree of the bytes, or there are none and no tree is passed.
-abbrev pub IsHanded : Option (List ℕ) → Option RatchetTree → Type 0
-IsHanded None None = Unit {0}
-IsHanded (Some bytes) (Some t) = IsTreeOf bytes t
-IsHanded _ _ = ⊥
+-- `IsSupplied bytes supplied`: `supplied` is the tree of the bytes, or there are none and no tree is passed.
+abbrev pub IsSupplied : Option (List ℕ) → Option RatchetTree → Type 0
+IsSupplied None None = Unit {0}
+IsSupplied (Some bytes) (Some t) = IsTreeOf bytes t
+IsSupplied _ _ = ⊥
 
--- `IsHandedUnread bytes`: a tree is passed, and its bytes are no ratchet_tree (RFC 9420, 12.4.3.3).
-abbrev pub IsHandedUnread : Option (List ℕ) → Type 0
-IsHandedUnread None = ⊥
-IsHandedUnread (Some bytes) = IsNoTree bytes
+-- `IsSuppliedUnread bytes`: a tree is passed, and its bytes are no ratchet_tree (RFC 9420, 12.4.3.3).
+abbrev pub IsSuppliedUnread : Option (List ℕ) → Type 0
+IsSuppliedUnread None = ⊥
+IsSuppliedUnread (Some bytes) = IsNoTree bytes
 
--- `IsReadAs profile info_bytes tree_bytes info handed`: the GroupInfo can be read, and the tree if one is passed.
+-- `IsReadAs profile info_bytes tree_bytes info supplied`: the GroupInfo can be read, and the tree if one is passed.
 pub record IsReadAs (profile : Profile) (info_bytes : List ℕ) (tree_bytes : Option (List ℕ)) (info : GroupInfo)
-    (handed : Option RatchetTree) : Type 0 where
+    (supplied : Option RatchetTree) : Type 0 where
   pub is_info : IsInfo profile info_bytes info
-  pub is_handed : IsHanded tree_bytes handed
+  pub is_supplied : IsSupplied tree_bytes supplied
 
 -- ---- what is found of them
 
@@ -70,32 +70,32 @@ started_of s = record {
 pub record IsStarted (profile : Profile) (G : VerifyFn) (info_bytes : List ℕ) (tree_bytes : Option (List ℕ))
     (s : State) : Type 0 where
   pub info : GroupInfo
-  pub handed : Option RatchetTree
-  pub is_read : IsReadAs profile info_bytes tree_bytes info handed
-  pub start : IsStart profile G info handed s
+  pub supplied : Option RatchetTree
+  pub is_read : IsReadAs profile info_bytes tree_bytes info supplied
+  pub start : IsStart profile G info supplied s
 
 -- `IsStartFinding profile G info_bytes tree_bytes finding`: the first finding that applies, or that a follower starts.
 abbrev pub IsStartFinding : Profile → VerifyFn → List ℕ → Option (List ℕ) → Finding → Type 0
 IsStartFinding profile G info_bytes tree_bytes (InfoUnreadable fault) = IsNoMessage profile info_bytes
 IsStartFinding profile G info_bytes tree_bytes NotGroupInfo = IsOtherMessage profile info_bytes
 IsStartFinding profile G info_bytes tree_bytes (TreeUnreadable fault) =
-    (info : GroupInfo) × IsInfo profile info_bytes info × IsHandedUnread tree_bytes × (fault ≢ nodes.OutOfMemory)
+    (info : GroupInfo) × IsInfo profile info_bytes info × IsSuppliedUnread tree_bytes × (fault ≢ nodes.OutOfMemory)
 IsStartFinding profile G info_bytes tree_bytes (StartRefused fault) =
-    (info : GroupInfo) × (handed : Option RatchetTree) × IsReadAs profile info_bytes tree_bytes info handed
-    × (fault ≢ starts.OutOfMemory) × IsStartFault G info handed fault
+    (info : GroupInfo) × (supplied : Option RatchetTree) × IsReadAs profile info_bytes tree_bytes info supplied
+    × (fault ≢ starts.OutOfMemory) × IsStartFault G info supplied fault
 IsStartFinding profile G info_bytes tree_bytes (Starts started) =
     (s : State) × IsStarted profile G info_bytes tree_bytes s × (started ≡ started_of s)
 IsStartFinding profile G info_bytes tree_bytes _ = ⊥
 
 -- ---- the reading
 
--- `ReadsHanded tree0 tree1 bytes`: a source that is passed was read to its end, and these are its bytes; or none is
+-- `ReadsSupplied tree0 tree1 bytes`: a source that is passed was read to its end, and these are its bytes; or none is
 -- passed.
-abbrev pub ReadsHanded : Option (Option (List ℕ)) → Option (Option (List ℕ))
+abbrev pub ReadsSupplied : Option (Option (List ℕ)) → Option (Option (List ℕ))
     → Option (List ℕ) → Type 0
-ReadsHanded None None None = Unit {0}
-ReadsHanded (Some old) (Some new) (Some bytes) = ReadsAll old new bytes
-ReadsHanded _ _ _ = ⊥
+ReadsSupplied None None None = Unit {0}
+ReadsSupplied (Some old) (Some new) (Some bytes) = ReadsAll old new bytes
+ReadsSupplied _ _ _ = ⊥
 
 -- `has_failed failed`: a source that is passed has failed.
 abbrev pub has_failed : Option Bool → Bool
@@ -107,7 +107,7 @@ has_failed (Some failed) = failed
 pub record ReadsBoth (info0 info1 : Option (List ℕ)) (tree0 tree1 : Option (Option (List ℕ)))
     (info_bytes : List ℕ) (tree_bytes : Option (List ℕ)) : Type 0 where
   pub info : ReadsAll info0 info1 info_bytes
-  pub tree : ReadsHanded tree0 tree1 tree_bytes
+  pub tree : ReadsSupplied tree0 tree1 tree_bytes
 
 -- `ReadsAndStarts profile G info0 info1 tree0 tree1 s`: both were read, and a follower starts from them in this state.
 pub record ReadsAndStarts (profile : Profile) (G : VerifyFn) (info0 info1 : Option (List ℕ))

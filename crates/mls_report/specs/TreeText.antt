@@ -18,32 +18,32 @@ source_text (KeyPackage lifetime) =
 source_text Update = codes "update"
 source_text (Commit parent_hash) = codes "commit " ++ hex_text parent_hash
 
--- `leaf_line place leaf` is the line of a leaf: its node index, its leaf index, its keys and its source.
+-- `leaf_line node_index leaf` is the line of a leaf: its node index, its leaf index, its keys and its source.
 abbrev pub leaf_line : ℕ → LeafNode → List ℕ
-leaf_line place leaf =
-    decimal place ++ (codes " leaf " ++ (decimal (place / 2)
+leaf_line node_index leaf =
+    decimal node_index ++ (codes " leaf " ++ (decimal (node_index / 2)
     ++ (codes " " ++ (hex_text leaf.encryption_key
     ++ (codes " " ++ (hex_text leaf.signature_key
     ++ (codes " " ++ (source_text leaf.source ++ codes "\n"))))))))
 
--- `parent_line place parent` is the line of a parent (RFC 9420, 7.1): its node index, its key, its parent hash and its
--- unmerged leaves.
+-- `parent_line node_index parent` is the line of a parent (RFC 9420, 7.1): its node index, its key, its parent hash and
+-- its unmerged leaves.
 abbrev pub parent_line : ℕ → ParentNode → List ℕ
-parent_line place parent =
-    decimal place ++ (codes " parent " ++ (hex_text parent.encryption_key
+parent_line node_index parent =
+    decimal node_index ++ (codes " parent " ++ (hex_text parent.encryption_key
     ++ (codes " " ++ (hex_text parent.parent_hash
     ++ (codes " " ++ (numbers_text parent.unmerged ++ codes "\n"))))))
 
--- `node_line place n` is the line of the node at a node index.
+-- `node_line node_index n` is the line of the node at a node index.
 abbrev pub node_line : ℕ → Option NodeValue → List ℕ
-node_line place None = decimal place ++ codes " blank\n"
-node_line place (Some (leaf_node leaf)) = leaf_line place leaf
-node_line place (Some (parent_node parent)) = parent_line place parent
+node_line node_index None = decimal node_index ++ codes " blank\n"
+node_line node_index (Some (leaf_node leaf)) = leaf_line node_index leaf
+node_line node_index (Some (parent_node parent)) = parent_line node_index parent
 
--- `node_lines place nodes` is the lines of nodes, the first of which is at node index `place`.
+-- `node_lines node_index nodes` is the lines of nodes, the first of which is at node index `node_index`.
 abbrev pub node_lines : ℕ → List (Option NodeValue) → List ℕ
-node_lines place [] = []
-node_lines place (node ∷ nodes) = node_line place node ++ node_lines (place + 1) nodes
+node_lines node_index [] = []
+node_lines node_index (node ∷ nodes) = node_line node_index node ++ node_lines (node_index + 1) nodes
 
 -- `count_line leaves members` is the last line: how many leaves the tree has, blank ones included, and how many
 -- members.

@@ -118,8 +118,8 @@ StateReplayIsUnique =
 -- The bytes of a message and the state before it determine its signatures, or that the bytes are no message.
 abbrev pub MessageSignaturesAreUnique : Type 0
 MessageSignaturesAreUnique =
-    (s : State) (bytes : List ℕ) (wanted other : Option (List SignatureToVerify))
-    → HasSignatures s bytes wanted → HasSignatures s bytes other → wanted ≡ other
+    (s : State) (bytes : List ℕ) (needed other : Option (List SignatureToVerify))
+    → HasSignatures s bytes needed → HasSignatures s bytes other → needed ≡ other
 
 -- `IsSignaturesReport profile R info_bytes tree_bytes log_bytes text verdict`: the report `signatures` over these bytes in
 -- the profile, with a tree and a log or without, has written this text, and has this verdict. `R` is the verification
@@ -152,8 +152,8 @@ pub record IsStateSignaturesReport (R : VerifyFn) (state_bytes : List ℕ) (log_
   pub signatures : SignaturesState R (Some state_bytes) state_left (option_map Some log_bytes) log_left
       (Some before) (Some (before ++ text)) verdict
 
--- The bytes of a state's file and of a log, and the meaning of the receipts, determine what `signatures` writes, and its
--- verdict.
+-- The bytes of a state's file and of a log, and the verification function of the receipts, determine what `signatures`
+-- writes, and its verdict.
 abbrev pub StateSignaturesAreUnique : Type 0
 StateSignaturesAreUnique =
     (R : VerifyFn) (state_bytes : List ℕ) (log_bytes : Option (List ℕ)) (text other : List ℕ)

@@ -14,8 +14,8 @@ receipts_line (faults.BadLine line) = codes "receipts unreadable " ++ (decimal l
 receipts_line faults.TooLong = codes "receipts unreadable TooLong\n"
 receipts_line faults.OutOfMemory = []
 
--- `TellsReceipts fault written0 written1 verdict`: the line of the fault was written whole, and the verdict is No.
-pub record TellsReceipts (fault : ReceiptsFault) (written0 written1 : Option (List ℕ))
+-- `ReportsReceipts fault written0 written1 verdict`: the line of the fault was written whole, and the verdict is No.
+pub record ReportsReceipts (fault : ReceiptsFault) (written0 written1 : Option (List ℕ))
     (verdict : Verdict) : Type 0 where
   pub own : fault ≢ faults.OutOfMemory
   pub wrote : Appends written0 written1 (receipts_line fault)

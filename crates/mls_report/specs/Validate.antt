@@ -3,7 +3,7 @@
 use Rattle.std.specs.Prelude.{List, ℕ, Option}
 use Rattle.mls_check.specs.Signatures.{VerifyFn}
 use Rattle.mls_msgs.specs.declared.profile.Profile.{Profile}
-use Rattle.mls_report.specs.Finding.{TellsFinding, TellsFindingPart}
+use Rattle.mls_report.specs.Finding.{ReportsFinding, ReportsFindingPart}
 use Rattle.mls_report.specs.ReadAll.{ReadsAll}
 use Rattle.mls_report.specs.StartInputs.{IsStartFinding, ReadsBoth}
 use Rattle.mls_report.specs.StateInputs.{IsStateFinding}
@@ -23,13 +23,13 @@ pub record IsFoundOfStart (profile : Profile) (G : VerifyFn) (info0 info1 : Opti
 -- line of what is found was written whole.
 abbrev pub Validates : Profile → VerifyFn → Option (List ℕ) → Option (List ℕ) → Option (Option (List ℕ))
     → Option (Option (List ℕ)) → Option (List ℕ) → Option (List ℕ) → Verdict → Type 0
-Validates profile G info0 info1 tree0 tree1 = TellsFinding (IsFoundOfStart profile G info0 info1 tree0 tree1)
+Validates profile G info0 info1 tree0 tree1 = ReportsFinding (IsFoundOfStart profile G info0 info1 tree0 tree1)
 
 -- `ValidatesPart profile G info0 info1 tree0 tree1 written0 written1`: nothing was written, or a prefix of the report of
 -- inputs that had ended.
 abbrev pub ValidatesPart : Profile → VerifyFn → Option (List ℕ) → Option (List ℕ) → Option (Option (List ℕ))
     → Option (Option (List ℕ)) → Option (List ℕ) → Option (List ℕ) → Type 0
-ValidatesPart profile G info0 info1 tree0 tree1 = TellsFindingPart (IsFoundOfStart profile G info0 info1 tree0 tree1)
+ValidatesPart profile G info0 info1 tree0 tree1 = ReportsFindingPart (IsFoundOfStart profile G info0 info1 tree0 tree1)
 
 -- `IsFoundOfState G state0 state1 finding`: the file of a state was read to its end, and this is found of its bytes.
 pub record IsFoundOfState (G : VerifyFn) (state0 state1 : Option (List ℕ)) (finding : Finding) : Type 0 where
@@ -41,9 +41,9 @@ pub record IsFoundOfState (G : VerifyFn) (state0 state1 : Option (List ℕ)) (fi
 -- what is found was written whole.
 abbrev pub ValidatesState : VerifyFn → Option (List ℕ) → Option (List ℕ) → Option (List ℕ) → Option (List ℕ) → Verdict
     → Type 0
-ValidatesState G state0 state1 = TellsFinding (IsFoundOfState G state0 state1)
+ValidatesState G state0 state1 = ReportsFinding (IsFoundOfState G state0 state1)
 
 -- `ValidatesStatePart G state0 state1 written0 written1`: nothing was written, or a prefix of the report of a file that
 -- had ended.
 abbrev pub ValidatesStatePart : VerifyFn → Option (List ℕ) → Option (List ℕ) → Option (List ℕ) → Option (List ℕ) → Type 0
-ValidatesStatePart G state0 state1 = TellsFindingPart (IsFoundOfState G state0 state1)
+ValidatesStatePart G state0 state1 = ReportsFindingPart (IsFoundOfState G state0 state1)

@@ -10,7 +10,7 @@ use Rattle.mls_tree.specs.RatchetTree.{RatchetTree}
 use Rattle.mls_tree.specs.TreeDecoding.{IsTreeOf, IsNoTree}
 use Rattle.mls_check.specs.GroupTree.{IsSupportedContext, HasMembers, FailsSuite, FailsRequirements, FailsValid, FailsMembers}
 use Rattle.mls_check.specs.Signatures.{VerifyFn}
-use Rattle.mls_report.specs.Finding.{TellsFinding, TellsFindingPart}
+use Rattle.mls_report.specs.Finding.{ReportsFinding, ReportsFindingPart}
 use Rattle.mls_report.specs.ReadAll.{ReadsAll}
 use Rattle.mls_report.specs.declared.finding.Finding.{Finding}
 use Rattle.mls_report.specs.declared.finding.Finding.TheVariants.{ContextUnreadable, TreeUnreadable, UnsupportedVersion, UnsupportedSuite, RequirementsUnreadable, TreeRefused, MembersRefused, TreeValid}
@@ -18,7 +18,7 @@ use Rattle.mls_report.specs.declared.verdict.Verdict.{Verdict}
 
 -- `IsContext bytes c`: the bytes are the encoding of the GroupContext, within the limit of an input (RFC 9420, 8.1).
 pub record IsContext (bytes : List ℕ) (c : GroupContext) : Type 0 where
-  pub spelled : group_context c ≡ Some bytes
+  pub encoded : group_context c ≡ Some bytes
   pub bounded : length bytes ≤ input_limit
 
 -- `IsNoContext bytes`: the bytes are no GroupContext.
@@ -67,11 +67,11 @@ pub record IsFoundOfTree (G : VerifyFn) (context0 context1 tree0 tree1 : Option 
 abbrev pub ValidatesTree : VerifyFn → Option (List ℕ) → Option (List ℕ) → Option (List ℕ)
     → Option (List ℕ) → Option (List ℕ) → Option (List ℕ) → Verdict → Type 0
 ValidatesTree G context0 context1 tree0 tree1 =
-    TellsFinding (IsFoundOfTree G context0 context1 tree0 tree1)
+    ReportsFinding (IsFoundOfTree G context0 context1 tree0 tree1)
 
 -- `ValidatesTreePart G context0 context1 tree0 tree1 written0 written1`: nothing was written, or a prefix of the report
 -- of inputs that had ended.
 abbrev pub ValidatesTreePart : VerifyFn → Option (List ℕ) → Option (List ℕ) → Option (List ℕ)
     → Option (List ℕ) → Option (List ℕ) → Option (List ℕ) → Type 0
 ValidatesTreePart G context0 context1 tree0 tree1 =
-    TellsFindingPart (IsFoundOfTree G context0 context1 tree0 tree1)
+    ReportsFindingPart (IsFoundOfTree G context0 context1 tree0 tree1)

@@ -35,13 +35,13 @@ pub fn wire_fault_text(alloc: Global, fault: WireFault) -> Result<String, AllocE
     format!(in alloc; "{kind} {at}")
 }
 
-/// Returns why a ratchet tree (RFC 9420, 12.4.3.3) is not decodable: the fault's name, and its offset or place.
+/// Returns why a ratchet tree (RFC 9420, 12.4.3.3) is not decodable: the fault's name, and its offset or node index.
 pub fn node_fault_text(alloc: Global, fault: NodeFault) -> Result<String, AllocError>
     ensures { IfOk result (λ text. string_bytes text ≡ texts.node_fault_text fault) }
 {
     match fault {
         NodeFault::Wire(fault) => wire_fault_text(alloc, fault),
-        NodeFault::WrongNodeKind(place) => format!(in alloc; "WrongNodeKind {place}"),
+        NodeFault::WrongNodeKind(node_index) => format!(in alloc; "WrongNodeKind {node_index}"),
         NodeFault::LastBlank => String::from_str(alloc, "LastBlank"),
         NodeFault::EmptyTree => String::from_str(alloc, "EmptyTree"),
         NodeFault::TooManyLeaves => String::from_str(alloc, "TooManyLeaves"),
@@ -55,10 +55,16 @@ pub fn tree_fault_text(alloc: Global, fault: TreeFault) -> Result<String, AllocE
 {
     match fault {
         TreeFault::HashDiffers => String::from_str(alloc, "1 HashDiffers"),
-        TreeFault::UnmergedUnsorted(place) => format!(in alloc; "2 UnmergedUnsorted {place}"),
-        TreeFault::UnmergedUnsound(place) => format!(in alloc; "3 UnmergedUnsound {place}"),
-        TreeFault::KeyRepeated(place) => format!(in alloc; "4 KeyRepeated {place}"),
-        TreeFault::ParentHashInvalid(place) => format!(in alloc; "5 ParentHashInvalid {place}"),
+        TreeFault::UnmergedUnsorted(node_index) => format!(in alloc;
+            "2 UnmergedUnsorted {node_index}"
+        ),
+        TreeFault::UnmergedUnsound(node_index) => format!(in alloc;
+            "3 UnmergedUnsound {node_index}"
+        ),
+        TreeFault::KeyRepeated(node_index) => format!(in alloc; "4 KeyRepeated {node_index}"),
+        TreeFault::ParentHashInvalid(node_index) => format!(in alloc;
+            "5 ParentHashInvalid {node_index}"
+        ),
         TreeFault::OutOfMemory => String::from_str(alloc, "OutOfMemory"),
     }
 }

@@ -158,9 +158,13 @@ impl Finding {
 ///
 /// - `Memory` before anything is written.
 /// - `Write` if the output fails; then a prefix of the line may be written.
-pub fn tell<K: Sink>(alloc: Global, finding: &Finding, out: &mut K) -> Result<Verdict, RunFault>
+pub fn report_finding<K: Sink>(
+    alloc: Global,
+    finding: &Finding,
+    out: &mut K,
+) -> Result<Verdict, RunFault>
     requires { K.is_failed out.old ≡ false }
-    ensures told { IfOk result
+    ensures printed { IfOk result
         (λ verdict. Appends (K.written out.old) (K.written out.new)
         (findings.finding_line finding.now) × (verdict ≡ findings.finding_verdict finding.now)) }
     ensures part { OnErr result

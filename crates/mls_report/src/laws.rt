@@ -6,8 +6,8 @@ ghost use Rattle.mls_report.specs.ReportsExist.{TreeFindingExists, StartFindingE
 ghost use Rattle.mls_report.specs.SavedStates.{SavedStatesResume, LaterMessagesFollow};
 ghost use Rattle.mls_report.specs.ValidEpochs.{StartedEpochsAreValid, ReportedEpochsAreValid, ResumedEpochsAreValid};
 
-/// Findings are determined by the bytes of the inputs and the meaning of the signature check, except for which fault is
-/// named of an undecodable input. So is the state in which a follower starts.
+/// Findings are determined by the bytes of the inputs and the verification function of the signature check, except for
+/// which fault is named of an undecodable input. So is the state in which a follower starts.
 pub fn findings_are_determined()
     ensures tree { TreeFindingIsUnique }
     ensures start { StartFindingIsUnique }
@@ -15,26 +15,26 @@ pub fn findings_are_determined()
     ensures stored { StateFindingIsUnique }
 {}
 
-/// A replay is determined by the bytes of its inputs and the meaning of the signature check, however the bytes are
-/// divided among reads: the messages of the log, the answer to each, whether the log is broken, the text, and the
-/// verdict.
+/// A replay is determined by the bytes of its inputs and the verification function of the signature check, however the
+/// bytes are divided among reads: the messages of the log, the answer to each, whether the log is broken, the text, and
+/// the verdict.
 pub fn replays_are_determined()
     ensures log { LogIsUnique }
     ensures report { ReplayIsUnique }
     ensures stored { StateReplayIsUnique }
 {}
 
-/// The report `signatures` is determined by the bytes of its inputs and the meaning of the receipts, however the bytes
-/// are divided among reads: the signatures of each message, the text, and the verdict. Only which fault is named of an
-/// undecodable input is not.
+/// The report `signatures` is determined by the bytes of its inputs and the verification function of the receipts,
+/// however the bytes are divided among reads: the signatures of each message, the text, and the verdict. Only which
+/// fault is named of an undecodable input is not.
 pub fn signatures_are_determined()
     ensures messages { MessageSignaturesAreUnique }
     ensures report { SignaturesAreUnique }
     ensures stored { StateSignaturesAreUnique }
 {}
 
-/// For any bytes and any meaning of the signature check there is a finding, and `replay` and `signatures` have a report.
-/// So contracts that allow `Memory`, `Read` and `Write` never allow only these.
+/// For any bytes and any verification function of the signature check there is a finding, and `replay` and `signatures`
+/// have a report. So contracts that allow `Memory`, `Read` and `Write` never allow only these.
 pub fn reports_exist()
     ensures tree { TreeFindingExists }
     ensures start { StartFindingExists }
@@ -49,7 +49,7 @@ pub fn reports_exist()
 /// members by its required capabilities, though the tree is validated only where a follower starts or resumes.
 pub fn reported_epochs_are_valid()
     ensures started { StartedEpochsAreValid }
-    ensures told { ReportedEpochsAreValid }
+    ensures printed { ReportedEpochsAreValid }
     ensures resumed { ResumedEpochsAreValid }
 {}
 

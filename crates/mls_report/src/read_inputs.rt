@@ -3,7 +3,7 @@
 ghost use Rattle.std.specs.Prelude.{◌≡◌, ◌≢◌, ◌↔◌, ◌⊎◌, List, ℕ, Option, false, true, Err, IfOk, IfErr, option_map};
 ghost use Rattle.mls_tree.specs.PublicTreeModel.{plain};
 ghost use Rattle.mls_follow.specs.FollowerModel.{checker_of, state_of};
-ghost use Rattle.mls_report.specs.StartInputs.{IsInfo, IsHanded, IsHandedUnread, IsReadAs, IsStarted, ReadsBoth, ReadsHanded, has_failed};
+ghost use Rattle.mls_report.specs.StartInputs.{IsInfo, IsSupplied, IsSuppliedUnread, IsReadAs, IsStarted, ReadsBoth, ReadsSupplied, has_failed};
 ghost use Rattle.mls_report.specs.StartSteps.{Says, IsUnread, DeclinesStart};
 
 use crate::finding::Finding;
@@ -33,7 +33,7 @@ pub(crate) fn read_optional_tree<T: Source>(
 ) -> Result<Option<Vec<u8>>, RunFault>
     requires { has_failed (option_map T.is_failed source.old) ≡ false }
     ensures all { IfOk result
-        (λ bytes. ReadsHanded (option_map T.left source.old) (option_map T.left source.new)
+        (λ bytes. ReadsSupplied (option_map T.left source.old) (option_map T.left source.new)
         (option_map (λ v. v.items) bytes)) }
     ensures read { (result ≡ Err RunFault.Read)
         ↔ (has_failed (option_map T.is_failed source.new) ≡ true) }
@@ -105,9 +105,9 @@ fn read_info(alloc: Global, profile: Profile, bytes: &[u8]) -> Result<GroupInfo,
 /// Decodes the tree, if there is a file of it.
 fn read_tree(alloc: Global, bytes: &Option<Vec<u8>>) -> Result<Option<PublicTree>, NodeFault>
     ensures tree { IfOk result (λ t.
-        IsHanded (option_map (λ v. v.items) bytes.now) (option_map plain t)) }
+        IsSupplied (option_map (λ v. v.items) bytes.now) (option_map plain t)) }
     ensures unread { IfErr result (λ fault. fault ≢ NodeFault.OutOfMemory
-        → IsHandedUnread (option_map (λ v. v.items) bytes.now)) }
+        → IsSuppliedUnread (option_map (λ v. v.items) bytes.now)) }
 {
     match bytes {
         Some(bytes) => Ok(Some(PublicTree::decode(alloc, bytes.as_slice())?)),
@@ -128,7 +128,7 @@ pub struct Inputs {
 ///
 /// # Errors
 ///
-/// - `Found` if the GroupInfo or else the tree is not decodable, or the message is not a GroupInfo.
+/// - `Found` if the GroupInfo, or after it the tree, is not decodable, or the message is not a GroupInfo.
 /// - `Fault` of `Memory`.
 pub fn decode_inputs(
     alloc: Global,

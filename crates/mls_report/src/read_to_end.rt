@@ -18,7 +18,7 @@ fn pull_piece<S: Source>(source: &mut S, piece: &mut [u8]) -> Result<usize, RunF
         (λ n. Consumes (S.left source.old) (S.left source.new) (take n piece.new)) }
     ensures end { IfOk result (λ n. n ≡ 0 → 0 < length piece.new → IsAtEnd (S.left source.new)) }
     ensures fault { IfErr result (λ e. (e ≡ RunFault.Read) × (S.is_failed source.new ≡ true)) }
-    ensures stays { OnErr result (Keeps (S.left source.old) (S.left source.new)) }
+    ensures unchanged_on_error { OnErr result (Keeps (S.left source.old) (S.left source.new)) }
     ensures same_length { length piece.new ≡ length piece.old }
     ensures going { S.is_failed source.old ≡ false → OnOk result (S.is_failed source.new ≡ false) }
 {

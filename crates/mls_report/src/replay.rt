@@ -7,11 +7,11 @@ ghost use Rattle.std.specs.Result.{result_map_both};
 ghost use Rattle.mls_msgs.specs.declared.profile.Profile.TheVariants.{Members};
 ghost use Rattle.mls_follow.specs.FollowerModel.{checker_of, state_of};
 ghost use Rattle.mls_report.specs.StartInputs.{has_failed};
-ghost use Rattle.mls_report.specs.Replay.{message_limit, one_if, IsVerdict, TellsPart, Replays, ReplaysGroupTo, ReplaysPart, ReplaysState, ReplaysStateTo, ReplaysStatePart};
-ghost use Rattle.mls_report.specs.ReplaySteps.{ReadsUndecided, TellsTurn, StopsAt, FollowsLog, ReplaysLog, ReturnsAfter, WritesDecline, WritesDeclinePart};
+ghost use Rattle.mls_report.specs.Replay.{message_limit, one_if, IsVerdict, ReportsPart, Replays, ReplaysGroupTo, ReplaysPart, ReplaysState, ReplaysStateTo, ReplaysStatePart};
+ghost use Rattle.mls_report.specs.ReplaySteps.{ReadsUndecided, ReportsMessage, StopsAt, FollowsLog, ReplaysLog, ReturnsAfter, WritesDecline, WritesDeclinePart};
 ghost use Rattle.mls_report.specs.StartSteps.{Says};
 
-use crate::finding::tell;
+use crate::finding::report_finding;
 use crate::read_inputs::{StartFailure, read_inputs_to_end, start_from};
 use crate::read_to_end::read_all;
 use crate::replay_text::{last_lines, processed_line};
@@ -79,8 +79,8 @@ fn write_message_line<K: Sink, C: SignatureCheck>(
     out: &mut K,
 ) -> Result<bool, RunFault>
     requires { K.is_failed out.old ≡ false }
-    ensures told { IfOk result
-        (TellsTurn (C.meaning (checker_of follower.old)) (state_of follower.old) n body.now
+    ensures printed { IfOk result
+        (ReportsMessage (C.meaning (checker_of follower.old)) (state_of follower.old) n body.now
         (state_of follower.new) (K.written out.old) (K.written out.new)) }
     ensures part { IfErr result
         (StopsAt (C.meaning (checker_of follower.old)) (state_of follower.old) n body.now
@@ -115,7 +115,7 @@ fn follow_log<L: Source, K: Sink, C: SignatureCheck>(
         (L.left log.old) (L.left log.new) (K.written out.old) (K.written out.new)
         (state_of follower.new) tally.new.accepted tally.new.refused) }
     ensures part { IfErr result
-        (TellsPart (C.meaning (checker_of follower.old)) (state_of follower.old)
+        (ReportsPart (C.meaning (checker_of follower.old)) (state_of follower.old)
         (L.left log.old) (L.left log.new) (K.written out.old) (K.written out.new)) }
     ensures checker { C.meaning (checker_of follower.new)
         ≡ C.meaning (checker_of follower.old) }
@@ -160,12 +160,12 @@ fn write_log_report<L: Source, K: Sink, C: SignatureCheck>(
 ) -> Result<Verdict, RunFault>
     requires log { L.is_failed log.old ≡ false }
     requires out { K.is_failed out.old ≡ false }
-    ensures told { IfOk result (λ verdict.
+    ensures printed { IfOk result (λ verdict.
         ReplaysLog (C.meaning (checker_of follower.old)) (state_of follower.old)
         (L.left log.old) (L.left log.new) (K.written out.old) (K.written out.new)
         verdict (state_of follower.new)) }
     ensures part { IfErr result
-        (TellsPart (C.meaning (checker_of follower.old)) (state_of follower.old)
+        (ReportsPart (C.meaning (checker_of follower.old)) (state_of follower.old)
         (L.left log.old) (L.left log.new) (K.written out.old) (K.written out.new)) }
     ensures checker { C.meaning (checker_of follower.new)
         ≡ C.meaning (checker_of follower.old) }
@@ -202,12 +202,12 @@ fn replay_log<L: Source, K: Sink, C: SignatureCheck>(
 ) -> Result<Replayed<C>, RunFault>
     requires log { L.is_failed log.old ≡ false }
     requires out { K.is_failed out.old ≡ false }
-    ensures told { IfOk result (λ r.
+    ensures printed { IfOk result (λ r.
         ReturnsAfter (C.meaning (checker_of follower)) (state_of follower)
         (L.left log.old) (L.left log.new) (K.written out.old) (K.written out.new)
         r.verdict (option_map (λ f. state_of f) r.follower)) }
     ensures part { IfErr result
-        (TellsPart (C.meaning (checker_of follower)) (state_of follower)
+        (ReportsPart (C.meaning (checker_of follower)) (state_of follower)
         (L.left log.old) (L.left log.new) (K.written out.old) (K.written out.new)) }
     ensures checker { IfOk result (λ r. IfSome r.follower
         (λ f. C.meaning (checker_of f) ≡ C.meaning (checker_of follower))) }
@@ -235,14 +235,14 @@ pub(crate) fn decline<K: Sink>(
 ) -> Result<Verdict, RunFault>
     requires own { Says (λ finding. Unit {0}) failure }
     requires out { K.is_failed out.old ≡ false }
-    ensures told { IfOk result (WritesDecline failure (K.written out.old) (K.written out.new)) }
+    ensures printed { IfOk result (WritesDecline failure (K.written out.old) (K.written out.new)) }
     ensures part { IfErr result
         (WritesDeclinePart failure (K.written out.old) (K.written out.new)) }
     ensures fault { IfErr result (λ e. e ≢ RunFault.Read) }
     ensures write { (result ≡ Err RunFault.Write) ↔ (K.is_failed out.new ≡ true) }
 {
     match failure {
-        StartFailure::Found(finding) => tell(alloc, &finding, out),
+        StartFailure::Found(finding) => report_finding(alloc, &finding, out),
         StartFailure::Fault(fault) => Err(fault),
     }
 }
@@ -255,7 +255,7 @@ fn replay_nothing<K: Sink, C: SignatureCheck>(
 ) -> Result<Replayed<C>, RunFault>
     requires own { Says (λ finding. Unit {0}) failure }
     requires out { K.is_failed out.old ≡ false }
-    ensures told { IfOk result (λ r.
+    ensures printed { IfOk result (λ r.
         WritesDecline failure (K.written out.old) (K.written out.new) r.verdict) }
     ensures none { IfOk result (λ r. r.follower ≡ None) }
     ensures part { IfErr result

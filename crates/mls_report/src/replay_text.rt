@@ -48,7 +48,7 @@ fn proposal_text(alloc: Global, reference: &HashValue) -> Result<String, AllocEr
     format!(in alloc; " accepted proposal {reference}")
 }
 
-/// Returns the word behind a commit after which the group is over, else nothing.
+/// Returns the word after the line of a commit after which the group is over, else nothing.
 pub fn ended_text(has_ended: bool) -> &'static str
     ensures { result.now ≡ lines.ended_text has_ended }
 {

@@ -6,12 +6,12 @@ ghost use Rattle.std.specs.Io.KnownBytes.{Appends};
 ghost use Rattle.mls_wire.specs.Devices.{AppendsPrefix};
 ghost use Rattle.mls_follow.specs.FollowerModel.{state_of};
 ghost use Rattle.mls_report.specs.SignaturesReport as specs;
-ghost use Rattle.mls_report.specs.SignaturesReport.{log_verdict, TellsAsked, AskedPart};
-ghost use Rattle.mls_report.specs.SignaturesSteps.{TellsWanted, AsksTurn, StopsAsking};
+ghost use Rattle.mls_report.specs.SignaturesReport.{log_verdict, ReportsSignatureLog, SignatureLogPart};
+ghost use Rattle.mls_report.specs.SignaturesSteps.{ReportsMessageSignatures, WritesSignatures, StopsInMessage};
 
 use crate::replay::{MESSAGE_LIMIT, next_record};
 use crate::replay_text::{broken_line, processed_line};
-use crate::signature_text::wanted_text;
+use crate::signature_text::needed_text;
 use crate::verdict::{RunFault, Verdict};
 use crate::write::write_text;
 use mls_check::{SignatureCheck, Trusting};
@@ -28,18 +28,18 @@ struct MessageLines {
 }
 
 /// Returns the lines of a message that needs these signatures.
-fn wanted_lines<R: SignatureCheck>(
+fn needed_lines<R: SignatureCheck>(
     alloc: Global,
-    wanted: Vec<SignatureToVerify>,
+    needed: Vec<SignatureToVerify>,
     receipts: &R,
 ) -> Result<MessageLines, RunFault>
-    ensures lines { IfOk result (λ told.
-        string_bytes told.text ≡ specs.wanted_lines (R.meaning receipts.now) wanted.items) }
-    ensures read { IfOk result (λ told. told.is_read ≡ true) }
+    ensures lines { IfOk result (λ printed.
+        string_bytes printed.text ≡ specs.needed_lines (R.meaning receipts.now) needed.items) }
+    ensures read { IfOk result (λ printed. printed.is_read ≡ true) }
     ensures memory { IfErr result (λ e. e ≡ RunFault.Memory) }
 {
-    let text = wanted_text(alloc, wanted.as_slice(), receipts);
-    drop(wanted);
+    let text = needed_text(alloc, needed.as_slice(), receipts);
+    drop(needed);
     Ok(MessageLines {
         text: text?,
         is_read: true,
@@ -54,13 +54,13 @@ fn message_lines<R: SignatureCheck>(
     follower: &mut Follower<Trusting>,
     receipts: &R,
 ) -> Result<MessageLines, RunFault>
-    ensures told { IfOk result (λ told. TellsWanted (R.meaning receipts.now)
-        (state_of follower.old) n body.now (string_bytes told.text) told.is_read) }
+    ensures printed { IfOk result (λ printed. ReportsMessageSignatures (R.meaning receipts.now)
+        (state_of follower.old) n body.now (string_bytes printed.text) printed.is_read) }
     ensures memory { IfErr result (λ e. e ≡ RunFault.Memory) }
     ensures state { state_of follower.new ≡ state_of follower.old }
 {
-    match follower.wanted(body) {
-        Ok(wanted) => wanted_lines(alloc, wanted, receipts),
+    match follower.signatures_to_verify(body) {
+        Ok(needed) => needed_lines(alloc, needed, receipts),
         Err(SignatureListFault::Malformed) => Ok(MessageLines {
             text: processed_line(alloc, n, &Err(Refusal::Malformed), follower)?,
             is_read: false,
@@ -72,7 +72,7 @@ fn message_lines<R: SignatureCheck>(
 /// Processes message n, accepting every signature, and writes the lines of the signatures it needs. Returns whether it
 /// is decodable.
 #[tactic(auto, using(crate::proofs::Answered::answered))]
-fn ask_turn<R: SignatureCheck, K: Sink>(
+fn write_signatures<R: SignatureCheck, K: Sink>(
     alloc: Global,
     n: u32,
     body: &[u8],
@@ -81,25 +81,25 @@ fn ask_turn<R: SignatureCheck, K: Sink>(
     out: &mut K,
 ) -> Result<bool, RunFault>
     requires out { K.is_failed out.old ≡ false }
-    ensures told { IfOk result (AsksTurn (R.meaning receipts.now) (state_of follower.old) n
+    ensures printed { IfOk result (WritesSignatures (R.meaning receipts.now) (state_of follower.old) n
         body.now (state_of follower.new) (K.written out.old) (K.written out.new)) }
-    ensures part { IfErr result (StopsAsking (R.meaning receipts.now) (state_of follower.old) n
+    ensures part { IfErr result (StopsInMessage (R.meaning receipts.now) (state_of follower.old) n
         body.now (K.written out.old) (K.written out.new)) }
     ensures write { (result ≡ Err RunFault.Write) ↔ (K.is_failed out.new ≡ true) }
 {
-    let told = message_lines(alloc, n, body, follower, receipts)?;
+    let printed = message_lines(alloc, n, body, follower, receipts)?;
     let answer = follower.take(body);
     if let Err(Refusal::OutOfMemory) = answer {
         return Err(RunFault::Memory);
     }
-    write_text(out, told.text.as_str())?;
-    Ok(told.is_read)
+    write_text(out, printed.text.as_str())?;
+    Ok(printed.is_read)
 }
 
 /// Writes the line of a broken log. The next message is n.
-fn tell_break<K: Sink>(alloc: Global, n: u32, out: &mut K) -> Result<Verdict, RunFault>
+fn report_break<K: Sink>(alloc: Global, n: u32, out: &mut K) -> Result<Verdict, RunFault>
     requires { K.is_failed out.old ≡ false }
-    ensures told { IfOk result (λ verdict. (verdict ≡ Verdict.No)
+    ensures printed { IfOk result (λ verdict. (verdict ≡ Verdict.No)
         × Appends (K.written out.old) (K.written out.new) (decimal n ++ codes " broken\n")) }
     ensures part { OnErr result
         (AppendsPrefix (K.written out.old) (K.written out.new) (decimal n ++ codes " broken\n")) }
@@ -121,7 +121,7 @@ fn verdict_of(is_read: bool) -> Verdict
 }
 
 /// Processes the messages of a log, and writes the lines of the signatures of each before the next is read.
-pub(crate) fn ask_log<L: Source, R: SignatureCheck, K: Sink>(
+pub(crate) fn write_signature_log<L: Source, R: SignatureCheck, K: Sink>(
     alloc: Global,
     follower: &mut Follower<Trusting>,
     log: &mut L,
@@ -130,9 +130,9 @@ pub(crate) fn ask_log<L: Source, R: SignatureCheck, K: Sink>(
 ) -> Result<Verdict, RunFault>
     requires log { L.is_failed log.old ≡ false }
     requires out { K.is_failed out.old ≡ false }
-    ensures told { IfOk result (TellsAsked (R.meaning receipts.now) (state_of follower.old)
+    ensures printed { IfOk result (ReportsSignatureLog (R.meaning receipts.now) (state_of follower.old)
         (L.left log.old) (L.left log.new) (K.written out.old) (K.written out.new)) }
-    ensures part { IfErr result (AskedPart (R.meaning receipts.now) (state_of follower.old)
+    ensures part { IfErr result (SignatureLogPart (R.meaning receipts.now) (state_of follower.old)
         (L.left log.old) (L.left log.new) (K.written out.old) (K.written out.new)) }
     ensures read { (result ≡ Err RunFault.Read) ↔ (L.is_failed log.new ≡ true) }
     ensures write { (result ≡ Err RunFault.Write) ↔ (K.is_failed out.new ≡ true) }
@@ -142,11 +142,11 @@ pub(crate) fn ask_log<L: Source, R: SignatureCheck, K: Sink>(
     'messages: for n in 1..MESSAGE_LIMIT + 2 {
         match next_record(&mut reader, log)? {
             LogStep::Record => {
-                let readable = ask_turn(alloc, n, reader.body(), follower, receipts, out)?;
+                let readable = write_signatures(alloc, n, reader.body(), follower, receipts, out)?;
                 is_read &= readable;
             }
             LogStep::End => return Ok(verdict_of(is_read)),
-            LogStep::Broken => return tell_break(alloc, n, out),
+            LogStep::Broken => return report_break(alloc, n, out),
             LogStep::Over => unreachable!(),
         }
     }

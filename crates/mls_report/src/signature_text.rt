@@ -11,16 +11,16 @@ use mls_signatures::SignatureToVerify;
 use std::alloc::{AllocError, Global};
 
 /// Returns the receipt of a needed signature, or `-` if it can have none.
-fn receipt_text(alloc: Global, wanted: &SignatureToVerify) -> Result<String, AllocError>
-    ensures { let input = receipt_input wanted.now.suite wanted.now.key wanted.now.content
-        wanted.now.signature in
+fn receipt_text(alloc: Global, needed: &SignatureToVerify) -> Result<String, AllocError>
+    ensures { let input = receipt_input needed.now.suite needed.now.key needed.now.content
+        needed.now.signature in
         IfOk result (λ text. string_bytes text ≡ lines.receipt_text (option_map sha256 input)) }
 {
     let digest = receipt(
-        wanted.suite,
-        wanted.key.as_slice(),
-        wanted.content.as_slice(),
-        wanted.signature.as_slice(),
+        needed.suite,
+        needed.key.as_slice(),
+        needed.content.as_slice(),
+        needed.signature.as_slice(),
     );
     match digest {
         Some(digest) => hex_of(alloc, &digest),
@@ -30,14 +30,14 @@ fn receipt_text(alloc: Global, wanted: &SignatureToVerify) -> Result<String, All
 
 /// Returns the line of a needed signature: its receipt or `-`, the suite, the key, the SignContent (RFC 9420, 5.1.2) and
 /// the signature.
-pub fn wanted_line(alloc: Global, wanted: &SignatureToVerify) -> Result<String, AllocError>
-    ensures { IfOk result (λ text. string_bytes text ≡ lines.wanted_line wanted.now) }
+pub fn signature_line(alloc: Global, needed: &SignatureToVerify) -> Result<String, AllocError>
+    ensures { IfOk result (λ text. string_bytes text ≡ lines.signature_line needed.now) }
 {
-    let suite = wanted.suite;
-    let receipt = receipt_text(alloc, wanted)?;
-    let key = hex_of(alloc, wanted.key.as_slice())?;
-    let content = hex_of(alloc, wanted.content.as_slice())?;
-    let signature = hex_of(alloc, wanted.signature.as_slice())?;
+    let suite = needed.suite;
+    let receipt = receipt_text(alloc, needed)?;
+    let key = hex_of(alloc, needed.key.as_slice())?;
+    let content = hex_of(alloc, needed.content.as_slice())?;
+    let signature = hex_of(alloc, needed.signature.as_slice())?;
     format!(in alloc; "{receipt} {suite} {key} {content} {signature}\n")
 }
 
@@ -45,32 +45,32 @@ pub fn wanted_line(alloc: Global, wanted: &SignatureToVerify) -> Result<String, 
 pub fn put_line<R: SignatureCheck>(
     alloc: Global,
     text: &mut String,
-    wanted: &SignatureToVerify,
+    needed: &SignatureToVerify,
     receipts: &R,
 ) -> Result<(), AllocError>
     ensures { OnOk result (string_bytes text.new ≡ string_bytes text.old
-        ++ lines.line_unless (R.meaning receipts.now) wanted.now) }
+        ++ lines.line_unless (R.meaning receipts.now) needed.now) }
 {
-    let key = wanted.key.as_slice();
-    let content = wanted.content.as_slice();
-    if receipts.good(wanted.suite, key, content, wanted.signature.as_slice()) {
+    let key = needed.key.as_slice();
+    let content = needed.content.as_slice();
+    if receipts.good(needed.suite, key, content, needed.signature.as_slice()) {
         return Ok(());
     }
-    let line = wanted_line(alloc, wanted)?;
+    let line = signature_line(alloc, needed)?;
     text.push_str(line.as_str())
 }
 
 /// Returns the lines of needed signatures that `receipts` don't cover, in the order of the list.
-pub fn wanted_text<R: SignatureCheck>(
+pub fn needed_text<R: SignatureCheck>(
     alloc: Global,
-    wanted: &[SignatureToVerify],
+    needed: &[SignatureToVerify],
     receipts: &R,
 ) -> Result<String, AllocError>
     ensures { IfOk result
-        (λ text. string_bytes text ≡ lines.wanted_lines (R.meaning receipts.now) wanted.now) }
+        (λ text. string_bytes text ≡ lines.needed_lines (R.meaning receipts.now) needed.now) }
 {
     let mut text = String::new(alloc);
-    for signature in wanted {
+    for signature in needed {
         put_line(alloc, &mut text, signature, receipts)?;
     }
     Ok(text)

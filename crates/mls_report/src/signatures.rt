@@ -1,4 +1,4 @@
-//! The report `signatures`: the signatures that the rules may ask about, for whoever checks them.
+//! The report `signatures`: the signatures that the rules may check, for whoever verifies them.
 
 ghost use Rattle.std.specs.Prelude.{◌≡◌, ◌++◌, ◌↔◌, ◌⊎◌, false, true, Err, IfOk, IfErr, option_map};
 ghost use Rattle.mls_msgs.specs.declared.profile.Profile.TheVariants.{Members};
@@ -6,12 +6,12 @@ ghost use Rattle.mls_follow.specs.FollowerModel.{state_of};
 ghost use Rattle.mls_follow.specs.MessageSignatures.{state_signatures};
 ghost use Rattle.mls_report.specs.StartInputs.{has_failed};
 ghost use Rattle.mls_report.specs.SignaturesReport.{Signatures, SignaturesPart, SignaturesState, SignaturesStatePart};
-ghost use Rattle.mls_report.specs.SignaturesSteps.{signatures_of_state, TellsBehind, BehindPart};
+ghost use Rattle.mls_report.specs.SignaturesSteps.{signatures_of_state, ReportsAfterStart, BehindPart};
 
 use crate::read_inputs::read_inputs_to_end;
 use crate::read_to_end::read_all;
 use crate::replay::decline;
-use crate::signature_log::ask_log;
+use crate::signature_log::write_signature_log;
 use crate::start_lines::{write_resumption_lines, write_start_lines};
 use crate::state_input::resume_from;
 use crate::trusting_start::trusting_start_from;
@@ -24,7 +24,7 @@ use mls_wire::{Sink, Source};
 use std::alloc::Global;
 
 /// Writes the lines of the start, and then those of the log, if there is one.
-fn tell_started<L: Source, R: SignatureCheck, K: Sink>(
+fn report_started<L: Source, R: SignatureCheck, K: Sink>(
     alloc: Global,
     info_signatures: Vec<SignatureToVerify>,
     follower: &mut Follower<Trusting>,
@@ -34,8 +34,8 @@ fn tell_started<L: Source, R: SignatureCheck, K: Sink>(
 ) -> Result<Verdict, RunFault>
     requires log { has_failed (option_map L.is_failed log.old) ≡ false }
     requires out { K.is_failed out.old ≡ false }
-    ensures told { IfOk result
-        (TellsBehind (R.meaning receipts.now) (state_of follower.old)
+    ensures printed { IfOk result
+        (ReportsAfterStart (R.meaning receipts.now) (state_of follower.old)
         (info_signatures.items ++ state_signatures (state_of follower.old))
         (option_map L.left log.old) (option_map L.left log.new)
         (K.written out.old) (K.written out.new)) }
@@ -50,13 +50,13 @@ fn tell_started<L: Source, R: SignatureCheck, K: Sink>(
 {
     write_start_lines(alloc, info_signatures, follower, receipts, out)?;
     match log {
-        Some(log) => ask_log(alloc, follower, log, receipts, out),
+        Some(log) => write_signature_log(alloc, follower, log, receipts, out),
         None => Ok(Verdict::Yes),
     }
 }
 
 /// Writes the lines of a resumption, and then those of the log, if there is one.
-fn tell_resumed<L: Source, R: SignatureCheck, K: Sink>(
+fn report_resumed<L: Source, R: SignatureCheck, K: Sink>(
     alloc: Global,
     follower: &mut Follower<Trusting>,
     log: &mut Option<L>,
@@ -66,7 +66,7 @@ fn tell_resumed<L: Source, R: SignatureCheck, K: Sink>(
     requires log { has_failed (option_map L.is_failed log.old) ≡ false }
     requires out { K.is_failed out.old ≡ false }
     ensures reported { IfOk result
-        (TellsBehind (R.meaning receipts.now) (state_of follower.old)
+        (ReportsAfterStart (R.meaning receipts.now) (state_of follower.old)
         (signatures_of_state (state_of follower.old))
         (option_map L.left log.old) (option_map L.left log.new)
         (K.written out.old) (K.written out.new)) }
@@ -81,7 +81,7 @@ fn tell_resumed<L: Source, R: SignatureCheck, K: Sink>(
 {
     write_resumption_lines(alloc, follower, receipts, out)?;
     match log {
-        Some(log) => ask_log(alloc, follower, log, receipts, out),
+        Some(log) => write_signature_log(alloc, follower, log, receipts, out),
         None => Ok(Verdict::Yes),
     }
 }
@@ -96,9 +96,9 @@ fn tell_resumed<L: Source, R: SignatureCheck, K: Sink>(
 ///
 /// Then it reads the log, if there is one: at most 1,000,000 records, each a message as a variable-length vector
 /// (2.1.2). It reads a record, processes the message accepting every signature, writes the lines of the signatures that
-/// the message needed ([`Follower::wanted`]) in one piece, and only then reads on. A message that is not decodable
-/// needs no signature; it has the line of [`run_replay`](crate::run_replay), and so has a broken log. The verdict is
-/// `Yes` if each message is decodable and the log is not broken.
+/// the message needed ([`Follower::signatures_to_verify`]) in one piece, and only then reads on. A message that is not
+/// decodable needs no signature; it has the line of [`run_replay`](crate::run_replay), and so has a broken log. The
+/// verdict is `Yes` if each message is decodable and the log is not broken.
 ///
 /// # Errors
 ///
@@ -118,7 +118,7 @@ pub fn run_signatures_in<I: Source, T: Source, L: Source, R: SignatureCheck, K: 
     requires tree { has_failed (option_map T.is_failed tree.old) ≡ false }
     requires log { has_failed (option_map L.is_failed log.old) ≡ false }
     requires out { K.is_failed out.old ≡ false }
-    ensures told { IfOk result
+    ensures printed { IfOk result
         (Signatures profile (R.meaning receipts.now) (I.left info.old) (I.left info.new)
         (option_map T.left tree.old) (option_map T.left tree.new)
         (option_map L.left log.old) (option_map L.left log.new)
@@ -139,7 +139,7 @@ pub fn run_signatures_in<I: Source, T: Source, L: Source, R: SignatureCheck, K: 
         Ok(start) => {
             let mut follower = start.follower;
             let signatures = start.info_signatures;
-            let verdict = tell_started(alloc, signatures, &mut follower, log, receipts, out);
+            let verdict = report_started(alloc, signatures, &mut follower, log, receipts, out);
             drop(follower);
             verdict
         }
@@ -164,7 +164,7 @@ pub fn run_signatures<I: Source, T: Source, L: Source, R: SignatureCheck, K: Sin
     requires tree { has_failed (option_map T.is_failed tree.old) ≡ false }
     requires log { has_failed (option_map L.is_failed log.old) ≡ false }
     requires out { K.is_failed out.old ≡ false }
-    ensures told { IfOk result
+    ensures printed { IfOk result
         (Signatures Members (R.meaning receipts.now) (I.left info.old) (I.left info.new)
         (option_map T.left tree.old) (option_map T.left tree.new)
         (option_map L.left log.old) (option_map L.left log.new)
@@ -219,7 +219,7 @@ pub fn run_signatures_state<S: Source, L: Source, R: SignatureCheck, K: Sink>(
     match resume_from(alloc, bytes.as_slice(), Trusting) {
         Ok(follower) => {
             let mut follower = follower;
-            let verdict = tell_resumed(alloc, &mut follower, log, receipts, out);
+            let verdict = report_resumed(alloc, &mut follower, log, receipts, out);
             drop(follower);
             verdict
         }

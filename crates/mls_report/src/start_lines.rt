@@ -4,10 +4,10 @@ ghost use Rattle.std.specs.Prelude.{◌≡◌, ◌++◌, ◌↔◌, [], ◌∷�
 ghost use Rattle.std.specs.Io.KnownBytes.{Appends};
 ghost use Rattle.mls_follow.specs.FollowerModel.{state_of};
 ghost use Rattle.mls_follow.specs.MessageSignatures.{state_signatures};
-ghost use Rattle.mls_report.specs.SignaturesReport.{wanted_lines};
+ghost use Rattle.mls_report.specs.SignaturesReport.{needed_lines};
 ghost use Rattle.mls_report.specs.SignaturesSteps.{signatures_of_leaf, signatures_of_state, StopsInLines};
 
-use crate::signature_text::{put_line, wanted_text};
+use crate::signature_text::{needed_text, put_line};
 use crate::verdict::RunFault;
 use crate::write::write_text;
 use mls_check::{SignatureCheck, Trusting};
@@ -25,12 +25,12 @@ fn write_lines<R: SignatureCheck, K: Sink>(
 ) -> Result<(), RunFault>
     requires { K.is_failed out.old ≡ false }
     ensures all { OnOk result (Appends (K.written out.old) (K.written out.new)
-        (wanted_lines (R.meaning receipts.now) signatures.now)) }
-    ensures part { IfErr result (StopsInLines (wanted_lines (R.meaning receipts.now)) signatures.now
+        (needed_lines (R.meaning receipts.now) signatures.now)) }
+    ensures part { IfErr result (StopsInLines (needed_lines (R.meaning receipts.now)) signatures.now
         (K.written out.old) (K.written out.new)) }
     ensures write { (result ≡ Err RunFault.Write) ↔ (K.is_failed out.new ≡ true) }
 {
-    let text = wanted_text(alloc, signatures, receipts)?;
+    let text = needed_text(alloc, signatures, receipts)?;
     write_text(out, text.as_str())
 }
 
@@ -44,8 +44,8 @@ fn write_leaf_lines<R: SignatureCheck, K: Sink>(
 ) -> Result<(), RunFault>
     requires { K.is_failed out.old ≡ false }
     ensures all { OnOk result (Appends (K.written out.old) (K.written out.new)
-        (wanted_lines (R.meaning receipts.now) (signatures_of_leaf (state_of follower.now) index))) }
-    ensures part { IfErr result (StopsInLines (wanted_lines (R.meaning receipts.now))
+        (needed_lines (R.meaning receipts.now) (signatures_of_leaf (state_of follower.now) index))) }
+    ensures part { IfErr result (StopsInLines (needed_lines (R.meaning receipts.now))
         (signatures_of_leaf (state_of follower.now) index)
         (K.written out.old) (K.written out.new)) }
     ensures write { (result ≡ Err RunFault.Write) ↔ (K.is_failed out.new ≡ true) }
@@ -68,8 +68,8 @@ pub(crate) fn write_tree_lines<R: SignatureCheck, K: Sink>(
 ) -> Result<(), RunFault>
     requires { K.is_failed out.old ≡ false }
     ensures all { OnOk result (Appends (K.written out.old) (K.written out.new)
-        (wanted_lines (R.meaning receipts.now) (state_signatures (state_of follower.now)))) }
-    ensures part { IfErr result (StopsInLines (wanted_lines (R.meaning receipts.now))
+        (needed_lines (R.meaning receipts.now) (state_signatures (state_of follower.now)))) }
+    ensures part { IfErr result (StopsInLines (needed_lines (R.meaning receipts.now))
         (state_signatures (state_of follower.now)) (K.written out.old) (K.written out.new)) }
     ensures write { (result ≡ Err RunFault.Write) ↔ (K.is_failed out.new ≡ true) }
 {
@@ -89,9 +89,9 @@ pub(crate) fn write_start_lines<R: SignatureCheck, K: Sink>(
 ) -> Result<(), RunFault>
     requires { K.is_failed out.old ≡ false }
     ensures all { OnOk result (Appends (K.written out.old) (K.written out.new)
-        (wanted_lines (R.meaning receipts.now)
+        (needed_lines (R.meaning receipts.now)
         (info_signatures.items ++ state_signatures (state_of follower.now)))) }
-    ensures part { IfErr result (StopsInLines (wanted_lines (R.meaning receipts.now))
+    ensures part { IfErr result (StopsInLines (needed_lines (R.meaning receipts.now))
         (info_signatures.items ++ state_signatures (state_of follower.now))
         (K.written out.old) (K.written out.new)) }
     ensures write { (result ≡ Err RunFault.Write) ↔ (K.is_failed out.new ≡ true) }
@@ -111,8 +111,8 @@ fn write_line<R: SignatureCheck, K: Sink>(
 ) -> Result<(), RunFault>
     requires { K.is_failed out.old ≡ false }
     ensures all { OnOk result (Appends (K.written out.old) (K.written out.new)
-        (wanted_lines (R.meaning receipts.now) (signature.now ∷ []))) }
-    ensures part { IfErr result (StopsInLines (wanted_lines (R.meaning receipts.now))
+        (needed_lines (R.meaning receipts.now) (signature.now ∷ []))) }
+    ensures part { IfErr result (StopsInLines (needed_lines (R.meaning receipts.now))
         (signature.now ∷ []) (K.written out.old) (K.written out.new)) }
     ensures write { (result ≡ Err RunFault.Write) ↔ (K.is_failed out.new ≡ true) }
 {
@@ -130,8 +130,8 @@ fn write_each_line<R: SignatureCheck, K: Sink>(
 ) -> Result<(), RunFault>
     requires { K.is_failed out.old ≡ false }
     ensures all { OnOk result (Appends (K.written out.old) (K.written out.new)
-        (wanted_lines (R.meaning receipts.now) signatures.now)) }
-    ensures part { IfErr result (StopsInLines (wanted_lines (R.meaning receipts.now)) signatures.now
+        (needed_lines (R.meaning receipts.now) signatures.now)) }
+    ensures part { IfErr result (StopsInLines (needed_lines (R.meaning receipts.now)) signatures.now
         (K.written out.old) (K.written out.new)) }
     ensures write { (result ≡ Err RunFault.Write) ↔ (K.is_failed out.new ≡ true) }
 {
@@ -151,8 +151,8 @@ pub(crate) fn write_resumption_lines<R: SignatureCheck, K: Sink>(
 ) -> Result<(), RunFault>
     requires { K.is_failed out.old ≡ false }
     ensures all { OnOk result (Appends (K.written out.old) (K.written out.new)
-        (wanted_lines (R.meaning receipts.now) (signatures_of_state (state_of follower.now)))) }
-    ensures part { IfErr result (StopsInLines (wanted_lines (R.meaning receipts.now))
+        (needed_lines (R.meaning receipts.now) (signatures_of_state (state_of follower.now)))) }
+    ensures part { IfErr result (StopsInLines (needed_lines (R.meaning receipts.now))
         (signatures_of_state (state_of follower.now)) (K.written out.old) (K.written out.new)) }
     ensures write { (result ≡ Err RunFault.Write) ↔ (K.is_failed out.new ≡ true) }
 {

@@ -33,13 +33,13 @@ fn put_source(out: &mut Vec<u8>, source: &LeafSource) -> Result<(), AllocError>
 }
 
 /// Appends the node index and the leaf index, with which the line of a leaf begins.
-fn put_leaf_place(out: &mut Vec<u8>, place: usize) -> Result<(), AllocError>
+fn put_leaf_indices(out: &mut Vec<u8>, node_index: usize) -> Result<(), AllocError>
     ensures { OnOk result (out.new.items ≡ out.old.items
-        ++ (decimal place ++ (codes " leaf " ++ (decimal (place / 2) ++ codes " ")))) }
+        ++ (decimal node_index ++ (codes " leaf " ++ (decimal (node_index / 2) ++ codes " ")))) }
 {
-    put_number(out, place)?;
+    put_number(out, node_index)?;
     put_text(out, " leaf ")?;
-    put_number(out, place / 2)?;
+    put_number(out, node_index / 2)?;
     put_text(out, " ")
 }
 
@@ -55,38 +55,38 @@ fn put_fields(out: &mut Vec<u8>, first: &Opaque, second: &Opaque) -> Result<(), 
 }
 
 /// Appends the line of a leaf.
-fn put_leaf(out: &mut Vec<u8>, place: usize, leaf: &LeafNode) -> Result<(), AllocError>
-    ensures { OnOk result (out.new.items ≡ out.old.items ++ lines.leaf_line place leaf.now) }
+fn put_leaf(out: &mut Vec<u8>, node_index: usize, leaf: &LeafNode) -> Result<(), AllocError>
+    ensures { OnOk result (out.new.items ≡ out.old.items ++ lines.leaf_line node_index leaf.now) }
 {
-    put_leaf_place(out, place)?;
+    put_leaf_indices(out, node_index)?;
     put_fields(out, &leaf.encryption_key, &leaf.signature_key)?;
     put_source(out, &leaf.source)?;
     put_text(out, "\n")
 }
 
 /// Appends the line of a parent.
-fn put_parent(out: &mut Vec<u8>, place: usize, parent: &ParentNode) -> Result<(), AllocError>
-    ensures { OnOk result (out.new.items ≡ out.old.items ++ lines.parent_line place parent.now) }
+fn put_parent(out: &mut Vec<u8>, node_index: usize, parent: &ParentNode) -> Result<(), AllocError>
+    ensures { OnOk result (out.new.items ≡ out.old.items ++ lines.parent_line node_index parent.now) }
 {
-    put_number(out, place)?;
+    put_number(out, node_index)?;
     put_text(out, " parent ")?;
     put_fields(out, &parent.encryption_key, &parent.parent_hash)?;
     put_numbers(out, parent.unmerged.as_slice())?;
     put_text(out, "\n")
 }
 
-/// Appends the line of the node at node index `place`.
-fn put_node(out: &mut Vec<u8>, place: usize, node: &Option<Node>) -> Result<(), AllocError>
+/// Appends the line of the node at node index `node_index`.
+fn put_node(out: &mut Vec<u8>, node_index: usize, node: &Option<Node>) -> Result<(), AllocError>
     ensures { OnOk result (out.new.items
-        ≡ out.old.items ++ lines.node_line place (entry_value node.now)) }
+        ≡ out.old.items ++ lines.node_line node_index (entry_value node.now)) }
 {
     match node {
         None => {
-            put_number(out, place)?;
+            put_number(out, node_index)?;
             put_text(out, " blank\n")
         }
-        Some(Node::Leaf(leaf)) => put_leaf(out, place, leaf),
-        Some(Node::Parent(parent)) => put_parent(out, place, parent),
+        Some(Node::Leaf(leaf)) => put_leaf(out, node_index, leaf),
+        Some(Node::Parent(parent)) => put_parent(out, node_index, parent),
     }
 }
 
@@ -95,8 +95,8 @@ fn put_nodes(out: &mut Vec<u8>, nodes: &[Option<Node>]) -> Result<(), AllocError
     ensures { OnOk result (out.new.items ≡ out.old.items
         ++ lines.node_lines 0 (map entry_value nodes.now)) }
 {
-    for (place, node) in nodes.iter().enumerate() {
-        put_node(out, place, node)?;
+    for (node_index, node) in nodes.iter().enumerate() {
+        put_node(out, node_index, node)?;
     }
     Ok(())
 }

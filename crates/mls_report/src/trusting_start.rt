@@ -45,7 +45,7 @@ fn own_info_signatures(
     }
 }
 
-/// Returns the signature of a GroupInfo, by the given tree, or else by the one in it.
+/// Returns the signature of a GroupInfo, by the given tree, otherwise by the one in it.
 fn used_info_signatures(
     alloc: Global,
     info: &GroupInfo,

@@ -4,7 +4,7 @@ ghost use Rattle.std.specs.Prelude.{◌≡◌, ◌≢◌, ◌↔◌, false, true
 ghost use Rattle.std.specs.Io.KnownBytes.{Appends};
 ghost use Rattle.mls_wire.specs.Devices.{AppendsPrefix};
 ghost use Rattle.mls_report.specs.UnreadableReceipts as reports;
-ghost use Rattle.mls_report.specs.UnreadableReceipts.{TellsReceipts};
+ghost use Rattle.mls_report.specs.UnreadableReceipts.{ReportsReceipts};
 
 use crate::verdict::{RunFault, Verdict};
 use crate::write::write_text;
@@ -39,7 +39,7 @@ pub fn run_unreadable_receipts<K: Sink>(
     out: &mut K,
 ) -> Result<Verdict, RunFault>
     requires { K.is_failed out.old ≡ false }
-    ensures told { IfOk result (TellsReceipts fault (K.written out.old) (K.written out.new)) }
+    ensures printed { IfOk result (ReportsReceipts fault (K.written out.old) (K.written out.new)) }
     ensures part { OnErr result
         (AppendsPrefix (K.written out.old) (K.written out.new) (reports.receipts_line fault)) }
     ensures memory { result ≡ Err RunFault.Memory

@@ -9,7 +9,7 @@ ghost use Rattle.mls_report.specs.StartInputs.{IsStartFinding, has_failed, start
 ghost use Rattle.mls_report.specs.StateInputs.{IsStateFinding};
 ghost use Rattle.mls_report.specs.Validate.{Validates, ValidatesPart, ValidatesState, ValidatesStatePart};
 
-use crate::finding::{Finding, Started, tell, tree_hash_of};
+use crate::finding::{Finding, Started, report_finding, tree_hash_of};
 use crate::read_inputs::{InputBytes, StartFailure, read_inputs_to_end, start_from};
 use crate::read_to_end::read_all;
 use crate::state_input::resume_from;
@@ -113,7 +113,7 @@ pub fn run_validate_in<I: Source, T: Source, K: Sink, C: SignatureCheck>(
 {
     let bytes = read_inputs_to_end(alloc, info, tree)?;
     let finding = check_bytes(alloc, profile, bytes, checker)?;
-    tell(alloc, &finding, out)
+    report_finding(alloc, &finding, out)
 }
 
 /// Writes the report of [`run_validate_in`] for the members' profile.
@@ -177,5 +177,5 @@ pub fn run_validate_state<S: Source, K: Sink, C: SignatureCheck>(
 {
     let bytes = read_all(alloc, state)?;
     let finding = check_state(alloc, bytes.as_slice(), checker)?;
-    tell(alloc, &finding, out)
+    report_finding(alloc, &finding, out)
 }

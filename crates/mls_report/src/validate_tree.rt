@@ -7,7 +7,7 @@ ghost use Rattle.mls_tree.specs.TreeDecoding.{IsTreeOf};
 ghost use Rattle.mls_check.specs.GroupTree.{IsSupportedContext};
 ghost use Rattle.mls_report.specs.ValidateTree.{IsContext, IsTreeFinding, ValidatesTree, ValidatesTreePart};
 
-use crate::finding::{Finding, tell, tree_hash_of};
+use crate::finding::{Finding, report_finding, tree_hash_of};
 use crate::read_to_end::read_all;
 use crate::verdict::{RunFault, Verdict};
 use mls_check::{GroupTreeFault, SignatureCheck, validate_group_tree};
@@ -18,7 +18,7 @@ use mls_wire::{CodecFault, Sink, Source};
 use std::alloc::Global;
 
 /// Returns the finding for a supported GroupContext and a decoded tree.
-fn judge_tree<C: SignatureCheck>(
+fn check_parsed_tree<C: SignatureCheck>(
     alloc: Global,
     suite: Suite,
     context: &GroupContext,
@@ -61,7 +61,7 @@ fn check_tree_bytes<C: SignatureCheck>(
     let tree = PublicTree::decode(alloc, tree_bytes.as_slice());
     drop(tree_bytes);
     match tree {
-        Ok(tree) => judge_tree(alloc, suite, context, &tree, checker),
+        Ok(tree) => check_parsed_tree(alloc, suite, context, &tree, checker),
         Err(NodeFault::OutOfMemory) => Err(RunFault::Memory),
         Err(fault) => Ok(Finding::TreeUnreadable(fault)),
     }
@@ -143,5 +143,5 @@ pub fn run_validate_tree<I: Source, T: Source, K: Sink, C: SignatureCheck>(
     let context_bytes = read_all(alloc, context)?;
     let tree_bytes = read_all(alloc, tree)?;
     let finding = check_bytes(alloc, context_bytes.as_slice(), tree_bytes, checker)?;
-    tell(alloc, &finding, out)
+    report_finding(alloc, &finding, out)
 }

@@ -127,7 +127,7 @@ impl<'a> ByteReader<'a> {
         }
     }
 
-    /// The bytes until here; they begin anew.
+    /// The bytes until here; they begin again.
     pub(crate) fn take_bytes(&mut self) -> Vec<u8> {
         mem::replace(&mut self.bytes, Vec::new(self.alloc))
     }

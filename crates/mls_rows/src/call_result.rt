@@ -48,7 +48,7 @@ impl CallResult {
         })
     }
 
-    /// Whether this is what was wanted.
+    /// Whether this is what was expected.
     pub(crate) fn is(&self, wanted: &str) -> bool {
         if self.text.as_str() == wanted {
             return true;

@@ -236,8 +236,8 @@ pub(crate) fn read_length(row: &Row) -> Result<CallResult, RowFault> {
     let mut reader = Reader::new(bytes.as_slice());
     let text = match reader.read_len() {
         Ok(length) => format!(in row.alloc; "{length}")?,
-        Err(fault) if reader.place() == 0 => format!(in row.alloc; "{fault}")?,
-        Err(fault) => format!(in row.alloc; "{fault}, after {} bytes", reader.place())?,
+        Err(fault) if reader.position() == 0 => format!(in row.alloc; "{fault}")?,
+        Err(fault) => format!(in row.alloc; "{fault}, after {} bytes", reader.position())?,
     };
     Ok(CallResult::text(text))
 }

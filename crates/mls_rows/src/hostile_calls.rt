@@ -202,8 +202,8 @@ fn resumes(alloc: Global, bytes: &[u8]) -> bool {
     }
 }
 
-/// `state_bits | STATE`: how many bits the file of a state has from which a follower resumes. None may resume where one of them is
-/// changed.
+/// `state_bits | STATE`: how many bits the file of a state has from which a follower resumes. None may resume if one of
+/// them is changed.
 pub(crate) fn state_bits(row: &Row) -> Result<CallResult, RowFault> {
     row.has(1)?;
     let mut state = row.bytes(1)?;

@@ -151,8 +151,8 @@ fn merged_result(
     }
 }
 
-/// `merge_path | SUITE | TREE | ADDED | COMMITTER | PATH`: how many leaves the tree with an update path has, and its encoding. Given are the
-/// tree after the commit's list and the leaves that this list added.
+/// `merge_path | SUITE | TREE | ADDED | COMMITTER | PATH`: how many leaves the tree with an update path has, and its
+/// encoding. Given are the tree after the proposal list and the leaves that this list added.
 pub(crate) fn merged(row: &Row) -> Result<CallResult, RowFault> {
     row.has(5)?;
     let suite = suite_at(row, 1)?;

@@ -48,7 +48,7 @@ impl Names {
         Ok(())
     }
 
-    /// Forgets all but the first so many.
+    /// Forgets all but the first ones, this many.
     pub(crate) fn keep_first(&mut self, count: usize) {
         self.all.truncate(count);
     }

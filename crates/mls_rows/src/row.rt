@@ -83,7 +83,7 @@ impl<'a> Row<'a> {
         self.fields.len().saturating_sub(1)
     }
 
-    /// Whether there are so many.
+    /// Whether there are this many.
     pub(crate) fn has(&self, count: usize) -> Result<(), RowFault> {
         if self.len() == count {
             Ok(())

@@ -5,7 +5,7 @@ use crate::fault::RowFault;
 use crate::row::{Row, have};
 use crate::token::Token;
 use mls_cli::{
-    CheckKind, CheckedReport, CheckerChoice, FileName, Files, GroupFiles, Order, Profile, ShowKind,
+    CheckKind, CheckerChoice, FileName, Files, GroupFiles, GroupReport, Order, Profile, ShowKind,
     order_of, run_program,
 };
 use mls_wire::{LogStep, MemorySink, MemorySource, RecordReader, Records};
@@ -266,27 +266,27 @@ fn group_text(alloc: Global, group: &GroupFiles) -> Result<String, RowFault> {
 }
 
 /// A report that checks signatures, in words.
-fn report_text(alloc: Global, report: &CheckedReport, receipts: &str) -> Result<String, RowFault> {
+fn report_text(alloc: Global, report: &GroupReport, receipts: &str) -> Result<String, RowFault> {
     match report {
-        CheckedReport::ValidateTree { context, tree } => {
+        GroupReport::ValidateTree { context, tree } => {
             let (context, tree) = (context.as_str(), tree.as_str());
             Ok(format!(in alloc; "validate {context} {tree} {receipts}")?)
         }
-        CheckedReport::Validate(group) => {
+        GroupReport::Validate(group) => {
             let group = group_text(alloc, group)?;
             Ok(format!(in alloc; "start {group} {receipts}")?)
         }
-        CheckedReport::Replay { group, files } => {
+        GroupReport::Replay { group, files } => {
             let group = group_text(alloc, group)?;
             let (log, save) = (files.log.as_str(), file_name(&files.save));
             Ok(format!(in alloc; "replay {group} {log} {save} {receipts}")?)
         }
-        CheckedReport::Signatures { group, log } => {
+        GroupReport::Signatures { group, log } => {
             let group = group_text(alloc, group)?;
             let log = file_name(log);
             Ok(format!(in alloc; "signatures {group} {log} {receipts}")?)
         }
-        CheckedReport::Gate(group) => {
+        GroupReport::Gate(group) => {
             let group = group_text(alloc, group)?;
             Ok(format!(in alloc; "gate {group} {receipts}")?)
         }
@@ -319,7 +319,7 @@ fn order_text(alloc: Global, order: &Order) -> Result<String, RowFault> {
             };
             Ok(format!(in alloc; "show {kind} {}", file.as_str())?)
         }
-        Order::Judged { report, checker } => report_text(alloc, report, receipts_name(checker)),
+        Order::Group { report, checker } => report_text(alloc, report, receipts_name(checker)),
         Order::Check { kind, file } => {
             let kind = check_word(kind);
             Ok(format!(in alloc; "check {kind} {}", file.as_str())?)
@@ -373,7 +373,8 @@ fn add_step(all: &mut String, alloc: Global, step: LogStep, body: &[u8]) -> Resu
     Ok(())
 }
 
-/// `log | NUMBER | BYTES`: four steps of a log of at most so many records, each with its body and the number of bytes after it.
+/// `log | NUMBER | BYTES`: four steps of a log of at most that many records, each with its body and the number of bytes
+/// after it.
 pub(crate) fn log(row: &Row) -> Result<CallResult, RowFault> {
     row.has(2)?;
     let bytes = row.bytes(2)?;

@@ -53,7 +53,7 @@ struct Lexer {
 }
 
 impl Lexer {
-    /// The word until here; it begins anew.
+    /// The word until here; it begins again.
     fn take_word(&mut self) -> String {
         mem::replace(&mut self.word, String::new(self.alloc))
     }

@@ -92,7 +92,8 @@ fn has_length(
     }
 }
 
-/// `resolution_length | TREE | NODE INDEX | NUMBERS | NUMBER`: whether the resolution has so many nodes other than these.
+/// `resolution_length | TREE | NODE INDEX | NUMBERS | NUMBER`: whether the resolution has that many nodes other than
+/// these.
 pub(crate) fn resolution_length(row: &Row) -> Result<CallResult, RowFault> {
     row.has(4)?;
     let index = row.number(2)?;
@@ -223,8 +224,8 @@ pub(crate) fn size(row: &Row) -> Result<CallResult, RowFault> {
     }
 }
 
-/// `nodes_form | BYTES | COUNT`: how many leaves and members the tree of nodes has, of which there are so many, those of a ratchet_tree
-/// first and blank ones after them; or why they form none.
+/// `nodes_form | BYTES | COUNT`: how many leaves and members the tree of nodes has, of which there are that many, those
+/// of a ratchet_tree first and blank ones after them; or why they form none.
 pub(crate) fn nodes_form(row: &Row) -> Result<CallResult, RowFault> {
     row.has(2)?;
     let count = row.number(2)? as usize;
@@ -249,8 +250,8 @@ pub(crate) fn nodes_form(row: &Row) -> Result<CallResult, RowFault> {
     }
 }
 
-/// `extended_blank | LEAVES`: how many leaves a blank tree of so many has once it is extended, or why there is none or can't be
-/// extended.
+/// `extended_blank | LEAVES`: how many leaves a blank tree of that many has once it is extended, or why there is none
+/// or can't be extended.
 pub(crate) fn extended_blank(row: &Row) -> Result<CallResult, RowFault> {
     row.has(1)?;
     let extended = match PublicTree::blank(row.alloc, row.number(1)?) {

@@ -15,7 +15,7 @@ use Rattle.mls_wire.specs.Encoding.{◌⊕◌, number, vector}
 use Rattle.mls_nodes.specs.declared.leaf.LeafNode.{LeafNode}
 use Rattle.mls_nodes.specs.declared.leaf_source.LeafSource.{LeafSource}
 use Rattle.mls_nodes.specs.declared.leaf_source.LeafSource.TheVariants as sources
-use Rattle.mls_nodes.specs.LeafNodeTBS.{leaf_place, leaf_tbs}
+use Rattle.mls_nodes.specs.LeafNodeTBS.{tbs_suffix, leaf_tbs}
 use Rattle.mls_nodes.specs.Layout.{unsigned_leaf}
 use Rattle.mls_tree.specs.Tree.{Tree, leaf_at}
 use Rattle.mls_msgs.specs.declared.framed_content.Sender.{Sender}
@@ -27,7 +27,7 @@ use Rattle.mls_msgs.specs.declared.proposal.ProposalOrRef.TheVariants as entries
 use Rattle.mls_apply.specs.declared.list_item.KnownProposal.{KnownProposal}
 use Rattle.mls_apply.specs.declared.list_item.ListItem.{ListItem}
 use Rattle.mls_apply.specs.ResolvedList.{resolved, with_first, entry_item, item_of, find_known}
-use Rattle.mls_apply.specs.AppliedList.{Grown, grown, outcome, new_members, added_to}
+use Rattle.mls_apply.specs.AppliedList.{AppliedTree, applied_tree, outcome, new_members, added_to}
 use Rattle.mls_apply.specs.Outline.{IsApart, AreAt, IsOutline}
 use Rattle.mls_apply.proofs.Adding.{no_add, same_members}
 use Rattle.mls_apply.proofs.Updating.{next_item}
@@ -101,12 +101,12 @@ module _ (es : List ProposalOrRef) (items : List ListItem) (added : List ℕ) wh
   -- where a walk stands, before the item at position i
   pub record Collecting (i position : ℕ) (leaves : List AddedLeaf) : Type 0 where
     pub at : position ≡ i
-    pub places : indices leaves ≡ take (length leaves) added
+    pub node_indices : indices leaves ≡ take (length leaves) added
     pub nodes : leaf_nodes leaves ++ new_members (drop i items) ≡ new_members items
     pub named : (F : List ℕ → Option LeafNode) → NamesAre F es items → AreNamedBy F leaves
 
   pub collecting-start : Collecting 0 0 []
-  collecting-start = record { at = refl; places = refl; nodes = refl; named = λ F n. tt }
+  collecting-start = record { at = refl; node_indices = refl; nodes = refl; named = λ F n. tt }
 
   module _ (enough : length added ≡ length (new_members items)) where
     counted : (i position : ℕ) (leaves : List AddedLeaf) → Collecting i position leaves
@@ -126,7 +126,7 @@ module _ (es : List ProposalOrRef) (items : List ListItem) (added : List ℕ) wh
       unfolding new_members
       collecting-other none = record {
         at = ap (λ n. n + 1) k.at;
-        places = k.places;
+        node_indices = k.node_indices;
         nodes =
             ap (λ ms. leaf_nodes leaves ++ ms)
             (sym (ap new_members (next_item items i x low is) ∙ same_members x.proposal (new_members (drop (i + 1) items)) (no_add x.proposal none)))
@@ -148,9 +148,9 @@ module _ (es : List ProposalOrRef) (items : List ListItem) (added : List ℕ) wh
             → Collecting (i + 1) (position + 1) (leaves ++ y ∷ [])
         collecting-member y index node name = record {
           at = ap (λ n. n + 1) k.at;
-          places =
+          node_indices =
               map-append (λ (z : AddedLeaf). z.index) leaves (y ∷ [])
-              ∙ (λ j. k.places j ++ index j ∷ [])
+              ∙ (λ j. k.node_indices j ++ index j ∷ [])
               ∙ sym (take_more added (length leaves) 0 collecting-room)
               ∙ ap (λ n. take n added) (sym (length_more leaves y));
           nodes =
@@ -169,7 +169,7 @@ module _ (es : List ProposalOrRef) (items : List ListItem) (added : List ℕ) wh
       nothing_left = ap new_members (drop_all i items past)
 
       pub collected-indices : indices leaves ≡ added
-      collected-indices = k.places ∙ take_all (length leaves) added (omega (arith, counted i position leaves k, ap length nothing_left))
+      collected-indices = k.node_indices ∙ take_all (length leaves) added (omega (arith, counted i position leaves k, ap length nothing_left))
 
       pub collected-nodes : leaf_nodes leaves ≡ new_members items
       collected-nodes = sym (append-nil (leaf_nodes leaves)) ∙ ap (λ ms. leaf_nodes leaves ++ ms) (sym nothing_left) ∙ k.nodes
@@ -188,15 +188,15 @@ places_count t (x ∷ xs) (j ∷ js) a = ap (λ n. suc n) (places_count t xs js 
 
 module _ (items : List ListItem) (t u : Tree) (added : List ℕ) (o : IsOutline (outcome items t) added u) where
   pub outline_members : AreAt o.tree (new_members items) added
-  outline_members = outcome_members items t (grown o.tree added) o.is
+  outline_members = outcome_members items t (applied_tree o.tree added) o.is
 
   pub outline_count : length added ≡ length (new_members items)
   outline_count = places_count o.tree (new_members items) added outline_members
 
   pub outline_after : (xs : List AddedLeaf) → indices xs ≡ added → leaf_nodes xs ≡ new_members items → IsAfter o.tree u xs
-  outline_after xs places nodes = record {
-    added = added_by_places o.tree xs (subst (λ js. AreAt o.tree (leaf_nodes xs) js) (sym places) (subst (λ ms. AreAt o.tree ms added) (sym nodes) outline_members));
-    others = λ j a. o.others j (subst (λ js. IsApart js j) places a);
+  outline_after xs node_indices nodes = record {
+    added = added_by_places o.tree xs (subst (λ js. AreAt o.tree (leaf_nodes xs) js) (sym node_indices) (subst (λ ms. AreAt o.tree ms added) (sym nodes) outline_members));
+    others = λ j a. o.others j (subst (λ js. IsApart js j) node_indices a);
   }
 
 -- ---- the added leaves by their leaf indices
@@ -343,12 +343,12 @@ module _ (suite : ℕ) (group_id : List ℕ) where
 
   -- the signature of a leaf node from a KeyPackage doesn't depend on the leaf index
   no_index : (x : LeafNode) (i j : ℕ) → is_from_key_package x.source ≡ true → leaf_signatures suite group_id i x ≡ leaf_signatures suite group_id j x
-  unfolding leaf_tbs leaf_place
+  unfolding leaf_tbs tbs_suffix
   no_index x i j e =
       ap (λ p. labeled_signatures suite x.signature_key (codes "MLS 1.0 LeafNodeTBS") (unsigned_leaf x ⊕ p) x.signature) (go x.source e)
     where
-      go : (s : LeafSource) → is_from_key_package s ≡ true → leaf_place s group_id i ≡ leaf_place s group_id j
-      unfolding leaf_place
+      go : (s : LeafSource) → is_from_key_package s ≡ true → tbs_suffix s group_id i ≡ tbs_suffix s group_id j
+      unfolding tbs_suffix
       go (sources.KeyPackage l) e = refl
       go sources.Update e = absurd (false≢true e)
       go (sources.Commit h) e = absurd (false≢true e)

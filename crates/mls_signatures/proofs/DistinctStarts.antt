@@ -13,7 +13,7 @@ use Rattle.mls_wire.specs.EncodingConcat.{joined}
 use Rattle.mls_nodes.specs.declared.leaf.LeafNode.{LeafNode}
 use Rattle.mls_nodes.specs.LeafNodeTBS.{leaf_tbs}
 use Rattle.mls_tree.specs.Tree.{Tree, leaf, branch, leaf_count, leaf_at}
-use Rattle.mls_check.specs.LeafValidation.{all_leaves, has_own_signature_key}
+use Rattle.mls_check.specs.LeafValidation.{all_leaves, has_unique_signature_key}
 use Rattle.mls_check.specs.Signatures.{sign_content}
 use Rattle.mls_check.proofs.Leaves.{all_leaves-at}
 use Rattle.mls_msgs.specs.Tbs.{info_label, info_tbs}
@@ -101,9 +101,9 @@ module _ (suite : ℕ) (key label signature : List ℕ) where
 
 -- ---- those of leaves
 
-own_key-apart : (t : Tree) (i : ℕ) (x : LeafNode) → has_own_signature_key t i x ≡ true
+own_key-apart : (t : Tree) (i : ℕ) (x : LeafNode) → has_unique_signature_key t i x ≡ true
     → (j : ℕ) (y : LeafNode) → leaf_at 0 t j ≡ Some y → j ≢ i → y.signature_key ≢ x.signature_key
-unfolding has_own_signature_key
+unfolding has_unique_signature_key
 own_key-apart t i x own j y set other equal =
     let e = all_leaves-at (λ m z. m == i || not (bytes_eq z.signature_key x.signature_key)) 0 t own j y set in
     let apart : (j == i) ≡ false = grind (arith, nat_tests, other) in
@@ -129,7 +129,7 @@ module _ (suite : ℕ) (group_id : List ℕ) where
       All-append (IsUnder leaf_label) (tree_signatures suite group_id first l) (tree_signatures suite group_id (first + leaf_count l) r)
       (under_tree first l) (under_tree (first + leaf_count l) r)
 
-  module _ (t : Tree) (own : all_leaves (has_own_signature_key t) 0 t ≡ true) where
+  module _ (t : Tree) (own : all_leaves (has_unique_signature_key t) 0 t ≡ true) where
     -- under the key of leaf i
     abbrev IsOfLeaf : ℕ → SignatureToVerify → Type 0
     IsOfLeaf i r = (x : LeafNode) × (leaf_at 0 t i ≡ Some x) × (r.key ≡ x.signature_key)
@@ -152,7 +152,7 @@ module _ (suite : ℕ) (group_id : List ℕ) where
     apart : (i j : ℕ) (q r : SignatureToVerify) → i < j → IsOfLeaf i q → IsOfLeaf j r → is_same q r ≡ false
     apart i j q r low a b =
         differing q r (λ e.
-        own_key-apart t j b.0 (all_leaves-at (has_own_signature_key t) 0 t own j b.0 b.1) i a.0 a.1 (λ same. omega (arith, low, same))
+        own_key-apart t j b.0 (all_leaves-at (has_unique_signature_key t) 0 t own j b.0 b.1) i a.0 a.1 (λ same. omega (arith, low, same))
         (sym a.2 ∙ ap (λ (w : SignatureToVerify). w.key) e ∙ b.2))
 
     distinct_below : (n : ℕ) → HasNoDuplicates (signatures_below suite group_id t n)
@@ -207,7 +207,7 @@ other_labels q r a b =
 
 -- ---- the signatures of a start
 
-module _ (info : GroupInfo) (t : Tree) (own : all_leaves (has_own_signature_key t) 0 t ≡ true) where
+module _ (info : GroupInfo) (t : Tree) (own : all_leaves (has_unique_signature_key t) 0 t ≡ true) where
   abbrev all : List SignatureToVerify
   all =
       info_signatures info (leaf_at 0 t info.signer) ++

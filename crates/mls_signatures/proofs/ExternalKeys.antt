@@ -2,7 +2,7 @@
 use Rattle.std.proofs.Common.{◌≡◌, ◌≤◌, ◌<◌, ℕ, zero, suc, List, [], ◌∷◌, length, get_or, Option, Some, None, Ok, Err, refl, sym, ap, arith}
 use Rattle.mls_wire.specs.declared.fault.CodecFault.TheVariants as faults
 use Rattle.mls_wire.specs.declared.fault.WireFault.{WireFault}
-use Rattle.mls_nodes.proofs.SendersOnce.{senders_by-tells, senders_by-told}
+use Rattle.mls_nodes.proofs.SendersOnce.{senders_by-determines, senders_by-determined}
 use Rattle.mls_nodes.specs.ExternalSenders.{FindsSenders, senders_by}
 use Rattle.mls_nodes.specs.Requirements.{extension_of}
 use Rattle.mls_nodes.specs.declared.extension.Extension.{Extension}
@@ -12,7 +12,7 @@ use Rattle.mls_signatures.specs.SigningKeys.{key_at}
 -- a list that was read
 pub senders_read : (extensions : List Extension) (senders : List ExternalSender) → FindsSenders (extension_of 5 extensions) (Ok senders)
     → Some senders ≡ senders_by extensions
-senders_read extensions senders h = sym (senders_by-told extensions senders h)
+senders_read extensions senders h = sym (senders_by-determined extensions senders h)
 
 -- bytes that a call can't read encode no list
 read_and_not : (body : Option (List ℕ)) (f : WireFault) (senders : List ExternalSender) → FindsSenders body (Err (faults.Wire f)) → FindsSenders body (Ok senders) → ⊥
@@ -25,7 +25,7 @@ senders_unread extensions f h = go (senders_by extensions) refl
   where
     go : (o : Option (List ExternalSender)) → senders_by extensions ≡ o → None ≡ senders_by extensions
     go None e = sym e
-    go (Some senders) e = absurd (read_and_not (extension_of 5 extensions) f senders h (senders_by-tells extensions senders e))
+    go (Some senders) e = absurd (read_and_not (extension_of 5 extensions) f senders h (senders_by-determines extensions senders e))
 
 -- ---- one of them
 

@@ -33,7 +33,7 @@ use Rattle.mls_apply.specs.declared.list_item.ListItem.{ListItem}
 use Rattle.mls_apply.specs.ResolvedList.{resolved}
 use Rattle.mls_apply.specs.JoinRules.{is_join_list, join_items}
 use Rattle.mls_apply.specs.ListRules.{replaced_leaf}
-use Rattle.mls_apply.specs.AppliedList.{Grown, outcome}
+use Rattle.mls_apply.specs.AppliedList.{AppliedTree, outcome}
 use Rattle.mls_apply.specs.Senders.{member_index}
 use Rattle.mls_signatures.specs.SigningKeys.{signed_context, outside_key, may_propose}
 use Rattle.mls_signatures.specs.declared.signature_to_verify.SignatureToVerify.{SignatureToVerify}
@@ -199,8 +199,8 @@ replaced_leaves [] = []
 replaced_leaves (x ∷ xs) =
     index_before (replaced_leaf x.sender x.proposal) (replaced_leaves xs)
 
--- the leaves that the list of a commit adds or replaces: the replaced ones, then the added ones
-abbrev pub new_leaves : List ListItem → Grown → List ℕ
+-- the leaves that a proposal list adds or replaces: the replaced ones, then the added ones
+abbrev pub new_leaves : List ListItem → AppliedTree → List ℕ
 new_leaves items g = replaced_leaves items ++ g.added
 
 -- the signature of the leaf of an UpdatePath of member i; none without a path
@@ -211,7 +211,7 @@ path_signatures context i (Some path) =
 
 -- of the leaves that a list adds or replaces, in the tree after it, then of the path's leaf; none if no tree is after the
 -- list
-abbrev pub applied_list_signatures : GroupContext → ℕ → Option UpdatePath → List ListItem → Option Grown
+abbrev pub applied_list_signatures : GroupContext → ℕ → Option UpdatePath → List ListItem → Option AppliedTree
     → List SignatureToVerify
 applied_list_signatures context i path items None = []
 applied_list_signatures context i path items (Some g) =
@@ -270,7 +270,7 @@ outside_signatures context a sender (Some key) = outside_content_signatures cont
 
 -- of a client that joins with a commit, its path's leaf, at the leaf that it takes in the tree after the list (12.4.3.2); none
 -- if no tree is after the list
-abbrev pub seated_signatures : GroupContext → UpdatePath → Option Grown → List SignatureToVerify
+abbrev pub seated_signatures : GroupContext → UpdatePath → Option AppliedTree → List SignatureToVerify
 seated_signatures context path None = []
 seated_signatures context path (Some g) =
     leaf_signatures context.cipher_suite context.group_id (added_leaf g.tree) path.leaf_node

@@ -234,7 +234,7 @@ fn push_applied_list_signatures(
     ensures settled { IsSettled tree.new }
 {
     let answer = apply_and_push_signatures(alloc, commit, items, tree, list);
-    tree.take_back();
+    tree.rollback();
     answer
 }
 

@@ -23,8 +23,8 @@ pub(crate) struct ExternalCommit<'a> {
     pub(crate) path: &'a UpdatePath,
 }
 
-/// Returns the leaf that a new member takes in a tree: the leftmost blank one, or else the first one by which the tree is
-/// extended.
+/// Returns the leaf that a new member takes in a tree: the leftmost blank one, otherwise the first one by which the
+/// tree is extended.
 fn added_leaf(tree: &PublicTree) -> u32
     ensures { result ≡ added_leaf tree.now.tree }
 {
@@ -82,7 +82,7 @@ fn push_seated_signature(
     ensures settled { IsSettled tree.new }
 {
     let answer = apply_and_push_seated_signature(alloc, external, items, tree, list);
-    tree.take_back();
+    tree.rollback();
     answer
 }
 

@@ -8,8 +8,8 @@ pub fn duplicates_are_irrelevant()
     ensures duplicates { DuplicatesAreIrrelevant }
 {}
 
-/// If no two leaves have one signature key, no two signatures of a start are equal. So a caller that asks for them one at
-/// a time need not look for duplicates.
+/// If no two leaves have one signature key, no two signatures of a start are equal. So a caller that requests them one
+/// at a time need not look for duplicates.
 pub fn start_signatures_are_distinct()
     ensures distinct { StartSignaturesAreDistinct }
 {}

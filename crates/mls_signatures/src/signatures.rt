@@ -351,8 +351,8 @@ fn push_message_signatures(
 /// of the path's leaf, if its list is one of an external commit and can be applied (12.4.3.2). Some signatures may be returned
 /// that no rule checks, as if another rule refuses the message before.
 ///
-/// The list of a commit is applied to the tree and taken back, so the tree must be settled. Its changes are taken back
-/// whatever is returned.
+/// The proposal list of a commit is applied to the tree and undone, so the tree must have no staged change. Its changes
+/// are undone whatever is returned.
 ///
 /// # Errors
 ///

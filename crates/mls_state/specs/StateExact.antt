@@ -6,7 +6,7 @@ use Rattle.std.specs.Int.{w8, w16}
 use Rattle.mls_wire.specs.Input.{Input}
 use Rattle.mls_wire.specs.Encoding.{◌⊕◌, number, vector, list}
 use Rattle.mls_wire.specs.Parsing.{number_at, vector_at, list_at}
-use Rattle.mls_wire.specs.ExactParsers.{Exact, IsExact, IsLong, Any, field_then, made_of, chosen, tag_is, known, never, spelled_as}
+use Rattle.mls_wire.specs.ExactParsers.{Exact, IsExact, IsLong, Any, field_then, made_of, chosen, tag_is, known, never, encoded_as}
 use Rattle.mls_wire.specs.IntegersExact.{wide8, wide16, number_exact, number_long}
 use Rattle.mls_wire.specs.VectorsExact.{vector_exact, vector_long}
 use Rattle.mls_wire.specs.ListsExact.{list_exact}
@@ -126,7 +126,7 @@ full_phase_exact =
 
 pub group_mode_exact : IsExact group_mode group_mode_at
 unfolding group_mode_at
-group_mode_exact = spelled_as Any group_mode _ group_mode_at mode_parts
+group_mode_exact = encoded_as Any group_mode _ group_mode_at mode_parts
     (field_then Any profile_tag (number w8) phase_body (number_at w8) _ (number_exact w8 wide8)
     (λ n. tag_is profile_tag _ _ _ n 1 members_phase_exact
     (λ x. tag_is profile_tag _ _ _ n 2 full_phase_exact (λ y. never _ _ (no_mode n x y)))))

@@ -28,7 +28,7 @@ impl Decode for StateFile {
     ghost use Rattle.mls_state.specs.Parsing.{state_file_at};
     ghost use Rattle.mls_state.specs.StateExact.{state_file_exact, state_file_long};
 
-    ghost spelling = { state_file };
+    ghost encoding = { state_file };
 
     ghost reading = { state_file_at };
 
@@ -39,7 +39,7 @@ impl Decode for StateFile {
         if version != 1 {
             return Err(CodecFault::Wire(WireFault {
                 kind: WireFaultKind::BadTag(version),
-                at: reader.place(),
+                at: reader.position(),
             }));
         }
         let checksum = Opaque::read(alloc, &mut ahead)?;

@@ -20,7 +20,7 @@ impl Decode for KnownEntry {
     ghost use Rattle.mls_state.specs.Parsing.{known_entry_at};
     ghost use Rattle.mls_state.specs.StateExact.{known_entry_exact, known_entry_long};
 
-    ghost spelling = { known_entry };
+    ghost encoding = { known_entry };
 
     ghost reading = { known_entry_at };
 

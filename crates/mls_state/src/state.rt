@@ -53,7 +53,7 @@ fn read_members_phase(alloc: Global, reader: &mut Reader<'_>) -> Result<GroupMod
     let mut ahead = reader.fork();
     let mode = match u8::read(alloc, &mut ahead)? {
         0 => GroupMode::Members,
-        tag => return Err(bad_tag(tag, reader.place())),
+        tag => return Err(bad_tag(tag, reader.position())),
     };
     *reader = ahead;
     Ok(mode)
@@ -68,7 +68,7 @@ fn read_full_phase(alloc: Global, reader: &mut Reader<'_>) -> Result<GroupMode, 
     let mode = match u8::read(alloc, &mut ahead)? {
         0 => GroupMode::Full,
         1 => GroupMode::Ended,
-        tag => return Err(bad_tag(tag, reader.place())),
+        tag => return Err(bad_tag(tag, reader.position())),
     };
     *reader = ahead;
     Ok(mode)
@@ -79,7 +79,7 @@ impl Decode for GroupMode {
     ghost use Rattle.mls_state.specs.Parsing.{group_mode_at};
     ghost use Rattle.mls_state.specs.StateExact.{group_mode_exact, group_mode_long};
 
-    ghost spelling = { group_mode };
+    ghost encoding = { group_mode };
 
     ghost reading = { group_mode_at };
 
@@ -89,7 +89,7 @@ impl Decode for GroupMode {
         let mode = match u8::read(alloc, &mut ahead)? {
             1 => read_members_phase(alloc, &mut ahead)?,
             2 => read_full_phase(alloc, &mut ahead)?,
-            tag => return Err(bad_tag(tag, reader.place())),
+            tag => return Err(bad_tag(tag, reader.position())),
         };
         *reader = ahead;
         Ok(mode)
@@ -132,7 +132,7 @@ impl Decode for FollowerState {
     ghost use Rattle.mls_state.specs.Parsing.{follower_state_at};
     ghost use Rattle.mls_state.specs.StateExact.{follower_state_exact, follower_state_long};
 
-    ghost spelling = { follower_state };
+    ghost encoding = { follower_state };
 
     ghost reading = { follower_state_at };
 

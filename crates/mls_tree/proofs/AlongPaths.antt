@@ -4,14 +4,14 @@ use Rattle.std.specs.Prelude.{All}
 use Rattle.std.proofs.lemmas.Bool.{cases_lt}
 use Rattle.std.proofs.lemmas.List.Elements.{All-nil, All-head, All-tail, All-push, All-pop, All-weaker}
 use Rattle.mls_nodes.specs.declared.parent.ParentNode.{ParentNode}
-use Rattle.mls_tree.specs.Tree.{Tree, leaf, branch, leaf_count, parent_entry, Subtree, subtree_at, entry_of, IsParentPlace}
+use Rattle.mls_tree.specs.Tree.{Tree, leaf, branch, leaf_count, parent_entry, Subtree, subtree_at, entry_of, IsParentNodeIndex}
 use Rattle.mls_tree.specs.TreeOperations.{put_parent, change_parent, change_above}
 use Rattle.mls_tree.specs.NodeView.{parent_of}
 use Rattle.mls_tree.specs.Paths.{direct_path}
 use Rattle.mls_tree.proofs.Choices.{below, from, here, before, after}
 use Rattle.mls_tree.proofs.Trees.{leaf_count-positive}
 use Rattle.mls_tree.proofs.Kept.{leaf_count-put_parent}
-use Rattle.mls_tree.proofs.Lookups.{IsParentPlace-odd, IsParentPlace-bounds}
+use Rattle.mls_tree.proofs.Lookups.{IsParentNodeIndex-odd, IsParentNodeIndex-bounds}
 
 -- the parent at a place, where there is one and it is set
 abbrev pub parent_at : ℕ → Tree → ℕ → Option ParentNode
@@ -43,10 +43,10 @@ direct_path-within first (branch l n r) i =
           (All-weaker (IsWithin m (leaf_count r)) (IsWithin first (leaf_count l + leaf_count r)) (λ p w. ((let u = w.0 in omega arith), (let v = w.1 in omega arith), w.2)) (direct_path m r i) (direct_path-within m r i)) root)
     ]
 
-pub direct_path-parents : (t : Tree) (i : ℕ) → All (IsParentPlace t) (direct_path 0 t i)
+pub direct_path-parents : (t : Tree) (i : ℕ) → All (IsParentNodeIndex t) (direct_path 0 t i)
 direct_path-parents t i =
-    All-weaker (IsWithin 0 (leaf_count t)) (IsParentPlace t)
-    (λ p w. (let u = w.1 in let o = w.2 in let at : 2 * (p / 2) + 1 ≡ p = omega arith in subst (IsParentPlace t) at (IsParentPlace-odd t (p / 2) (omega arith)))) (direct_path 0 t i) (direct_path-within 0 t i)
+    All-weaker (IsWithin 0 (leaf_count t)) (IsParentNodeIndex t)
+    (λ p w. (let u = w.1 in let o = w.2 in let at : 2 * (p / 2) + 1 ≡ p = omega arith in subst (IsParentNodeIndex t) at (IsParentNodeIndex-odd t (p / 2) (omega arith)))) (direct_path 0 t i) (direct_path-within 0 t i)
 
 -- where the subtree at a place is that of a half
 module _ (first : ℕ) (l : Tree) (n : Option ParentNode) (r : Tree) (p : ℕ) where
@@ -145,8 +145,8 @@ module _ (f : Option ParentNode → Option ParentNode) where
       ]
 
   -- all have been changed
-  pub changed-end : (t u : Tree) (i : ℕ) (places left : List ℕ) → places ≡ direct_path 0 t i → left ≡ [] → changed 0 t places ≡ changed 0 u left → u ≡ change_above f 0 t i
-  changed-end t u i places left at none e = sym (e ∙ ap (changed 0 u) none) ∙ ap (changed 0 t) at ∙ changed-path 0 t i
+  pub changed-end : (t u : Tree) (i : ℕ) (node_indices left : List ℕ) → node_indices ≡ direct_path 0 t i → left ≡ [] → changed 0 t node_indices ≡ changed 0 u left → u ≡ change_above f 0 t i
+  changed-end t u i node_indices left at none e = sym (e ∙ ap (changed 0 u) none) ∙ ap (changed 0 t) at ∙ changed-path 0 t i
 
   -- one more parent is changed
   module _ (t u : Tree) (all left : List ℕ) (p : ℕ) (split : all ≡ left ++ p ∷ []) (put : u ≡ change_parent f 0 t p) where
@@ -154,17 +154,17 @@ module _ (f : Option ParentNode → Option ParentNode) where
     changed-step = ap (λ ps. changed 0 t ps) split ∙ changed-last 0 t left p ∙ ap (λ v. changed 0 v left) (sym put)
 
 -- a tree with as many leaves has parents at the same places
-pub IsParentPlace-like : (t u : Tree) → leaf_count u ≡ leaf_count t → (p : ℕ) → IsParentPlace t p → IsParentPlace u p
-IsParentPlace-like t u e p h =
-    let b = IsParentPlace-bounds t p h in
+pub IsParentNodeIndex-like : (t u : Tree) → leaf_count u ≡ leaf_count t → (p : ℕ) → IsParentNodeIndex t p → IsParentNodeIndex u p
+IsParentNodeIndex-like t u e p h =
+    let b = IsParentNodeIndex-bounds t p h in
     let odd : 2 * (p / 2) + 1 ≡ p = omega (arith, b.0) in
-    subst (IsParentPlace u) odd (IsParentPlace-odd u (p / 2) (omega (arith, b.1)))
+    subst (IsParentNodeIndex u) odd (IsParentNodeIndex-odd u (p / 2) (omega (arith, b.1)))
 
 -- the other places are those of parents still
-pub parents-step : (t u : Tree) (all left : List ℕ) (p : ℕ) (x : Option ParentNode) → all ≡ left ++ p ∷ [] → u ≡ put_parent 0 t p x → All (IsParentPlace t) all → All (IsParentPlace u) left
+pub parents-step : (t u : Tree) (all left : List ℕ) (p : ℕ) (x : Option ParentNode) → all ≡ left ++ p ∷ [] → u ≡ put_parent 0 t p x → All (IsParentNodeIndex t) all → All (IsParentNodeIndex u) left
 parents-step t u all left p x split put h =
-    All-weaker (IsParentPlace t) (IsParentPlace u) (λ q. IsParentPlace-like t u (ap leaf_count put ∙ leaf_count-put_parent 0 t p x) q) left
-    ((All-pop (IsParentPlace t) all left (Some p) split h).0)
+    All-weaker (IsParentNodeIndex t) (IsParentNodeIndex u) (λ q. IsParentNodeIndex-like t u (ap leaf_count put ∙ leaf_count-put_parent 0 t p x) q) left
+    ((All-pop (IsParentNodeIndex t) all left (Some p) split h).0)
 
-pub parents-start : (t : Tree) (i : ℕ) (places : List ℕ) → places ≡ direct_path 0 t i → All (IsParentPlace t) places
-parents-start t i places at = subst (All (IsParentPlace t)) (sym at) (direct_path-parents t i)
+pub parents-start : (t : Tree) (i : ℕ) (node_indices : List ℕ) → node_indices ≡ direct_path 0 t i → All (IsParentNodeIndex t) node_indices
+parents-start t i node_indices at = subst (All (IsParentNodeIndex t)) (sym at) (direct_path-parents t i)

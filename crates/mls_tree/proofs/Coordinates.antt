@@ -6,11 +6,11 @@ use Rattle.std.specs.Int.{bit_at, w32, w64, trailing_ones, trailing_zeros}
 use Rattle.std.proofs.lemmas.Nat.Bits.{bit_at_lowest, bit_at-suc, bit_at-trailing_ones, bit_at-trailing_zeros, bit_at-pow_other, shr_and_one}
 use Rattle.std.proofs.lemmas.Nat.{pow_pos, pow_below}
 use Rattle.std.proofs.Math.Nat.{pow-le-pow_right}
-use Rattle.mls_tree.specs.Tree.{Tree, leaf, branch, height, leaf_count, leaves_at, IsPerfect, Subtree, subtree_at, root_place}
+use Rattle.mls_tree.specs.Tree.{Tree, leaf, branch, height, leaf_count, leaves_at, IsPerfect, Subtree, subtree_at, root_node_index}
 use Rattle.mls_tree.specs.RatchetTree.{RatchetTree}
-use Rattle.mls_tree.specs.NodeIndices.{level_at, left_at, right_at, left_place, right_place, IsParentOf, AreSiblings, HasLevel}
+use Rattle.mls_tree.specs.NodeIndices.{level_at, left_at, right_at, left_node_index, right_node_index, IsParentOf, AreSiblings, HasLevel}
 use Rattle.mls_tree.proofs.Numbers.{leaves_at-positive, leaves_at-pow, leaves_at-low}
-use Rattle.mls_tree.proofs.Trees.{leaf_count-perfect, leaf_count-positive, along, subtree_at-stands, subtree_at-some, subtree_at-perfect, subtree_at-aligned, subtree_at-left, subtree_at-right, subtree_at-root, subtree_at-in_left, subtree_at-in_right, root_place-above, root_place-below}
+use Rattle.mls_tree.proofs.Trees.{leaf_count-perfect, leaf_count-positive, along, subtree_at-stands, subtree_at-some, subtree_at-perfect, subtree_at-aligned, subtree_at-left, subtree_at-right, subtree_at-root, subtree_at-in_left, subtree_at-in_right, root_node_index-above, root_node_index-below}
 use Rattle.mls_tree.specs.NodeArray.{ratchet_tree_in, height-tree_in, IsNoSize, IsNoLength}
 use Rattle.mls_tree.specs.TreeSizes.{IsPowerOfTwo}
 use Rattle.mls_tree.specs.declared.error.TreeError.{TreeError}
@@ -55,14 +55,14 @@ coordinates-trailing_ones p k m e n =
       | inr (inr gt) ↦ absurd (let x = o.2 k gt in let y = b.zero_next in omega arith)
     ]
 
-pub root_place-perfect : (first : ℕ) (t : Tree) → IsPerfect t → root_place first t + 1 ≡ 2 * first + leaves_at (height t)
-root_place-perfect first (leaf x) h = omega arith
-root_place-perfect first (branch l n r) h = omega (arith, leaf_count-perfect l h.1, leaf_count-positive l)
+pub root_node_index-perfect : (first : ℕ) (t : Tree) → IsPerfect t → root_node_index first t + 1 ≡ 2 * first + leaves_at (height t)
+root_node_index-perfect first (leaf x) h = omega arith
+root_node_index-perfect first (branch l n r) h = omega (arith, leaf_count-perfect l h.1, leaf_count-positive l)
 
 -- where a subtree of height k stands
 pub record Coordinates (p : ℕ) (s : Subtree) : Type 0 where
   pub number : ℕ
-  pub place : p + 1 ≡ (2 * number + 1) * leaves_at (height s.tree)
+  pub node_index : p + 1 ≡ (2 * number + 1) * leaves_at (height s.tree)
   pub first : s.first ≡ number * leaves_at (height s.tree)
 
 pub coordinates : (t : Tree) → IsPerfect t → (p : ℕ) (s : Subtree) → subtree_at 0 t p ≡ Some s → Coordinates p s
@@ -70,7 +70,7 @@ coordinates t h p s e =
     let at = subtree_at-stands 0 t p s e in
     let k = subtree_at-perfect 0 t p s e h in
     let a = subtree_at-aligned 0 t p s e h 0 (omega arith) in
-    record { number = a.0; place = omega (arith, root_place-perfect s.first s.tree k.0, at.place, a.1); first = a.1 }
+    record { number = a.0; node_index = omega (arith, root_node_index-perfect s.first s.tree k.0, at.node_index, a.1); first = a.1 }
 
 -- a tree of each height
 abbrev pub some_tree : (h n : ℕ) → h ≤ 20 → n ≡ leaves_at h → (t : RatchetTree) × (leaf_count t.tree ≡ n)
@@ -84,13 +84,13 @@ pub record At (t : Tree) (p k : ℕ) : Type 0 where
   pub level : height subtree.tree ≡ k
   pub perfect : IsPerfect subtree.tree
   pub first : subtree.first ≡ number * leaves_at k
-  pub place : p + 1 ≡ (2 * number + 1) * leaves_at k
+  pub node_index : p + 1 ≡ (2 * number + 1) * leaves_at k
 
 pub at_place : (t : RatchetTree) (p n k : ℕ) → leaf_count t.tree ≡ n → HasLevel p n k → At t.tree p k
 at_place t p n k c s =
     let e = subtree_at-some 0 t.tree p (omega arith) (omega (arith, s.within)) in
     let co = coordinates t.tree t.shape.perfect p e.0 e.1 in
-    let u = coordinates-unique (height e.0.tree) co.number k s.number (sym co.place ∙ s.place) in
+    let u = coordinates-unique (height e.0.tree) co.number k s.number (sym co.node_index ∙ s.node_index) in
     record {
       number = s.number;
       subtree = e.0;
@@ -98,7 +98,7 @@ at_place t p n k c s =
       level = u.0;
       perfect = (subtree_at-perfect 0 t.tree p e.0 e.1 t.shape.perfect).0;
       first = co.first ∙ (λ i. u.1 i * leaves_at (u.0 i));
-      place = s.place;
+      node_index = s.node_index;
     }
 
 -- a place below 2 * n - 1 has a level, which its trailing ones tell
@@ -108,7 +108,7 @@ HasLevel-below p h n low e l =
     let at = subtree_at-some 0 t.0.tree p (omega arith) (omega (arith, t.1)) in
     let co = coordinates t.0.tree t.0.shape.perfect p at.0 at.1 in
     let k = (subtree_at-perfect 0 t.0.tree p at.0 at.1 t.0.shape.perfect).1 in
-    let ones : trailing_ones w32 p ≡ height at.0.tree = coordinates-trailing_ones p (height at.0.tree) co.number co.place (omega (arith, leaves_at-low h low)) in
+    let ones : trailing_ones w32 p ≡ height at.0.tree = coordinates-trailing_ones p (height at.0.tree) co.number co.node_index (omega (arith, leaves_at-low h low)) in
     let hh : height t.0.tree ≡ h = height-tree_in [] h 0 in
     record {
       height = h;
@@ -117,83 +117,83 @@ HasLevel-below p h n low e l =
       number = co.number;
       within = l;
       under = omega arith;
-      place = co.place ∙ ap (λ v. (2 * co.number + 1) * leaves_at v) (sym ones);
+      node_index = co.node_index ∙ ap (λ v. (2 * co.number + 1) * leaves_at v) (sym ones);
     }
 
 -- the halves of a subtree of height j + 1 at place p
 left_from : (first : ℕ) (t : Tree) (p j m : ℕ) → IsPerfect t → height t ≡ suc j → first ≡ m * leaves_at (suc j) → p + 1 ≡ (2 * m + 1) * leaves_at (suc j)
-    → left_place first t ≡ Some (p - leaves_at j)
+    → left_node_index first t ≡ Some (p - leaves_at j)
 left_from first (leaf _) p j m h e f q = absurd (omega arith)
 left_from first (branch l n r) p j m h e f q =
     let k : height l ≡ j = omega arith in
     let w : leaves_at (height l) ≡ leaves_at j = ap leaves_at k in
-    ap (λ v. Some v) (omega (arith, root_place-perfect first l h.1))
+    ap (λ v. Some v) (omega (arith, root_node_index-perfect first l h.1))
 
 right_from : (first : ℕ) (t : Tree) (p j m : ℕ) → IsPerfect t → height t ≡ suc j → first ≡ m * leaves_at (suc j) → p + 1 ≡ (2 * m + 1) * leaves_at (suc j)
-    → right_place first t ≡ Some (p + leaves_at j)
+    → right_node_index first t ≡ Some (p + leaves_at j)
 right_from first (leaf _) p j m h e f q = absurd (omega arith)
 right_from first (branch l n r) p j m h e f q =
     let k : height l ≡ j = omega arith in
     let w : leaves_at (height l) ≡ leaves_at j = ap leaves_at k in
     let v : leaves_at (height r) ≡ leaves_at j = ap leaves_at (sym h.0 ∙ k) in
-    ap (λ v. Some v) (omega (arith, root_place-perfect (first + leaf_count l) r h.2, leaf_count-perfect l h.1))
+    ap (λ v. Some v) (omega (arith, root_node_index-perfect (first + leaf_count l) r h.2, leaf_count-perfect l h.1))
 
-left_none : (first : ℕ) (t : Tree) → height t ≡ 0 → left_place first t ≡ None
+left_none : (first : ℕ) (t : Tree) → height t ≡ 0 → left_node_index first t ≡ None
 left_none first (leaf _) e = refl
 left_none first (branch l n r) e = absurd (omega arith)
 
-right_none : (first : ℕ) (t : Tree) → height t ≡ 0 → right_place first t ≡ None
+right_none : (first : ℕ) (t : Tree) → height t ≡ 0 → right_node_index first t ≡ None
 right_none first (leaf _) e = refl
 right_none first (branch l n r) e = absurd (omega arith)
 
 module _ (t : RatchetTree) (p n : ℕ) (c : leaf_count t.tree ≡ n) where
-  pub level_at-place : (k : ℕ) → HasLevel p n k → Some k ≡ level_at t.tree p
-  level_at-place k s = let a = at_place t p n k c s in sym (ap (λ o. option_map (λ (u : Subtree). height u.tree) o) a.stands ∙ ap (λ v. Some v) a.level)
+  pub level_at-node_index : (k : ℕ) → HasLevel p n k → Some k ≡ level_at t.tree p
+  level_at-node_index k s = let a = at_place t p n k c s in sym (ap (λ o. option_map (λ (u : Subtree). height u.tree) o) a.stands ∙ ap (λ v. Some v) a.level)
 
-  pub left_at-place : (k j : ℕ) → k ≡ suc j → HasLevel p n k → Some (p - leaves_at j) ≡ left_at t.tree p
-  left_at-place k j e s =
+  pub left_at-node_index : (k j : ℕ) → k ≡ suc j → HasLevel p n k → Some (p - leaves_at j) ≡ left_at t.tree p
+  left_at-node_index k j e s =
       let a = at_place t p n k c s in
-      sym (ap (λ o. option_and_then (λ (u : Subtree). left_place u.first u.tree) o) a.stands
-      ∙ left_from a.subtree.first a.subtree.tree p j a.number a.perfect (a.level ∙ e) (a.first ∙ ap (λ v. a.number * leaves_at v) e) (a.place ∙ ap (λ v. (2 * a.number + 1) * leaves_at v) e))
+      sym (ap (λ o. option_and_then (λ (u : Subtree). left_node_index u.first u.tree) o) a.stands
+      ∙ left_from a.subtree.first a.subtree.tree p j a.number a.perfect (a.level ∙ e) (a.first ∙ ap (λ v. a.number * leaves_at v) e) (a.node_index ∙ ap (λ v. (2 * a.number + 1) * leaves_at v) e))
 
-  pub right_at-place : (k j : ℕ) → k ≡ suc j → HasLevel p n k → Some (p + leaves_at j) ≡ right_at t.tree p
-  right_at-place k j e s =
+  pub right_at-node_index : (k j : ℕ) → k ≡ suc j → HasLevel p n k → Some (p + leaves_at j) ≡ right_at t.tree p
+  right_at-node_index k j e s =
       let a = at_place t p n k c s in
-      sym (ap (λ o. option_and_then (λ (u : Subtree). right_place u.first u.tree) o) a.stands
-      ∙ right_from a.subtree.first a.subtree.tree p j a.number a.perfect (a.level ∙ e) (a.first ∙ ap (λ v. a.number * leaves_at v) e) (a.place ∙ ap (λ v. (2 * a.number + 1) * leaves_at v) e))
+      sym (ap (λ o. option_and_then (λ (u : Subtree). right_node_index u.first u.tree) o) a.stands
+      ∙ right_from a.subtree.first a.subtree.tree p j a.number a.perfect (a.level ∙ e) (a.first ∙ ap (λ v. a.number * leaves_at v) e) (a.node_index ∙ ap (λ v. (2 * a.number + 1) * leaves_at v) e))
 
   pub left_at-leaf : HasLevel p n 0 → None ≡ left_at t.tree p
   left_at-leaf s =
       let a = at_place t p n 0 c s in
-      sym (ap (λ o. option_and_then (λ (u : Subtree). left_place u.first u.tree) o) a.stands ∙ left_none a.subtree.first a.subtree.tree a.level)
+      sym (ap (λ o. option_and_then (λ (u : Subtree). left_node_index u.first u.tree) o) a.stands ∙ left_none a.subtree.first a.subtree.tree a.level)
 
   pub right_at-leaf : HasLevel p n 0 → None ≡ right_at t.tree p
   right_at-leaf s =
       let a = at_place t p n 0 c s in
-      sym (ap (λ o. option_and_then (λ (u : Subtree). right_place u.first u.tree) o) a.stands ∙ right_none a.subtree.first a.subtree.tree a.level)
+      sym (ap (λ o. option_and_then (λ (u : Subtree). right_node_index u.first u.tree) o) a.stands ∙ right_none a.subtree.first a.subtree.tree a.level)
 
 -- a place that is not the root's is that of a half of a subtree
 pub record HasParent (first : ℕ) (t : Tree) (p : ℕ) : Type 0 where
-  pub place : ℕ
+  pub node_index : ℕ
   pub subtree : Subtree
-  pub stands : subtree_at first t place ≡ Some subtree
-  pub half : (left_place subtree.first subtree.tree ≡ Some p) ⊎ (right_place subtree.first subtree.tree ≡ Some p)
+  pub stands : subtree_at first t node_index ≡ Some subtree
+  pub half : (left_node_index subtree.first subtree.tree ≡ Some p) ⊎ (right_node_index subtree.first subtree.tree ≡ Some p)
 
-pub has_parent : (first : ℕ) (t : Tree) (p : ℕ) (s : Subtree) → subtree_at first t p ≡ Some s → (p ≡ root_place first t) ⊎ HasParent first t p
+pub has_parent : (first : ℕ) (t : Tree) (p : ℕ) (s : Subtree) → subtree_at first t p ≡ Some s → (p ≡ root_node_index first t) ⊎ HasParent first t p
 has_parent =
-    along (λ first t p s. (p ≡ root_place first t) ⊎ HasParent first t p)
+    along (λ first t p s. (p ≡ root_node_index first t) ⊎ HasParent first t p)
     (λ first t p e. inl e)
     (λ first l n r p s lt sub ih. elim ih [
-      | inl e ↦ inr (record { place = root_place first (branch l n r); subtree = record { first = first; tree = branch l n r }; stands = subtree_at-root first (branch l n r); half = inl (ap (λ v. Some v) (sym e)) })
+      | inl e ↦ inr (record { node_index = root_node_index first (branch l n r); subtree = record { first = first; tree = branch l n r }; stands = subtree_at-root first (branch l n r); half = inl (ap (λ v. Some v) (sym e)) })
       | inr w ↦
-          (let at = subtree_at-stands first l w.place w.subtree w.stands in
-          inr (record { place = w.place; subtree = w.subtree; stands = subtree_at-in_left first l n r w.place (omega (arith, root_place-below w.subtree.first w.subtree.tree)) ∙ w.stands; half = w.half }))
+          (let at = subtree_at-stands first l w.node_index w.subtree w.stands in
+          inr (record { node_index = w.node_index; subtree = w.subtree; stands = subtree_at-in_left first l n r w.node_index (omega (arith, root_node_index-below w.subtree.first w.subtree.tree)) ∙ w.stands; half = w.half }))
     ])
     (λ first l n r p s gt sub ih. elim ih [
-      | inl e ↦ inr (record { place = root_place first (branch l n r); subtree = record { first = first; tree = branch l n r }; stands = subtree_at-root first (branch l n r); half = inr (ap (λ v. Some v) (sym e)) })
+      | inl e ↦ inr (record { node_index = root_node_index first (branch l n r); subtree = record { first = first; tree = branch l n r }; stands = subtree_at-root first (branch l n r); half = inr (ap (λ v. Some v) (sym e)) })
       | inr w ↦
-          (let at = subtree_at-stands (first + leaf_count l) r w.place w.subtree w.stands in
-          inr (record { place = w.place; subtree = w.subtree; stands = subtree_at-in_right first l n r w.place (omega (arith, root_place-above w.subtree.first w.subtree.tree)) ∙ w.stands; half = w.half }))
+          (let at = subtree_at-stands (first + leaf_count l) r w.node_index w.subtree w.stands in
+          inr (record { node_index = w.node_index; subtree = w.subtree; stands = subtree_at-in_right first l n r w.node_index (omega (arith, root_node_index-above w.subtree.first w.subtree.tree)) ∙ w.stands; half = w.half }))
     ])
 
 pub no_tree_of : (p n k : ℕ) → HasLevel p n k → ((t : RatchetTree) → leaf_count t.tree ≢ n) → ⊥
@@ -202,7 +202,7 @@ no_tree_of p n k s none = let t = some_tree s.height n s.low s.count in none t.0
 -- both steps from a place stay in the range of numbers
 pub HasLevel-left : (p n k j : ℕ) → HasLevel p n k → k ≡ suc j → leaves_at j ≤ p
 HasLevel-left p n k j s e =
-    let q : p + 1 ≡ (2 * s.number + 1) * leaves_at (suc j) = s.place ∙ ap (λ v. (2 * s.number + 1) * leaves_at v) e in
+    let q : p + 1 ≡ (2 * s.number + 1) * leaves_at (suc j) = s.node_index ∙ ap (λ v. (2 * s.number + 1) * leaves_at v) e in
     let pos = leaves_at-positive j in omega arith
 
 pub HasLevel-low : (p n k j : ℕ) → HasLevel p n k → j ≤ k → p + leaves_at j < 4294967296
@@ -213,25 +213,25 @@ HasLevel-low p n k j s l =
 
 -- the parent of a place with level k and number m
 module _ (t : RatchetTree) (p n k : ℕ) (c : leaf_count t.tree ≡ n) (s : HasLevel p n k) where
-  half_left : (first : ℕ) (u : Tree) (m : ℕ) → IsPerfect u → left_place first u ≡ Some p → first ≡ m * leaves_at (height u)
-      → (s.number ≡ 2 * m) × (root_place first u ≡ p + leaves_at k)
+  half_left : (first : ℕ) (u : Tree) (m : ℕ) → IsPerfect u → left_node_index first u ≡ Some p → first ≡ m * leaves_at (height u)
+      → (s.number ≡ 2 * m) × (root_node_index first u ≡ p + leaves_at k)
   half_left first (leaf _) m h e f = absurd (none-some p e)
   half_left first (branch l d r) m h e f =
-      let at : root_place first l ≡ p = same_Some _ _ e in
-      let q = coordinates-unique k s.number (height l) (2 * m) (sym s.place ∙ omega (arith, root_place-perfect first l h.1)) in
+      let at : root_node_index first l ≡ p = same_Some _ _ e in
+      let q = coordinates-unique k s.number (height l) (2 * m) (sym s.node_index ∙ omega (arith, root_node_index-perfect first l h.1)) in
       let v : leaves_at k ≡ leaves_at (height l) = ap leaves_at q.0 in
-      (q.1, omega (arith, root_place-perfect first l h.1, leaf_count-perfect l h.1, leaf_count-positive l))
+      (q.1, omega (arith, root_node_index-perfect first l h.1, leaf_count-perfect l h.1, leaf_count-positive l))
 
-  half_right : (first : ℕ) (u : Tree) (m : ℕ) → IsPerfect u → right_place first u ≡ Some p → first ≡ m * leaves_at (height u)
-      → (s.number ≡ 2 * m + 1) × (root_place first u ≡ p - leaves_at k) × (leaves_at k ≤ p)
+  half_right : (first : ℕ) (u : Tree) (m : ℕ) → IsPerfect u → right_node_index first u ≡ Some p → first ≡ m * leaves_at (height u)
+      → (s.number ≡ 2 * m + 1) × (root_node_index first u ≡ p - leaves_at k) × (leaves_at k ≤ p)
   half_right first (leaf _) m h e f = absurd (none-some p e)
   half_right first (branch l d r) m h e f =
-      let at : root_place (first + leaf_count l) r ≡ p = same_Some _ _ e in
+      let at : root_node_index (first + leaf_count l) r ≡ p = same_Some _ _ e in
       let w : leaves_at (height l) ≡ leaves_at (height r) = ap leaves_at h.0 in
       let x : m * leaves_at (height l) ≡ m * leaves_at (height r) = ap (λ v. m * v) w in
-      let q = coordinates-unique k s.number (height r) (2 * m + 1) (sym s.place ∙ omega (arith, root_place-perfect (first + leaf_count l) r h.2, leaf_count-perfect l h.1)) in
+      let q = coordinates-unique k s.number (height r) (2 * m + 1) (sym s.node_index ∙ omega (arith, root_node_index-perfect (first + leaf_count l) r h.2, leaf_count-perfect l h.1)) in
       let v : leaves_at k ≡ leaves_at (height r) = ap leaves_at q.0 in
-      (q.1, omega (arith, root_place-perfect (first + leaf_count l) r h.2, leaf_count-perfect l h.1, leaf_count-positive l), omega (arith, root_place-perfect (first + leaf_count l) r h.2, leaf_count-perfect l h.1, leaf_count-positive l))
+      (q.1, omega (arith, root_node_index-perfect (first + leaf_count l) r h.2, leaf_count-perfect l h.1, leaf_count-positive l), omega (arith, root_node_index-perfect (first + leaf_count l) r h.2, leaf_count-perfect l h.1, leaf_count-positive l))
 
   -- the place above p, by the parity of its number
   pub record Above : Type 0 where
@@ -240,16 +240,16 @@ module _ (t : RatchetTree) (p n k : ℕ) (c : leaf_count t.tree ≡ n) (s : HasL
 
   above-from : HasParent 0 t.tree p → Above
   above-from w =
-      let co = coordinates t.tree t.shape.perfect w.place w.subtree w.stands in
-      let st = subtree_at-stands 0 t.tree w.place w.subtree w.stands in
-      let pf = (subtree_at-perfect 0 t.tree w.place w.subtree w.stands t.shape.perfect).0 in
+      let co = coordinates t.tree t.shape.perfect w.node_index w.subtree w.stands in
+      let st = subtree_at-stands 0 t.tree w.node_index w.subtree w.stands in
+      let pf = (subtree_at-perfect 0 t.tree w.node_index w.subtree w.stands t.shape.perfect).0 in
       elim w.half [
         | inl e ↦
             (let h = half_left w.subtree.first w.subtree.tree co.number pf e co.first in
             record {
               even = λ q.
-                  ap (λ v. left_at t.tree v) (sym (st.place ∙ h.1))
-                  ∙ ap (λ o. option_and_then (λ (u : Subtree). left_place u.first u.tree) o) w.stands ∙ e;
+                  ap (λ v. left_at t.tree v) (sym (st.node_index ∙ h.1))
+                  ∙ ap (λ o. option_and_then (λ (u : Subtree). left_node_index u.first u.tree) o) w.stands ∙ e;
               odd = λ q. absurd (q (omega (arith, h.0)));
             })
         | inr e ↦
@@ -258,8 +258,8 @@ module _ (t : RatchetTree) (p n k : ℕ) (c : leaf_count t.tree ≡ n) (s : HasL
               even = λ q. absurd (omega (arith, h.0));
               odd = λ q. (
                 h.2,
-                ap (λ v. right_at t.tree v) (sym (st.place ∙ h.1))
-                    ∙ ap (λ o. option_and_then (λ (u : Subtree). right_place u.first u.tree) o) w.stands ∙ e,
+                ap (λ v. right_at t.tree v) (sym (st.node_index ∙ h.1))
+                    ∙ ap (λ o. option_and_then (λ (u : Subtree). right_node_index u.first u.tree) o) w.stands ∙ e,
               );
             })
       ]
@@ -268,7 +268,7 @@ module _ (t : RatchetTree) (p n k : ℕ) (c : leaf_count t.tree ≡ n) (s : HasL
   above ne =
       let a = at_place t p n k c s in
       elim (has_parent 0 t.tree p a.subtree a.stands) [
-        | inl e ↦ absurd (ne (omega (arith, root_place-perfect 0 t.tree t.shape.perfect, leaf_count-perfect t.tree t.shape.perfect)))
+        | inl e ↦ absurd (ne (omega (arith, root_node_index-perfect 0 t.tree t.shape.perfect, leaf_count-perfect t.tree t.shape.perfect)))
         | inr w ↦ above-from w
       ]
 
@@ -280,46 +280,46 @@ pub record HalfOf (t : Tree) (q p : ℕ) : Type 0 where
   pub inside : subtree_at 0 t p ≡ Some inner
   pub lower : height inner.tree < height outer.tree
 
-left_half_of : (t : Tree) (q p first : ℕ) (u : Tree) → IsPerfect u → subtree_at 0 t q ≡ Some (record { first = first; tree = u }) → left_place first u ≡ Some p → HalfOf t q p × (p < q)
-left_half_of t q p first (leaf _) h e f = absurd (none-some p f)
-left_half_of t q p first (branch l d r) h e f =
-    let at : root_place first l ≡ p = same_Some _ _ f in
+left_subtree_of : (t : Tree) (q p first : ℕ) (u : Tree) → IsPerfect u → subtree_at 0 t q ≡ Some (record { first = first; tree = u }) → left_node_index first u ≡ Some p → HalfOf t q p × (p < q)
+left_subtree_of t q p first (leaf _) h e f = absurd (none-some p f)
+left_subtree_of t q p first (branch l d r) h e f =
+    let at : root_node_index first l ≡ p = same_Some _ _ f in
     let st = subtree_at-stands 0 t q (record { first = first; tree = branch l d r }) e in (
       record { outer = record { first = first; tree = branch l d r }; stands = e; inner = record { first = first; tree = l }; inside = ap (λ v. subtree_at 0 t v) (sym at) ∙ subtree_at-left 0 t q first l d r e; lower = omega arith },
-      omega (arith, st.place, root_place-below first l),
+      omega (arith, st.node_index, root_node_index-below first l),
     )
 
-right_half_of : (t : Tree) (q p first : ℕ) (u : Tree) → IsPerfect u → subtree_at 0 t q ≡ Some (record { first = first; tree = u }) → right_place first u ≡ Some p → HalfOf t q p × (q < p)
-right_half_of t q p first (leaf _) h e f = absurd (none-some p f)
-right_half_of t q p first (branch l d r) h e f =
-    let at : root_place (first + leaf_count l) r ≡ p = same_Some _ _ f in
+right_subtree_of : (t : Tree) (q p first : ℕ) (u : Tree) → IsPerfect u → subtree_at 0 t q ≡ Some (record { first = first; tree = u }) → right_node_index first u ≡ Some p → HalfOf t q p × (q < p)
+right_subtree_of t q p first (leaf _) h e f = absurd (none-some p f)
+right_subtree_of t q p first (branch l d r) h e f =
+    let at : root_node_index (first + leaf_count l) r ≡ p = same_Some _ _ f in
     let st = subtree_at-stands 0 t q (record { first = first; tree = branch l d r }) e in (
       record { outer = record { first = first; tree = branch l d r }; stands = e; inner = record { first = first + leaf_count l; tree = r }; inside = ap (λ v. subtree_at 0 t v) (sym at) ∙ subtree_at-right 0 t q first l d r e; lower = let k = h.0 in omega arith },
-      omega (arith, st.place, root_place-above (first + leaf_count l) r, leaf_count-positive l),
+      omega (arith, st.node_index, root_node_index-above (first + leaf_count l) r, leaf_count-positive l),
     )
 
 pub left_at-half : (t : RatchetTree) (q p : ℕ) → left_at t.tree q ≡ Some p → HalfOf t.tree q p × (p < q)
 left_at-half t q p e =
-    option_and_then_some (λ (u : Subtree). left_place u.first u.tree) (subtree_at 0 t.tree q) p e
-    (λ u a b. left_half_of t.tree q p u.first u.tree (subtree_at-perfect 0 t.tree q u a t.shape.perfect).0 a b)
+    option_and_then_some (λ (u : Subtree). left_node_index u.first u.tree) (subtree_at 0 t.tree q) p e
+    (λ u a b. left_subtree_of t.tree q p u.first u.tree (subtree_at-perfect 0 t.tree q u a t.shape.perfect).0 a b)
 
 pub right_at-half : (t : RatchetTree) (q p : ℕ) → right_at t.tree q ≡ Some p → HalfOf t.tree q p × (q < p)
 right_at-half t q p e =
-    option_and_then_some (λ (u : Subtree). right_place u.first u.tree) (subtree_at 0 t.tree q) p e
-    (λ u a b. right_half_of t.tree q p u.first u.tree (subtree_at-perfect 0 t.tree q u a t.shape.perfect).0 a b)
+    option_and_then_some (λ (u : Subtree). right_node_index u.first u.tree) (subtree_at 0 t.tree q) p e
+    (λ u a b. right_subtree_of t.tree q p u.first u.tree (subtree_at-perfect 0 t.tree q u a t.shape.perfect).0 a b)
 
 pub IsParentOf-half : (t : RatchetTree) (q p : ℕ) → IsParentOf t.tree q p → HalfOf t.tree q p
 IsParentOf-half t q p (inl e) = (left_at-half t q p e).0
 IsParentOf-half t q p (inr e) = (right_at-half t q p e).0
 
 -- nothing is the parent of a place that is none, nor of the root's
-pub IsParentOf-no_place : (t : RatchetTree) (q p : ℕ) → subtree_at 0 t.tree p ≡ None → IsParentOf t.tree q p → ⊥
-IsParentOf-no_place t q p e h = let w = IsParentOf-half t q p h in none-some w.inner (sym e ∙ w.inside)
+pub IsParentOf-no_node_index : (t : RatchetTree) (q p : ℕ) → subtree_at 0 t.tree p ≡ None → IsParentOf t.tree q p → ⊥
+IsParentOf-no_node_index t q p e h = let w = IsParentOf-half t q p h in none-some w.inner (sym e ∙ w.inside)
 
 pub IsParentOf-root : (t : RatchetTree) (q p n : ℕ) → leaf_count t.tree ≡ n → p ≡ n - 1 → IsParentOf t.tree q p → ⊥
 IsParentOf-root t q p n c e h =
     let w = IsParentOf-half t q p h in
-    let at : p ≡ root_place 0 t.tree = omega (arith, root_place-perfect 0 t.tree t.shape.perfect, leaf_count-perfect t.tree t.shape.perfect) in
+    let at : p ≡ root_node_index 0 t.tree = omega (arith, root_node_index-perfect 0 t.tree t.shape.perfect, leaf_count-perfect t.tree t.shape.perfect) in
     let same : w.inner ≡ record { first = 0; tree = t.tree } = same_Some _ _ (sym w.inside ∙ ap (λ v. subtree_at 0 t.tree v) at ∙ subtree_at-root 0 t.tree) in
     let k = (subtree_at-perfect 0 t.tree q w.outer w.stands t.shape.perfect).1 in
     let g : height w.inner.tree ≡ height t.tree = ap (λ (u : Subtree). height u.tree) same in
@@ -328,7 +328,7 @@ IsParentOf-root t q p n c e h =
 -- the bit that the code reads
 pub HasLevel-parity : (p n k : ℕ) (s : HasLevel p n k) → bit_and (p / 2 ^ (k + 1)) 1 ≡ s.number % 2
 HasLevel-parity p n k s =
-    shr_and_one p (k + 1) ∙ ap (λ v. bit_at p v) (let e : k + 1 ≡ suc k = omega arith in e) ∙ (coordinates-bits p k s.number s.place).parity
+    shr_and_one p (k + 1) ∙ ap (λ v. bit_at p v) (let e : k + 1 ≡ suc k = omega arith in e) ∙ (coordinates-bits p k s.number s.node_index).parity
 
 -- a step down from an odd number stays in the range of numbers
 pub HasLevel-odd : (p n k : ℕ) (s : HasLevel p n k) → s.number % 2 ≢ 0 → leaves_at k ≤ p
@@ -337,32 +337,32 @@ HasLevel-odd p n k s odd =
     let e : s.number ≡ 2 * m + 1 = omega arith in
     let q : (2 * s.number + 1) * leaves_at k ≡ (2 * (2 * m + 1) + 1) * leaves_at k = ap (λ v. (2 * v + 1) * leaves_at k) e in
     let pos = leaves_at-positive k in
-    omega (arith, s.place)
+    omega (arith, s.node_index)
 
 -- the number of leaves of a tree is that of a height
 pub leaf_count-low : (t : RatchetTree) → (height t.tree ≤ 20) × (leaf_count t.tree ≡ leaves_at (height t.tree))
 leaf_count-low t = (t.shape.low, leaf_count-perfect t.tree t.shape.perfect)
 
-pub root-seen : (t : RatchetTree) (n : ℕ) → leaf_count t.tree ≡ n → n - 1 ≡ root_place 0 t.tree
-root-seen t n c = omega (arith, root_place-perfect 0 t.tree t.shape.perfect, leaf_count-perfect t.tree t.shape.perfect)
+pub root-seen : (t : RatchetTree) (n : ℕ) → leaf_count t.tree ≡ n → n - 1 ≡ root_node_index 0 t.tree
+root-seen t n c = omega (arith, root_node_index-perfect 0 t.tree t.shape.perfect, leaf_count-perfect t.tree t.shape.perfect)
 
-other_half : (first : ℕ) (u : Tree) (p : ℕ) → left_place first u ≡ Some p → (v : ℕ) × (right_place first u ≡ Some v)
+other_half : (first : ℕ) (u : Tree) (p : ℕ) → left_node_index first u ≡ Some p → (v : ℕ) × (right_node_index first u ≡ Some v)
 other_half first (leaf _) p e = absurd (none-some p e)
-other_half first (branch l n r) p e = (root_place (first + leaf_count l) r, refl)
+other_half first (branch l n r) p e = (root_node_index (first + leaf_count l) r, refl)
 
-other_half' : (first : ℕ) (u : Tree) (p : ℕ) → right_place first u ≡ Some p → (v : ℕ) × (left_place first u ≡ Some v)
+other_half' : (first : ℕ) (u : Tree) (p : ℕ) → right_node_index first u ≡ Some p → (v : ℕ) × (left_node_index first u ≡ Some v)
 other_half' first (leaf _) p e = absurd (none-some p e)
-other_half' first (branch l n r) p e = (root_place first l, refl)
+other_half' first (branch l n r) p e = (root_node_index first l, refl)
 
 pub right_of_left : (t : RatchetTree) (q p : ℕ) → left_at t.tree q ≡ Some p → (v : ℕ) × (right_at t.tree q ≡ Some v)
 right_of_left t q p e =
-    option_and_then_some (λ (u : Subtree). left_place u.first u.tree) (subtree_at 0 t.tree q) p e
-    (λ u a b. let o = other_half u.first u.tree p b in (o.0, ap (λ w. option_and_then (λ (u : Subtree). right_place u.first u.tree) w) a ∙ o.1))
+    option_and_then_some (λ (u : Subtree). left_node_index u.first u.tree) (subtree_at 0 t.tree q) p e
+    (λ u a b. let o = other_half u.first u.tree p b in (o.0, ap (λ w. option_and_then (λ (u : Subtree). right_node_index u.first u.tree) w) a ∙ o.1))
 
 pub left_of_right : (t : RatchetTree) (q p : ℕ) → right_at t.tree q ≡ Some p → (v : ℕ) × (left_at t.tree q ≡ Some v)
 left_of_right t q p e =
-    option_and_then_some (λ (u : Subtree). right_place u.first u.tree) (subtree_at 0 t.tree q) p e
-    (λ u a b. let o = other_half' u.first u.tree p b in (o.0, ap (λ w. option_and_then (λ (u : Subtree). left_place u.first u.tree) w) a ∙ o.1))
+    option_and_then_some (λ (u : Subtree). right_node_index u.first u.tree) (subtree_at 0 t.tree q) p e
+    (λ u a b. let o = other_half' u.first u.tree p b in (o.0, ap (λ w. option_and_then (λ (u : Subtree). left_node_index u.first u.tree) w) a ∙ o.1))
 
 pub sibling-right : (t : RatchetTree) (p q : ℕ) (r : Option ℕ) → IsParentOf t.tree q p → p < q → r ≡ right_at t.tree q
     → MatchOption r ((u : ℕ) → AreSiblings t.tree p u → ⊥) (λ u. AreSiblings t.tree p u)

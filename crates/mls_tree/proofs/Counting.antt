@@ -9,8 +9,8 @@ use Rattle.mls_nodes.specs.declared.node.Node.{Node}
 use Rattle.mls_tree.specs.declared.subtree_counts.Count.{Count}
 use Rattle.mls_tree.specs.Tree.{Tree, leaf, branch, leaf_count, member_count, leaves_at}
 use Rattle.mls_tree.specs.NodeArray.{parent_part, tree_in}
-use Rattle.mls_tree.specs.TreeOperations.{put_leaf, put_parent, change_above, shrink, has_set_leaf, left_half}
-use Rattle.mls_tree.specs.SubtreeCounts.{parent_weight, set_count, counted, AreCounts, AreOutside, IsKeptOutside}
+use Rattle.mls_tree.specs.TreeOperations.{put_leaf, put_parent, change_above, truncate, has_set_leaf, left_subtree}
+use Rattle.mls_tree.specs.SubtreeCounts.{parent_weight, set_count, subtree_count, AreCounts, AreOutside, IsKeptOutside}
 use Rattle.mls_tree.proofs.Choices.{below, from, here, before, after}
 use Rattle.mls_tree.proofs.Trees.{leaf_count-positive}
 use Rattle.mls_tree.proofs.Arrays.{leaf_count-tree_in, slice_get-set_same, slice_get-set_other}
@@ -70,30 +70,30 @@ module _ (xs : List (Option Node)) (first half level : ℕ) (deep : level ≢ 0)
   whole-count = (let up : level ≡ suc (level - 1) = omega arith in ap leaves_at up ∙ (λ i. sym e i + sym e i))
 
   -- counts of the halves and of the root
-  pub AreCounts-join : (cs : List Count) → AreCounts first near cs → AreCounts (first + half) far cs → slice_get cs (first + half - 1) ≡ Some (counted (branch near node far))
+  pub AreCounts-join : (cs : List Count) → AreCounts first near cs → AreCounts (first + half) far cs → slice_get cs (first + half - 1) ≡ Some (subtree_count (branch near node far))
       → AreCounts first (tree_in xs level first) cs
   AreCounts-join cs a b c =
       subst (λ t. AreCounts first t cs) (sym (tree_in-split xs first half level deep e))
       (a, subst (λ k. AreCounts (first + k) far cs) (sym near-count) b, ap (λ k. slice_get cs (first + k - 1)) near-count ∙ c)
 
   -- the count of the root
-  pub root-counted : (cs : List Count) → AreCounts first (tree_in xs level first) cs → slice_get cs (first + half - 1) ≡ Some (counted (tree_in xs level first))
-  root-counted cs ok =
+  pub root-subtree_count : (cs : List Count) → AreCounts first (tree_in xs level first) cs → slice_get cs (first + half - 1) ≡ Some (subtree_count (tree_in xs level first))
+  root-subtree_count cs ok =
       let split = tree_in-split xs first half level deep e in
       let at = subst (λ t. AreCounts first t cs) split ok in
-      ap (λ k. slice_get cs (first + k - 1)) (sym near-count) ∙ at.2 ∙ ap (λ t. Some (counted t)) (sym split)
+      ap (λ k. slice_get cs (first + k - 1)) (sym near-count) ∙ at.2 ∙ ap (λ t. Some (subtree_count t)) (sym split)
 
-  pub root-index : (cs : List Count) (d : Count) → first + leaves_at level ≤ length cs + 1 → AreCounts first (tree_in xs level first) cs → get_or cs (first + half - 1) d ≡ counted (tree_in xs level first)
-  root-index cs d room ok =
+  pub root-index : (cs : List Count) (d : Count) → first + leaves_at level ≤ length cs + 1 → AreCounts first (tree_in xs level first) cs → get_or cs (first + half - 1) d ≡ subtree_count (tree_in xs level first)
+  root-index cs d capacity ok =
       let pos = leaves_at-positive (level - 1) in
       let w = whole-count in
-      same_Some (get_or cs (first + half - 1) d) (counted (tree_in xs level first)) (sym (slice_get-get_or cs (first + half - 1) d (omega (arith, e))) ∙ root-counted cs ok)
+      same_Some (get_or cs (first + half - 1) d) (subtree_count (tree_in xs level first)) (sym (slice_get-get_or cs (first + half - 1) d (omega (arith, e))) ∙ root-subtree_count cs ok)
 
   -- the sums stay small
   abbrev pub SumsLow : Count → Count → ℕ → Type 0
   SumsLow a b own = (a.members + b.members ≤ 2 * half) × (a.nodes + b.nodes ≤ 4 * half) × (a.nodes + b.nodes + own ≤ 4 * half)
 
-  pub sums-low : (a b : Count) (own : ℕ) (o : Option ParentNode) → a ≡ counted near → b ≡ counted far → own ≡ parent_weight o → SumsLow a b own
+  pub sums-low : (a b : Count) (own : ℕ) (o : Option ParentNode) → a ≡ subtree_count near → b ≡ subtree_count far → own ≡ parent_weight o → SumsLow a b own
   sums-low a b own o x y w =
       let c = near-count in
       let d = far-count in
@@ -107,12 +107,12 @@ module _ (xs : List (Option Node)) (first half level : ℕ) (deep : level ≢ 0)
         omega (arith, set_count-low near, set_count-low far, parent_weight-low o),
       )
 
-  pub sum-counted : (a b : Count) (own : ℕ) → a ≡ counted near → b ≡ counted far → own ≡ parent_weight node
-      → record { members = a.members + b.members; nodes = a.nodes + b.nodes + own } ≡ counted (branch near node far)
-  sum-counted a b own x y w = λ i. record { members = (x i).members + (y i).members; nodes = (x i).nodes + (y i).nodes + w i }
+  pub sum-subtree_count : (a b : Count) (own : ℕ) → a ≡ subtree_count near → b ≡ subtree_count far → own ≡ parent_weight node
+      → record { members = a.members + b.members; nodes = a.nodes + b.nodes + own } ≡ subtree_count (branch near node far)
+  sum-subtree_count a b own x y w = λ i. record { members = (x i).members + (y i).members; nodes = (x i).nodes + (y i).nodes + w i }
 
   -- the root is set
-  module _ (cs ds : List Count) (c : Count) (room : first + leaves_at level ≤ length cs + 1) (at : ds ≡ slice_set cs (first + half - 1) c) where
+  module _ (cs ds : List Count) (c : Count) (capacity : first + leaves_at level ≤ length cs + 1) (at : ds ≡ slice_set cs (first + half - 1) c) where
     pub added-kept : IsKeptOutside cs ds first (first + leaves_at level - 1)
     added-kept =
         let pos = leaves_at-positive (level - 1) in
@@ -122,7 +122,7 @@ module _ (xs : List (Option Node)) (first half level : ℕ) (deep : level ≢ 0)
           outside = λ p away. ap (λ v. slice_get v p) at ∙ slice_get-set_other cs (first + half - 1) p c (λ q. elim away [ inl below ↦ omega arith | inr above ↦ omega arith ]);
         }
 
-    pub added-counts : c ≡ counted (branch near node far) → AreCounts first near cs → AreCounts (first + half) far cs → AreCounts first (tree_in xs level first) ds
+    pub added-counts : c ≡ subtree_count (branch near node far) → AreCounts first near cs → AreCounts (first + half) far cs → AreCounts first (tree_in xs level first) ds
     added-counts is a b =
         let pos = leaves_at-positive (level - 1) in
         let w = whole-count in
@@ -242,13 +242,13 @@ beside-put_parent first (branch l n r) q x i cs e ok =
 
 -- ---- a part of the tree
 
-pub AreCounts-left_half : (first : ℕ) (t : Tree) (cs : List Count) → AreCounts first t cs → AreCounts first (left_half t) cs
-AreCounts-left_half first (leaf x) cs ok = ok
-AreCounts-left_half first (branch l n r) cs ok = ok.0
+pub AreCounts-left_subtree : (first : ℕ) (t : Tree) (cs : List Count) → AreCounts first t cs → AreCounts first (left_subtree t) cs
+AreCounts-left_subtree first (leaf x) cs ok = ok
+AreCounts-left_subtree first (branch l n r) cs ok = ok.0
 
-pub AreCounts-shrink : (first : ℕ) (t : Tree) (cs : List Count) → AreCounts first t cs → AreCounts first (shrink t) cs
-AreCounts-shrink first (leaf x) cs ok = ok
-AreCounts-shrink first (branch l n r) cs ok = either (λ t. AreCounts first t cs) (has_set_leaf r) (branch l n r) (shrink l) ok (AreCounts-shrink first l cs ok.0)
+pub AreCounts-truncate : (first : ℕ) (t : Tree) (cs : List Count) → AreCounts first t cs → AreCounts first (truncate t) cs
+AreCounts-truncate first (leaf x) cs ok = ok
+AreCounts-truncate first (branch l n r) cs ok = either (λ t. AreCounts first t cs) (has_set_leaf r) (branch l n r) (truncate l) ok (AreCounts-truncate first l cs ok.0)
 
 pub AreCounts-take : (t : Tree) (cs : List Count) (k : ℕ) → k + 1 ≡ leaf_count t → AreCounts 0 t cs → AreCounts 0 t (take k cs)
 AreCounts-take t cs k e ok = AreCounts-same cs (take k cs) 0 t (λ p low high. slice_get-take cs k p (omega arith)) ok

@@ -6,7 +6,7 @@ use Rattle.mls_nodes.specs.declared.node.Node.{Node}
 use Rattle.mls_tree.specs.declared.subtree_counts.Count.{Count}
 use Rattle.mls_tree.specs.Tree.{Tree, leaf, branch, leaf_count, member_count, leaves_at, Subtree, subtree_at}
 use Rattle.mls_tree.specs.NodeArray.{tree_in}
-use Rattle.mls_tree.specs.TreeOperations.{has_set_leaf, left_half}
+use Rattle.mls_tree.specs.TreeOperations.{has_set_leaf, left_subtree}
 use Rattle.mls_tree.specs.Paths.{resolution}
 use Rattle.mls_tree.specs.SubtreeCounts.{set_count, AreCounts}
 use Rattle.mls_tree.specs.CountsModel.{AreCountsIfAny}
@@ -14,8 +14,8 @@ use Rattle.mls_tree.proofs.Choices.{is_less, not_less}
 use Rattle.mls_tree.proofs.Arrays.{leaf_count-tree_in}
 use Rattle.mls_tree.proofs.Trees.{along}
 use Rattle.mls_tree.proofs.Walking.{tree_in-split, append-set, append-set_right, leaves_at-split}
-use Rattle.mls_tree.proofs.KeptCells.{leaf_count-left_half}
-use Rattle.mls_tree.proofs.Counting.{AreCounts-left_half}
+use Rattle.mls_tree.proofs.KeptSlots.{leaf_count-left_subtree}
+use Rattle.mls_tree.proofs.Counting.{AreCounts-left_subtree}
 
 -- ---- counts of the whole have those of the halves
 
@@ -35,14 +35,14 @@ module _ (xs : List (Option Node)) (first half level : ℕ) (deep : level ≢ 0)
   pub if_any-near : (o : Option (List Count)) → AreCountsIfAny o first (tree_in xs level first) → AreCountsIfAny o first near
   if_any-near None ok = tt
   if_any-near (Some cs) ok =
-      let room = ok.0 in
+      let capacity = ok.0 in
       let at = subst (λ t. AreCounts first t cs) (tree_in-split xs first half level deep e) ok.1 in
       (omega (arith, near-count, leaves_at-split level half deep e, leaf_count-tree_in xs level first), at.0)
 
   pub if_any-far : (o : Option (List Count)) → AreCountsIfAny o first (tree_in xs level first) → AreCountsIfAny o (first + half) far
   if_any-far None ok = tt
   if_any-far (Some cs) ok =
-      let room = ok.0 in
+      let capacity = ok.0 in
       let at = subst (λ t. AreCounts first t cs) (tree_in-split xs first half level deep e) ok.1 in
       (omega (arith, far-count, leaves_at-split level half deep e, leaf_count-tree_in xs level first), subst (λ k. AreCounts (first + k) far cs) near-count at.1)
 
@@ -52,8 +52,8 @@ if_any-subtree None first t p s e ok = tt
 if_any-subtree (Some cs) first t p s e ok =
     along (λ first t p s. AreCountsIfAny (Some cs) first t → AreCountsIfAny (Some cs) s.first s.tree)
     (λ first t p at ok. ok)
-    (λ first l n r p s lt sub ih ok. ih (let room = ok.0 in omega arith, ok.1.0))
-    (λ first l n r p s gt sub ih ok. ih (let room = ok.0 in omega arith, ok.1.1))
+    (λ first l n r p s lt sub ih ok. ih (let capacity = ok.0 in omega arith, ok.1.0))
+    (λ first l n r p s gt sub ih ok. ih (let capacity = ok.0 in omega arith, ok.1.1))
     first t p s e ok
 
 -- ---- what the counts tell
@@ -66,11 +66,11 @@ or_positive a b =
     ]
 
 -- a leaf is set where some are
-pub has_set_leaf-counted : (t : Tree) → has_set_leaf t ≡ nat_lt 0 (member_count t)
-has_set_leaf-counted (leaf None) = sym (not_less 0 0 (omega arith))
-has_set_leaf-counted (leaf (Some x)) = sym (is_less 0 1 (omega arith))
-has_set_leaf-counted (branch l n r) =
-    (λ i. has_set_leaf-counted l i || has_set_leaf-counted r i) ∙ or_positive (member_count l) (member_count r)
+pub has_set_leaf-subtree_count : (t : Tree) → has_set_leaf t ≡ nat_lt 0 (member_count t)
+has_set_leaf-subtree_count (leaf None) = sym (not_less 0 0 (omega arith))
+has_set_leaf-subtree_count (leaf (Some x)) = sym (is_less 0 1 (omega arith))
+has_set_leaf-subtree_count (branch l n r) =
+    (λ i. has_set_leaf-subtree_count l i || has_set_leaf-subtree_count r i) ∙ or_positive (member_count l) (member_count r)
 
 -- a resolution is empty where no node is set, and nowhere else
 pub resolution-none : (leaves first : ℕ) (t : Tree) → set_count t ≡ 0 → resolution leaves first t ≡ []
@@ -92,12 +92,12 @@ resolution-some leaves first (branch l None r) lt =
     ]
 resolution-some leaves first (branch l (Some p) r) lt = λ e. cc
 
-pub resolution-counted : (leaves first : ℕ) (t : Tree) (n : ℕ) → n ≡ set_count t → IsTrue (nat_lt 0 n) ↔ (resolution leaves first t ≢ [])
-resolution-counted leaves first t n e = (
+pub resolution-subtree_count : (leaves first : ℕ) (t : Tree) (n : ℕ) → n ≡ set_count t → IsTrue (nat_lt 0 n) ↔ (resolution leaves first t ≢ [])
+resolution-subtree_count leaves first t n e = (
   λ some. resolution-some leaves first t (let lt = ltb-true 0 n some in omega arith),
   λ some. elim (cases_lt 0 n) [ inl lt ↦ is_less 0 n lt | inr ge ↦ absurd (some (resolution-none leaves first t (omega arith))) ],
 )
 
-pub if_any-left_half : (o : Option (List Count)) (t : Tree) → AreCountsIfAny o 0 t → AreCountsIfAny o 0 (left_half t)
-if_any-left_half None t ok = tt
-if_any-left_half (Some cs) t ok = (let room = ok.0 in let low = leaf_count-left_half t in omega arith, AreCounts-left_half 0 t cs ok.1)
+pub if_any-left_subtree : (o : Option (List Count)) (t : Tree) → AreCountsIfAny o 0 t → AreCountsIfAny o 0 (left_subtree t)
+if_any-left_subtree None t ok = tt
+if_any-left_subtree (Some cs) t ok = (let capacity = ok.0 in let low = leaf_count-left_subtree t in omega arith, AreCounts-left_subtree 0 t cs ok.1)

@@ -2,7 +2,7 @@
 use Rattle.std.proofs.Common.{◌≡◌, ℕ, ◌+◌, ◌*◌, Option, Some, refl, sym, ap, ◌∙◌, subst, inl, inr}
 use Rattle.std.proofs.lemmas.Bool.{cases_order}
 use Rattle.mls_nodes.specs.declared.parent.ParentNode.{ParentNode}
-use Rattle.mls_tree.specs.Tree.{Tree, leaf, branch, leaf_count, Subtree, subtree_at, IsParent, IsParentPlace}
+use Rattle.mls_tree.specs.Tree.{Tree, leaf, branch, leaf_count, Subtree, subtree_at, IsParent, IsParentNodeIndex}
 use Rattle.mls_tree.specs.TreeOperations.{put_parent}
 use Rattle.mls_tree.proofs.Choices.{here, before, after}
 
@@ -25,5 +25,5 @@ elsewhere first (branch l n r) p x h =
     ]
 
 -- a parent that is put where there is no place for one changes nothing
-pub put_parent-elsewhere : (t : Tree) (p : ℕ) (x : Option ParentNode) → ¬ IsParentPlace t p → put_parent 0 t p x ≡ t
+pub put_parent-elsewhere : (t : Tree) (p : ℕ) (x : Option ParentNode) → ¬ IsParentNodeIndex t p → put_parent 0 t p x ≡ t
 put_parent-elsewhere t p x h = elsewhere 0 t p x h

@@ -17,34 +17,34 @@ use Rattle.mls_tree.proofs.AlongPaths.{IsWithin, direct_path-within}
 -- ---- cells that are empty are emptied
 
 -- the order in which two are emptied makes no difference
-cleared_twice : (cells : List (Option (List ℕ))) (p q : ℕ) → slice_set (slice_set cells p None) q None ≡ slice_set (slice_set cells q None) p None
-cleared_twice cells p q =
+cleared_twice : (slots : List (Option (List ℕ))) (p q : ℕ) → slice_set (slice_set slots p None) q None ≡ slice_set (slice_set slots q None) p None
+cleared_twice slots p q =
     elim (cases_order p q) [
-      | inl same ↦ ap (λ k. slice_set (slice_set cells p None) k None) (sym same) ∙ ap (λ k. slice_set (slice_set cells k None) p None) same
-      | inr (inl lt) ↦ set_comm cells p q None None (λ e. omega arith)
-      | inr (inr gt) ↦ set_comm cells p q None None (λ e. omega arith)
+      | inl same ↦ ap (λ k. slice_set (slice_set slots p None) k None) (sym same) ∙ ap (λ k. slice_set (slice_set slots k None) p None) same
+      | inr (inl lt) ↦ set_comm slots p q None None (λ e. omega arith)
+      | inr (inr gt) ↦ set_comm slots p q None None (λ e. omega arith)
     ]
 
-emptied-cleared : (cells : List (Option (List ℕ))) (p : ℕ) (ps : List ℕ) → slice_set (emptied cells ps) p None ≡ emptied (slice_set cells p None) ps
-emptied-cleared cells p [] = refl
-emptied-cleared cells p (q ∷ ps) = emptied-cleared (slice_set cells q None) p ps ∙ ap (λ cs. emptied cs ps) (cleared_twice cells q p)
+emptied-cleared : (slots : List (Option (List ℕ))) (p : ℕ) (ps : List ℕ) → slice_set (emptied slots ps) p None ≡ emptied (slice_set slots p None) ps
+emptied-cleared slots p [] = refl
+emptied-cleared slots p (q ∷ ps) = emptied-cleared (slice_set slots q None) p ps ∙ ap (λ cs. emptied cs ps) (cleared_twice slots q p)
 
 -- the places that were emptied, as a fact of each
 abbrev StaysEmpty : List (Option (List ℕ)) → List ℕ → ℕ → Type 0
-StaysEmpty cells ps q = slice_set (emptied cells ps) q None ≡ emptied cells ps
+StaysEmpty slots ps q = slice_set (emptied slots ps) q None ≡ emptied slots ps
 
-all_stay : (cells : List (Option (List ℕ))) (ps : List ℕ) → All (StaysEmpty cells ps) ps
-all_stay cells [] = All-nil _
-all_stay cells (p ∷ ps) =
-    All-cons (StaysEmpty cells (p ∷ ps)) p ps
-    (emptied-cleared (slice_set cells p None) p ps ∙ ap (λ cs. emptied cs ps) (set-set cells p None None))
-    (all_stay (slice_set cells p None) ps)
+all_stay : (slots : List (Option (List ℕ))) (ps : List ℕ) → All (StaysEmpty slots ps) ps
+all_stay slots [] = All-nil _
+all_stay slots (p ∷ ps) =
+    All-cons (StaysEmpty slots (p ∷ ps)) p ps
+    (emptied-cleared (slice_set slots p None) p ps ∙ ap (λ cs. emptied cs ps) (set-set slots p None None))
+    (all_stay (slice_set slots p None) ps)
 
-emptied_again : (cells : List (Option (List ℕ))) (ps qs : List ℕ) → All (Contains ps) qs → emptied (emptied cells ps) qs ≡ emptied cells ps
-emptied_again cells ps [] among = refl
-emptied_again cells ps (q ∷ qs) among =
-    ap (λ cs. emptied cs qs) (All-contains (StaysEmpty cells ps) ps q (all_stay cells ps) (All-head (Contains ps) q qs among))
-    ∙ emptied_again cells ps qs (All-tail (Contains ps) q qs among)
+emptied_again : (slots : List (Option (List ℕ))) (ps qs : List ℕ) → All (Contains ps) qs → emptied (emptied slots ps) qs ≡ emptied slots ps
+emptied_again slots ps [] among = refl
+emptied_again slots ps (q ∷ qs) among =
+    ap (λ cs. emptied cs qs) (All-contains (StaysEmpty slots ps) ps q (all_stay slots ps) (All-head (Contains ps) q qs among))
+    ∙ emptied_again slots ps qs (All-tail (Contains ps) q qs among)
 
 -- ---- the parents above one of a direct path are of that path
 
@@ -116,23 +116,23 @@ direct_path-put_parent first (branch l n r) q x i =
 -- ---- the walk along the parents above a leaf
 
 -- the cells above leaf i are empty, and it has these parents above it
-pub record AreEmptyAbove (old : List (Option (List ℕ))) (t : Tree) (i : ℕ) (all left : List ℕ) (cells : List (Option (List ℕ))) : Type 0 where
+pub record AreEmptyAbove (old : List (Option (List ℕ))) (t : Tree) (i : ℕ) (all left : List ℕ) (slots : List (Option (List ℕ))) : Type 0 where
   pub path : direct_path 0 t i ≡ all
   pub among : All (Contains all) left
-  pub empty : cells ≡ emptied old all
+  pub empty : slots ≡ emptied old all
 
 module _ (old : List (Option (List ℕ))) (i : ℕ) where
-  pub empty-start : (s t : Tree) (all : List ℕ) (cells : List (Option (List ℕ))) → t ≡ s → all ≡ direct_path 0 s i → cells ≡ emptied old (direct_path 0 s i)
-      → AreEmptyAbove old t i all all cells
-  empty-start s t all cells same at e = record {
+  pub empty-start : (s t : Tree) (all : List ℕ) (slots : List (Option (List ℕ))) → t ≡ s → all ≡ direct_path 0 s i → slots ≡ emptied old (direct_path 0 s i)
+      → AreEmptyAbove old t i all all slots
+  empty-start s t all slots same at e = record {
     path = ap (λ v. direct_path 0 v i) same ∙ sym at;
     among = All-contains_itself all;
     empty = e ∙ ap (emptied old) (sym at);
   }
 
-  pub empty-step : (t u : Tree) (all left rest : List ℕ) (p : ℕ) (x : Option ParentNode) (cells new : List (Option (List ℕ))) → left ≡ rest ++ p ∷ [] → u ≡ put_parent 0 t p x
-      → new ≡ emptied cells (parents_from 0 t p) → AreEmptyAbove old t i all left cells → AreEmptyAbove old u i all rest new
-  empty-step t u all left rest p x cells new split put e ok =
+  pub empty-step : (t u : Tree) (all left rest : List ℕ) (p : ℕ) (x : Option ParentNode) (slots new : List (Option (List ℕ))) → left ≡ rest ++ p ∷ [] → u ≡ put_parent 0 t p x
+      → new ≡ emptied slots (parents_from 0 t p) → AreEmptyAbove old t i all left slots → AreEmptyAbove old u i all rest new
+  empty-step t u all left rest p x slots new split put e ok =
       let popped = All-pop (Contains all) left rest (Some p) split ok.among in
       let inside = subst (λ ps. Contains ps p) (sym ok.path) popped.1 in
       let above = subst (λ ps. All (Contains ps) (parents_from 0 t p)) ok.path (parents_from-among 0 t i p inside) in
@@ -142,6 +142,6 @@ module _ (old : List (Option (List ℕ))) (i : ℕ) where
         empty = e ∙ ap (λ cs. emptied cs (parents_from 0 t p)) ok.empty ∙ emptied_again old all (parents_from 0 t p) above;
       }
 
-  pub empty-end : (s : Tree) (all left : List ℕ) (t : Tree) (cells : List (Option (List ℕ))) → all ≡ direct_path 0 s i → AreEmptyAbove old t i all left cells
-      → cells ≡ emptied old (direct_path 0 s i)
-  empty-end s all left t cells at ok = ok.empty ∙ ap (emptied old) at
+  pub empty-end : (s : Tree) (all left : List ℕ) (t : Tree) (slots : List (Option (List ℕ))) → all ≡ direct_path 0 s i → AreEmptyAbove old t i all left slots
+      → slots ≡ emptied old (direct_path 0 s i)
+  empty-end s all left t slots at ok = ok.empty ∙ ap (emptied old) at

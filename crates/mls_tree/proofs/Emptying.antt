@@ -10,7 +10,7 @@ use Rattle.mls_tree.specs.Tree.{Tree, leaf, branch, height, leaf_count, leaves_a
 use Rattle.mls_tree.specs.TreeHash.{tree_hash}
 use Rattle.mls_tree.specs.TreeOperations.{put_leaf, put_parent, change_above}
 use Rattle.mls_tree.specs.Paths.{direct_path}
-use Rattle.mls_tree.specs.HashCache.{empty_count, emptied, parents_from, hash_at, hash_in, AreCells, AreAllFilled}
+use Rattle.mls_tree.specs.HashCache.{empty_count, emptied, parents_from, hash_at, hash_in, AreSlots, AreAllFilled}
 use Rattle.mls_tree.proofs.Choices.{below, from, here, before, after, same, other}
 use Rattle.mls_tree.proofs.Trees.{leaf_count-perfect, leaf_count-positive, subtree_at-in_left, subtree_at-in_right, subtree_at-none}
 use Rattle.mls_tree.proofs.Arrays.{slice_get-set_same, slice_get-set_other}
@@ -18,26 +18,26 @@ use Rattle.mls_tree.proofs.Kept.{leaf_count-put_leaf, leaf_count-put_parent, lea
 
 -- ---- how many cells are empty
 
-pub empty_count-low : (cells : List (Option (List ℕ))) → empty_count cells ≤ length cells
+pub empty_count-low : (slots : List (Option (List ℕ))) → empty_count slots ≤ length slots
 empty_count-low [] = omega arith
-empty_count-low (None ∷ cells) = let a = empty_count-low cells in omega arith
-empty_count-low (Some h ∷ cells) = let a = empty_count-low cells in omega arith
+empty_count-low (None ∷ slots) = let a = empty_count-low slots in omega arith
+empty_count-low (Some h ∷ slots) = let a = empty_count-low slots in omega arith
 
-pub empty_count-fill : (cells : List (Option (List ℕ))) (n : ℕ) → empty_count (cells ++ replicate n None) ≡ empty_count cells + n
+pub empty_count-fill : (slots : List (Option (List ℕ))) (n : ℕ) → empty_count (slots ++ replicate n None) ≡ empty_count slots + n
 empty_count-fill [] zero = refl
 empty_count-fill [] (suc n) = let a = empty_count-fill [] n in omega arith
-empty_count-fill (None ∷ cells) n = let a = empty_count-fill cells n in omega arith
-empty_count-fill (Some h ∷ cells) n = empty_count-fill cells n
+empty_count-fill (None ∷ slots) n = let a = empty_count-fill slots n in omega arith
+empty_count-fill (Some h ∷ slots) n = empty_count-fill slots n
 
 -- ---- cells that are emptied
 
-pub length-emptied : (cells : List (Option (List ℕ))) (ps : List ℕ) → length (emptied cells ps) ≡ length cells
-length-emptied cells [] = refl
-length-emptied cells (p ∷ ps) = length-emptied (slice_set cells p None) ps ∙ length-set cells p None
+pub length-emptied : (slots : List (Option (List ℕ))) (ps : List ℕ) → length (emptied slots ps) ≡ length slots
+length-emptied slots [] = refl
+length-emptied slots (p ∷ ps) = length-emptied (slice_set slots p None) ps ∙ length-set slots p None
 
-pub emptied-append : (cells : List (Option (List ℕ))) (ps qs : List ℕ) → emptied cells (ps ++ qs) ≡ emptied (emptied cells ps) qs
-emptied-append cells [] qs = refl
-emptied-append cells (p ∷ ps) qs = emptied-append (slice_set cells p None) ps qs
+pub emptied-append : (slots : List (Option (List ℕ))) (ps qs : List ℕ) → emptied slots (ps ++ qs) ≡ emptied (emptied slots ps) qs
+emptied-append slots [] qs = refl
+emptied-append slots (p ∷ ps) qs = emptied-append (slice_set slots p None) ps qs
 
 -- the place is none of these
 abbrev pub IsAway : ℕ → List ℕ → Type 0
@@ -53,22 +53,22 @@ IsAway-back p [] qs w = w
 IsAway-back p (q ∷ ps) qs w = IsAway-back p ps qs w.1
 
 -- an emptied cell has no hash
-cleared-empty : (cells : List (Option (List ℕ))) (p : ℕ) (h : List ℕ) → slice_get (slice_set cells p None) p ≡ Some (Some h) → ⊥
+cleared-empty : (slots : List (Option (List ℕ))) (p : ℕ) (h : List ℕ) → slice_get (slice_set slots p None) p ≡ Some (Some h) → ⊥
 cleared-empty [] p h e = cc
-cleared-empty (c ∷ cells) zero h e = cc
-cleared-empty (c ∷ cells) (suc p) h e = cleared-empty cells p h e
+cleared-empty (c ∷ slots) zero h e = cc
+cleared-empty (c ∷ slots) (suc p) h e = cleared-empty slots p h e
 
 -- a cell that has a hash still was not emptied
-pub record WasKept (cells : List (Option (List ℕ))) (ps : List ℕ) (p : ℕ) (h : List ℕ) : Type 0 where
-  pub former : slice_get cells p ≡ Some (Some h)
+pub record WasKept (slots : List (Option (List ℕ))) (ps : List ℕ) (p : ℕ) (h : List ℕ) : Type 0 where
+  pub former : slice_get slots p ≡ Some (Some h)
   pub away : IsAway p ps
 
-pub emptied-filled : (cells : List (Option (List ℕ))) (ps : List ℕ) (p : ℕ) (h : List ℕ) → slice_get (emptied cells ps) p ≡ Some (Some h) → WasKept cells ps p h
-emptied-filled cells [] p h e = record { former = e; away = tt }
-emptied-filled cells (q ∷ ps) p h e =
-    let w = emptied-filled (slice_set cells q None) ps p h e in
-    let d : p ≡ q → ⊥ = λ s. cleared-empty cells p h (subst (λ k. slice_get (slice_set cells k None) p ≡ Some (Some h)) (sym s) w.former) in
-    record { former = sym (slice_get-set_other cells q p None d) ∙ w.former; away = (d, w.away) }
+pub emptied-filled : (slots : List (Option (List ℕ))) (ps : List ℕ) (p : ℕ) (h : List ℕ) → slice_get (emptied slots ps) p ≡ Some (Some h) → WasKept slots ps p h
+emptied-filled slots [] p h e = record { former = e; away = tt }
+emptied-filled slots (q ∷ ps) p h e =
+    let w = emptied-filled (slice_set slots q None) ps p h e in
+    let d : p ≡ q → ⊥ = λ s. cleared-empty slots p h (subst (λ k. slice_get (slice_set slots k None) p ≡ Some (Some h)) (sym s) w.former) in
+    record { former = sym (slice_get-set_other slots q p None d) ∙ w.former; away = (d, w.away) }
 
 -- ---- subtrees away from a leaf and the parents above it
 
@@ -170,12 +170,12 @@ beside-put_parent first (branch l n r) q x p w =
 -- ---- cells stay right
 
 -- where the places at which the trees differ are emptied
-pub AreCells-emptied : (H : List ℕ → List ℕ) (t u : Tree) (cells new : List (Option (List ℕ))) (ps : List ℕ) → new ≡ emptied cells ps → leaf_count u ≡ leaf_count t
-    → ((p : ℕ) → IsAway p ps → subtree_at 0 u p ≡ subtree_at 0 t p) → AreCells H t cells → AreCells H u new
-AreCells-emptied H t u cells new ps e c same ok = record {
-  count = omega (arith, ap length e, length-emptied cells ps, ok.count);
+pub AreSlots-emptied : (H : List ℕ → List ℕ) (t u : Tree) (slots new : List (Option (List ℕ))) (ps : List ℕ) → new ≡ emptied slots ps → leaf_count u ≡ leaf_count t
+    → ((p : ℕ) → IsAway p ps → subtree_at 0 u p ≡ subtree_at 0 t p) → AreSlots H t slots → AreSlots H u new
+AreSlots-emptied H t u slots new ps e c same ok = record {
+  count = omega (arith, ap length e, length-emptied slots ps, ok.count);
   each = λ p h at.
-      let w = emptied-filled cells ps p h (ap (λ cs. slice_get cs p) (sym e) ∙ at) in
+      let w = emptied-filled slots ps p h (ap (λ cs. slice_get cs p) (sym e) ∙ at) in
       ap (option_and_then (λ (s : Subtree). tree_hash H s.first s.tree)) (same p w.away) ∙ ok.each p h w.former;
 }
 
@@ -252,63 +252,63 @@ pub emptied-nothing : (ps : List ℕ) → emptied [] ps ≡ []
 emptied-nothing [] = refl
 emptied-nothing (p ∷ ps) = emptied-nothing ps
 
-pub nothing-emptied : (cells : List (Option (List ℕ))) (ps : List ℕ) → cells ≡ [] → cells ≡ emptied cells ps
-nothing-emptied cells ps none = none ∙ sym (ap (λ cs. emptied cs ps) none ∙ emptied-nothing ps)
+pub nothing-emptied : (slots : List (Option (List ℕ))) (ps : List ℕ) → slots ≡ [] → slots ≡ emptied slots ps
+nothing-emptied slots ps none = none ∙ sym (ap (λ cs. emptied cs ps) none ∙ emptied-nothing ps)
 
 -- a filled cell that is emptied is counted
-pub cleared-filled : (cells : List (Option (List ℕ))) (p : ℕ) → Some true ≡ option_map is_some (slice_get cells p) → empty_count (slice_set cells p None) ≡ empty_count cells + 1
+pub cleared-filled : (slots : List (Option (List ℕ))) (p : ℕ) → Some true ≡ option_map is_some (slice_get slots p) → empty_count (slice_set slots p None) ≡ empty_count slots + 1
 cleared-filled [] p e = absurd (cc)
-cleared-filled (None ∷ cells) zero e = absurd (cc)
-cleared-filled (Some g ∷ cells) zero e = omega arith
-cleared-filled (None ∷ cells) (suc p) e = let a = cleared-filled cells p e in omega arith
-cleared-filled (Some g ∷ cells) (suc p) e = cleared-filled cells p e
+cleared-filled (None ∷ slots) zero e = absurd (cc)
+cleared-filled (Some g ∷ slots) zero e = omega arith
+cleared-filled (None ∷ slots) (suc p) e = let a = cleared-filled slots p e in omega arith
+cleared-filled (Some g ∷ slots) (suc p) e = cleared-filled slots p e
 
 -- an empty one was counted
-pub cleared-blank : (cells : List (Option (List ℕ))) (p : ℕ) → Some false ≡ option_map is_some (slice_get cells p) → empty_count (slice_set cells p None) ≡ empty_count cells
+pub cleared-blank : (slots : List (Option (List ℕ))) (p : ℕ) → Some false ≡ option_map is_some (slice_get slots p) → empty_count (slice_set slots p None) ≡ empty_count slots
 cleared-blank [] p e = absurd (cc)
-cleared-blank (None ∷ cells) zero e = refl
-cleared-blank (Some g ∷ cells) zero e = absurd (cc)
-cleared-blank (None ∷ cells) (suc p) e = ap (λ n. suc n) (cleared-blank cells p e)
-cleared-blank (Some g ∷ cells) (suc p) e = cleared-blank cells p e
+cleared-blank (None ∷ slots) zero e = refl
+cleared-blank (Some g ∷ slots) zero e = absurd (cc)
+cleared-blank (None ∷ slots) (suc p) e = ap (λ n. suc n) (cleared-blank slots p e)
+cleared-blank (Some g ∷ slots) (suc p) e = cleared-blank slots p e
 
 -- ---- a cell is filled
 
 -- an empty cell that is filled is counted no more
-pub put-empty : (cells : List (Option (List ℕ))) (p : ℕ) (h : List ℕ) → Some false ≡ option_map is_some (slice_get cells p) → empty_count cells ≡ empty_count (slice_set cells p (Some h)) + 1
+pub put-empty : (slots : List (Option (List ℕ))) (p : ℕ) (h : List ℕ) → Some false ≡ option_map is_some (slice_get slots p) → empty_count slots ≡ empty_count (slice_set slots p (Some h)) + 1
 put-empty [] p h e = absurd (cc)
-put-empty (None ∷ cells) zero h e = omega arith
-put-empty (Some g ∷ cells) zero h e = absurd (cc)
-put-empty (None ∷ cells) (suc p) h e = let a = put-empty cells p h e in omega arith
-put-empty (Some g ∷ cells) (suc p) h e = put-empty cells p h e
+put-empty (None ∷ slots) zero h e = omega arith
+put-empty (Some g ∷ slots) zero h e = absurd (cc)
+put-empty (None ∷ slots) (suc p) h e = let a = put-empty slots p h e in omega arith
+put-empty (Some g ∷ slots) (suc p) h e = put-empty slots p h e
 
 -- a filled one was not
-pub put-filled : (cells : List (Option (List ℕ))) (p : ℕ) (h : List ℕ) → Some true ≡ option_map is_some (slice_get cells p) → empty_count (slice_set cells p (Some h)) ≡ empty_count cells
+pub put-filled : (slots : List (Option (List ℕ))) (p : ℕ) (h : List ℕ) → Some true ≡ option_map is_some (slice_get slots p) → empty_count (slice_set slots p (Some h)) ≡ empty_count slots
 put-filled [] p h e = absurd (cc)
-put-filled (None ∷ cells) zero h e = absurd (cc)
-put-filled (Some f ∷ cells) zero h e = refl
-put-filled (None ∷ cells) (suc p) h e = ap (λ n. suc n) (put-filled cells p h e)
-put-filled (Some f ∷ cells) (suc p) h e = put-filled cells p h e
+put-filled (None ∷ slots) zero h e = absurd (cc)
+put-filled (Some f ∷ slots) zero h e = refl
+put-filled (None ∷ slots) (suc p) h e = ap (λ n. suc n) (put-filled slots p h e)
+put-filled (Some f ∷ slots) (suc p) h e = put-filled slots p h e
 
 -- a right hash keeps the cells right
-pub AreCells-filled : (H : List ℕ → List ℕ) (t : Tree) (cells new : List (Option (List ℕ))) (p : ℕ) (h : List ℕ) → new ≡ slice_set cells p (Some h) → hash_at H t p ≡ Some h
-    → AreCells H t cells → AreCells H t new
-AreCells-filled H t cells new p h e right ok = record {
-  count = omega (arith, ap length e, length-set cells p (Some h), ok.count);
+pub AreSlots-filled : (H : List ℕ → List ℕ) (t : Tree) (slots new : List (Option (List ℕ))) (p : ℕ) (h : List ℕ) → new ≡ slice_set slots p (Some h) → hash_at H t p ≡ Some h
+    → AreSlots H t slots → AreSlots H t new
+AreSlots-filled H t slots new p h e right ok = record {
+  count = omega (arith, ap length e, length-set slots p (Some h), ok.count);
   each = λ q g at.
-      let read : slice_get (slice_set cells p (Some h)) q ≡ Some (Some g) = ap (λ cs. slice_get cs q) (sym e) ∙ at in
+      let read : slice_get (slice_set slots p (Some h)) q ≡ Some (Some g) = ap (λ cs. slice_get cs q) (sym e) ∙ at in
       elim (cases_order q p) [
         | inl same ↦
-            (let there = set-there cells p h g (ap (λ k. slice_get (slice_set cells p (Some h)) k) (sym same) ∙ read) in
+            (let there = set-there slots p h g (ap (λ k. slice_get (slice_set slots p (Some h)) k) (sym same) ∙ read) in
             ap (hash_at H t) same ∙ right ∙ ap (λ (v : List ℕ). Some v) there)
-        | inr (inl lt) ↦ ok.each q g (sym (slice_get-set_other cells p q (Some h) (λ s. omega arith)) ∙ read)
-        | inr (inr gt) ↦ ok.each q g (sym (slice_get-set_other cells p q (Some h) (λ s. omega arith)) ∙ read)
+        | inr (inl lt) ↦ ok.each q g (sym (slice_get-set_other slots p q (Some h) (λ s. omega arith)) ∙ read)
+        | inr (inr gt) ↦ ok.each q g (sym (slice_get-set_other slots p q (Some h) (λ s. omega arith)) ∙ read)
       ];
 }
   where
-    set-there : (cells : List (Option (List ℕ))) (p : ℕ) (h g : List ℕ) → slice_get (slice_set cells p (Some h)) p ≡ Some (Some g) → h ≡ g
+    set-there : (slots : List (Option (List ℕ))) (p : ℕ) (h g : List ℕ) → slice_get (slice_set slots p (Some h)) p ≡ Some (Some g) → h ≡ g
     set-there [] p h g e = absurd (cc)
-    set-there (c ∷ cells) zero h g e = cc
-    set-there (c ∷ cells) (suc p) h g e = set-there cells p h g e
+    set-there (c ∷ slots) zero h g e = cc
+    set-there (c ∷ slots) (suc p) h g e = set-there slots p h g e
 
 -- a place that has a hash is one of the tree's
 pub hash_at-inside : (H : List ℕ → List ℕ) (t : Tree) (p : ℕ) (h : List ℕ) → hash_at H t p ≡ Some h → p + 1 < 2 * leaf_count t
@@ -324,36 +324,36 @@ pub empty_count-fresh : (n : ℕ) → empty_count (replicate n None) ≡ n
 empty_count-fresh zero = refl
 empty_count-fresh (suc n) = ap (λ k. suc k) (empty_count-fresh n)
 
-fresh-empty : (n p : ℕ) (h : List ℕ) → slice_get (replicate n (let cell : Option (List ℕ) = None in cell)) p ≡ Some (Some h) → ⊥
+fresh-empty : (n p : ℕ) (h : List ℕ) → slice_get (replicate n (let slot : Option (List ℕ) = None in slot)) p ≡ Some (Some h) → ⊥
 fresh-empty zero p h e = cc
 fresh-empty (suc n) zero h e = cc
 fresh-empty (suc n) (suc p) h e = fresh-empty n p h e
 
-pub AreCells-fresh : (H : List ℕ → List ℕ) (t : Tree) (cells : List (Option (List ℕ))) (n : ℕ) → cells ≡ replicate n None → n + 1 ≡ 2 * leaf_count t → AreCells H t cells
-AreCells-fresh H t cells n e long = record {
-  count = omega (arith, ap length e, length-replicate n (let cell : Option (List ℕ) = None in cell), long);
+pub AreSlots-fresh : (H : List ℕ → List ℕ) (t : Tree) (slots : List (Option (List ℕ))) (n : ℕ) → slots ≡ replicate n None → n + 1 ≡ 2 * leaf_count t → AreSlots H t slots
+AreSlots-fresh H t slots n e long = record {
+  count = omega (arith, ap length e, length-replicate n (let slot : Option (List ℕ) = None in slot), long);
   each = λ p h at. absurd (fresh-empty n p h (ap (λ cs. slice_get cs p) (sym e) ∙ at));
 }
 
 -- a filled cell, by the list
-pub filled-there : (cells new : List (Option (List ℕ))) (p : ℕ) (h : List ℕ) → new ≡ slice_set cells p (Some h) → p < length cells → hash_in (slice_get new p) ≡ Some h
-filled-there cells new p h e lt = ap (λ cs. hash_in (slice_get cs p)) e ∙ ap hash_in (slice_get-set_same cells p (Some h) lt)
+pub filled-there : (slots new : List (Option (List ℕ))) (p : ℕ) (h : List ℕ) → new ≡ slice_set slots p (Some h) → p < length slots → hash_in (slice_get new p) ≡ Some h
+filled-there slots new p h e lt = ap (λ cs. hash_in (slice_get cs p)) e ∙ ap hash_in (slice_get-set_same slots p (Some h) lt)
 
 -- ---- cells that are all filled
 
-pub all_filled : (cells : List (Option (List ℕ))) → ((p : ℕ) → p < length cells → IsSome (hash_in (slice_get cells p))) → empty_count cells ≡ 0
+pub all_filled : (slots : List (Option (List ℕ))) → ((p : ℕ) → p < length slots → IsSome (hash_in (slice_get slots p))) → empty_count slots ≡ 0
 all_filled [] h = refl
-all_filled (None ∷ cells) h = absurd (let w = h 0 (omega arith) in cc)
-all_filled (Some g ∷ cells) h = all_filled cells (λ p lt. h (suc p) (omega arith))
+all_filled (None ∷ slots) h = absurd (let w = h 0 (omega arith) in cc)
+all_filled (Some g ∷ slots) h = all_filled slots (λ p lt. h (suc p) (omega arith))
 
-pub all_counted : (H : List ℕ → List ℕ) (t : Tree) (cells : List (Option (List ℕ))) (n : ℕ) → n ≡ empty_count cells → AreCells H t cells → AreAllFilled t cells → n ≡ 0
-all_counted H t cells n e ok all = e ∙ all_filled cells (λ p lt. all p (omega (arith, ok.count)))
+pub all_counted : (H : List ℕ → List ℕ) (t : Tree) (slots : List (Option (List ℕ))) (n : ℕ) → n ≡ empty_count slots → AreSlots H t slots → AreAllFilled t slots → n ≡ 0
+all_counted H t slots n e ok all = e ∙ all_filled slots (λ p lt. all p (omega (arith, ok.count)))
 
-none_empty : (cells : List (Option (List ℕ))) → empty_count cells ≡ 0 → (p : ℕ) → p < length cells → IsSome (hash_in (slice_get cells p))
+none_empty : (slots : List (Option (List ℕ))) → empty_count slots ≡ 0 → (p : ℕ) → p < length slots → IsSome (hash_in (slice_get slots p))
 none_empty [] e p lt = absurd (omega arith)
-none_empty (None ∷ cells) e p lt = absurd (omega arith)
-none_empty (Some g ∷ cells) e zero lt = refl
-none_empty (Some g ∷ cells) e (suc p) lt = none_empty cells e p (omega arith)
+none_empty (None ∷ slots) e p lt = absurd (omega arith)
+none_empty (Some g ∷ slots) e zero lt = refl
+none_empty (Some g ∷ slots) e (suc p) lt = none_empty slots e p (omega arith)
 
-pub counted_all : (H : List ℕ → List ℕ) (t : Tree) (cells : List (Option (List ℕ))) (n : ℕ) → n ≡ empty_count cells → n ≡ 0 → AreCells H t cells → AreAllFilled t cells
-counted_all H t cells n e nothing ok p lt = none_empty cells (sym e ∙ nothing) p (omega (arith, ok.count))
+pub counted_all : (H : List ℕ → List ℕ) (t : Tree) (slots : List (Option (List ℕ))) (n : ℕ) → n ≡ empty_count slots → n ≡ 0 → AreSlots H t slots → AreAllFilled t slots
+counted_all H t slots n e nothing ok p lt = none_empty slots (sym e ∙ nothing) p (omega (arith, ok.count))

@@ -9,18 +9,18 @@ use Rattle.std.proofs.lemmas.Bool.{cases_Bool, cases_lt, cases_order}
 use Rattle.std.proofs.lemmas.Bool.Decides.{nat_tests}
 use Rattle.std.proofs.lemmas.List.Elements.{All-nil, All-push, All-weaker}
 use Rattle.mls_nodes.specs.declared.parent.ParentNode.{ParentNode}
-use Rattle.mls_tree.specs.Tree.{Tree, leaf, branch, leaf_count, listing, parent_entry, IsParentPlace}
+use Rattle.mls_tree.specs.Tree.{Tree, leaf, branch, leaf_count, listing, parent_entry, IsParentNodeIndex}
 use Rattle.mls_tree.specs.TreeOperations.{put_parent, change_parent, insert_before, insert_number, without_number, with_unmerged, is_overfilled, is_overfilled_above}
 use Rattle.mls_tree.specs.NodeView.{parent_of}
 use Rattle.mls_tree.specs.Paths.{direct_path}
 use Rattle.mls_tree.proofs.Choices.{below, from, is_less, here, before, after, same}
 use Rattle.mls_tree.proofs.Trees.{leaf_count-positive}
 use Rattle.mls_tree.proofs.Arrays.{slice_get-set_same, slice_get-set_other}
-use Rattle.mls_tree.proofs.Positions.{node_at-listing, parent_place-listing}
+use Rattle.mls_tree.proofs.Positions.{node_at-listing, parent_node_index-listing}
 use Rattle.mls_tree.proofs.Replacing.{listing-put_parent}
 use Rattle.mls_tree.proofs.Kept.{leaf_count-put_parent}
 use Rattle.mls_tree.proofs.TakenBack.{put_parent-back}
-use Rattle.mls_tree.proofs.AlongPaths.{parent_at, parent_of-entry, parent_at-here, parent_at-left, parent_at-right, IsWithin, IsParentPlace-like}
+use Rattle.mls_tree.proofs.AlongPaths.{parent_at, parent_of-entry, parent_at-here, parent_at-left, parent_at-right, IsWithin, IsParentNodeIndex-like}
 
 -- ---- lists
 
@@ -34,11 +34,11 @@ any-none true b e = absurd cc
 any-none false b e = (refl, e)
 
 -- a number that a list doesn't have enters it and leaves it
-pub entered-left : (i : ℕ) (xs : List ℕ) → list_any (λ x. x == i) xs ≡ false → without_number i (insert_before i xs) ≡ xs
-entered-left i [] none = same i i [] (i ∷ []) refl
-entered-left i (x ∷ xs) none =
+pub in_lists-left : (i : ℕ) (xs : List ℕ) → list_any (λ x. x == i) xs ≡ false → without_number i (insert_before i xs) ≡ xs
+in_lists-left i [] none = same i i [] (i ∷ []) refl
+in_lists-left i (x ∷ xs) none =
     let h = any-none (x == i) (list_any (λ x. x == i) xs) none in
-    left-again i x xs (nat_lt x i) h.0 (entered-left i xs h.1)
+    left-again i x xs (nat_lt x i) h.0 (in_lists-left i xs h.1)
 
 -- ---- the first entry that passes a test
 
@@ -151,13 +151,13 @@ put_parent-twice first (branch l n r) p x y =
           ∙ sym (after (p + 1) (2 * m) (branch l y r) (branch (put_parent first l p y) n r) (branch l n (put_parent m r p y)) gt)
     ]
 
-module _ (t : Tree) (p : ℕ) (x : Option ParentNode) (there : IsParentPlace t p) where
+module _ (t : Tree) (p : ℕ) (x : Option ParentNode) (there : IsParentNodeIndex t p) where
   pub parent_at-put : parent_at 0 (put_parent 0 t p x) p ≡ x
   parent_at-put =
       ap parent_of
       (node_at-listing (put_parent 0 t p x) p
       ∙ ap (λ ls. unwrap_or (slice_get ls p) None) (listing-put_parent t p x there)
-      ∙ ap (λ o. unwrap_or o None) (slice_get-set_same (listing t) p (parent_entry x) (((parent_place-listing t p).0 there).0)))
+      ∙ ap (λ o. unwrap_or o None) (slice_get-set_same (listing t) p (parent_entry x) (((parent_node_index-listing t p).0 there).0)))
       ∙ parent_of-entry x
 
   pub parent_at-put_other : (q : ℕ) → q ≢ p → parent_at 0 (put_parent 0 t p x) q ≡ parent_at 0 t q
@@ -169,11 +169,11 @@ module _ (t : Tree) (p : ℕ) (x : Option ParentNode) (there : IsParentPlace t p
       ∙ sym (node_at-listing t q))
 
 -- its place is that of a parent still
-pub still-parent : (t s : Tree) (p : ℕ) → IsParentPlace t p → s ≡ put_parent 0 t p None → IsParentPlace s p
-still-parent t s p there taken = IsParentPlace-like t s (ap leaf_count taken ∙ leaf_count-put_parent 0 t p None) p there
+pub still-parent : (t s : Tree) (p : ℕ) → IsParentNodeIndex t p → s ≡ put_parent 0 t p None → IsParentNodeIndex s p
+still-parent t s p there taken = IsParentNodeIndex-like t s (ap leaf_count taken ∙ leaf_count-put_parent 0 t p None) p there
 
 -- a parent that is taken out of a tree, changed, and put back
-module _ (t s u : Tree) (p : ℕ) (n m : Option ParentNode) (there : IsParentPlace t p) (at : n ≡ parent_at 0 t p) (taken : s ≡ put_parent 0 t p None) (put : u ≡ put_parent 0 s p m) where
+module _ (t s u : Tree) (p : ℕ) (n m : Option ParentNode) (there : IsParentNodeIndex t p) (at : n ≡ parent_at 0 t p) (taken : s ≡ put_parent 0 t p None) (put : u ≡ put_parent 0 s p m) where
   put-once : u ≡ put_parent 0 t p m
   put-once = put ∙ ap (λ v. put_parent 0 v p m) taken ∙ put_parent-twice 0 t p None m
 
@@ -215,9 +215,9 @@ inserted-twice i xs false e =
     let put : insert_number i xs ≡ insert_before i xs = ap (λ (b : Bool). if b then xs else insert_before i xs) e in
     ap (insert_number i) put ∙ ap (λ (b : Bool). if b then insert_before i xs else insert_before i (insert_before i xs)) (is-inserted i xs) ∙ sym put
 
-room-after : (i : ℕ) (n : Option ParentNode) → is_overfilled i n ≡ false → is_overfilled i (with_unmerged i n) ≡ false
-room-after i None room = refl
-room-after i (Some a) room = ap (λ xs. nat_lt leaf_limit (length xs)) (inserted-twice i a.unmerged (list_any (λ x. x == i) a.unmerged) refl) ∙ room
+capacity-after : (i : ℕ) (n : Option ParentNode) → is_overfilled i n ≡ false → is_overfilled i (with_unmerged i n) ≡ false
+capacity-after i None capacity = refl
+capacity-after i (Some a) capacity = ap (λ xs. nat_lt leaf_limit (length xs)) (inserted-twice i a.unmerged (list_any (λ x. x == i) a.unmerged) refl) ∙ capacity
 
 -- the list of the parent at a place can take i
 abbrev pub HasCapacity : ℕ → ℕ → Tree → ℕ → Type 0
@@ -227,14 +227,14 @@ HasCapacity i first t p = is_overfilled i (parent_at first t p) ≡ false
 abbrev IsRoomy : ℕ → ℕ → Tree → ℕ → Type 0
 IsRoomy i first t p = IsWithin first (leaf_count t) p × HasCapacity i first t p
 
-room-path : (first : ℕ) (t : Tree) (i : ℕ) → is_overfilled_above first t i ≡ false → All (IsRoomy i first t) (direct_path first t i)
-room-path first (leaf x) i room = All-nil _
-room-path first (branch l n r) i room =
+capacity-path : (first : ℕ) (t : Tree) (i : ℕ) → is_overfilled_above first t i ≡ false → All (IsRoomy i first t) (direct_path first t i)
+capacity-path first (leaf x) i capacity = All-nil _
+capacity-path first (branch l n r) i capacity =
     let m = first + leaf_count l in
     let a = leaf_count-positive l in
     let b = leaf_count-positive r in
     let t = branch l n r in
-    let h = any-none (if nat_lt i m then is_overfilled_above first l i else is_overfilled_above m r i) (is_overfilled i n) room in
+    let h = any-none (if nat_lt i m then is_overfilled_above first l i else is_overfilled_above m r i) (is_overfilled i n) capacity in
     let root : IsRoomy i first t (2 * m - 1) =
     ((omega arith, omega arith, omega arith), ap (is_overfilled i) (parent_at-here first l n r (2 * m - 1) (omega arith)) ∙ h.1) in
     elim (cases_lt i m) [
@@ -246,7 +246,7 @@ room-path first (branch l n r) i room =
           let u = w.0.0 in let v = w.0.1 in
           ((u, omega arith, w.0.2), ap (is_overfilled i) (parent_at-left first l n r p (omega arith)) ∙ w.1))
           (direct_path first l i)
-          (room-path first l i (sym (below i m (is_overfilled_above first l i) (is_overfilled_above m r i) lt) ∙ h.0))) root)
+          (capacity-path first l i (sym (below i m (is_overfilled_above first l i) (is_overfilled_above m r i) lt) ∙ h.0))) root)
       | inr ge ↦
           subst (All (IsRoomy i first t)) (ap (λ ps. ps ++ (2 * m - 1) ∷ []) (sym (from i m (direct_path first l i) (direct_path m r i) ge)))
           (All-push (IsRoomy i first t) (direct_path m r i) (2 * m - 1)
@@ -255,30 +255,30 @@ room-path first (branch l n r) i room =
           let u = w.0.0 in let v = w.0.1 in
           ((omega arith, omega arith, w.0.2), ap (is_overfilled i) (parent_at-right first l n r p (omega arith)) ∙ w.1))
           (direct_path m r i)
-          (room-path m r i (sym (from i m (is_overfilled_above first l i) (is_overfilled_above m r i) ge) ∙ h.0))) root)
+          (capacity-path m r i (sym (from i m (is_overfilled_above first l i) (is_overfilled_above m r i) ge) ∙ h.0))) root)
     ]
 
-pub room-start : (t : Tree) (i : ℕ) (places : List ℕ) → places ≡ direct_path 0 t i → is_overfilled_above 0 t i ≡ false → All (HasCapacity i 0 t) places
-room-start t i places at room =
-    subst (All (HasCapacity i 0 t)) (sym at) (All-weaker (IsRoomy i 0 t) (HasCapacity i 0 t) (λ p w. w.1) (direct_path 0 t i) (room-path 0 t i room))
+pub capacity-start : (t : Tree) (i : ℕ) (node_indices : List ℕ) → node_indices ≡ direct_path 0 t i → is_overfilled_above 0 t i ≡ false → All (HasCapacity i 0 t) node_indices
+capacity-start t i node_indices at capacity =
+    subst (All (HasCapacity i 0 t)) (sym at) (All-weaker (IsRoomy i 0 t) (HasCapacity i 0 t) (λ p w. w.1) (direct_path 0 t i) (capacity-path 0 t i capacity))
 
 -- i has entered one of them
-module _ (i : ℕ) (t u : Tree) (p : ℕ) (there : IsParentPlace t p) (room : HasCapacity i 0 t p) (put : u ≡ change_parent (with_unmerged i) 0 t p) where
-  room-one : (q : ℕ) → HasCapacity i 0 t q → HasCapacity i 0 u q
-  room-one q h =
+module _ (i : ℕ) (t u : Tree) (p : ℕ) (there : IsParentNodeIndex t p) (capacity : HasCapacity i 0 t p) (put : u ≡ change_parent (with_unmerged i) 0 t p) where
+  capacity-one : (q : ℕ) → HasCapacity i 0 t q → HasCapacity i 0 u q
+  capacity-one q h =
       let x = with_unmerged i (parent_at 0 t p) in
-      let after_same : HasCapacity i 0 u p = ap (λ v. is_overfilled i (parent_at 0 v p)) put ∙ ap (is_overfilled i) (parent_at-put t p x there) ∙ room-after i (parent_at 0 t p) room in
+      let after_same : HasCapacity i 0 u p = ap (λ v. is_overfilled i (parent_at 0 v p)) put ∙ ap (is_overfilled i) (parent_at-put t p x there) ∙ capacity-after i (parent_at 0 t p) capacity in
       elim (cases_order q p) [
         | inl at ↦ subst (HasCapacity i 0 u) (sym at) after_same
         | inr (inl lt) ↦ ap (λ v. is_overfilled i (parent_at 0 v q)) put ∙ ap (is_overfilled i) (parent_at-put_other t p x there q (λ e. omega arith)) ∙ h
         | inr (inr gt) ↦ ap (λ v. is_overfilled i (parent_at 0 v q)) put ∙ ap (is_overfilled i) (parent_at-put_other t p x there q (λ e. omega arith)) ∙ h
       ]
 
-  pub room-step : (left : List ℕ) → All (HasCapacity i 0 t) left → All (HasCapacity i 0 u) left
-  room-step left h = All-weaker (HasCapacity i 0 t) (HasCapacity i 0 u) room-one left h
+  pub capacity-step : (left : List ℕ) → All (HasCapacity i 0 t) left → All (HasCapacity i 0 u) left
+  capacity-step left h = All-weaker (HasCapacity i 0 t) (HasCapacity i 0 u) capacity-one left h
 
 -- a blank parent that is taken out
-pub blank-stays : (t u : Tree) (p : ℕ) → IsParentPlace t p → None ≡ parent_at 0 t p → u ≡ put_parent 0 t p None → u ≡ t
+pub blank-stays : (t u : Tree) (p : ℕ) → IsParentNodeIndex t p → None ≡ parent_at 0 t p → u ≡ put_parent 0 t p None → u ≡ t
 blank-stays t u p there at put =
     put ∙ ap (put_parent 0 t p) at ∙ sym (put_parent-twice 0 t p None (parent_at 0 t p)) ∙ put_parent-back 0 t p None there
 

@@ -12,10 +12,10 @@ use Rattle.mls_nodes.specs.declared.node.Node.{Node}
 use Rattle.mls_nodes.specs.declared.node.Node.TheVariants.{Leaf, Parent}
 use Rattle.mls_nodes.specs.NodeModel.{NodeValue, entry_value}
 use Rattle.mls_nodes.specs.Layout.{node}
-use Rattle.mls_nodes.specs.RatchetTreeEncoding.{ratchet_tree, filled, full_size, is_placed, ends_set, stand_from, stands_at}
+use Rattle.mls_nodes.specs.RatchetTreeEncoding.{ratchet_tree, filled, full_size, has_valid_layout, ends_set, fit_from, fits_at}
 use Rattle.mls_nodes.specs.FilledTree.{filled-full, filled-least}
 use Rattle.mls_tree.specs.Tree.{leaves_at}
-use Rattle.mls_tree.specs.NodeArray.{FitsPlace, IsArrayOf, ratchet_tree_in}
+use Rattle.mls_tree.specs.NodeArray.{FitsNodeIndex, IsArrayOf, ratchet_tree_in}
 use Rattle.mls_tree.specs.TreeSizes.{IsListing}
 use Rattle.mls_tree.proofs.Arrays.{listing-array}
 use Rattle.mls_tree.proofs.Listings.{IsArrayOf-fits}
@@ -34,38 +34,38 @@ both true b p q = q
 both false b p q = p
 
 -- blanks may stand anywhere
-stand_from-blanks : (place n : ℕ) → stand_from place (replicate n None) ≡ true
-stand_from-blanks place zero = refl
-stand_from-blanks place (suc n) = stand_from-blanks (place + 1) n
+fit_from-blanks : (node_index n : ℕ) → fit_from node_index (replicate n None) ≡ true
+fit_from-blanks node_index zero = refl
+fit_from-blanks node_index (suc n) = fit_from-blanks (node_index + 1) n
 
 -- so entries that may stand at their places may also where blanks are behind them
-stand_from-more : (place : ℕ) (xs : List (Option NodeValue)) (n : ℕ) → stand_from place xs ≡ true → stand_from place (xs ++ replicate n None) ≡ true
-stand_from-more place [] n h = stand_from-blanks place n
-stand_from-more place (x ∷ xs) n h =
-    both (stands_at place x) (stand_from (place + 1) (xs ++ replicate n None)) (both-left (stands_at place x) _ h)
-    (stand_from-more (place + 1) xs n (both-right (stands_at place x) _ h))
+fit_from-more : (node_index : ℕ) (xs : List (Option NodeValue)) (n : ℕ) → fit_from node_index xs ≡ true → fit_from node_index (xs ++ replicate n None) ≡ true
+fit_from-more node_index [] n h = fit_from-blanks node_index n
+fit_from-more node_index (x ∷ xs) n h =
+    both (fits_at node_index x) (fit_from (node_index + 1) (xs ++ replicate n None)) (both-left (fits_at node_index x) _ h)
+    (fit_from-more (node_index + 1) xs n (both-right (fits_at node_index x) _ h))
 
 -- an entry, where there is one, may stand at the place
 abbrev MayStand : ℕ → Option (Option NodeValue) → Type 0
-MayStand place None = Unit {0}
-MayStand place (Some x) = stands_at place x ≡ true
+MayStand node_index None = Unit {0}
+MayStand node_index (Some x) = fits_at node_index x ≡ true
 
-MayStand-at : (place : ℕ) (xs : List (Option NodeValue)) (p : ℕ) → stand_from place xs ≡ true → MayStand (place + p) (slice_get xs p)
-MayStand-at place [] p h = tt
-MayStand-at place (x ∷ xs) zero h = subst (λ k. stands_at k x ≡ true) (let e : place ≡ place + 0 = omega arith in e) (both-left (stands_at place x) _ h)
-MayStand-at place (x ∷ xs) (suc p) h =
-    subst (λ k. MayStand k (slice_get xs p)) (let e : place + 1 + p ≡ place + suc p = omega arith in e)
-    (MayStand-at (place + 1) xs p (both-right (stands_at place x) _ h))
+MayStand-at : (node_index : ℕ) (xs : List (Option NodeValue)) (p : ℕ) → fit_from node_index xs ≡ true → MayStand (node_index + p) (slice_get xs p)
+MayStand-at node_index [] p h = tt
+MayStand-at node_index (x ∷ xs) zero h = subst (λ k. fits_at k x ≡ true) (let e : node_index ≡ node_index + 0 = omega arith in e) (both-left (fits_at node_index x) _ h)
+MayStand-at node_index (x ∷ xs) (suc p) h =
+    subst (λ k. MayStand k (slice_get xs p)) (let e : node_index + 1 + p ≡ node_index + suc p = omega arith in e)
+    (MayStand-at (node_index + 1) xs p (both-right (fits_at node_index x) _ h))
 
 -- such an entry of an array is a leaf at an even place and a parent at an odd one
-MayStand-fits : (p : ℕ) (o : Option (Option Node)) → MayStand p (option_map entry_value o) → FitsPlace p o
+MayStand-fits : (p : ℕ) (o : Option (Option Node)) → MayStand p (option_map entry_value o) → FitsNodeIndex p o
 MayStand-fits p None h = record { even = λ z. tt; odd = λ z. tt }
 MayStand-fits p (Some None) h = record { even = λ z. tt; odd = λ z. tt }
 MayStand-fits p (Some (Some (Leaf b))) h = record { even = λ z. tt; odd = λ z. z (eqb-true (p % 2) 0 h) }
 MayStand-fits p (Some (Some (Parent b))) h = record { even = λ z. let one : p % 2 ≡ 1 = eqb-true (p % 2) 1 h in absurd (omega arith); odd = λ z. tt }
 
 -- a full tree of entries that may all stand at their places is an array of a tree
-array : (entries : List (Option Node)) (d : ℕ) → stand_from 0 (map entry_value entries) ≡ true → length entries + 1 ≡ 2 * leaves_at d → IsArrayOf entries d
+array : (entries : List (Option Node)) (d : ℕ) → fit_from 0 (map entry_value entries) ≡ true → length entries + 1 ≡ 2 * leaves_at d → IsArrayOf entries d
 array entries d stand long =
     IsArrayOf-fits entries entries d refl long
     (λ p.
@@ -85,11 +85,11 @@ low_full d n e le =
 pub filled_listing : (nodes : List (Option NodeValue)) (bytes : List ℕ) (entries : List (Option Node))
     → ratchet_tree nodes ≡ Some bytes → map entry_value entries ≡ filled nodes → IsListing (map entry_value entries)
 unfolding ratchet_tree
-filled_listing nodes bytes entries spelled fill =
-    let a = (allowed (is_placed nodes && ends_set nodes) (list (optional node) nodes) bytes spelled).0 in
-    let placed : is_placed nodes ≡ true = both-left (is_placed nodes) (ends_set nodes) a in
-    let stand : stand_from 0 nodes ≡ true = both-left (stand_from 0 nodes) _ placed in
-    let few : length nodes ≤ 2097151 = leb-true (length nodes) 2097151 (both-right (stand_from 0 nodes) _ placed) in
+filled_listing nodes bytes entries encoded fill =
+    let a = (allowed (has_valid_layout nodes && ends_set nodes) (list (optional node) nodes) bytes encoded).0 in
+    let well_laid_out : has_valid_layout nodes ≡ true = both-left (has_valid_layout nodes) (ends_set nodes) a in
+    let stand : fit_from 0 nodes ≡ true = both-left (fit_from 0 nodes) _ well_laid_out in
+    let few : length nodes ≤ 2097151 = leb-true (length nodes) 2097151 (both-right (fit_from 0 nodes) _ well_laid_out) in
     let full = filled-full nodes in
     let small : length (filled nodes) ≤ 2097151 = filled-least nodes 20 few in
     let low : full.0 ≤ 20 = low_full full.0 (length (filled nodes)) full.1 small in
@@ -97,5 +97,5 @@ filled_listing nodes bytes entries spelled fill =
     let some : 1 ≤ 2 ^ (full.0 + 1) = pow_mono {i = 0} {j = full.0 + 1} (omega arith) in
     let twice : 2 ^ (full.0 + 1) ≡ 2 ^ full.0 * 2 = ap (λ (n : ℕ). 2 ^ n) (omega arith) ∙ pow-suc 2 full.0 in
     let long : length entries + 1 ≡ 2 * leaves_at full.0 = omega (arith, count, full.1, some, twice, leaves_at-pow full.0) in
-    let ok = array entries full.0 (ap (stand_from 0) fill ∙ stand_from-more 0 nodes (full_size (length nodes) - length nodes) stand) long in
+    let ok = array entries full.0 (ap (fit_from 0) fill ∙ fit_from-more 0 nodes (full_size (length nodes) - length nodes) stand) long in
     (ratchet_tree_in entries full.0 low, sym (listing-array entries full.0 ok))

@@ -8,7 +8,7 @@ use Rattle.std.proofs.Math.ListN.{length-replicate}
 use Rattle.mls_nodes.specs.declared.node.Node.{Node}
 use Rattle.mls_tree.specs.Tree.{Tree, leaf, branch, height, leaves_at}
 use Rattle.mls_tree.specs.NodeArray.{leaf_part, parent_part, tree_in, IsNoLeaf, IsNoParent, IsArrayOf, height-tree_in}
-use Rattle.mls_tree.specs.TreeOperations.{blank_tree, grow}
+use Rattle.mls_tree.specs.TreeOperations.{blank_tree, extend}
 use Rattle.mls_tree.proofs.Numbers.{leaves_at-positive}
 use Rattle.mls_tree.proofs.Arrays.{tree_in-same}
 
@@ -104,7 +104,7 @@ module _ (xs : List (Option Node)) (h : ℕ) (ok : IsArrayOf xs h) (more : ℕ) 
         ];
       }
 
-  pub tree_in-fill : (t : Tree) → tree_in xs h 0 ≡ t → tree_in (xs ++ replicate more None) (h + 1) 0 ≡ grow t
+  pub tree_in-fill : (t : Tree) → tree_in xs h 0 ≡ t → tree_in (xs ++ replicate more None) (h + 1) 0 ≡ extend t
   tree_in-fill t view =
       let ys = xs ++ replicate more None in
       let l : tree_in ys h 0 ≡ t = tree_in-same ys xs h 0 (λ p a b. slice_get-append_left xs (replicate more None) p (omega (arith, ok.long))) ∙ view in

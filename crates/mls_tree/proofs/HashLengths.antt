@@ -34,8 +34,8 @@ length-tree_hash kind first (branch l p r) hash e =
     length-parent_hash kind p (tree_hash (hash_by kind) first l) (tree_hash (hash_by kind) (first + leaf_count l) r) hash e
 
 -- and the tree hash of a subtree
-pub length-hash_at : (kind : HashKind) (t : Tree) (place : ℕ) (hash : List ℕ) → hash_at (hash_by kind) t place ≡ Some hash → length hash ≡ hash_len kind
-length-hash_at kind t place hash = by_subtree (subtree_at 0 t place)
+pub length-hash_at : (kind : HashKind) (t : Tree) (node_index : ℕ) (hash : List ℕ) → hash_at (hash_by kind) t node_index ≡ Some hash → length hash ≡ hash_len kind
+length-hash_at kind t node_index hash = by_subtree (subtree_at 0 t node_index)
   where
     by_subtree : (o : Option Subtree) → option_and_then (λ (s : Subtree). tree_hash (hash_by kind) s.first s.tree) o ≡ Some hash → length hash ≡ hash_len kind
     by_subtree None e = absurd (none-some hash e)

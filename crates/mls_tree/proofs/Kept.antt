@@ -6,7 +6,7 @@ use Rattle.mls_nodes.specs.declared.leaf.LeafNode.{LeafNode}
 use Rattle.mls_nodes.specs.declared.parent.ParentNode.{ParentNode}
 use Rattle.mls_tree.specs.Tree.{Tree, leaf, branch, height, leaf_count, leaves_at, leaf_at, IsPerfect}
 use Rattle.mls_tree.specs.RatchetTree.{HasShape}
-use Rattle.mls_tree.specs.TreeOperations.{put_leaf, put_parent, change_above, has_set_leaf, shrink, blank_tree, grow}
+use Rattle.mls_tree.specs.TreeOperations.{put_leaf, put_parent, change_above, has_set_leaf, truncate, blank_tree, extend}
 use Rattle.mls_tree.proofs.Choices.{below, from, same, other}
 use Rattle.mls_tree.proofs.Trees.{leaf_count-perfect}
 use Rattle.mls_tree.proofs.Lookups.{leaf_at-past}
@@ -148,21 +148,21 @@ leaf_at-blank_tree first (suc h) j =
 
 -- ---- a tree is made larger
 
-pub IsPerfect-grow : (t : Tree) → IsPerfect t → IsPerfect (grow t)
-IsPerfect-grow t h = (sym (height-blank_tree (height t)), h, IsPerfect-blank_tree (height t))
+pub IsPerfect-extend : (t : Tree) → IsPerfect t → IsPerfect (extend t)
+IsPerfect-extend t h = (sym (height-blank_tree (height t)), h, IsPerfect-blank_tree (height t))
 
-pub HasShape-grow : (t : Tree) → HasShape t → height t < 20 → HasShape (grow t)
-HasShape-grow t s low = record { perfect = IsPerfect-grow t s.perfect; low = omega arith }
+pub HasShape-extend : (t : Tree) → HasShape t → height t < 20 → HasShape (extend t)
+HasShape-extend t s low = record { perfect = IsPerfect-extend t s.perfect; low = omega arith }
 
-pub leaf_count-grow : (t : Tree) → IsPerfect t → leaf_count (grow t) ≡ 2 * leaf_count t
-leaf_count-grow t h =
+pub leaf_count-extend : (t : Tree) → IsPerfect t → leaf_count (extend t) ≡ 2 * leaf_count t
+leaf_count-extend t h =
     let a = leaf_count-perfect t h in
     let b = leaf_count-perfect (blank_tree (height t)) (IsPerfect-blank_tree (height t)) in
     let e : leaf_count (blank_tree (height t)) ≡ leaf_count t = b ∙ (let q = height-blank_tree (height t) in λ k. leaves_at (q k)) ∙ sym a in
     omega arith
 
-pub leaf_at-grow : (t : Tree) (j : ℕ) → leaf_at 0 (grow t) j ≡ leaf_at 0 t j
-leaf_at-grow t j =
+pub leaf_at-extend : (t : Tree) (j : ℕ) → leaf_at 0 (extend t) j ≡ leaf_at 0 t j
+leaf_at-extend t j =
     elim (cases_lt j (leaf_count t)) [
       | inl lt ↦ below j (0 + leaf_count t) (leaf_at 0 t j) (leaf_at (0 + leaf_count t) (blank_tree (height t)) j) (omega arith)
       | inr ge ↦
@@ -184,24 +184,24 @@ leaf_at-none_set first (branch l n r) j e =
     either (λ (o : Option LeafNode). o ≡ None) (nat_lt j (first + leaf_count l)) (leaf_at first l j) (leaf_at (first + leaf_count l) r j)
     (leaf_at-none_set first l j b.0) (leaf_at-none_set (first + leaf_count l) r j b.1)
 
-pub IsPerfect-shrink : (t : Tree) → IsPerfect t → IsPerfect (shrink t)
-IsPerfect-shrink (leaf x) h = h
-IsPerfect-shrink (branch l n r) h = either IsPerfect (has_set_leaf r) (branch l n r) (shrink l) h (IsPerfect-shrink l h.1)
+pub IsPerfect-truncate : (t : Tree) → IsPerfect t → IsPerfect (truncate t)
+IsPerfect-truncate (leaf x) h = h
+IsPerfect-truncate (branch l n r) h = either IsPerfect (has_set_leaf r) (branch l n r) (truncate l) h (IsPerfect-truncate l h.1)
 
-pub height-shrink : (t : Tree) → height (shrink t) ≤ height t
-height-shrink (leaf x) = omega arith
-height-shrink (branch l n r) = either (λ t. height t ≤ suc (height l)) (has_set_leaf r) (branch l n r) (shrink l) (omega arith) (let a = height-shrink l in omega arith)
+pub height-truncate : (t : Tree) → height (truncate t) ≤ height t
+height-truncate (leaf x) = omega arith
+height-truncate (branch l n r) = either (λ t. height t ≤ suc (height l)) (has_set_leaf r) (branch l n r) (truncate l) (omega arith) (let a = height-truncate l in omega arith)
 
-pub leaf_count-shrink : (t : Tree) → leaf_count (shrink t) ≤ leaf_count t
-leaf_count-shrink (leaf x) = omega arith
-leaf_count-shrink (branch l n r) =
-    either (λ t. leaf_count t ≤ leaf_count l + leaf_count r) (has_set_leaf r) (branch l n r) (shrink l) (omega arith) (let a = leaf_count-shrink l in omega arith)
+pub leaf_count-truncate : (t : Tree) → leaf_count (truncate t) ≤ leaf_count t
+leaf_count-truncate (leaf x) = omega arith
+leaf_count-truncate (branch l n r) =
+    either (λ t. leaf_count t ≤ leaf_count l + leaf_count r) (has_set_leaf r) (branch l n r) (truncate l) (omega arith) (let a = leaf_count-truncate l in omega arith)
 
-pub HasShape-shrink : (t : Tree) → HasShape t → HasShape (shrink t)
-HasShape-shrink t s = record { perfect = IsPerfect-shrink t s.perfect; low = let a = height-shrink t in omega arith }
+pub HasShape-truncate : (t : Tree) → HasShape t → HasShape (truncate t)
+HasShape-truncate t s = record { perfect = IsPerfect-truncate t s.perfect; low = let a = height-truncate t in omega arith }
 
-shrunk : (first : ℕ) (l : Tree) (n : Option ParentNode) (r : Tree) (j : ℕ) → leaf_at first (shrink l) j ≡ leaf_at first l j
-    → (b : Bool) → has_set_leaf r ≡ b → leaf_at first (if b then branch l n r else shrink l) j ≡ leaf_at first (branch l n r) j
+shrunk : (first : ℕ) (l : Tree) (n : Option ParentNode) (r : Tree) (j : ℕ) → leaf_at first (truncate l) j ≡ leaf_at first l j
+    → (b : Bool) → has_set_leaf r ≡ b → leaf_at first (if b then branch l n r else truncate l) j ≡ leaf_at first (branch l n r) j
 shrunk first l n r j ih true e = refl
 shrunk first l n r j ih false e =
     ih
@@ -212,6 +212,6 @@ shrunk first l n r j ih false e =
           ∙ sym (from j (first + leaf_count l) (leaf_at first l j) (leaf_at (first + leaf_count l) r j) ge ∙ leaf_at-none_set (first + leaf_count l) r j e)
     ]
 
-pub leaf_at-shrink : (first : ℕ) (t : Tree) (j : ℕ) → leaf_at first (shrink t) j ≡ leaf_at first t j
-leaf_at-shrink first (leaf x) j = refl
-leaf_at-shrink first (branch l n r) j = shrunk first l n r j (leaf_at-shrink first l j) (has_set_leaf r) refl
+pub leaf_at-truncate : (first : ℕ) (t : Tree) (j : ℕ) → leaf_at first (truncate t) j ≡ leaf_at first t j
+leaf_at-truncate first (leaf x) j = refl
+leaf_at-truncate first (branch l n r) j = shrunk first l n r j (leaf_at-truncate first l j) (has_set_leaf r) refl

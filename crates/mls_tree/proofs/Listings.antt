@@ -10,7 +10,7 @@ use Rattle.mls_nodes.specs.declared.node.Node.{Node}
 use Rattle.mls_nodes.specs.declared.node.Node.TheVariants.{Leaf, Parent}
 use Rattle.mls_nodes.specs.NodeModel.{NodeValue, leaf_node, parent_node, entry_value}
 use Rattle.mls_tree.specs.Tree.{Tree, leaf, branch, leaf_count, leaves_at, listing, leaf_entry, parent_entry}
-use Rattle.mls_tree.specs.NodeArray.{IsNoLeaf, IsNoParent, FitsPlace, IsArrayOf, leaf_part, parent_part, tree_in}
+use Rattle.mls_tree.specs.NodeArray.{IsNoLeaf, IsNoParent, FitsNodeIndex, IsArrayOf, leaf_part, parent_part, tree_in}
 use Rattle.mls_tree.proofs.Arrays.{listing-array}
 use Rattle.mls_tree.proofs.Trees.{length-listing}
 use Rattle.mls_tree.proofs.Growing.{slice_get-append_left}
@@ -19,11 +19,11 @@ pub slice_get-append_right : {X : Type 0} (xs ys : List X) (p : ℕ) → slice_g
 slice_get-append_right [] ys p = ap (λ k. slice_get ys k) (omega arith)
 slice_get-append_right (x ∷ xs) ys p = ap (λ k. slice_get (x ∷ xs ++ ys) k) (let e : length (x ∷ xs) + p ≡ suc (length xs + p) = omega arith in e) ∙ slice_get-append_right xs ys p
 
-abbrev IsLeafPlace : Option (Option NodeValue) → Type 0
-IsLeafPlace None = Unit {0}
-IsLeafPlace (Some None) = Unit {0}
-IsLeafPlace (Some (Some (leaf_node x))) = Unit {0}
-IsLeafPlace (Some (Some (parent_node x))) = ⊥
+abbrev IsLeafNodeIndex : Option (Option NodeValue) → Type 0
+IsLeafNodeIndex None = Unit {0}
+IsLeafNodeIndex (Some None) = Unit {0}
+IsLeafNodeIndex (Some (Some (leaf_node x))) = Unit {0}
+IsLeafNodeIndex (Some (Some (parent_node x))) = ⊥
 
 abbrev IsParentEntry : Option (Option NodeValue) → Type 0
 IsParentEntry None = Unit {0}
@@ -31,7 +31,7 @@ IsParentEntry (Some None) = Unit {0}
 IsParentEntry (Some (Some (leaf_node x))) = ⊥
 IsParentEntry (Some (Some (parent_node x))) = Unit {0}
 
-leaf-kind : (x : Option LeafNode) → IsLeafPlace (Some (leaf_entry x))
+leaf-kind : (x : Option LeafNode) → IsLeafNodeIndex (Some (leaf_entry x))
 leaf-kind None = tt
 leaf-kind (Some x) = tt
 
@@ -39,21 +39,21 @@ parent-kind : (x : Option ParentNode) → IsParentEntry (Some (parent_entry x))
 parent-kind None = tt
 parent-kind (Some x) = tt
 
-listing-even : (t : Tree) (i : ℕ) → IsLeafPlace (slice_get (listing t) (2 * i))
+listing-even : (t : Tree) (i : ℕ) → IsLeafNodeIndex (slice_get (listing t) (2 * i))
 listing-even (leaf x) i =
     elim (cases_lt i 1) [
-      | inl lt ↦ subst (λ k. IsLeafPlace (slice_get (listing (leaf x)) k)) (let e : 0 ≡ 2 * i = omega arith in e) (leaf-kind x)
-      | inr ge ↦ subst (λ k. IsLeafPlace (slice_get (listing (leaf x)) k)) (let e : suc (2 * i - 1) ≡ 2 * i = omega arith in e) tt
+      | inl lt ↦ subst (λ k. IsLeafNodeIndex (slice_get (listing (leaf x)) k)) (let e : 0 ≡ 2 * i = omega arith in e) (leaf-kind x)
+      | inr ge ↦ subst (λ k. IsLeafNodeIndex (slice_get (listing (leaf x)) k)) (let e : suc (2 * i - 1) ≡ 2 * i = omega arith in e) tt
     ]
 listing-even (branch l n r) i =
     let count = length-listing l in
     elim (cases_lt (2 * i) (length (listing l))) [
-      | inl lt ↦ subst (λ o. IsLeafPlace o) (sym (slice_get-append_left (listing l) (parent_entry n ∷ listing r) (2 * i) lt)) (listing-even l i)
+      | inl lt ↦ subst (λ o. IsLeafNodeIndex o) (sym (slice_get-append_left (listing l) (parent_entry n ∷ listing r) (2 * i) lt)) (listing-even l i)
       | inr ge ↦
           (let j = i - leaf_count l in
           let e : length (listing l) + suc (2 * j) ≡ 2 * i = omega arith in
-          subst (λ k. IsLeafPlace (slice_get (listing l ++ parent_entry n ∷ listing r) k)) e
-          (subst (λ o. IsLeafPlace o) (sym (slice_get-append_right (listing l) (parent_entry n ∷ listing r) (suc (2 * j)))) (listing-even r j)))
+          subst (λ k. IsLeafNodeIndex (slice_get (listing l ++ parent_entry n ∷ listing r) k)) e
+          (subst (λ o. IsLeafNodeIndex o) (sym (slice_get-append_right (listing l) (parent_entry n ∷ listing r) (suc (2 * j)))) (listing-even r j)))
     ]
 
 listing-odd : (t : Tree) (i : ℕ) → IsParentEntry (slice_get (listing t) (2 * i + 1))
@@ -72,7 +72,7 @@ listing-odd (branch l n r) i =
           (subst (λ o. IsParentEntry o) (sym (slice_get-append_right (listing l) (parent_entry n ∷ listing r) (suc (2 * j + 1)))) (listing-odd r j)))
     ]
 
-no_parent : (o : Option (Option Node)) → IsLeafPlace (option_map entry_value o) → IsNoParent o
+no_parent : (o : Option (Option Node)) → IsLeafNodeIndex (option_map entry_value o) → IsNoParent o
 no_parent None h = tt
 no_parent (Some None) h = tt
 no_parent (Some (Some (Leaf b))) h = tt
@@ -85,17 +85,17 @@ no_leaf (Some (Some (Leaf b))) h = h
 no_leaf (Some (Some (Parent b))) h = tt
 
 -- an array that is seen as the listing of a tree has its nodes at the right places
-pub listing-fits : (t : Tree) (xs : List (Option Node)) → listing t ≡ map entry_value xs → (p : ℕ) → FitsPlace p (slice_get xs p)
+pub listing-fits : (t : Tree) (xs : List (Option Node)) → listing t ≡ map entry_value xs → (p : ℕ) → FitsNodeIndex p (slice_get xs p)
 listing-fits t xs e p = record {
   even = λ z.
       no_parent (slice_get xs p)
-      (subst (λ o. IsLeafPlace o) (ap (λ v. slice_get v (2 * (p / 2))) e ∙ slice_get-map entry_value xs (2 * (p / 2)) ∙ ap (λ k. option_map entry_value (slice_get xs k)) (let q : 2 * (p / 2) ≡ p = omega arith in q)) (listing-even t (p / 2)));
+      (subst (λ o. IsLeafNodeIndex o) (ap (λ v. slice_get v (2 * (p / 2))) e ∙ slice_get-map entry_value xs (2 * (p / 2)) ∙ ap (λ k. option_map entry_value (slice_get xs k)) (let q : 2 * (p / 2) ≡ p = omega arith in q)) (listing-even t (p / 2)));
   odd = λ z.
       no_leaf (slice_get xs p)
       (subst (λ o. IsParentEntry o) (ap (λ v. slice_get v (2 * (p / 2) + 1)) e ∙ slice_get-map entry_value xs (2 * (p / 2) + 1) ∙ ap (λ k. option_map entry_value (slice_get xs k)) (let q : 2 * (p / 2) + 1 ≡ p = omega arith in q)) (listing-odd t (p / 2)));
 }
 
-pub IsArrayOf-fits : (xs ys : List (Option Node)) (h : ℕ) → ys ≡ xs → length xs + 1 ≡ 2 * leaves_at h → ((p : ℕ) → FitsPlace p (slice_get ys p)) → IsArrayOf xs h
+pub IsArrayOf-fits : (xs ys : List (Option Node)) (h : ℕ) → ys ≡ xs → length xs + 1 ≡ 2 * leaves_at h → ((p : ℕ) → FitsNodeIndex p (slice_get ys p)) → IsArrayOf xs h
 IsArrayOf-fits xs ys h read n f = record {
   long = n;
   even = λ i. subst (λ v. IsNoParent (slice_get v (2 * i))) read ((f (2 * i)).even (omega arith));

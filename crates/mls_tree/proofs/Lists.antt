@@ -97,8 +97,8 @@ pub insert_number-absent : (i : ℕ) (xs : List ℕ) → list_any (λ x. x == i)
 insert_number-absent i xs e = ap (λ (b : Bool). length (if b then xs else insert_before i xs)) e ∙ insert_before-length i xs
 
 -- which list is full
-pub is_overfilled-room : (i : ℕ) (p : ParentNode) → is_overfilled i (Some p) ≡ false → length (insert_number i p.unmerged) ≤ 1048576
-is_overfilled-room i p e = ltb-false 1048576 (length (insert_number i p.unmerged)) e
+pub is_overfilled-capacity : (i : ℕ) (p : ParentNode) → is_overfilled i (Some p) ≡ false → length (insert_number i p.unmerged) ≤ 1048576
+is_overfilled-capacity i p e = ltb-false 1048576 (length (insert_number i p.unmerged)) e
 
 pub insert_number-present : (i : ℕ) (xs : List ℕ) → list_any (λ x. x == i) xs ≡ true → insert_number i xs ≡ xs
 insert_number-present i xs e = ap (λ (b : Bool). if b then xs else insert_before i xs) e
@@ -144,25 +144,25 @@ module _ (xs : List (Option Node)) (first half level : ℕ) (deep : level ≢ 0)
 
   pub overfilled-near : is_overfilled i (parent_part (slice_get xs (2 * (first + half) - 1))) ≡ false → i < first + half
       → is_overfilled_above first (tree_in xs (level - 1) first) i ≡ is_overfilled_above first (tree_in xs level first) i
-  overfilled-near room lt = sym (overfilled-left xs first half level deep e i lt ∙ or_below _ _ room)
+  overfilled-near capacity lt = sym (overfilled-left xs first half level deep e i lt ∙ or_below _ _ capacity)
 
   pub overfilled-far : is_overfilled i (parent_part (slice_get xs (2 * (first + half) - 1))) ≡ false → first + half ≤ i
       → is_overfilled_above (first + half) (tree_in xs (level - 1) (first + half)) i ≡ is_overfilled_above first (tree_in xs level first) i
-  overfilled-far room ge = sym (overfilled-right xs first half level deep e i ge ∙ or_below _ _ room)
+  overfilled-far capacity ge = sym (overfilled-right xs first half level deep e i ge ∙ or_below _ _ capacity)
 
   module _ (none : is_overfilled_above first (tree_in xs level first) i ≡ false) where
-    pub room-here : is_overfilled i (parent_part (slice_get xs (2 * (first + half) - 1))) ≡ false
-    room-here =
+    pub capacity-here : is_overfilled i (parent_part (slice_get xs (2 * (first + half) - 1))) ≡ false
+    capacity-here =
         elim (cases_lt i (first + half)) [
           | inl lt ↦ (or_both _ _ (sym (overfilled-left xs first half level deep e i lt) ∙ none)).1
           | inr ge ↦ (or_both _ _ (sym (overfilled-right xs first half level deep e i ge) ∙ none)).1
         ]
 
-    pub room-near : i < first + half → is_overfilled_above first (tree_in xs (level - 1) first) i ≡ false
-    room-near lt = overfilled-near room-here lt ∙ none
+    pub capacity-near : i < first + half → is_overfilled_above first (tree_in xs (level - 1) first) i ≡ false
+    capacity-near lt = overfilled-near capacity-here lt ∙ none
 
-    pub room-far : first + half ≤ i → is_overfilled_above (first + half) (tree_in xs (level - 1) (first + half)) i ≡ false
-    room-far ge = overfilled-far room-here ge ∙ none
+    pub capacity-far : first + half ≤ i → is_overfilled_above (first + half) (tree_in xs (level - 1) (first + half)) i ≡ false
+    capacity-far ge = overfilled-far capacity-here ge ∙ none
 
 with_new_list-either : (p : ParentNode) (b : Bool) (xs : List ℕ)
     → with_new_list (Some p) (if b then None else Some xs) ≡ Some (record p { unmerged = if b then p.unmerged else xs })

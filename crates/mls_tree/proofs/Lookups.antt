@@ -7,7 +7,7 @@ use Rattle.mls_nodes.specs.declared.leaf.LeafNode.{LeafNode}
 use Rattle.mls_nodes.specs.declared.parent.ParentNode.{ParentNode}
 use Rattle.mls_nodes.specs.declared.node.Node.{Node}
 use Rattle.mls_nodes.specs.NodeModel.{entry_value, node_value}
-use Rattle.mls_tree.specs.Tree.{Tree, leaf, branch, height, leaf_count, leaves_at, Subtree, subtree_at, root_place, root_entry, leaf_at, node_at, entry_of, IsBranch, IsParent, IsParentPlace}
+use Rattle.mls_tree.specs.Tree.{Tree, leaf, branch, height, leaf_count, leaves_at, Subtree, subtree_at, root_node_index, root_entry, leaf_at, node_at, entry_of, IsBranch, IsParent, IsParentNodeIndex}
 use Rattle.mls_tree.specs.TreeOperations.{put_leaf, put_parent}
 use Rattle.mls_tree.specs.NodeArray.{leaf_part, parent_part, tree_in, IsNoLeaf, IsNoParent, IsArrayOf, height-tree_in}
 use Rattle.mls_tree.specs.RatchetTree.{RatchetTree}
@@ -75,7 +75,7 @@ pub subtree_at-tree_in : (xs : List (Option Node)) (h first p : ℕ) (s : Subtre
 subtree_at-tree_in xs h first p s e = subtree_from xs first (tree_in xs h first) p s e h refl
 
 pub root_entry-tree_in : (xs : List (Option Node)) (n h first : ℕ) → IsArrayOf xs n
-    → root_entry (tree_in xs h first) ≡ entry_at (slice_get xs (root_place first (tree_in xs h first)))
+    → root_entry (tree_in xs h first) ≡ entry_at (slice_get xs (root_node_index first (tree_in xs h first)))
 root_entry-tree_in xs n zero first ok = leaf_entry-part (slice_get xs (2 * first)) (ok.even first)
 root_entry-tree_in xs n (suc h) first ok =
     let count = leaf_count-tree_in xs h first in
@@ -97,37 +97,37 @@ node_at-array xs h p ok =
           ap entry_of s.1
           ∙ ap root_entry e
           ∙ root_entry-tree_in xs h (height s.0.tree) s.0.first ok
-          ∙ ap (λ v. entry_at (slice_get xs (root_place s.0.first v))) (sym e)
-          ∙ ap (λ k. entry_at (slice_get xs k)) (sym at.place))
+          ∙ ap (λ v. entry_at (slice_get xs (root_node_index s.0.first v))) (sym e)
+          ∙ ap (λ k. entry_at (slice_get xs k)) (sym at.node_index))
       | inr ge ↦
           ap entry_of (subtree_at-none 0 t p (omega arith)) ∙ sym (ap entry_at (slice_get_past xs p (omega (arith, ok.long))))
     ]
 
 -- parents stand at the odd places
-pub IsBranch-odd : (first : ℕ) (t : Tree) (i : ℕ) → root_place first t ≡ 2 * i + 1 → IsBranch t
+pub IsBranch-odd : (first : ℕ) (t : Tree) (i : ℕ) → root_node_index first t ≡ 2 * i + 1 → IsBranch t
 IsBranch-odd first (leaf x) i e = omega arith
 IsBranch-odd first (branch l n r) i e = tt
 
-pub IsBranch-even : (first : ℕ) (t : Tree) (i : ℕ) → root_place first t ≡ 2 * i → IsBranch t → ⊥
+pub IsBranch-even : (first : ℕ) (t : Tree) (i : ℕ) → root_node_index first t ≡ 2 * i → IsBranch t → ⊥
 IsBranch-even first (leaf x) i e b = b
 IsBranch-even first (branch l n r) i e b = omega (arith, leaf_count-positive l)
 
-pub IsParentPlace-odd : (t : Tree) (i : ℕ) → 2 * i + 2 < 2 * leaf_count t → IsParentPlace t (2 * i + 1)
-IsParentPlace-odd t i h =
+pub IsParentNodeIndex-odd : (t : Tree) (i : ℕ) → 2 * i + 2 < 2 * leaf_count t → IsParentNodeIndex t (2 * i + 1)
+IsParentNodeIndex-odd t i h =
     let s = subtree_at-some 0 t (2 * i + 1) (omega arith) (omega arith) in
     let at = subtree_at-stands 0 t (2 * i + 1) s.0 s.1 in
-    subst (λ o. IsParent o) (sym s.1) (IsBranch-odd s.0.first s.0.tree i (sym at.place))
+    subst (λ o. IsParent o) (sym s.1) (IsBranch-odd s.0.first s.0.tree i (sym at.node_index))
 
 -- a parent's place is odd, and in the tree
-pub IsParentPlace-bounds : (t : Tree) (p : ℕ) → IsParentPlace t p → (p % 2 ≡ 1) × (p + 1 < 2 * leaf_count t)
-IsParentPlace-bounds t p h =
+pub IsParentNodeIndex-bounds : (t : Tree) (p : ℕ) → IsParentNodeIndex t p → (p % 2 ≡ 1) × (p + 1 < 2 * leaf_count t)
+IsParentNodeIndex-bounds t p h =
     elim (cases_lt (p + 1) (2 * leaf_count t)) [
       | inl lt ↦
           (let s = subtree_at-some 0 t p (omega arith) (omega arith) in
           let at = subtree_at-stands 0 t p s.0 s.1 in
           let b : IsBranch s.0.tree = subst (λ o. IsParent o) s.1 h in
           elim (cases_lt (p % 2) 1) [
-            | inl even ↦ (let q : root_place s.0.first s.0.tree ≡ 2 * (p / 2) = omega arith in absurd (IsBranch-even s.0.first s.0.tree (p / 2) q b))
+            | inl even ↦ (let q : root_node_index s.0.first s.0.tree ≡ 2 * (p / 2) = omega arith in absurd (IsBranch-even s.0.first s.0.tree (p / 2) q b))
             | inr odd ↦ (omega arith, lt)
           ])
       | inr ge ↦ absurd (subst (λ o. IsParent o) (subtree_at-none 0 t p (omega arith)) h)
@@ -211,20 +211,20 @@ module _ (xs : List (Option Node)) (h : ℕ) (ok : IsArrayOf xs h) (t : Tree) (v
       let at : 2 * (p / 2) + 1 ≡ p = omega arith in
       subst (λ k. IsArrayOf (slice_set xs k v) h) at (IsArrayOf-set_parent xs h (p / 2) v ok fits (omega arith))
 
-  pub IsParentPlace-seen : (p : ℕ) → p % 2 ≢ 0 → p < length xs → IsParentPlace t p
-  IsParentPlace-seen p odd n =
+  pub IsParentNodeIndex-seen : (p : ℕ) → p % 2 ≢ 0 → p < length xs → IsParentNodeIndex t p
+  IsParentNodeIndex-seen p odd n =
       let at : 2 * (p / 2) + 1 ≡ p = omega arith in
-      subst (λ k. IsParentPlace t k) at (IsParentPlace-odd t (p / 2) (omega (arith, length-seen)))
+      subst (λ k. IsParentNodeIndex t k) at (IsParentNodeIndex-odd t (p / 2) (omega (arith, length-seen)))
 
-  pub IsParentPlace-not : (p : ℕ) → (p % 2 ≡ 0) ⊎ (length xs ≤ p) → IsParentPlace t p → ⊥
-  IsParentPlace-not p away h = let b = IsParentPlace-bounds t p h in elim away [ inl even ↦ omega arith | inr past ↦ omega (arith, length-seen) ]
+  pub IsParentNodeIndex-not : (p : ℕ) → (p % 2 ≡ 0) ⊎ (length xs ≤ p) → IsParentNodeIndex t p → ⊥
+  IsParentNodeIndex-not p away h = let b = IsParentNodeIndex-bounds t p h in elim away [ inl even ↦ omega arith | inr past ↦ omega (arith, length-seen) ]
 
 -- the subtree at a place of the tree that the array xs is seen as, by its level and its first leaf
 module _ (xs : List (Option Node)) (h : ℕ) (t : RatchetTree) (view : tree_in xs h 0 ≡ t.tree) (p n k first : ℕ) (c : leaf_count t.tree ≡ n) (s : HasLevel p n k) (f : first ≡ (p + 1 - leaves_at k) / 2) where
   HasLevel-first : (a : At t.tree p k) → a.subtree.first ≡ first
   HasLevel-first a =
       let q : (2 * a.number + 1) * leaves_at k ≡ 2 * (a.number * leaves_at k) + leaves_at k = omega arith in
-      omega (arith, a.first, a.place)
+      omega (arith, a.first, a.node_index)
 
   pub subtree_at-seen : subtree_at 0 t.tree p ≡ Some (record { first = first; tree = tree_in xs k first })
   subtree_at-seen =

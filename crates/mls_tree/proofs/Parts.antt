@@ -5,12 +5,12 @@ use Rattle.std.proofs.lemmas.Option.{none-some, same_Some}
 use Rattle.mls_nodes.specs.declared.leaf.LeafNode.{LeafNode}
 use Rattle.mls_nodes.specs.declared.parent.ParentNode.{ParentNode}
 use Rattle.mls_tree.specs.Tree.{Tree, leaf, branch, height, Subtree, subtree_at, leaf_at, node_at, parent_entry}
-use Rattle.mls_tree.specs.NodeIndices.{level_at, left_at, right_at, left_place}
+use Rattle.mls_tree.specs.NodeIndices.{level_at, left_at, right_at, left_node_index}
 use Rattle.mls_tree.specs.NodeView.{HasChildren, parent_of}
 use Rattle.mls_tree.proofs.Halves.{split, leaf_here}
 use Rattle.mls_tree.proofs.Trees.{subtree_at-stands, leaf_count-positive}
 
-leaf_level : (first : ℕ) (t : Tree) → height t ≡ 0 → left_place first t ≡ None
+leaf_level : (first : ℕ) (t : Tree) → height t ≡ 0 → left_node_index first t ≡ None
 leaf_level first (leaf x) e = refl
 leaf_level first (branch l n r) e = absurd (omega arith)
 
@@ -22,11 +22,11 @@ level_of t p k (Some s) e l = (s, e, same_Some (height s.tree) k (sym (ap (optio
 pub leaf_part : (t : Tree) (p : ℕ) (x : Option LeafNode) → level_at t p ≡ Some 0 → x ≡ leaf_at 0 t (p / 2) → subtree_at 0 t p ≡ Some (record { first = p / 2; tree = leaf x })
 leaf_part t p x l e =
     let s = level_of t p 0 (subtree_at 0 t p) refl l in
-    let no_left : left_at t p ≡ None = ap (option_and_then (λ (s : Subtree). left_place s.first s.tree)) s.1 ∙ leaf_level s.0.first s.0.tree s.2 in
+    let no_left : left_at t p ≡ None = ap (option_and_then (λ (s : Subtree). left_node_index s.first s.tree)) s.1 ∙ leaf_level s.0.first s.0.tree s.2 in
     let there : IsSome (subtree_at 0 t p) = subst (λ (o : Option Subtree). IsSome o) (sym s.1) refl in
     let h = leaf_here t p there no_left in
-    let value : h.value ≡ x = sym (e ∙ ap (leaf_at 0 t) h.place ∙ h.at) in
-    h.whole ∙ (λ i. Some (record { first = sym h.place i; tree = leaf (value i) }))
+    let value : h.value ≡ x = sym (e ∙ ap (leaf_at 0 t) h.node_index ∙ h.at) in
+    h.whole ∙ (λ i. Some (record { first = sym h.node_index i; tree = leaf (value i) }))
 
 parent_of-entry : (n : Option ParentNode) → parent_of (parent_entry n) ≡ n
 parent_of-entry None = refl
@@ -43,7 +43,7 @@ parent_part t p q u n a b e =
       left = s.left;
       right = s.right;
       whole = s.whole ∙ (λ i. Some (record { first = s.first; tree = branch s.left (same i) s.right }));
-      left_child = s.left_half;
-      right_child = s.right_half;
-      split = omega (arith, st.place, leaf_count-positive s.left);
+      left_child = s.left_subtree;
+      right_child = s.right_subtree;
+      split = omega (arith, st.node_index, leaf_count-positive s.left);
     }

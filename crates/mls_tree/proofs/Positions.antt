@@ -4,7 +4,7 @@ use Rattle.std.specs.Prelude.{slice_get, ◌↔◌, ◌⊎◌}
 use Rattle.std.proofs.lemmas.Bool.{cases_lt, cases_order}
 use Rattle.mls_nodes.specs.declared.parent.ParentNode.{ParentNode}
 use Rattle.mls_nodes.specs.NodeModel.{NodeValue}
-use Rattle.mls_tree.specs.Tree.{Tree, leaf, branch, leaf_count, listing, leaf_entry, parent_entry, Subtree, subtree_at, root_place, root_entry, entry_of, node_at, leaf_at, IsBranch, IsParent, IsParentPlace}
+use Rattle.mls_tree.specs.Tree.{Tree, leaf, branch, leaf_count, listing, leaf_entry, parent_entry, Subtree, subtree_at, root_node_index, root_entry, entry_of, node_at, leaf_at, IsBranch, IsParent, IsParentNodeIndex}
 use Rattle.mls_tree.proofs.Choices.{below, from, same, other}
 use Rattle.mls_tree.proofs.Trees.{length-listing, leaf_count-positive, subtree_at-in_left, subtree_at-in_right, subtree_at-here, subtree_at-stands, subtree_at-some, subtree_at-none}
 use Rattle.mls_tree.proofs.Growing.{slice_get-append_left}
@@ -54,8 +54,8 @@ node_at-listing t p =
     entry_of-standing (subtree_at 0 t p) ∙ sym (ap (λ o. unwrap_or o None) (listing-subtree_at 0 t p ∙ ap (λ k. standing (subtree_at 0 t k)) at))
 
 -- a tree has the places of its listing
-pub place-inside : (t : Tree) (p : ℕ) → IsSome (subtree_at 0 t p) ↔ (p < length (listing t))
-place-inside t p =
+pub node_index-inside : (t : Tree) (p : ℕ) → IsSome (subtree_at 0 t p) ↔ (p < length (listing t))
+node_index-inside t p =
     elim (cases_lt p (length (listing t))) [
       | inl lt ↦
           (let s = subtree_at-some 0 t p (omega arith) (omega (arith, length-listing t)) in
@@ -92,28 +92,28 @@ pub leaf_at-listing : (t : Tree) (i : ℕ) → leaf_entry (leaf_at 0 t i) ≡ un
 leaf_at-listing t i = let at : i ≡ 0 + i = omega arith in ap (λ k. leaf_entry (leaf_at 0 t k)) at ∙ leaf-standing 0 t i
 
 -- parents stand at odd places
-odd_place : (first : ℕ) (t : Tree) → IsBranch t → root_place first t % 2 ≡ 1
-odd_place first (leaf x) h = absurd h
-odd_place first (branch l n r) h = omega (arith, leaf_count-positive l)
+odd_node_index : (first : ℕ) (t : Tree) → IsBranch t → root_node_index first t % 2 ≡ 1
+odd_node_index first (leaf x) h = absurd h
+odd_node_index first (branch l n r) h = omega (arith, leaf_count-positive l)
 
-even_place : (first : ℕ) (t : Tree) → (IsBranch t → ⊥) → root_place first t % 2 ≡ 0
-even_place first (leaf x) h = omega arith
-even_place first (branch l n r) h = absurd (h tt)
+even_node_index : (first : ℕ) (t : Tree) → (IsBranch t → ⊥) → root_node_index first t % 2 ≡ 0
+even_node_index first (leaf x) h = omega arith
+even_node_index first (branch l n r) h = absurd (h tt)
 
 is_branch : (t : Tree) → IsBranch t ⊎ (IsBranch t → ⊥)
 is_branch (leaf x) = inr (λ h. h)
 is_branch (branch l n r) = inl tt
 
-pub parent_place-listing : (t : Tree) (p : ℕ) → IsParentPlace t p ↔ ((p < length (listing t)) × (p % 2 ≡ 1))
-parent_place-listing t p =
+pub parent_node_index-listing : (t : Tree) (p : ℕ) → IsParentNodeIndex t p ↔ ((p < length (listing t)) × (p % 2 ≡ 1))
+parent_node_index-listing t p =
     elim (cases_lt p (length (listing t))) [
       | inl lt ↦
           (let s = subtree_at-some 0 t p (omega arith) (omega (arith, length-listing t)) in
-          let at = (subtree_at-stands 0 t p s.0 s.1).place in (
-            λ parent. (lt, ap (λ k. k % 2) at ∙ odd_place s.0.first s.0.tree (subst (λ o. IsParent o) s.1 parent)),
+          let at = (subtree_at-stands 0 t p s.0 s.1).node_index in (
+            λ parent. (lt, ap (λ k. k % 2) at ∙ odd_node_index s.0.first s.0.tree (subst (λ o. IsParent o) s.1 parent)),
             λ odd. elim (is_branch s.0.tree) [
               | inl h ↦ subst (λ o. IsParent o) (sym s.1) h
-              | inr h ↦ (let even = ap (λ k. k % 2) at ∙ even_place s.0.first s.0.tree h in let o = odd.1 in absurd (omega arith))
+              | inr h ↦ (let even = ap (λ k. k % 2) at ∙ even_node_index s.0.first s.0.tree h in let o = odd.1 in absurd (omega arith))
             ],
           ))
       | inr ge ↦

@@ -4,7 +4,7 @@ use Rattle.std.specs.Prelude.{slice_set}
 use Rattle.std.proofs.lemmas.Bool.{cases_lt, cases_order}
 use Rattle.mls_nodes.specs.declared.leaf.LeafNode.{LeafNode}
 use Rattle.mls_nodes.specs.declared.parent.ParentNode.{ParentNode}
-use Rattle.mls_tree.specs.Tree.{Tree, leaf, branch, leaf_count, listing, leaf_entry, parent_entry, subtree_at, IsParent, IsParentPlace}
+use Rattle.mls_tree.specs.Tree.{Tree, leaf, branch, leaf_count, listing, leaf_entry, parent_entry, subtree_at, IsParent, IsParentNodeIndex}
 use Rattle.mls_tree.specs.TreeOperations.{put_leaf, put_parent}
 use Rattle.mls_tree.proofs.Choices.{below, from, here, before, after, same, other}
 use Rattle.mls_tree.proofs.Trees.{length-listing, subtree_at-in_left, subtree_at-in_right}
@@ -89,7 +89,7 @@ parent-replaced first (branch l n r) p x h =
           ∙ sym (set-right l n r p (parent_entry x) gt))
     ]
 
-pub listing-put_parent : (t : Tree) (p : ℕ) (x : Option ParentNode) → IsParentPlace t p → listing (put_parent 0 t p x) ≡ slice_set (listing t) p (parent_entry x)
+pub listing-put_parent : (t : Tree) (p : ℕ) (x : Option ParentNode) → IsParentNodeIndex t p → listing (put_parent 0 t p x) ≡ slice_set (listing t) p (parent_entry x)
 listing-put_parent t p x h =
     let at : p ≡ 2 * 0 + p = omega arith in
     ap (λ k. listing (put_parent 0 t k x)) at ∙ parent-replaced 0 t p x (subst (λ k. IsParent (subtree_at 0 t k)) at h)

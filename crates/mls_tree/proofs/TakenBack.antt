@@ -4,12 +4,12 @@ use Rattle.std.specs.Prelude.{option_map, Result, Ok, Err, OnOk, OnErr, IsErr, I
 use Rattle.std.proofs.lemmas.Bool.{cases_lt, cases_order}
 use Rattle.mls_nodes.specs.declared.leaf.LeafNode.{LeafNode}
 use Rattle.mls_nodes.specs.declared.parent.ParentNode.{ParentNode}
-use Rattle.mls_tree.specs.Tree.{Tree, leaf, branch, leaf_count, leaf_at, node_at, entry_of, Subtree, subtree_at, IsParent, IsParentPlace}
-use Rattle.mls_tree.specs.TreeOperations.{put_leaf, put_parent, change_parent, without_unmerged, left_half, grow, rejoined}
+use Rattle.mls_tree.specs.Tree.{Tree, leaf, branch, leaf_count, leaf_at, node_at, entry_of, Subtree, subtree_at, IsParent, IsParentNodeIndex}
+use Rattle.mls_tree.specs.TreeOperations.{put_leaf, put_parent, change_parent, without_unmerged, left_subtree, extend, rejoined}
 use Rattle.mls_tree.specs.NodeView.{parent_of}
-use Rattle.mls_tree.specs.Journals.{taken_back, all_taken_back}
+use Rattle.mls_tree.specs.Journals.{undone, all_undone}
 use Rattle.mls_tree.specs.declared.journal.UndoEntry.{UndoEntry}
-use Rattle.mls_tree.specs.declared.journal.UndoEntry.TheVariants.{Leaf, Parent, Entered, Grown, Halved}
+use Rattle.mls_tree.specs.declared.journal.UndoEntry.TheVariants.{Leaf, Parent, AddedUnmerged, Extended, Halved}
 use Rattle.mls_tree.specs.RatchetTree.{RatchetTree}
 use Rattle.mls_tree.specs.PublicTreeModel.{KeptTree}
 use Rattle.mls_tree.proofs.Elsewhere.{put_parent-elsewhere}
@@ -85,15 +85,15 @@ put_parent-back first (branch l n r) p x h =
 
 -- ---- a list of changes
 
--- the last change is taken back first
-pub taken_back-last : (xs : List UndoEntry) (x : UndoEntry) (t : Tree) → all_taken_back (xs ++ x ∷ []) t ≡ all_taken_back xs (taken_back x t)
-taken_back-last [] x t = refl
-taken_back-last (y ∷ xs) x t = ap (taken_back y) (taken_back-last xs x t)
+-- the last change is undone first
+pub undone-last : (xs : List UndoEntry) (x : UndoEntry) (t : Tree) → all_undone (xs ++ x ∷ []) t ≡ all_undone xs (undone x t)
+undone-last [] x t = refl
+undone-last (y ∷ xs) x t = ap (undone y) (undone-last xs x t)
 
 -- ---- one change is taken back
 
 pub leaf-undone : (t u : Tree) (i : ℕ) (x : Option LeafNode) (node : Option (Box LeafNode Global)) → i < leaf_count t → u ≡ put_leaf 0 t i x
-    → option_map (λ b. b.value) node ≡ leaf_at 0 t i → taken_back (Leaf i node) u ≡ t
+    → option_map (λ b. b.value) node ≡ leaf_at 0 t i → undone (Leaf i node) u ≡ t
 leaf-undone t u i x node inside put former =
     let c = leaf_count-put_leaf 0 t i x in
     let e : leaf_count u ≡ leaf_count t = ap leaf_count put ∙ c in
@@ -101,8 +101,8 @@ leaf-undone t u i x node inside put former =
     ∙ (λ k. put_leaf 0 (put k) i (former k))
     ∙ put_leaf-back 0 t i x (omega arith) (omega arith)
 
-pub parent-undone : (t u : Tree) (p : ℕ) (x : Option ParentNode) (node : Option (Box ParentNode Global)) → IsParentPlace t p → u ≡ put_parent 0 t p x
-    → option_map (λ b. b.value) node ≡ parent_of (node_at t p) → taken_back (Parent p node) u ≡ t
+pub parent-undone : (t u : Tree) (p : ℕ) (x : Option ParentNode) (node : Option (Box ParentNode Global)) → IsParentNodeIndex t p → u ≡ put_parent 0 t p x
+    → option_map (λ b. b.value) node ≡ parent_of (node_at t p) → undone (Parent p node) u ≡ t
 parent-undone t u p x node inside put former = (λ k. put_parent 0 (put k) p (former k)) ∙ put_parent-back 0 t p x inside
 
 -- the parent that is there is put
@@ -134,7 +134,7 @@ put_parent-same first (branch l n r) p h =
     ]
 
 -- a blank parent that becomes blank
-pub blank-kept : (t u : Tree) (p : ℕ) (x node : Option (Box ParentNode Global)) → IsParentPlace t p → IsNone x → IsNone node → u ≡ put_parent 0 t p (option_map (λ b. b.value) x)
+pub blank-kept : (t u : Tree) (p : ℕ) (x node : Option (Box ParentNode Global)) → IsParentNodeIndex t p → IsNone x → IsNone node → u ≡ put_parent 0 t p (option_map (λ b. b.value) x)
     → option_map (λ b. b.value) node ≡ parent_of (node_at t p) → u ≡ t
 blank-kept t u p None None inside a b put former = put ∙ ap (put_parent 0 t p) former ∙ put_parent-same 0 t p inside
 blank-kept t u p None (Some n) inside a b put former = absurd (cc)
@@ -142,55 +142,55 @@ blank-kept t u p (Some x) node inside a b put former = absurd (cc)
 
 -- ---- what a journal keeps of one change
 
-module _ (t u : Tree) (old room new : List UndoEntry) (reserved : room ≡ old) where
+module _ (t u : Tree) (old capacity new : List UndoEntry) (reserved : capacity ≡ old) where
   -- a leaf was replaced
   pub leaf-kept_back : (i : ℕ) (x : Option LeafNode) (node : Option (Box LeafNode Global)) → i < leaf_count t → u ≡ put_leaf 0 t i x
-      → option_map (λ b. b.value) node ≡ leaf_at 0 t i → new ≡ room ++ Leaf i node ∷ [] → all_taken_back new u ≡ all_taken_back old t
+      → option_map (λ b. b.value) node ≡ leaf_at 0 t i → new ≡ capacity ++ Leaf i node ∷ [] → all_undone new u ≡ all_undone old t
   leaf-kept_back i x node inside put former pushed =
-      ap (λ xs. all_taken_back xs u) (pushed ∙ ap (λ xs. xs ++ Leaf i node ∷ []) reserved)
-      ∙ taken_back-last old (Leaf i node) u
-      ∙ ap (all_taken_back old) (leaf-undone t u i x node inside put former)
+      ap (λ xs. all_undone xs u) (pushed ∙ ap (λ xs. xs ++ Leaf i node ∷ []) reserved)
+      ∙ undone-last old (Leaf i node) u
+      ∙ ap (all_undone old) (leaf-undone t u i x node inside put former)
 
   -- a parent was replaced
-  pub parent-kept_back : (p : ℕ) (x : Option ParentNode) (node : Option (Box ParentNode Global)) → IsParentPlace t p → u ≡ put_parent 0 t p x
-      → option_map (λ b. b.value) node ≡ parent_of (node_at t p) → new ≡ room ++ Parent p node ∷ [] → all_taken_back new u ≡ all_taken_back old t
+  pub parent-kept_back : (p : ℕ) (x : Option ParentNode) (node : Option (Box ParentNode Global)) → IsParentNodeIndex t p → u ≡ put_parent 0 t p x
+      → option_map (λ b. b.value) node ≡ parent_of (node_at t p) → new ≡ capacity ++ Parent p node ∷ [] → all_undone new u ≡ all_undone old t
   parent-kept_back p x node inside put former pushed =
-      ap (λ xs. all_taken_back xs u) (pushed ∙ ap (λ xs. xs ++ Parent p node ∷ []) reserved)
-      ∙ taken_back-last old (Parent p node) u
-      ∙ ap (all_taken_back old) (parent-undone t u p x node inside put former)
+      ap (λ xs. all_undone xs u) (pushed ∙ ap (λ xs. xs ++ Parent p node ∷ []) reserved)
+      ∙ undone-last old (Parent p node) u
+      ∙ ap (all_undone old) (parent-undone t u p x node inside put former)
 
   -- a leaf's index entered a list
-  pub entered-kept_back : (p i : ℕ) → change_parent (without_unmerged i) 0 u p ≡ t → new ≡ room ++ Entered p i ∷ [] → all_taken_back new u ≡ all_taken_back old t
-  entered-kept_back p i left pushed =
-      ap (λ xs. all_taken_back xs u) (pushed ∙ ap (λ xs. xs ++ Entered p i ∷ []) reserved)
-      ∙ taken_back-last old (Entered p i) u
-      ∙ ap (all_taken_back old) left
+  pub in_lists-kept_back : (p i : ℕ) → change_parent (without_unmerged i) 0 u p ≡ t → new ≡ capacity ++ AddedUnmerged p i ∷ [] → all_undone new u ≡ all_undone old t
+  in_lists-kept_back p i left pushed =
+      ap (λ xs. all_undone xs u) (pushed ∙ ap (λ xs. xs ++ AddedUnmerged p i ∷ []) reserved)
+      ∙ undone-last old (AddedUnmerged p i) u
+      ∙ ap (all_undone old) left
 
   -- the tree was doubled
-  pub grown-kept_back : u ≡ grow t → new ≡ room ++ Grown ∷ [] → all_taken_back new u ≡ all_taken_back old t
+  pub grown-kept_back : u ≡ extend t → new ≡ capacity ++ Extended ∷ [] → all_undone new u ≡ all_undone old t
   grown-kept_back put pushed =
-      ap (λ xs. all_taken_back xs u) (pushed ∙ ap (λ xs. xs ++ Grown ∷ []) reserved)
-      ∙ taken_back-last old Grown u
-      ∙ ap (λ v. all_taken_back old (left_half v)) put
+      ap (λ xs. all_undone xs u) (pushed ∙ ap (λ xs. xs ++ Extended ∷ []) reserved)
+      ∙ undone-last old Extended u
+      ∙ ap (λ v. all_undone old (left_subtree v)) put
 
 -- a parent that is put, or refused since there is no place for one
 pub parent-put_back : {A E : Type 0} (r : Result A E) (t u : RatchetTree) (p : ℕ) (x : Option ParentNode) → OnOk r (u.tree ≡ put_parent 0 t.tree p x) → OnErr r (u ≡ t)
-    → (IsErr r → ¬ IsParentPlace t.tree p) → u.tree ≡ put_parent 0 t.tree p x
+    → (IsErr r → ¬ IsParentNodeIndex t.tree p) → u.tree ≡ put_parent 0 t.tree p x
 parent-put_back (Ok a) t u p x put stays none = put
 parent-put_back (Err e) t u p x put stays none = ap (λ (r : RatchetTree). r.tree) stays ∙ sym (put_parent-elsewhere t.tree p x (none refl))
 
--- the last change is taken back
-pub taken_back-step : (t u : Tree) (all rest : List UndoEntry) (x : UndoEntry) → all ≡ rest ++ x ∷ [] → u ≡ taken_back x t → all_taken_back rest u ≡ all_taken_back all t
-taken_back-step t u all rest x split e = ap (all_taken_back rest) e ∙ sym (taken_back-last rest x t) ∙ ap (λ xs. all_taken_back xs t) (sym split)
+-- the last change is undone
+pub undone-step : (t u : Tree) (all rest : List UndoEntry) (x : UndoEntry) → all ≡ rest ++ x ∷ [] → u ≡ undone x t → all_undone rest u ≡ all_undone all t
+undone-step t u all rest x split e = ap (all_undone rest) e ∙ sym (undone-last rest x t) ∙ ap (λ xs. all_undone xs t) (sym split)
 
 -- all are
-pub taken_back-end : (t : Tree) (left : List UndoEntry) → left ≡ [] → all_taken_back left t ≡ t
-taken_back-end t left e = ap (λ xs. all_taken_back xs t) e
+pub undone-end : (t : Tree) (left : List UndoEntry) → left ≡ [] → all_undone left t ≡ t
+undone-end t left e = ap (λ xs. all_undone xs t) e
 
 -- the tree was halved
-pub halved-kept_back : (t u : Tree) (b : Box KeptTree Global) (old room new : List UndoEntry) → room ≡ old → rejoined u b.value.tree ≡ t → new ≡ room ++ Halved b ∷ []
-    → all_taken_back new u ≡ all_taken_back old t
-halved-kept_back t u b old room new reserved back pushed =
-    ap (λ xs. all_taken_back xs u) (pushed ∙ ap (λ xs. xs ++ Halved b ∷ []) reserved)
-    ∙ taken_back-last old (Halved b) u
-    ∙ ap (all_taken_back old) back
+pub halved-kept_back : (t u : Tree) (b : Box KeptTree Global) (old capacity new : List UndoEntry) → capacity ≡ old → rejoined u b.value.tree ≡ t → new ≡ capacity ++ Halved b ∷ []
+    → all_undone new u ≡ all_undone old t
+halved-kept_back t u b old capacity new reserved back pushed =
+    ap (λ xs. all_undone xs u) (pushed ∙ ap (λ xs. xs ++ Halved b ∷ []) reserved)
+    ∙ undone-last old (Halved b) u
+    ∙ ap (all_undone old) back

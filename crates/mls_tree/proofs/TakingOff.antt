@@ -14,7 +14,7 @@ use Rattle.mls_nodes.specs.declared.parent.ParentNode.{ParentNode}
 use Rattle.mls_nodes.specs.declared.node.Node.{Node}
 use Rattle.mls_tree.specs.Tree.{leaves_at}
 use Rattle.mls_tree.specs.NodeArray.{parent_part, tree_in}
-use Rattle.mls_tree.specs.Paths.{resolution, unmerged_places, count_not_in}
+use Rattle.mls_tree.specs.Paths.{resolution, unmerged_node_indices, count_not_in}
 use Rattle.mls_tree.specs.Subtraction.{taken_off}
 use Rattle.mls_tree.proofs.Choices.{below, from, is_less, not_less}
 use Rattle.mls_tree.proofs.Walking.{resolution-blank, resolution-set}
@@ -101,14 +101,14 @@ module _ (s : BTreeSet ℕ) where
 
   -- the unmerged leaves from the k-th on: one that the tree has, and one that it doesn't have
   module _ (leaves : ℕ) (xs : List ℕ) (k x : ℕ) (inside : k < length xs) (at : x ≡ get_or xs k 0) where
-    unmerged-next : unmerged_places leaves (drop k xs) ≡ map (λ i. 2 * i) (cond (nat_lt x leaves) (x ∷ filter (λ i. nat_lt i leaves) (drop (k + 1) xs)) (filter (λ i. nat_lt i leaves) (drop (k + 1) xs)))
-    unmerged-next = at_drop_more (unmerged_places leaves) xs k 0 inside ∙ ap (λ y. unmerged_places leaves (y ∷ drop (k + 1) xs)) (sym at)
+    unmerged-next : unmerged_node_indices leaves (drop k xs) ≡ map (λ i. 2 * i) (cond (nat_lt x leaves) (x ∷ filter (λ i. nat_lt i leaves) (drop (k + 1) xs)) (filter (λ i. nat_lt i leaves) (drop (k + 1) xs)))
+    unmerged-next = at_drop_more (unmerged_node_indices leaves) xs k 0 inside ∙ ap (λ y. unmerged_node_indices leaves (y ∷ drop (k + 1) xs)) (sym at)
 
-    pub unmerged-there : x < leaves → unmerged_places leaves (drop k xs) ≡ (2 * x) ∷ unmerged_places leaves (drop (k + 1) xs)
+    pub unmerged-there : x < leaves → unmerged_node_indices leaves (drop k xs) ≡ (2 * x) ∷ unmerged_node_indices leaves (drop (k + 1) xs)
     unmerged-there lt =
         unmerged-next ∙ ap (λ b. map (λ i. 2 * i) (cond b (x ∷ filter (λ i. nat_lt i leaves) (drop (k + 1) xs)) (filter (λ i. nat_lt i leaves) (drop (k + 1) xs)))) (is_less x leaves lt)
 
-    pub unmerged-not_there : leaves ≤ x → unmerged_places leaves (drop k xs) ≡ unmerged_places leaves (drop (k + 1) xs)
+    pub unmerged-not_there : leaves ≤ x → unmerged_node_indices leaves (drop k xs) ≡ unmerged_node_indices leaves (drop (k + 1) xs)
     unmerged-not_there ge =
         unmerged-next ∙ ap (λ b. map (λ i. 2 * i) (cond b (x ∷ filter (λ i. nat_lt i leaves) (drop (k + 1) xs)) (filter (λ i. nat_lt i leaves) (drop (k + 1) xs)))) (not_less x leaves ge)
 
@@ -132,18 +132,18 @@ module _ (xs : List (Option Node)) (first half level : ℕ) (deep : level ≢ 0)
 
   pub taken-set : (p : ParentNode) → parent_part (slice_get xs (2 * (first + half) - 1)) ≡ Some p → (ys : List ℕ) → ys ≡ p.unmerged → (rest : ℕ) (r : Option ℕ)
       → Some rest ≡ taken_off left (count_not_in s ((2 * (first + half) - 1) ∷ []))
-      → r ≡ taken_off rest (count_not_in s (unmerged_places leaves ys))
+      → r ≡ taken_off rest (count_not_in s (unmerged_node_indices leaves ys))
       → r ≡ taken_off left (count_not_in s (resolution leaves first (tree_in xs level first)))
   taken-set p some ys y rest r own f =
-      f ∙ ap (λ v. taken_off rest (count_not_in s (unmerged_places leaves v))) y
+      f ∙ ap (λ v. taken_off rest (count_not_in s (unmerged_node_indices leaves v))) y
       ∙ sym (ap (λ v. taken_off left (count_not_in s v)) (resolution-set xs first half level deep e leaves p some)
-      ∙ taken-more s left rest (2 * (first + half) - 1) (unmerged_places leaves p.unmerged) own)
+      ∙ taken-more s left rest (2 * (first + half) - 1) (unmerged_node_indices leaves p.unmerged) own)
 
   pub taken-set_stopped : (p : ParentNode) → parent_part (slice_get xs (2 * (first + half) - 1)) ≡ Some p
       → None ≡ taken_off left (count_not_in s ((2 * (first + half) - 1) ∷ []))
       → None ≡ taken_off left (count_not_in s (resolution leaves first (tree_in xs level first)))
   taken-set_stopped p some own =
-      taken-stopped s left (2 * (first + half) - 1) (unmerged_places leaves p.unmerged) own
+      taken-stopped s left (2 * (first + half) - 1) (unmerged_node_indices leaves p.unmerged) own
       ∙ ap (λ v. taken_off left (count_not_in s v)) (sym (resolution-set xs first half level deep e leaves p some))
 
 -- nothing is taken off for a subtree with an empty resolution

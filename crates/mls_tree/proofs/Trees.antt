@@ -4,7 +4,7 @@ use Rattle.std.proofs.lemmas.Bool.{cases_order}
 use Rattle.std.proofs.lemmas.Option.{same_Some, cond_some}
 use Rattle.std.proofs.Common.{inl, inr, subst, eqb-true}
 use Rattle.mls_nodes.specs.declared.parent.ParentNode.{ParentNode}
-use Rattle.mls_tree.specs.Tree.{Tree, leaf, branch, height, leaf_count, leaves_at, IsPerfect, listing, Subtree, subtree_at, root_place, parent_entry}
+use Rattle.mls_tree.specs.Tree.{Tree, leaf, branch, height, leaf_count, leaves_at, IsPerfect, listing, Subtree, subtree_at, root_node_index, parent_entry}
 use Rattle.mls_tree.proofs.Choices.{here, before, after, same, other}
 
 pub leaf_count-positive : (t : Tree) → 0 < leaf_count t
@@ -22,7 +22,7 @@ length-listing (branch l n r) = omega (arith, length-listing l, length-listing r
 
 -- induction along the descent to a place: at the root, in the left half, in the right half
 module _ (Q : ℕ → Tree → ℕ → Subtree → Type 0)
-    (root : (first : ℕ) (t : Tree) (p : ℕ) → p ≡ root_place first t → Q first t p (record { first = first; tree = t }))
+    (root : (first : ℕ) (t : Tree) (p : ℕ) → p ≡ root_node_index first t → Q first t p (record { first = first; tree = t }))
     (in_left : (first : ℕ) (l : Tree) (n : Option ParentNode) (r : Tree) (p : ℕ) (s : Subtree)
     → p + 1 < 2 * (first + leaf_count l) → subtree_at first l p ≡ Some s → Q first l p s → Q first (branch l n r) p s)
     (in_right : (first : ℕ) (l : Tree) (n : Option ParentNode) (r : Tree) (p : ℕ) (s : Subtree)
@@ -45,26 +45,26 @@ module _ (Q : ℕ → Tree → ℕ → Subtree → Type 0)
             in_right first l n r p s gt sub (along (first + leaf_count l) r p s sub))
       ]
 
-pub root_place-above : (first : ℕ) (t : Tree) → 2 * first ≤ root_place first t
-root_place-above first (leaf _) = omega arith
-root_place-above first (branch l n r) = omega (arith, leaf_count-positive l)
+pub root_node_index-above : (first : ℕ) (t : Tree) → 2 * first ≤ root_node_index first t
+root_node_index-above first (leaf _) = omega arith
+root_node_index-above first (branch l n r) = omega (arith, leaf_count-positive l)
 
-pub root_place-below : (first : ℕ) (t : Tree) → root_place first t + 1 < 2 * (first + leaf_count t)
-root_place-below first (leaf _) = omega arith
-root_place-below first (branch l n r) = omega (arith, leaf_count-positive l, leaf_count-positive r)
+pub root_node_index-below : (first : ℕ) (t : Tree) → root_node_index first t + 1 < 2 * (first + leaf_count t)
+root_node_index-below first (leaf _) = omega arith
+root_node_index-below first (branch l n r) = omega (arith, leaf_count-positive l, leaf_count-positive r)
 
 -- what is known of a subtree that stands at a place
 pub record Stands (first : ℕ) (t : Tree) (p : ℕ) (s : Subtree) : Type 0 where
-  pub place : p ≡ root_place s.first s.tree
+  pub node_index : p ≡ root_node_index s.first s.tree
   pub from_left : first ≤ s.first
   pub to_right : s.first + leaf_count s.tree ≤ first + leaf_count t
 
 pub subtree_at-stands : (first : ℕ) (t : Tree) (p : ℕ) (s : Subtree) → subtree_at first t p ≡ Some s → Stands first t p s
 subtree_at-stands =
     along (λ first t p s. Stands first t p s)
-    (λ first t p e. record { place = e; from_left = omega arith; to_right = omega arith })
-    (λ first l n r p s lt sub h. record { place = h.place; from_left = h.from_left; to_right = omega arith })
-    (λ first l n r p s gt sub h. record { place = h.place; from_left = omega arith; to_right = omega arith })
+    (λ first t p e. record { node_index = e; from_left = omega arith; to_right = omega arith })
+    (λ first l n r p s lt sub h. record { node_index = h.node_index; from_left = h.from_left; to_right = omega arith })
+    (λ first l n r p s gt sub h. record { node_index = h.node_index; from_left = omega arith; to_right = omega arith })
 
 -- the steps of the descent
 module _ (first : ℕ) (l : Tree) (n : Option ParentNode) (r : Tree) (p : ℕ) where
@@ -80,7 +80,7 @@ module _ (first : ℕ) (l : Tree) (n : Option ParentNode) (r : Tree) (p : ℕ) w
   subtree_at-here e =
       here (p + 1) (2 * (first + leaf_count l)) (Some (record { first = first; tree = branch l n r })) (subtree_at first l p) (subtree_at (first + leaf_count l) r p) e
 
-pub subtree_at-root : (first : ℕ) (t : Tree) → subtree_at first t (root_place first t) ≡ Some (record { first = first; tree = t })
+pub subtree_at-root : (first : ℕ) (t : Tree) → subtree_at first t (root_node_index first t) ≡ Some (record { first = first; tree = t })
 subtree_at-root first (leaf x) = same (2 * first) (2 * first) (Some (record { first = first; tree = leaf x })) None refl
 subtree_at-root first (branch l n r) = subtree_at-here first l n r (2 * (first + leaf_count l) - 1) (omega (arith, leaf_count-positive l))
 
@@ -92,24 +92,24 @@ subtree_at-nested =
     (λ first t p e q u h. h)
     (λ first l n r p s lt sub ih q u h.
     let at = subtree_at-stands first l q u (ih q u h) in
-    subtree_at-in_left first l n r q (omega (arith, root_place-below u.first u.tree)) ∙ ih q u h)
+    subtree_at-in_left first l n r q (omega (arith, root_node_index-below u.first u.tree)) ∙ ih q u h)
     (λ first l n r p s gt sub ih q u h.
     let at = subtree_at-stands (first + leaf_count l) r q u (ih q u h) in
-    subtree_at-in_right first l n r q (omega (arith, root_place-above u.first u.tree)) ∙ ih q u h)
+    subtree_at-in_right first l n r q (omega (arith, root_node_index-above u.first u.tree)) ∙ ih q u h)
 
 pub subtree_at-left : (first : ℕ) (t : Tree) (p g : ℕ) (l : Tree) (n : Option ParentNode) (r : Tree)
     → subtree_at first t p ≡ Some (record { first = g; tree = branch l n r })
-    → subtree_at first t (root_place g l) ≡ Some (record { first = g; tree = l })
+    → subtree_at first t (root_node_index g l) ≡ Some (record { first = g; tree = l })
 subtree_at-left first t p g l n r e =
-    subtree_at-nested first t p _ e (root_place g l) (record { first = g; tree = l })
-    (subtree_at-in_left g l n r (root_place g l) (root_place-below g l) ∙ subtree_at-root g l)
+    subtree_at-nested first t p _ e (root_node_index g l) (record { first = g; tree = l })
+    (subtree_at-in_left g l n r (root_node_index g l) (root_node_index-below g l) ∙ subtree_at-root g l)
 
 pub subtree_at-right : (first : ℕ) (t : Tree) (p g : ℕ) (l : Tree) (n : Option ParentNode) (r : Tree)
     → subtree_at first t p ≡ Some (record { first = g; tree = branch l n r })
-    → subtree_at first t (root_place (g + leaf_count l) r) ≡ Some (record { first = g + leaf_count l; tree = r })
+    → subtree_at first t (root_node_index (g + leaf_count l) r) ≡ Some (record { first = g + leaf_count l; tree = r })
 subtree_at-right first t p g l n r e =
-    subtree_at-nested first t p _ e (root_place (g + leaf_count l) r) (record { first = g + leaf_count l; tree = r })
-    (subtree_at-in_right g l n r (root_place (g + leaf_count l) r) (omega (arith, root_place-above (g + leaf_count l) r)) ∙ subtree_at-root (g + leaf_count l) r)
+    subtree_at-nested first t p _ e (root_node_index (g + leaf_count l) r) (record { first = g + leaf_count l; tree = r })
+    (subtree_at-in_right g l n r (root_node_index (g + leaf_count l) r) (omega (arith, root_node_index-above (g + leaf_count l) r)) ∙ subtree_at-root (g + leaf_count l) r)
 
 pub subtree_at-perfect : (first : ℕ) (t : Tree) (p : ℕ) (s : Subtree) → subtree_at first t p ≡ Some s
     → IsPerfect t → IsPerfect s.tree × (height s.tree ≤ height t)

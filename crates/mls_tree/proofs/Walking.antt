@@ -6,13 +6,13 @@ use Rattle.std.proofs.lemmas.List.{append-nil}
 use Rattle.std.proofs.lemmas.Option.{slice_get_read}
 use Rattle.mls_nodes.specs.declared.parent.ParentNode.{ParentNode}
 use Rattle.mls_nodes.specs.declared.node.Node.{Node}
-use Rattle.mls_tree.specs.Tree.{Tree, leaf, branch, height, leaf_count, leaves_at, IsPerfect, root_place}
+use Rattle.mls_tree.specs.Tree.{Tree, leaf, branch, height, leaf_count, leaves_at, IsPerfect, root_node_index}
 use Rattle.mls_tree.specs.NodeArray.{leaf_part, parent_part, tree_in}
-use Rattle.mls_tree.specs.Paths.{resolution, direct_path, copath, filtered_direct_path, unmerged_places, where_resolved}
+use Rattle.mls_tree.specs.Paths.{resolution, direct_path, copath, filtered_direct_path, unmerged_node_indices, where_resolved}
 use Rattle.mls_tree.proofs.Choices.{below, from}
 use Rattle.mls_tree.proofs.Trees.{leaf_count-perfect}
 use Rattle.mls_tree.proofs.Arrays.{leaf_count-tree_in}
-use Rattle.mls_tree.proofs.Coordinates.{root_place-perfect}
+use Rattle.mls_tree.proofs.Coordinates.{root_node_index-perfect}
 
 pub parent-found : (xs : List (Option Node)) (p : ℕ) (e : Option Node) → p < length xs → e ≡ get_or xs p e → parent_part (slice_get xs p) ≡ parent_part (Some e)
 parent-found xs p e h at = ap parent_part (slice_get_read xs (length xs) p e refl h at)
@@ -49,28 +49,28 @@ module _ (first half level i : ℕ) (deep : level ≢ 0) (e : half ≡ leaves_at
       → ((t : Tree) → IsPerfect t → height t ≡ level - 1 → mid ≡ old ++ copath first t i)
       → new ≡ mid ++ q ∷ []
       → (t : Tree) → IsPerfect t → height t ≡ level → new ≡ old ++ copath first t i
-  copath-left q place lt ih at (leaf _) p h = absurd (deep (sym h))
-  copath-left q place lt ih at (branch l n r) p h =
+  copath-left q node_index lt ih at (leaf _) p h = absurd (deep (sym h))
+  copath-left q node_index lt ih at (branch l n r) p h =
       let k : height l ≡ level - 1 = omega arith in
       let c : half ≡ leaf_count l = e ∙ ap leaves_at (sym k) ∙ sym (leaf_count-perfect l p.1) in
       let w : leaves_at (height r) ≡ leaves_at (level - 1) = ap leaves_at (sym p.0 ∙ k) in
-      let s : q ≡ root_place (first + leaf_count l) r = omega (arith, root_place-perfect (first + leaf_count l) r p.2) in
+      let s : q ≡ root_node_index (first + leaf_count l) r = omega (arith, root_node_index-perfect (first + leaf_count l) r p.2) in
       at ∙ (λ j. ih l p.1 k j ++ s j ∷ []) ∙ append_assoc old _ _
-      ∙ ap (λ v. old ++ v) (sym (below i (first + leaf_count l) (copath first l i ++ root_place (first + leaf_count l) r ∷ []) (copath (first + leaf_count l) r i ++ root_place first l ∷ []) (omega arith)))
+      ∙ ap (λ v. old ++ v) (sym (below i (first + leaf_count l) (copath first l i ++ root_node_index (first + leaf_count l) r ∷ []) (copath (first + leaf_count l) r i ++ root_node_index first l ∷ []) (omega arith)))
 
   pub copath-right : (q : ℕ) → q + 1 ≡ 2 * first + leaves_at (level - 1) → first + half ≤ i
       → ((t : Tree) → IsPerfect t → height t ≡ level - 1 → mid ≡ old ++ copath (first + half) t i)
       → new ≡ mid ++ q ∷ []
       → (t : Tree) → IsPerfect t → height t ≡ level → new ≡ old ++ copath first t i
-  copath-right q place ge ih at (leaf _) p h = absurd (deep (sym h))
-  copath-right q place ge ih at (branch l n r) p h =
+  copath-right q node_index ge ih at (leaf _) p h = absurd (deep (sym h))
+  copath-right q node_index ge ih at (branch l n r) p h =
       let k : height l ≡ level - 1 = omega arith in
       let c : half ≡ leaf_count l = e ∙ ap leaves_at (sym k) ∙ sym (leaf_count-perfect l p.1) in
       let w : leaves_at (height l) ≡ leaves_at (level - 1) = ap leaves_at k in
-      let s : q ≡ root_place first l = omega (arith, root_place-perfect first l p.1) in
+      let s : q ≡ root_node_index first l = omega (arith, root_node_index-perfect first l p.1) in
       at ∙ (λ j. ih r p.2 (sym p.0 ∙ k) j ++ s j ∷ []) ∙ append_assoc old _ _
-      ∙ ap (λ v. old ++ (copath (first + v) r i ++ root_place first l ∷ [])) c
-      ∙ ap (λ v. old ++ v) (sym (from i (first + leaf_count l) (copath first l i ++ root_place (first + leaf_count l) r ∷ []) (copath (first + leaf_count l) r i ++ root_place first l ∷ []) (omega arith)))
+      ∙ ap (λ v. old ++ (copath (first + v) r i ++ root_node_index first l ∷ [])) c
+      ∙ ap (λ v. old ++ v) (sym (from i (first + leaf_count l) (copath first l i ++ root_node_index (first + leaf_count l) r ∷ []) (copath (first + leaf_count l) r i ++ root_node_index first l ∷ []) (omega arith)))
 
 pub direct_path-leaf : (first i level : ℕ) (old : List ℕ) → level ≡ 0 → (t : Tree) → IsPerfect t → height t ≡ level → old ≡ old ++ direct_path first t i
 direct_path-leaf first i level old z (leaf _) p h = sym (append-nil old)
@@ -103,9 +103,9 @@ module _ (xs : List (Option Node)) (first half level : ℕ) (deep : level ≢ 0)
         ap (λ t. resolution leaves first t) (tree_in-split ∙ ap (λ p. branch near p far) none) ∙ ap (λ v. resolution leaves first near ++ resolution leaves (first + v) far) near-count
 
     pub resolution-set : (p : ParentNode) → parent_part (slice_get xs (2 * (first + half) - 1)) ≡ Some p
-        → resolution leaves first (tree_in xs level first) ≡ (2 * (first + half) - 1) ∷ unmerged_places leaves p.unmerged
+        → resolution leaves first (tree_in xs level first) ≡ (2 * (first + half) - 1) ∷ unmerged_node_indices leaves p.unmerged
     resolution-set p some =
-        ap (λ t. resolution leaves first t) (tree_in-split ∙ ap (λ q. branch near q far) some) ∙ ap (λ v. (2 * (first + v) - 1) ∷ unmerged_places leaves p.unmerged) near-count
+        ap (λ t. resolution leaves first t) (tree_in-split ∙ ap (λ q. branch near q far) some) ∙ ap (λ v. (2 * (first + v) - 1) ∷ unmerged_node_indices leaves p.unmerged) near-count
 
     pub filtered_direct_path-left : (i : ℕ) → i < first + half
         → filtered_direct_path leaves first (tree_in xs level first) i ≡ filtered_direct_path leaves first near i ++ where_resolved (resolution leaves (first + half) far) (2 * (first + half) - 1)
@@ -192,10 +192,10 @@ module _ (xs : List (Option Node)) (first half level : ℕ) (deep : level ≢ 0)
       ∙ ap (λ v. old ++ v) (sym (resolution-blank xs first half level deep e leaves none))
 
   pub resolution-pushed_set : (p : ParentNode) (ys : List ℕ) → parent_part (slice_get xs (2 * (first + half) - 1)) ≡ Some p
-      → mid ≡ old ++ (2 * (first + half) - 1) ∷ [] → ys ≡ p.unmerged → new ≡ mid ++ unmerged_places leaves ys
+      → mid ≡ old ++ (2 * (first + half) - 1) ∷ [] → ys ≡ p.unmerged → new ≡ mid ++ unmerged_node_indices leaves ys
       → new ≡ old ++ resolution leaves first (tree_in xs level first)
   resolution-pushed_set p ys some l y r =
-      r ∙ (λ j. l j ++ unmerged_places leaves (y j)) ∙ append_assoc old ((2 * (first + half) - 1) ∷ []) (unmerged_places leaves p.unmerged)
+      r ∙ (λ j. l j ++ unmerged_node_indices leaves (y j)) ∙ append_assoc old ((2 * (first + half) - 1) ∷ []) (unmerged_node_indices leaves p.unmerged)
       ∙ ap (λ v. old ++ v) (sym (resolution-set xs first half level deep e leaves p some))
 
 pub is_some-copied : {X : Type 0} → (r : Option (Bor X)) → is_some (option_copied r) ≡ is_some r

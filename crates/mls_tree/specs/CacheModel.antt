@@ -3,34 +3,34 @@ use Rattle.std.specs.Prelude.{◌≡◌, ℕ, ◌+◌, ◌*◌, ◌<◌, List, [
 use Rattle.mls_tree.specs.Tree.{leaves_at}
 use Rattle.mls_tree.specs.HashLists.{CanExtend}
 use Rattle.mls_tree.specs.declared.hash_kind.HashKind.{HashKind}
-use Rattle.mls_tree.specs.declared.hash_cache.Cells.{Cells}
+use Rattle.mls_tree.specs.declared.hash_cache.Slots.{Slots}
 
--- `kind_in cells` is the kind of the cache, if there is one.
-abbrev pub kind_in : Option Cells → Option HashKind
+-- `kind_in slots` is the kind of the cache, if there is one.
+abbrev pub kind_in : Option Slots → Option HashKind
 kind_in None = None
 kind_in (Some c) = Some c.kind
 
--- `cells_in cells` is the list of its slots.
-abbrev pub cells_in : Option Cells → List (Option (List ℕ))
-cells_in None = []
-cells_in (Some c) = c.hashes.items
+-- `slots_in slots` is the list of its slots.
+abbrev pub slots_in : Option Slots → List (Option (List ℕ))
+slots_in None = []
+slots_in (Some c) = c.hashes.items
 
--- `IsOfHeight h cells`: there are as many slots as nodes in a tree of height h.
-abbrev pub IsOfHeight : ℕ → Option Cells → Type 0
+-- `IsOfHeight h slots`: there are as many slots as nodes in a tree of height h.
+abbrev pub IsOfHeight : ℕ → Option Slots → Type 0
 IsOfHeight h None = Unit {0}
 IsOfHeight h (Some c) = length c.hashes.items + 1 ≡ 2 * leaves_at h
 
--- `HasCapacity cells`: there is capacity for the slots of a tree twice as large.
-abbrev pub HasCapacity : Option Cells → Type 0
+-- `HasCapacity slots`: there is capacity for the slots of a tree twice as large.
+abbrev pub HasCapacity : Option Slots → Type 0
 HasCapacity None = Unit {0}
 HasCapacity (Some c) = CanExtend c.hashes
 
--- `HasMoreThan count cells`: if there is a cache, it has more than `count` slots.
-abbrev pub HasMoreThan : ℕ → Option Cells → Type 0
+-- `HasMoreThan count slots`: if there is a cache, it has more than `count` slots.
+abbrev pub HasMoreThan : ℕ → Option Slots → Type 0
 HasMoreThan n None = Unit {0}
 HasMoreThan n (Some c) = n < length c.hashes.items
 
--- `AreFewer cells whole`: if there are both caches, `whole` has more slots than `cells`.
-abbrev pub AreFewer : Option Cells → Option Cells → Type 0
+-- `AreFewer slots whole`: if there are both caches, `whole` has more slots than `slots`.
+abbrev pub AreFewer : Option Slots → Option Slots → Type 0
 AreFewer None whole = Unit {0}
 AreFewer (Some c) whole = HasMoreThan (length c.hashes.items) whole

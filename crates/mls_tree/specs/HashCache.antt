@@ -1,5 +1,5 @@
 -- The hash cache of a tree (RFC 9420, 7.8): a slot for each node index, empty or with the tree hash of the subtree
--- there. `kind` names the hash function, and is `None` if the tree has no cache. `cells` are the slots. Used by
+-- there. `kind` names the hash function, and is `None` if the tree has no cache. `slots` are the slots. Used by
 -- contracts.
 use Rattle.std.specs.Prelude.{◌≡◌, ℕ, suc, ◌+◌, ◌*◌, ◌-◌, ◌==◌, ◌<◌, nat_lt, if◌then◌else◌, List, IsSome, [], ◌∷◌, ◌++◌, replicate, Option, Some, None, length, slice_get, slice_set, option_and_then}
 use Rattle.sha2.specs.Sha256.{sha256}
@@ -30,21 +30,21 @@ abbrev pub IsRightHash : Option HashKind → Tree → ℕ → List ℕ → Type 
 IsRightHash None t p h = ⊥
 IsRightHash (Some kind) t p h = hash_at (hash_by kind) t p ≡ Some h
 
--- `hash_in cell` is the hash in a slot, if there is one.
+-- `hash_in slot` is the hash in a slot, if there is one.
 abbrev pub hash_in : Option (Option (List ℕ)) → Option (List ℕ)
 hash_in None = None
-hash_in (Some cell) = cell
+hash_in (Some slot) = slot
 
--- `empty_count cells` is the number of empty slots.
+-- `empty_count slots` is the number of empty slots.
 abbrev pub empty_count : List (Option (List ℕ)) → ℕ
 empty_count [] = 0
-empty_count (None ∷ cells) = suc (empty_count cells)
-empty_count (Some _ ∷ cells) = empty_count cells
+empty_count (None ∷ slots) = suc (empty_count slots)
+empty_count (Some _ ∷ slots) = empty_count slots
 
--- `emptied cells places` is the slots after those at these node indices were cleared.
+-- `emptied slots node_indices` is the slots after those at these node indices were cleared.
 abbrev pub emptied : List (Option (List ℕ)) → List ℕ → List (Option (List ℕ))
-emptied cells [] = cells
-emptied cells (p ∷ ps) = emptied (slice_set cells p None) ps
+emptied slots [] = slots
+emptied slots (p ∷ ps) = emptied (slice_set slots p None) ps
 
 -- `parents_from first t p` is the node indices of the parent at p, if p is that of a parent, and of the parents above
 -- it, the lowest first.
@@ -56,23 +56,23 @@ parents_from first (branch l _ r) p =
     else (if nat_lt (p + 1) (2 * (first + leaf_count l)) then parents_from first l p else parents_from (first + leaf_count l) r p))
     ++ (2 * (first + leaf_count l) - 1) ∷ []
 
--- `extended kind cells` is the slots of a tree after it was extended (RFC 9420, 7.7): the new nodes have empty ones.
+-- `extended kind slots` is the slots of a tree after it was extended (RFC 9420, 7.7): the new nodes have empty ones.
 abbrev pub extended : Option HashKind → List (Option (List ℕ)) → List (Option (List ℕ))
-extended None cells = cells
-extended (Some _) cells = cells ++ replicate (length cells + 1) None
+extended None slots = slots
+extended (Some _) slots = slots ++ replicate (length slots + 1) None
 
--- `AreCells H t cells`: there is a slot for each node index, and each one that is filled has the tree hash of its
+-- `AreSlots H t slots`: there is a slot for each node index, and each one that is filled has the tree hash of its
 -- subtree.
-pub record AreCells (H : List ℕ → List ℕ) (t : Tree) (cells : List (Option (List ℕ))) : Type 0 where
-  pub count : length cells + 1 ≡ 2 * leaf_count t
-  pub each : (p : ℕ) (h : List ℕ) → slice_get cells p ≡ Some (Some h) → hash_at H t p ≡ Some h
+pub record AreSlots (H : List ℕ → List ℕ) (t : Tree) (slots : List (Option (List ℕ))) : Type 0 where
+  pub count : length slots + 1 ≡ 2 * leaf_count t
+  pub each : (p : ℕ) (h : List ℕ) → slice_get slots p ≡ Some (Some h) → hash_at H t p ≡ Some h
 
--- `AreCellsOf kind t cells`: these are the slots of a tree with a cache of this kind, or there are none if the tree has
+-- `AreSlotsOf kind t slots`: these are the slots of a tree with a cache of this kind, or there are none if the tree has
 -- no cache.
-abbrev pub AreCellsOf : Option HashKind → Tree → List (Option (List ℕ)) → Type 0
-AreCellsOf None t cells = cells ≡ []
-AreCellsOf (Some kind) t cells = AreCells (hash_by kind) t cells
+abbrev pub AreSlotsOf : Option HashKind → Tree → List (Option (List ℕ)) → Type 0
+AreSlotsOf None t slots = slots ≡ []
+AreSlotsOf (Some kind) t slots = AreSlots (hash_by kind) t slots
 
--- `AreAllFilled t cells`: the slot of each node index is filled.
+-- `AreAllFilled t slots`: the slot of each node index is filled.
 abbrev pub AreAllFilled : Tree → List (Option (List ℕ)) → Type 0
-AreAllFilled t cells = (p : ℕ) → p + 1 < 2 * leaf_count t → IsSome (hash_in (slice_get cells p))
+AreAllFilled t slots = (p : ℕ) → p + 1 < 2 * leaf_count t → IsSome (hash_in (slice_get slots p))

@@ -29,13 +29,13 @@ false_count (false ∷ rest) = suc (false_count rest)
 false_count (true ∷ rest) = false_count rest
 
 -- Slots of one width, each empty or with a hash, and for how many there is capacity.
-pub record EqualCells : Type 0 where
+pub record EqualSlots : Type 0 where
   pub width : ℕ
   pub items : List (Option (List ℕ))
   pub marks_room : ℕ
   pub hashes_room : ℕ
 
--- `CanExtend cells`: there is capacity for as many slots as there are, and one more.
-pub record CanExtend (cells : EqualCells) : Type 0 where
-  pub marks : length cells.items + (length cells.items + 1) ≤ cells.marks_room
-  pub hashes : length cells.items + (length cells.items + 1) ≤ cells.hashes_room
+-- `CanExtend slots`: there is capacity for as many slots as there are, and one more.
+pub record CanExtend (slots : EqualSlots) : Type 0 where
+  pub marks : length slots.items + (length slots.items + 1) ≤ slots.marks_room
+  pub hashes : length slots.items + (length slots.items + 1) ≤ slots.hashes_room

@@ -8,7 +8,7 @@ pub mod BlankLeaves
 pub mod TreeOperations
 pub mod HashCache
 pub mod CacheModel
-pub mod CellChanges
+pub mod SlotChanges
 pub mod SubtreeCounts
 pub mod CountsModel
 pub mod PublicTreeModel

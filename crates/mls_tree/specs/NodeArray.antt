@@ -77,7 +77,7 @@ pub record ChangesWithin (old new : List (Option Node)) (low high : ℕ) : Type 
   pub odd : (i : ℕ) → IsNoLeaf (slice_get old (2 * i + 1)) → IsNoLeaf (slice_get new (2 * i + 1))
 
 -- A leaf node is at an even index, a parent node at an odd one.
-pub record FitsPlace (p : ℕ) (o : Option (Option Node)) : Type 0 where
+pub record FitsNodeIndex (p : ℕ) (o : Option (Option Node)) : Type 0 where
   pub even : p % 2 ≡ 0 → IsNoParent o
   pub odd : p % 2 ≢ 0 → IsNoLeaf o
 

@@ -1,29 +1,29 @@
 -- Node indices of a tree and how they are related (RFC 9420, Appendix C), by the subtrees at these. Used by contracts.
 use Rattle.std.specs.Prelude.{◌≡◌, ℕ, ◌+◌, ◌*◌, ◌<◌, ◌≤◌, ◌⊎◌, Option, Some, None, option_map, option_and_then}
 use Rattle.mls_tree.specs.RatchetTree.{RatchetTree}
-use Rattle.mls_tree.specs.Tree.{Tree, leaf, branch, height, leaf_count, leaves_at, subtree_at, root_place}
+use Rattle.mls_tree.specs.Tree.{Tree, leaf, branch, height, leaf_count, leaves_at, subtree_at, root_node_index}
 
 -- `level_at t p` is the level of node index p: the height of the subtree there (RFC 9420, Appendix C).
 abbrev pub level_at : Tree → ℕ → Option ℕ
 level_at t p = option_map (λ s. height s.tree) (subtree_at 0 t p)
 
--- `left_place first t` is the node index of the left child of the root.
-abbrev pub left_place : ℕ → Tree → Option ℕ
-left_place first (leaf _) = None
-left_place first (branch l _ _) = Some (root_place first l)
+-- `left_node_index first t` is the node index of the left child of the root.
+abbrev pub left_node_index : ℕ → Tree → Option ℕ
+left_node_index first (leaf _) = None
+left_node_index first (branch l _ _) = Some (root_node_index first l)
 
--- `right_place first t` is the node index of the right child of the root.
-abbrev pub right_place : ℕ → Tree → Option ℕ
-right_place first (leaf _) = None
-right_place first (branch l _ r) = Some (root_place (first + leaf_count l) r)
+-- `right_node_index first t` is the node index of the right child of the root.
+abbrev pub right_node_index : ℕ → Tree → Option ℕ
+right_node_index first (leaf _) = None
+right_node_index first (branch l _ r) = Some (root_node_index (first + leaf_count l) r)
 
 -- `left_at t p` is the node index of the left child of the node at p (RFC 9420, Appendix C).
 abbrev pub left_at : Tree → ℕ → Option ℕ
-left_at t p = option_and_then (λ s. left_place s.first s.tree) (subtree_at 0 t p)
+left_at t p = option_and_then (λ s. left_node_index s.first s.tree) (subtree_at 0 t p)
 
 -- `right_at t p` is the node index of the right child of the node at p (RFC 9420, Appendix C).
 abbrev pub right_at : Tree → ℕ → Option ℕ
-right_at t p = option_and_then (λ s. right_place s.first s.tree) (subtree_at 0 t p)
+right_at t p = option_and_then (λ s. right_node_index s.first s.tree) (subtree_at 0 t p)
 
 -- `IsParentOf t q p`: the node at q is the parent of the node at p (RFC 9420, Appendix C).
 abbrev pub IsParentOf : Tree → ℕ → ℕ → Type 0
@@ -42,7 +42,7 @@ pub record HasLevel (p n k : ℕ) : Type 0 where
   pub number : ℕ
   pub within : p + 1 < 2 * n
   pub under : k ≤ height
-  pub place : p + 1 ≡ (2 * number + 1) * leaves_at k
+  pub node_index : p + 1 ≡ (2 * number + 1) * leaves_at k
 
 -- `IsOutside p n`: no tree of n leaves has node index p. Internal: no public contract uses it.
 abbrev pub IsOutside : ℕ → ℕ → Type 0

@@ -23,7 +23,7 @@ pub record HasChildren (t : Tree) (p q u middle : ℕ) (node : Option ParentNode
   pub right_child : subtree_at 0 t u ≡ Some (record { first = first + leaf_count left; tree = right })
   pub split : middle ≡ first + leaf_count left
 
--- `IsPartAt t place part`: the part is what is at the node index.
+-- `IsPartAt t node_index part`: the part is what is at the node index.
 abbrev pub IsPartAt : Tree → ℕ → Part → Type 0
-IsPartAt t place (Leaf index node) = subtree_at 0 t place ≡ Some (record { first = index; tree = leaf (option_copied node) })
-IsPartAt t place (Parent node left right middle) = HasChildren t place left right middle (option_copied node)
+IsPartAt t node_index (Leaf index node) = subtree_at 0 t node_index ≡ Some (record { first = index; tree = leaf (option_copied node) })
+IsPartAt t node_index (Parent node left right middle) = HasChildren t node_index left right middle (option_copied node)

@@ -4,12 +4,12 @@
 use Rattle.std.specs.Prelude.{ℕ, ◌+◌, ◌*◌, ◌-◌, nat_lt, if◌then◌else◌, not, List, [], ◌∷◌, ◌++◌, length, map, filter, Option, Some, None, option_map}
 use Rattle.std.specs.BTreeSet.{BTreeSet, contains}
 use Rattle.std.specs.Ordering.{nat_cmp}
-use Rattle.mls_tree.specs.Tree.{Tree, leaf, branch, leaf_count, root_place, subtree_at}
+use Rattle.mls_tree.specs.Tree.{Tree, leaf, branch, leaf_count, root_node_index, subtree_at}
 
--- `unmerged_places leaves xs` is the node indices of unmerged leaves, in the order of the list. Entries that are no
--- leaf index of the whole tree are left out.
-abbrev pub unmerged_places : ℕ → List ℕ → List ℕ
-unmerged_places leaves xs = map (λ i. 2 * i) (filter (λ i. nat_lt i leaves) xs)
+-- `unmerged_node_indices leaves xs` is the node indices of unmerged leaves, in the order of the list. Entries that are
+-- no leaf index of the whole tree are left out.
+abbrev pub unmerged_node_indices : ℕ → List ℕ → List ℕ
+unmerged_node_indices leaves xs = map (λ i. 2 * i) (filter (λ i. nat_lt i leaves) xs)
 
 -- `resolution leaves first t` is the resolution of a subtree (RFC 9420, 4.1.1): of a non-blank node the node and its
 -- unmerged leaves; of a blank leaf nothing; of a blank parent that of the left child and then that of the right child.
@@ -17,15 +17,15 @@ abbrev pub resolution : ℕ → ℕ → Tree → List ℕ
 resolution leaves first (leaf None) = []
 resolution leaves first (leaf (Some _)) = (2 * first) ∷ []
 resolution leaves first (branch l None r) = resolution leaves first l ++ resolution leaves (first + leaf_count l) r
-resolution leaves first (branch l (Some p) r) = (2 * (first + leaf_count l) - 1) ∷ unmerged_places leaves p.unmerged
+resolution leaves first (branch l (Some p) r) = (2 * (first + leaf_count l) - 1) ∷ unmerged_node_indices leaves p.unmerged
 
 -- `resolution_at t p` is the resolution of the node at node index p, if there is one.
 abbrev pub resolution_at : Tree → ℕ → Option (List ℕ)
 resolution_at t p = option_map (λ s. resolution (leaf_count t) s.first s.tree) (subtree_at 0 t p)
 
--- `count_not_in without places` is how many of these node indices are not in a set.
+-- `count_not_in without node_indices` is how many of these node indices are not in a set.
 abbrev pub count_not_in : BTreeSet ℕ → List ℕ → ℕ
-count_not_in without places = length (filter (λ p. not (contains nat_cmp without p)) places)
+count_not_in without node_indices = length (filter (λ p. not (contains nat_cmp without p)) node_indices)
 
 -- `direct_path first t i` is the direct path of leaf i (RFC 9420, 4.1.2): the parents above it.
 abbrev pub direct_path : ℕ → Tree → ℕ → List ℕ
@@ -39,8 +39,8 @@ abbrev pub copath : ℕ → Tree → ℕ → List ℕ
 copath first (leaf _) i = []
 copath first (branch l _ r) i =
     if nat_lt i (first + leaf_count l)
-    then copath first l i ++ (root_place (first + leaf_count l) r) ∷ []
-    else copath (first + leaf_count l) r i ++ (root_place first l) ∷ []
+    then copath first l i ++ (root_node_index (first + leaf_count l) r) ∷ []
+    else copath (first + leaf_count l) r i ++ (root_node_index first l) ∷ []
 
 -- `where_resolved r p` is node index p, if the resolution `r` is not empty.
 abbrev pub where_resolved : List ℕ → ℕ → List ℕ

@@ -13,7 +13,7 @@ pub record KeptTree : Type 0 where
   pub tree : Tree
   pub shape : HasShape tree
   pub kind : Option HashKind
-  pub cells : List (Option (List ℕ))
+  pub slots : List (Option (List ℕ))
 
 -- `plain t` is the ratchet tree without the cache.
 abbrev pub plain : KeptTree → RatchetTree
@@ -21,11 +21,11 @@ plain t = record { tree = t.tree; shape = t.shape }
 
 -- The model as a pair, which has a code.
 abbrev parts : KeptTree → RatchetTree × (Option HashKind × List (Option (List ℕ)))
-parts t = (plain t, (t.kind, t.cells))
+parts t = (plain t, (t.kind, t.slots))
 
 -- The model of such a pair.
 abbrev whole : RatchetTree × (Option HashKind × List (Option (List ℕ))) → KeptTree
-whole p = record { tree = p.0.tree; shape = p.0.shape; kind = p.1.0; cells = p.1.1 }
+whole p = record { tree = p.0.tree; shape = p.0.shape; kind = p.1.0; slots = p.1.1 }
 
 -- Models have codes.
 abbrev pub kept_tree_coded : Coded KeptTree

@@ -16,15 +16,15 @@ set_count (leaf (Some _)) = 1
 set_count (branch l n r) = set_count l + set_count r + parent_weight n
 
 -- The count of a tree.
-abbrev pub counted : Tree → Count
-counted t = record { members = member_count t; nodes = set_count t }
+abbrev pub subtree_count : Tree → Count
+subtree_count t = record { members = member_count t; nodes = set_count t }
 
 -- The list has the count of each parent of a tree. That of the parent with k leaves before its right subtree is at k -
 -- 1.
 abbrev pub AreCounts : ℕ → Tree → List Count → Type 0
 AreCounts first (leaf _) counts = Unit {0}
 AreCounts first (branch l n r) counts =
-    AreCounts first l counts × AreCounts (first + leaf_count l) r counts × (slice_get counts (first + leaf_count l - 1) ≡ Some (counted (branch l n r)))
+    AreCounts first l counts × AreCounts (first + leaf_count l) r counts × (slice_get counts (first + leaf_count l - 1) ≡ Some (subtree_count (branch l n r)))
 
 -- The list has the count of each parent that is not above leaf i.
 abbrev pub AreOutside : ℕ → Tree → ℕ → List Count → Type 0

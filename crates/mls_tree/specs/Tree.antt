@@ -65,11 +65,11 @@ pub record Subtree : Type 0 where
   pub first : ℕ
   pub tree : Tree
 
--- `root_place first t` is the node index of the root. That of a parent is just before the first leaf of its right
+-- `root_node_index first t` is the node index of the root. That of a parent is just before the first leaf of its right
 -- subtree (RFC 9420, Appendix C).
-abbrev pub root_place : ℕ → Tree → ℕ
-root_place first (leaf _) = 2 * first
-root_place first (branch l _ _) = 2 * (first + leaf_count l) - 1
+abbrev pub root_node_index : ℕ → Tree → ℕ
+root_node_index first (leaf _) = 2 * first
+root_node_index first (branch l _ _) = 2 * (first + leaf_count l) - 1
 
 -- `subtree_at first t p` is the subtree whose root is at node index p, if there is one (RFC 9420, Appendix C).
 abbrev pub subtree_at : ℕ → Tree → ℕ → Option Subtree
@@ -108,6 +108,6 @@ abbrev pub IsParent : Option Subtree → Type 0
 IsParent None = ⊥
 IsParent (Some s) = IsBranch s.tree
 
--- `IsParentPlace t p`: p is the node index of a parent, blank or not.
-abbrev pub IsParentPlace : Tree → ℕ → Type 0
-IsParentPlace t p = IsParent (subtree_at 0 t p)
+-- `IsParentNodeIndex t p`: p is the node index of a parent, blank or not.
+abbrev pub IsParentNodeIndex : Tree → ℕ → Type 0
+IsParentNodeIndex t p = IsParent (subtree_at 0 t p)

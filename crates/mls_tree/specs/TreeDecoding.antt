@@ -11,7 +11,7 @@ use Rattle.mls_tree.specs.PublicTreeModel.{KeptTree, plain}
 
 -- `IsTree bytes nodes`: the bytes are the encoding of a ratchet_tree with these nodes, within the limit of an input.
 pub record IsTree (bytes : List ℕ) (nodes : List (Option NodeValue)) : Type 0 where
-  pub spelled : ratchet_tree nodes ≡ Some bytes
+  pub encoded : ratchet_tree nodes ≡ Some bytes
   pub bounded : length bytes ≤ input_limit
 
 -- `IsTreeOf bytes t`: `t` is the tree of these bytes, extended with blank nodes to a full tree (RFC 9420, 12.4.3.3).

@@ -36,10 +36,10 @@ change_above f first (leaf x) i = leaf x
 change_above f first (branch l n r) i =
     if nat_lt i (first + leaf_count l) then branch (change_above f first l i) (f n) r else branch l (f n) (change_above f (first + leaf_count l) r i)
 
--- `clear_path t i` is the tree with each parent above leaf i blank (RFC 9420, 12.1.2 and 12.1.3): the call
+-- `blank_path t i` is the tree with each parent above leaf i blank (RFC 9420, 12.1.2 and 12.1.3): the call
 -- `blank_path`.
-abbrev pub clear_path : Tree → ℕ → Tree
-clear_path t i = change_above (λ _. None) 0 t i
+abbrev pub blank_path : Tree → ℕ → Tree
+blank_path t i = change_above (λ _. None) 0 t i
 
 -- `insert_before i xs` is the list with i before the first entry that is not less.
 abbrev pub insert_before : ℕ → List ℕ → List ℕ
@@ -65,10 +65,10 @@ abbrev pub without_unmerged : ℕ → Option ParentNode → Option ParentNode
 without_unmerged i None = None
 without_unmerged i (Some p) = Some (record p { unmerged = without_number i p.unmerged })
 
--- `enter_unmerged t i` is the tree with leaf i in the unmerged list of each non-blank parent above it (RFC 9420,
+-- `add_unmerged t i` is the tree with leaf i in the unmerged list of each non-blank parent above it (RFC 9420,
 -- 12.1.1): the call `add_unmerged`.
-abbrev pub enter_unmerged : Tree → ℕ → Tree
-enter_unmerged t i = change_above (with_unmerged i) 0 t i
+abbrev pub add_unmerged : Tree → ℕ → Tree
+add_unmerged t i = change_above (with_unmerged i) 0 t i
 
 -- `is_overfilled i p`: the unmerged list of a non-blank parent would have more entries than a tree may have leaves,
 -- with i in it.
@@ -92,20 +92,21 @@ has_set_leaf (leaf None) = false
 has_set_leaf (leaf (Some _)) = true
 has_set_leaf (branch l _ r) = has_set_leaf l || has_set_leaf r
 
--- `shrink t` is the tree truncated while its right subtree has no non-blank leaf (RFC 9420, 7.7): the call `truncate`.
-abbrev pub shrink : Tree → Tree
-shrink (leaf x) = leaf x
-shrink (branch l n r) = if has_set_leaf r then branch l n r else shrink l
+-- `truncate t` is the tree truncated while its right subtree has no non-blank leaf (RFC 9420, 7.7): the call
+-- `truncate`.
+abbrev pub truncate : Tree → Tree
+truncate (leaf x) = leaf x
+truncate (branch l n r) = if has_set_leaf r then branch l n r else truncate l
 
 -- `blank_tree h` is the tree of height h whose nodes are all blank.
 abbrev pub blank_tree : ℕ → Tree
 blank_tree zero = leaf None
 blank_tree (suc h) = branch (blank_tree h) None (blank_tree h)
 
--- `left_half t` is the left subtree, if the tree is no leaf.
-abbrev pub left_half : Tree → Tree
-left_half (leaf x) = leaf x
-left_half (branch l _ _) = l
+-- `left_subtree t` is the left subtree, if the tree is no leaf.
+abbrev pub left_subtree : Tree → Tree
+left_subtree (leaf x) = leaf x
+left_subtree (branch l _ _) = l
 
 -- `with_left t w` is the tree `w` with `t` as its left subtree.
 abbrev pub with_left : Tree → Tree → Tree
@@ -116,38 +117,38 @@ with_left t (branch _ n r) = branch t n r
 abbrev pub rejoined : Tree → Tree → Tree
 rejoined t w = if (height t + 1) == height w then with_left t w else t
 
--- `grow t` is the tree as the left subtree of one twice as large, whose other nodes are blank (RFC 9420, 7.7): the call
--- `extend`.
-abbrev pub grow : Tree → Tree
-grow t = branch t None (blank_tree (height t))
+-- `extend t` is the tree as the left subtree of one twice as large, whose other nodes are blank (RFC 9420, 7.7): the
+-- call `extend`.
+abbrev pub extend : Tree → Tree
+extend t = branch t None (blank_tree (height t))
 
 -- `update t i x` is the tree after an Update: leaf i is `x`, and the parents above it are blank (RFC 9420, 12.1.2).
 abbrev pub update : Tree → ℕ → LeafNode → Tree
-update t i x = clear_path (put_leaf 0 t i (Some x)) i
+update t i x = blank_path (put_leaf 0 t i (Some x)) i
 
 -- `remove t i` is the tree after a Remove: leaf i and the parents above it are blank, and the tree is truncated
 -- (RFC 9420, 12.1.3).
 abbrev pub remove : Tree → ℕ → Tree
-remove t i = shrink (clear_path (put_leaf 0 t i None) i)
+remove t i = truncate (blank_path (put_leaf 0 t i None) i)
 
 -- `number_or n o` is the index, or n if there is none.
 abbrev pub number_or : ℕ → Option ℕ → ℕ
 number_or n None = n
 number_or n (Some j) = j
 
--- `added_leaf t` is the leaf of an added member: the leftmost blank one, or else the first leaf by which the tree is
+-- `added_leaf t` is the leaf of an added member: the leftmost blank one, otherwise the first leaf by which the tree is
 -- extended (RFC 9420, 12.1.1).
 abbrev pub added_leaf : Tree → ℕ
 added_leaf t = number_or (leaf_count t) (first_blank_leaf 0 t)
 
 -- `grown_for blank t` is the tree, extended if it has no blank leaf.
 abbrev pub grown_for : Option ℕ → Tree → Tree
-grown_for None t = grow t
+grown_for None t = extend t
 grown_for (Some _) t = t
 
 -- `add_at t j x` is the tree with `x` as leaf j, unmerged in each non-blank parent above it.
 abbrev pub add_at : Tree → ℕ → LeafNode → Tree
-add_at t j x = put_leaf 0 (enter_unmerged t j) j (Some x)
+add_at t j x = put_leaf 0 (add_unmerged t j) j (Some x)
 
 -- `add t x` is the tree after an Add of a member with leaf node `x` (RFC 9420, 12.1.1).
 abbrev pub add : Tree → LeafNode → Tree

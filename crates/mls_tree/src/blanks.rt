@@ -88,7 +88,7 @@ pub(crate) fn counted_blank_leaf(
     requires low { level ≤ 20 }
     requires inside { first + leaves_at level ≤ leaf_limit }
     requires long { 2 * (first + leaves_at level) ≤ length nodes.now + 1 }
-    requires room { first + leaves_at level ≤ length counts.now + 1 }
+    requires capacity { first + leaves_at level ≤ length counts.now + 1 }
     requires counts { AreCounts first (tree_in nodes.now level first) counts.now }
     ensures { result ≡ next_blank_leaf start first (tree_in nodes.now level first) }
 {
@@ -110,8 +110,8 @@ pub(crate) fn counted_blank_leaf(
 
 /// Appends `count` blank entries.
 pub(crate) fn push_blanks(nodes: &mut Vec<Option<Node>>, count: u32) -> Result<(), AllocError>
-    ensures ok { OnOk result (nodes.new.items ≡ nodes.old.items ++ replicate count None) }
-    ensures err { OnErr result (VecUnchanged nodes.old nodes.new) }
+    ensures changed { OnOk result (nodes.new.items ≡ nodes.old.items ++ replicate count None) }
+    ensures unchanged_on_error { OnErr result (VecUnchanged nodes.old nodes.new) }
 {
     nodes.try_reserve(count as usize)?;
     for _ in 0..count {

@@ -46,43 +46,43 @@ fn put_marks(filled: &mut [bool], front: &[bool])
 /// A slot takes one byte more than a hash. Contracts see the length of a hash, the list of slots, and the number of
 /// slots that there is capacity for.
 #[derive(Debug, Drop)]
-pub(crate) struct HashCells {
+pub(crate) struct HashSlots {
     filled: Vec<bool>,
     hashes: HashList,
 }
 
-impl Model for HashCells {
+impl Model for HashSlots {
     ghost use Rattle.std.specs.Prelude.{◌≤◌, length};
     ghost use Rattle.std.specs.Vec.{vec_capacity};
-    ghost use Rattle.mls_tree.specs.HashLists.{EqualCells, known_hashes};
+    ghost use Rattle.mls_tree.specs.HashLists.{EqualSlots, known_hashes};
 
-    ghost Value = { EqualCells };
+    ghost Value = { EqualSlots };
 
     ghost view = { λ s. record { width = s.hashes.width; items = known_hashes s.filled.items s.hashes.hashes; marks_room = vec_capacity s.filled; hashes_room = length s.hashes.hashes } };
 
     ghost invariant = { λ s. length s.filled.items ≤ length s.hashes.hashes };
 }
 
-impl HashCells {
+impl HashSlots {
     /// Creates `count` empty slots for hashes of `width` bytes.
-    pub(crate) fn blank(alloc: Global, count: usize, width: usize) -> Result<HashCells, AllocError>
+    pub(crate) fn blank(alloc: Global, count: usize, width: usize) -> Result<HashSlots, AllocError>
         requires count { count < 2 ^ 32 }
         requires width { width ≤ 64 }
         ensures items { IfOk result (λ c. c.items ≡ replicate count None) }
         ensures width { IfOk result (λ c. c.width ≡ width) }
     {
-        Ok(HashCells {
+        Ok(HashSlots {
             filled: vec![in alloc; false; count]?,
             hashes: HashList::blank(alloc, count, width)?,
         })
     }
 
     /// Returns a copy.
-    pub(crate) fn try_clone(&self, alloc: Global) -> Result<HashCells, AllocError>
+    pub(crate) fn try_clone(&self, alloc: Global) -> Result<HashSlots, AllocError>
         ensures items { IfOk result (λ c. c.items ≡ self.now.items) }
         ensures width { IfOk result (λ c. c.width ≡ self.now.width) }
     {
-        Ok(HashCells {
+        Ok(HashSlots {
             filled: self.filled.as_slice().to_vec(alloc)?,
             hashes: self.hashes.try_clone(alloc)?,
         })
@@ -104,51 +104,51 @@ impl HashCells {
     }
 
     /// Returns the hash in a slot. `None` if the slot is empty or there is no such slot.
-    pub(crate) fn get(&self, place: u32) -> Option<HashValue>
-        ensures { result ≡ hash_in (slice_get self.now.items place) }
+    pub(crate) fn get(&self, slot: u32) -> Option<HashValue>
+        ensures { result ≡ hash_in (slice_get self.now.items slot) }
     {
-        match self.filled.get(place as usize) {
-            Some(true) => self.hashes.get(place),
+        match self.filled.get(slot as usize) {
+            Some(true) => self.hashes.get(slot),
             Some(false) => None,
             None => None,
         }
     }
 
     /// Empties a slot. Returns whether it was filled.
-    pub(crate) fn clear(&mut self, place: u32) -> bool
-        requires { place < length self.old.items }
-        ensures items { self.new.items ≡ slice_set self.old.items place None }
+    pub(crate) fn clear(&mut self, slot: u32) -> bool
+        requires { slot < length self.old.items }
+        ensures items { self.new.items ≡ slice_set self.old.items slot None }
         ensures width { self.new.width ≡ self.old.width }
-        ensures was { Some result ≡ option_map is_some (slice_get self.old.items place) }
+        ensures was_filled { Some result ≡ option_map is_some (slice_get self.old.items slot) }
         ensures limit { length self.old.items < 2 ^ 63 }
     {
-        mem::replace(&mut self.filled[place as usize], false)
+        mem::replace(&mut self.filled[slot as usize], false)
     }
 
     /// Fills a slot. Returns whether it was filled before.
-    pub(crate) fn put(&mut self, place: u32, hash: &HashValue) -> bool
-        requires place { place < length self.old.items }
+    pub(crate) fn put(&mut self, slot: u32, hash: &HashValue) -> bool
+        requires slot { slot < length self.old.items }
         requires width { length hash.now ≡ self.old.width }
-        ensures items { self.new.items ≡ slice_set self.old.items place (Some hash.now) }
+        ensures items { self.new.items ≡ slice_set self.old.items slot (Some hash.now) }
         ensures width { self.new.width ≡ self.old.width }
-        ensures was { Some result ≡ option_map is_some (slice_get self.old.items place) }
+        ensures was_filled { Some result ≡ option_map is_some (slice_get self.old.items slot) }
     {
-        self.hashes.put(place, hash);
-        mem::replace(&mut self.filled[place as usize], true)
+        self.hashes.put(slot, hash);
+        mem::replace(&mut self.filled[slot as usize], true)
     }
 
     /// Reserves capacity for as many slots again and one more.
     pub(crate) fn reserve_double(&mut self) -> Result<(), AllocError>
-        ensures room { OnOk result (CanExtend self.new) }
+        ensures capacity { OnOk result (CanExtend self.new) }
         ensures items { self.new.items ≡ self.old.items }
         ensures width { self.new.width ≡ self.old.width }
     {
         let more = self.filled.len() + 1;
-        let wanted = self.filled.len() + more;
+        let needed = self.filled.len() + more;
         let had = self.hashes.len();
         self.filled.try_reserve(more)?;
-        if had < wanted {
-            self.hashes.lengthen(wanted - had)?;
+        if had < needed {
+            self.hashes.lengthen(needed - had)?;
         }
         Ok(())
     }
@@ -165,20 +165,20 @@ impl HashCells {
     }
 
     /// Returns a copy of the first `count` slots.
-    pub(crate) fn front(&self, alloc: Global, count: usize) -> Result<HashCells, AllocError>
+    pub(crate) fn front(&self, alloc: Global, count: usize) -> Result<HashSlots, AllocError>
         requires { count ≤ length self.now.items }
         ensures items { IfOk result (λ c. c.items ≡ take count self.now.items) }
         ensures width { IfOk result (λ c. c.width ≡ self.now.width) }
     {
-        Ok(HashCells {
+        Ok(HashSlots {
             filled: self.filled.as_slice()[..count].to_vec(alloc)?,
             hashes: self.hashes.front(alloc, count)?,
         })
     }
 
     /// Replaces the first slots by those of `front`.
-    pub(crate) fn put_front(&mut self, front: &HashCells)
-        requires place { length front.now.items ≤ length self.old.items }
+    pub(crate) fn put_front(&mut self, front: &HashSlots)
+        requires slot { length front.now.items ≤ length self.old.items }
         requires width { front.now.width ≡ self.old.width }
         ensures items { self.new.items
             ≡ front.now.items ++ drop (length front.now.items) self.old.items }

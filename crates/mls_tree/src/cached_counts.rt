@@ -53,7 +53,7 @@ fn set_all(counts: &mut Counts, tree: &NodeArray)
     tree.count_all(counts.list.as_mut_slice());
 }
 
-// Keeps the counts of the left subtree that has `leaves` leaves.
+// Retains the counts of the left subtree that has `leaves` leaves.
 fn shorten(counts: &mut Counts, leaves: u32)
     requires { 0 < leaves }
     ensures { (t : Tree) → leaf_count t ≡ leaves → AreFrontOf (Some counts.old) t
@@ -139,7 +139,7 @@ pub(crate) fn count_in_place(counts: Option<Counts>, tree: &NodeArray) -> Option
     Some(counts)
 }
 
-/// Keeps the counts of the left subtree that has `leaves` leaves.
+/// Retains the counts of the left subtree that has `leaves` leaves.
 pub(crate) fn truncate_counts(counts: &mut Option<Counts>, leaves: u32)
     requires { 0 < leaves }
     ensures { (t : Tree) → leaf_count t ≡ leaves → AreFrontOf counts.old t

@@ -4,7 +4,7 @@ ghost use Rattle.std.specs.List.{range_with_len};
 ghost use Rattle.mls_nodes.specs.Limits.{leaf_limit};
 ghost use Rattle.mls_tree.specs.Tree.{Tree, leaf_count};
 ghost use Rattle.mls_tree.specs.RatchetTree.{RatchetTree};
-ghost use Rattle.mls_tree.specs.Journals.{taken_back};
+ghost use Rattle.mls_tree.specs.Journals.{undone};
 ghost use Rattle.mls_tree.specs.ChangedNodes.{AgreeExceptAt};
 
 use crate::journal::UndoEntry;
@@ -32,10 +32,10 @@ pub(crate) fn push_changed(
     requires some { 0 < leaves }
     requires few { leaves ≤ leaf_limit }
     ensures leaves { IfOk result (λ n. (t : RatchetTree) → leaf_count t.tree ≡ leaves
-        → leaf_count (taken_back former.now t.tree) ≡ n) }
-    ensures places { OnOk result ((t : RatchetTree) (new : Tree) → leaf_count t.tree ≡ leaves
+        → leaf_count (undone former.now t.tree) ≡ n) }
+    ensures node_indices { OnOk result ((t : RatchetTree) (new : Tree) → leaf_count t.tree ≡ leaves
         → AgreeExceptAt out.old.items t.tree new
-        → AgreeExceptAt out.new.items (taken_back former.now t.tree) new) }
+        → AgreeExceptAt out.new.items (undone former.now t.tree) new) }
 {
     match former {
         UndoEntry::Leaf { index, .. } => {
@@ -44,15 +44,15 @@ pub(crate) fn push_changed(
             }
             Ok(leaves)
         }
-        UndoEntry::Parent { place, .. } => {
-            out.push(*place)?;
+        UndoEntry::Parent { node_index, .. } => {
+            out.push(*node_index)?;
             Ok(leaves)
         }
-        UndoEntry::Entered { place, .. } => {
-            out.push(*place)?;
+        UndoEntry::AddedUnmerged { node_index, .. } => {
+            out.push(*node_index)?;
             Ok(leaves)
         }
-        UndoEntry::Grown => {
+        UndoEntry::Extended => {
             if leaves == 1 {
                 return Ok(1);
             }

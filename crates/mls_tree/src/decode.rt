@@ -16,7 +16,7 @@ impl PublicTree {
     pub fn decode(alloc: Global, bytes: &[u8]) -> Result<PublicTree, NodeFault>
         ensures tree { ReadsTree bytes.now result }
         ensures kind { IfOk result (λ t. t.kind ≡ None) }
-        ensures cells { IfOk result (λ t. t.cells ≡ []) }
+        ensures slots { IfOk result (λ t. t.slots ≡ []) }
     {
         let entries = decode_ratchet_tree(alloc, bytes)?;
         match PublicTree::from_nodes(entries) {

@@ -88,33 +88,33 @@ impl HashList {
     }
 
     /// Returns the hash at an index, which must be in bounds.
-    pub fn at(&self, place: u32) -> HashValue
-        requires { place < length self.now.hashes }
-        ensures { slice_get self.now.hashes place ≡ Some result }
+    pub fn at(&self, slot: u32) -> HashValue
+        requires { slot < length self.now.hashes }
+        ensures { slice_get self.now.hashes slot ≡ Some result }
     {
-        let start = place as usize * self.width;
+        let start = slot as usize * self.width;
         value_of(part(self.bytes.as_slice(), start, start + self.width))
     }
 
     /// Returns the hash at an index. `None` if the index is out of bounds.
-    pub fn get(&self, place: u32) -> Option<HashValue>
-        ensures { result ≡ slice_get self.now.hashes place }
+    pub fn get(&self, slot: u32) -> Option<HashValue>
+        ensures { result ≡ slice_get self.now.hashes slot }
     {
-        if (place as usize) < self.count {
-            Some(self.at(place))
+        if (slot as usize) < self.count {
+            Some(self.at(slot))
         } else {
             None
         }
     }
 
     /// Replaces the hash at an index, which must be in bounds.
-    pub fn put(&mut self, place: u32, hash: &HashValue)
-        requires place { place < length self.old.hashes }
+    pub fn put(&mut self, slot: u32, hash: &HashValue)
+        requires slot { slot < length self.old.hashes }
         requires width { length hash.now ≡ self.old.width }
         ensures { self.new
-            ≡ record self.old { hashes = slice_set self.old.hashes place hash.now } }
+            ≡ record self.old { hashes = slice_set self.old.hashes slot hash.now } }
     {
-        let start = place as usize * self.width;
+        let start = slot as usize * self.width;
         put_part(self.bytes.as_mut_slice(), start, hash.as_slice());
     }
 
@@ -135,7 +135,7 @@ impl HashList {
     /// Replaces the first `count` hashes by those of `front`.
     pub(crate) fn put_front(&mut self, front: &HashList, count: usize)
         requires there { count ≤ length front.now.hashes }
-        requires place { count ≤ length self.old.hashes }
+        requires slot { count ≤ length self.old.hashes }
         requires width { front.now.width ≡ self.old.width }
         ensures { self.new ≡ record self.old {
           hashes = take count front.now.hashes ++ drop count self.old.hashes;
@@ -159,9 +159,9 @@ impl HashList {
         ensures width { self.new.width ≡ self.old.width }
         ensures count { OnOk result
             (length self.new.hashes ≡ length self.old.hashes + more) }
-        ensures kept { OnOk result
+        ensures preserved { OnOk result
             (take (length self.old.hashes) self.new.hashes ≡ self.old.hashes) }
-        ensures err { OnErr result (self.new ≡ self.old) }
+        ensures unchanged_on_error { OnErr result (self.new ≡ self.old) }
     {
         let added = more * self.width;
         self.bytes.try_reserve(added)?;

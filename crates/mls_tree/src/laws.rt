@@ -3,7 +3,7 @@ ghost use Rattle.std.specs.Prelude.{◌≡◌, ℕ, ◌+◌, ◌*◌, ◌%◌, �
 ghost use Rattle.mls_nodes.specs.declared.leaf.LeafNode.{LeafNode};
 ghost use Rattle.mls_nodes.specs.declared.parent.ParentNode.{ParentNode};
 ghost use Rattle.mls_tree.specs.RatchetTree.{RatchetTree};
-ghost use Rattle.mls_tree.specs.Tree.{Tree, leaf_count, listing, leaf_entry, parent_entry, subtree_at, node_at, leaf_at, IsParentPlace, member_count, leaves_among};
+ghost use Rattle.mls_tree.specs.Tree.{Tree, leaf_count, listing, leaf_entry, parent_entry, subtree_at, node_at, leaf_at, IsParentNodeIndex, member_count, leaves_among};
 ghost use Rattle.mls_tree.specs.BlankLeaves.{first_blank_leaf, next_blank_leaf, AreSetBelow};
 ghost use Rattle.mls_tree.specs.TreeOperations.{put_leaf, put_parent, add, added_leaf};
 
@@ -14,13 +14,13 @@ pub fn one_tree()
 
 /// A node index is a position in the listing (RFC 9420, Appendix C). Leaf `i` is the entry at `2 * i`; the parents are
 /// the entries at the odd positions. A tree has a node index for each entry, and no other.
-pub fn places_are_positions()
+pub fn node_indices_are_positions()
     ensures nodes { (t : Tree) (p : ℕ) → node_at t p ≡ unwrap_or (slice_get (listing t) p) None }
     ensures leaves { (t : Tree) (i : ℕ) → leaf_entry (leaf_at 0 t i)
         ≡ unwrap_or (slice_get (listing t) (2 * i)) None }
-    ensures parents { (t : Tree) (p : ℕ) → IsParentPlace t p
+    ensures parents { (t : Tree) (p : ℕ) → IsParentNodeIndex t p
         ↔ ((p < length (listing t)) × (p % 2 ≡ 1)) }
-    ensures places { (t : Tree) (p : ℕ) → IsSome (subtree_at 0 t p) ↔ (p < length (listing t)) }
+    ensures node_indices { (t : Tree) (p : ℕ) → IsSome (subtree_at 0 t p) ↔ (p < length (listing t)) }
     ensures count { (t : Tree) → length (listing t) + 1 ≡ 2 * leaf_count t }
 {}
 
@@ -29,7 +29,7 @@ pub fn places_are_positions()
 pub fn one_entry_is_replaced()
     ensures leaf { (t : Tree) (i : ℕ) (x : Option LeafNode) → i < leaf_count t
         → listing (put_leaf 0 t i x) ≡ slice_set (listing t) (2 * i) (leaf_entry x) }
-    ensures parent { (t : Tree) (p : ℕ) (x : Option ParentNode) → IsParentPlace t p
+    ensures parent { (t : Tree) (p : ℕ) (x : Option ParentNode) → IsParentNodeIndex t p
         → listing (put_parent 0 t p x) ≡ slice_set (listing t) p (parent_entry x) }
 {}
 

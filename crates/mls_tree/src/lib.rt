@@ -4,8 +4,8 @@
 //! Contracts see a `PublicTree` as a recursive tree (`specs/Tree.antt`) with the list of cached hashes
 //! (`specs/PublicTreeModel.antt`). The array is private to this crate.
 //!
-//! Nodes are named by their node indices, which parameters call `place`. Leaf `i` has the node index `2 * i`, parents
-//! have odd ones, and the root of a tree of `n` leaves has `n - 1`.
+//! Nodes are named by their node indices, which parameters call `node_index`. Leaf `i` has the node index `2 * i`,
+//! parents have odd ones, and the root of a tree of `n` leaves has `n - 1`.
 #![tactic(auto)]
 
 mod blanks;
@@ -24,9 +24,9 @@ mod journal;
 pub mod laws;
 mod leaf_split;
 mod node_array;
+mod node_indices;
 mod node_view;
 mod paths;
-mod places;
 mod public_tree;
 mod resolution;
 mod resolution_len;
@@ -41,6 +41,6 @@ pub use hash_list::HashList;
 pub use hash_value::HashValue;
 pub use journal::Journal;
 pub use leaf_split::split_leaves;
+pub use node_indices::{left, level, parent, right, root, sibling};
 pub use node_view::Part;
-pub use places::{left, level, parent, right, root, sibling};
 pub use public_tree::PublicTree;

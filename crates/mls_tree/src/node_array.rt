@@ -3,13 +3,13 @@ ghost use Rattle.std.specs.Prelude.{◌≡◌, ℕ, ◌+◌, ◌≤◌, ◌<◌,
 ghost use Rattle.std.specs.Bool.{OnTrue, OnFalse};
 ghost use Rattle.mls_nodes.specs.Limits.{leaf_limit};
 ghost use Rattle.mls_nodes.specs.NodeModel.{entry_value, node_value};
-ghost use Rattle.mls_tree.specs.Tree.{leaf_count, member_count, height, listing, node_at, leaf_at, IsBranch, IsParentPlace};
+ghost use Rattle.mls_tree.specs.Tree.{leaf_count, member_count, height, listing, node_at, leaf_at, IsBranch, IsParentNodeIndex};
 ghost use Rattle.mls_tree.specs.Paths.{direct_path, copath, filtered_direct_path, resolution_at, count_not_in};
 ghost use Rattle.mls_tree.specs.BlankLeaves.{first_blank_leaf, next_blank_leaf, IsFirstBlank, AllLeavesSet};
-ghost use Rattle.mls_tree.specs.TreeOperations.{put_leaf, put_parent, clear_path, change_parent, with_unmerged, without_unmerged, enter_unmerged, is_overfilled, is_overfilled_above, IsOverfull, shrink, blank_tree, grow, left_half, rejoined};
+ghost use Rattle.mls_tree.specs.TreeOperations.{put_leaf, put_parent, blank_path, change_parent, with_unmerged, without_unmerged, add_unmerged, is_overfilled, is_overfilled_above, IsOverfull, truncate, blank_tree, extend, left_subtree, rejoined};
 ghost use Rattle.mls_tree.specs.NodeView.{parent_of};
 ghost use Rattle.mls_tree.specs.TreeSizes.{IsPowerOfTwo, IsTooLong, IsListing};
-ghost use Rattle.mls_tree.specs.SubtreeCounts.{counted, AreCounts, AreOutside};
+ghost use Rattle.mls_tree.specs.SubtreeCounts.{subtree_count, AreCounts, AreOutside};
 ghost use Rattle.mls_tree.specs.CountsModel.{AreCountsIfAny};
 
 use crate::blanks::{blank_above, counted_blank_leaf, counts_set_leaf, push_blanks};
@@ -17,14 +17,14 @@ use crate::entries::{
     all_fit, as_leaf, clone_entries, count_leaves, into_leaf, into_parent, leaf_entry, parent_entry,
 };
 use crate::error::TreeError;
+use crate::node_indices::level_inside;
 use crate::paths::{push_copath, push_direct_path, push_filtered_direct_path};
-use crate::places::level_inside;
 use crate::resolution::push_resolution;
 use crate::resolution_len::take_resolution;
 use crate::subtree_counts::{Count, count_all, count_of, recount};
 use crate::swap_prefix::swap_prefix;
 use crate::tree_size::{height_of, height_of_length, leaves_of};
-use crate::unmerged_leaves::{enter, is_overfilled_above, leave, push_new_lists, put_lists};
+use crate::unmerged_leaves::{insert_index, is_overfilled_above, leave, push_new_lists, put_lists};
 use mls_nodes::{LeafNode, Node, ParentNode};
 use std::alloc::{AllocError, Global};
 use std::collections::BTreeSet;
@@ -65,13 +65,13 @@ impl NodeArray {
         nodes: Vec<Option<Node>>,
     ) -> Result<NodeArray, (TreeError, Vec<Option<Node>>)>
         ensures tree { IfOk result (λ t. listing t.tree ≡ map entry_value nodes.items) }
-        ensures ok { IsOk result ↔ IsListing (map entry_value nodes.items) }
+        ensures is_listing { IsOk result ↔ IsListing (map entry_value nodes.items) }
 
         ensures too_many_leaves { (result ≡ Err (TreeError.TooManyLeaves, nodes))
             ↔ IsTooLong (length nodes.items) }
         ensures bad_shape { (result ≡ Err (TreeError.BadShape, nodes))
             ↔ ((¬ IsListing (map entry_value nodes.items)) × ¬ IsTooLong (length nodes.items)) }
-        ensures handed_back { IfErr result (λ e. e.1 ≡ nodes) }
+        ensures returned_arguments { IfErr result (λ e. e.1 ≡ nodes) }
     {
         let height = match height_of_length(nodes.len()) {
             Ok(height) => height,
@@ -95,7 +95,7 @@ impl NodeArray {
         ensures bad_shape { (result ≡ Err TreeError.BadShape) ↔ (¬ IsPowerOfTwo leaves) }
         ensures too_many_leaves { (result ≡ Err TreeError.TooManyLeaves)
             ↔ (IsPowerOfTwo leaves × (leaf_limit < leaves)) }
-        ensures else_memory { IfErr result
+        ensures possible_errors { IfErr result
             (λ e. (e ≡ TreeError.BadShape) ⊎ (e ≡ TreeError.TooManyLeaves)
             ⊎ (e ≡ TreeError.OutOfMemory)) }
     {
@@ -131,7 +131,7 @@ impl NodeArray {
     pub(crate) fn total(&self, counts: &[Count]) -> Count
         requires count { length counts.now + 1 ≡ leaf_count self.now.tree }
         requires counts { AreCounts 0 self.now.tree counts.now }
-        ensures { result ≡ counted self.now.tree }
+        ensures { result ≡ subtree_count self.now.tree }
     {
         count_of(self.nodes.as_slice(), counts, self.height, 0)
     }
@@ -162,11 +162,11 @@ impl NodeArray {
         self.nodes.as_slice()
     }
 
-    /// Returns the node at node index `place`. `None` if it is blank or there is none.
-    pub(crate) fn node(&self, place: u32) -> Option<&Node>
-        ensures { option_map (λ n. node_value n.now) result ≡ node_at self.now.tree place }
+    /// Returns the node at node index `node_index`. `None` if it is blank or there is none.
+    pub(crate) fn node(&self, node_index: u32) -> Option<&Node>
+        ensures { option_map (λ n. node_value n.now) result ≡ node_at self.now.tree node_index }
     {
-        match self.nodes.get(place as usize) {
+        match self.nodes.get(node_index as usize) {
             Some(entry) => entry.as_ref(),
             None => None,
         }
@@ -222,10 +222,10 @@ impl NodeArray {
     /// Returns the direct path of a leaf, lowest node first (RFC 9420, 4.1.2). `NoSuchNode` if the tree has no such
     /// leaf.
     pub(crate) fn direct_path(&self, alloc: Global, leaf: u32) -> Result<Vec<u32>, TreeError>
-        ensures places { IfOk result (λ v. v.items ≡ direct_path 0 self.now.tree leaf) }
+        ensures node_indices { IfOk result (λ v. v.items ≡ direct_path 0 self.now.tree leaf) }
         ensures no_such_node { (result ≡ Err TreeError.NoSuchNode)
             ↔ (leaf_count self.now.tree ≤ leaf) }
-        ensures else_memory { IfErr result
+        ensures possible_errors { IfErr result
             (λ e. (e ≡ TreeError.NoSuchNode) ⊎ (e ≡ TreeError.OutOfMemory)) }
     {
         if leaf >= self.leaf_count() {
@@ -238,10 +238,10 @@ impl NodeArray {
 
     /// Returns the copath of a leaf, lowest node first (RFC 9420, 4.1.2). `NoSuchNode` if the tree has no such leaf.
     pub(crate) fn copath(&self, alloc: Global, leaf: u32) -> Result<Vec<u32>, TreeError>
-        ensures places { IfOk result (λ v. v.items ≡ copath 0 self.now.tree leaf) }
+        ensures node_indices { IfOk result (λ v. v.items ≡ copath 0 self.now.tree leaf) }
         ensures no_such_node { (result ≡ Err TreeError.NoSuchNode)
             ↔ (leaf_count self.now.tree ≤ leaf) }
-        ensures else_memory { IfErr result
+        ensures possible_errors { IfErr result
             (λ e. (e ≡ TreeError.NoSuchNode) ⊎ (e ≡ TreeError.OutOfMemory)) }
     {
         if leaf >= self.leaf_count() {
@@ -261,11 +261,11 @@ impl NodeArray {
         leaf: u32,
     ) -> Result<Vec<u32>, TreeError>
         requires { AreCountsIfAny (option_copied counts) 0 self.now.tree }
-        ensures places { IfOk result
+        ensures node_indices { IfOk result
             (λ v. v.items ≡ filtered_direct_path (leaf_count self.now.tree) 0 self.now.tree leaf) }
         ensures no_such_node { (result ≡ Err TreeError.NoSuchNode)
             ↔ (leaf_count self.now.tree ≤ leaf) }
-        ensures else_memory { IfErr result
+        ensures possible_errors { IfErr result
             (λ e. (e ≡ TreeError.NoSuchNode) ⊎ (e ≡ TreeError.OutOfMemory)) }
     {
         if leaf >= self.leaf_count() {
@@ -277,26 +277,26 @@ impl NodeArray {
         Ok(out)
     }
 
-    /// Returns the resolution of the node at node index `place` (RFC 9420, 4.1.1). Unmerged leaves that the tree
+    /// Returns the resolution of the node at node index `node_index` (RFC 9420, 4.1.1). Unmerged leaves that the tree
     /// doesn't have are left out. `NoSuchNode` if the tree has no such node.
-    pub(crate) fn resolution(&self, alloc: Global, place: u32) -> Result<Vec<u32>, TreeError>
-        ensures places { IfOk result (λ v. resolution_at self.now.tree place ≡ Some v.items) }
+    pub(crate) fn resolution(&self, alloc: Global, node_index: u32) -> Result<Vec<u32>, TreeError>
+        ensures node_indices { IfOk result (λ v. resolution_at self.now.tree node_index ≡ Some v.items) }
         ensures no_such_node { (result ≡ Err TreeError.NoSuchNode)
-            ↔ (resolution_at self.now.tree place ≡ None) }
-        ensures else_memory { IfErr result
+            ↔ (resolution_at self.now.tree node_index ≡ None) }
+        ensures possible_errors { IfErr result
             (λ e. (e ≡ TreeError.NoSuchNode) ⊎ (e ≡ TreeError.OutOfMemory)) }
     {
         let leaves = self.leaf_count();
-        let Some(level) = level_inside(place, leaves) else {
+        let Some(level) = level_inside(node_index, leaves) else {
             return Err(TreeError::NoSuchNode);
         };
-        let first = (place + 1 - leaves_of(level)) / 2;
+        let first = (node_index + 1 - leaves_of(level)) / 2;
         let mut out = Vec::new(alloc);
         push_resolution(&mut out, self.nodes.as_slice(), leaves, level, first)?;
         Ok(out)
     }
 
-    /// Returns whether the resolution of the node at node index `place` (RFC 9420, 4.1.1) has exactly `len` nodes
+    /// Returns whether the resolution of the node at node index `node_index` (RFC 9420, 4.1.1) has exactly `len` nodes
     /// besides those in `without`. `NoSuchNode` if the tree has no such node.
     ///
     /// Does not allocate, and stops as soon as it finds one node more. If there are counts of the tree's parents,
@@ -304,22 +304,22 @@ impl NodeArray {
     pub(crate) fn has_resolution_len(
         &self,
         counts: Option<&[Count]>,
-        place: u32,
+        node_index: u32,
         without: &BTreeSet<u64>,
         len: usize,
     ) -> Result<bool, TreeError>
         requires { AreCountsIfAny (option_copied counts) 0 self.now.tree }
-        ensures answer { IfOk result (λ b. IfSome (resolution_at self.now.tree place)
+        ensures answer { IfOk result (λ b. IfSome (resolution_at self.now.tree node_index)
             (λ ps. b ≡ (count_not_in without.now ps == len))) }
         ensures no_such_node { (result ≡ Err TreeError.NoSuchNode)
-            ↔ (resolution_at self.now.tree place ≡ None) }
+            ↔ (resolution_at self.now.tree node_index ≡ None) }
         ensures else_no_such { IfErr result (λ e. e ≡ TreeError.NoSuchNode) }
     {
         let leaves = self.leaf_count();
-        let Some(level) = level_inside(place, leaves) else {
+        let Some(level) = level_inside(node_index, leaves) else {
             return Err(TreeError::NoSuchNode);
         };
-        let first = (place + 1 - leaves_of(level)) / 2;
+        let first = (node_index + 1 - leaves_of(level)) / 2;
         let nodes = self.nodes.as_slice();
         match take_resolution(nodes, counts, without, leaves, level, first, len) {
             Some(left) => Ok(left == 0),
@@ -346,11 +346,11 @@ impl NodeArray {
         index: u32,
         leaf: Option<Box<LeafNode>>,
     ) -> Result<(), (TreeError, Option<Box<LeafNode>>)>
-        ensures ok { OnOk result
+        ensures changed { OnOk result
             (self.new.tree ≡ put_leaf 0 self.old.tree index (option_map (λ b. b.value) leaf)) }
-        ensures err { OnErr result (self.new ≡ self.old) }
+        ensures unchanged_on_error { OnErr result (self.new ≡ self.old) }
         ensures no_such_node { IsErr result ↔ (leaf_count self.old.tree ≤ index) }
-        ensures handed_back { IfErr result (λ e. e ≡ (TreeError.NoSuchNode, leaf)) }
+        ensures returned_arguments { IfErr result (λ e. e ≡ (TreeError.NoSuchNode, leaf)) }
     {
         if index >= leaves_of(self.height) {
             return Err((TreeError::NoSuchNode, leaf));
@@ -359,23 +359,23 @@ impl NodeArray {
         Ok(())
     }
 
-    /// Replaces the parent at node index `place`; `None` makes it blank. If the tree has no such parent, returns
+    /// Replaces the parent at node index `node_index`; `None` makes it blank. If the tree has no such parent, returns
     /// `NoSuchNode` and the given parent.
     pub(crate) fn put_parent(
         &mut self,
-        place: u32,
+        node_index: u32,
         parent: Option<Box<ParentNode>>,
     ) -> Result<(), (TreeError, Option<Box<ParentNode>>)>
-        ensures ok { OnOk result
-            (self.new.tree ≡ put_parent 0 self.old.tree place (option_map (λ b. b.value) parent)) }
-        ensures err { OnErr result (self.new ≡ self.old) }
-        ensures no_such_node { IsErr result ↔ (¬ IsParentPlace self.old.tree place) }
-        ensures handed_back { IfErr result (λ e. e ≡ (TreeError.NoSuchNode, parent)) }
+        ensures changed { OnOk result
+            (self.new.tree ≡ put_parent 0 self.old.tree node_index (option_map (λ b. b.value) parent)) }
+        ensures unchanged_on_error { OnErr result (self.new ≡ self.old) }
+        ensures no_such_node { IsErr result ↔ (¬ IsParentNodeIndex self.old.tree node_index) }
+        ensures returned_arguments { IfErr result (λ e. e ≡ (TreeError.NoSuchNode, parent)) }
     {
-        if place % 2 == 0 || place as usize >= self.nodes.len() {
+        if node_index % 2 == 0 || node_index as usize >= self.nodes.len() {
             return Err((TreeError::NoSuchNode, parent));
         }
-        self.nodes[place as usize] = parent_entry(parent);
+        self.nodes[node_index as usize] = parent_entry(parent);
         Ok(())
     }
 
@@ -397,23 +397,23 @@ impl NodeArray {
     /// Replaces a parent, and returns the previous one; `None` makes it blank. Does not allocate.
     pub(crate) fn replace_parent(
         &mut self,
-        place: u32,
+        node_index: u32,
         parent: Option<Box<ParentNode>>,
     ) -> Option<Box<ParentNode>>
-        requires { IsParentPlace self.old.tree place }
+        requires { IsParentNodeIndex self.old.tree node_index }
         ensures put { self.new.tree
-            ≡ put_parent 0 self.old.tree place (option_map (λ b. b.value) parent) }
-        ensures former { option_map (λ b. b.value) result ≡ parent_of (node_at self.old.tree place) }
+            ≡ put_parent 0 self.old.tree node_index (option_map (λ b. b.value) parent) }
+        ensures former { option_map (λ b. b.value) result ≡ parent_of (node_at self.old.tree node_index) }
     {
-        let former = mem::replace(&mut self.nodes[place as usize], parent_entry(parent));
+        let former = mem::replace(&mut self.nodes[node_index as usize], parent_entry(parent));
         into_parent(former)
     }
 
     /// Makes blank the parents above a leaf (RFC 9420, 12.1.2 and 12.1.3), but not the leaf. `NoSuchNode` if the tree
     /// has no such leaf.
     pub(crate) fn blank_path(&mut self, index: u32) -> Result<(), TreeError>
-        ensures ok { OnOk result (self.new.tree ≡ clear_path self.old.tree index) }
-        ensures err { OnErr result (self.new ≡ self.old) }
+        ensures changed { OnOk result (self.new.tree ≡ blank_path self.old.tree index) }
+        ensures unchanged_on_error { OnErr result (self.new ≡ self.old) }
         ensures no_such_node { (result ≡ Err TreeError.NoSuchNode)
             ↔ (leaf_count self.old.tree ≤ index) }
         ensures no_other { IfErr result (λ e. e ≡ TreeError.NoSuchNode) }
@@ -435,14 +435,14 @@ impl NodeArray {
     /// `NoSuchNode` if the tree has no such leaf, else `TooManyLeaves` if a list without the leaf index has 1,048,576
     /// entries. Both are checked before anything is allocated.
     pub(crate) fn add_unmerged(&mut self, alloc: Global, index: u32) -> Result<(), TreeError>
-        ensures ok { OnOk result (self.new.tree ≡ enter_unmerged self.old.tree index) }
-        ensures err { OnErr result (self.new ≡ self.old) }
+        ensures changed { OnOk result (self.new.tree ≡ add_unmerged self.old.tree index) }
+        ensures unchanged_on_error { OnErr result (self.new ≡ self.old) }
 
         ensures no_such_node { (result ≡ Err TreeError.NoSuchNode)
             ↔ (leaf_count self.old.tree ≤ index) }
         ensures too_many_leaves { (result ≡ Err TreeError.TooManyLeaves)
             ↔ ((index < leaf_count self.old.tree) × IsOverfull self.old.tree index) }
-        ensures else_memory { IfErr result
+        ensures possible_errors { IfErr result
             (λ e. (e ≡ TreeError.NoSuchNode) ⊎ (e ≡ TreeError.TooManyLeaves)
             ⊎ (e ≡ TreeError.OutOfMemory)) }
     {
@@ -466,44 +466,48 @@ impl NodeArray {
         is_overfilled_above(self.nodes.as_slice(), self.height, 0, index)
     }
 
-    /// Adds a leaf index to the unmerged leaves of the parent at node index `place`, in place, unless the parent is
-    /// blank or has that leaf index. Returns whether the list has changed.
-    pub(crate) fn insert_unmerged_at(&mut self, place: u32, index: u32) -> Result<bool, AllocError>
-        requires there { IsParentPlace self.old.tree place }
-        requires room { is_overfilled index (parent_of (node_at self.old.tree place)) ≡ false }
-        ensures entered { OnOk result
-            (self.new.tree ≡ change_parent (with_unmerged index) 0 self.old.tree place) }
+    /// Adds a leaf index to the unmerged leaves of the parent at node index `node_index`, in place, unless the parent
+    /// is blank or has that leaf index. Returns whether the list has changed.
+    pub(crate) fn insert_unmerged_at(
+        &mut self,
+        node_index: u32,
+        index: u32,
+    ) -> Result<bool, AllocError>
+        requires there { IsParentNodeIndex self.old.tree node_index }
+        requires capacity { is_overfilled index (parent_of (node_at self.old.tree node_index)) ≡ false }
+        ensures in_lists { OnOk result
+            (self.new.tree ≡ change_parent (with_unmerged index) 0 self.old.tree node_index) }
         ensures back { IfOk result (λ changed. OnTrue changed
-            (change_parent (without_unmerged index) 0 self.new.tree place ≡ self.old.tree)) }
+            (change_parent (without_unmerged index) 0 self.new.tree node_index ≡ self.old.tree)) }
         ensures same { IfOk result (λ changed. OnFalse changed (self.new.tree ≡ self.old.tree)) }
-        ensures err { OnErr result (self.new.tree ≡ self.old.tree) }
+        ensures unchanged_on_error { OnErr result (self.new.tree ≡ self.old.tree) }
     {
-        let Some(mut parent) = self.replace_parent(place, None) else {
+        let Some(mut parent) = self.replace_parent(node_index, None) else {
             return Ok(false);
         };
-        let changed = enter(&mut parent.unmerged, index);
-        self.replace_parent(place, Some(parent));
+        let changed = insert_index(&mut parent.unmerged, index);
+        self.replace_parent(node_index, Some(parent));
         changed
     }
 
-    /// Removes a leaf index from the unmerged leaves of the parent at node index `place`, if it is there. Does not
+    /// Removes a leaf index from the unmerged leaves of the parent at node index `node_index`, if it is there. Does not
     /// allocate.
-    pub(crate) fn leave_at(&mut self, place: u32, index: u32)
-        ensures { self.new.tree ≡ change_parent (without_unmerged index) 0 self.old.tree place }
+    pub(crate) fn leave_at(&mut self, node_index: u32, index: u32)
+        ensures { self.new.tree ≡ change_parent (without_unmerged index) 0 self.old.tree node_index }
     {
-        if place as usize >= self.nodes.len() || place % 2 == 0 {
+        if node_index as usize >= self.nodes.len() || node_index % 2 == 0 {
             return;
         }
-        let Some(mut parent) = self.replace_parent(place, None) else {
+        let Some(mut parent) = self.replace_parent(node_index, None) else {
             return;
         };
         leave(&mut parent.unmerged, index);
-        self.replace_parent(place, Some(parent));
+        self.replace_parent(node_index, Some(parent));
     }
 
     /// Replaces the tree by its left subtree, if it has one. Does not allocate.
     pub(crate) fn cut(&mut self)
-        ensures { self.new.tree ≡ left_half self.old.tree }
+        ensures { self.new.tree ≡ left_subtree self.old.tree }
     {
         if self.height == 0 {
             return;
@@ -519,8 +523,8 @@ impl NodeArray {
         requires { AreCountsIfAny (option_copied counts) 0 self.now.tree }
         ensures halves { OnTrue result (IsBranch self.now.tree) }
         ensures smaller { OnTrue result
-            (shrink self.now.tree ≡ shrink (left_half self.now.tree)) }
-        ensures done { OnFalse result (shrink self.now.tree ≡ self.now.tree) }
+            (truncate self.now.tree ≡ truncate (left_subtree self.now.tree)) }
+        ensures done { OnFalse result (truncate self.now.tree ≡ self.now.tree) }
     {
         if self.height == 0 {
             return false;
@@ -533,7 +537,7 @@ impl NodeArray {
     /// non-blank leaf. Does not allocate. Uses the counts of the tree's parents, if there are any.
     pub(crate) fn truncate(&mut self, counts: Option<&[Count]>)
         requires { AreCountsIfAny (option_copied counts) 0 self.old.tree }
-        ensures { self.new.tree ≡ shrink self.old.tree }
+        ensures { self.new.tree ≡ truncate self.old.tree }
     {
         while self.can_be_halved(counts) {
             self.cut();
@@ -543,9 +547,9 @@ impl NodeArray {
     /// Takes out and returns the left subtree. The tree has blank nodes in its place.
     pub(crate) fn take_left(&mut self, alloc: Global) -> Result<NodeArray, AllocError>
         requires { IsBranch self.old.tree }
-        ensures left { IfOk result (λ l. l.tree ≡ left_half self.old.tree) }
+        ensures left { IfOk result (λ l. l.tree ≡ left_subtree self.old.tree) }
         ensures rest { IfOk result (λ l. rejoined l.tree self.new.tree ≡ self.old.tree) }
-        ensures err { OnErr result (self.new ≡ self.old) }
+        ensures unchanged_on_error { OnErr result (self.new ≡ self.old) }
     {
         let below = self.height - 1;
         let mut nodes = Vec::new(alloc);
@@ -573,11 +577,11 @@ impl NodeArray {
     /// Extends the tree (RFC 9420, 7.7): it becomes the left subtree of one twice as large, whose other nodes are
     /// blank. `TooManyLeaves` if the tree has 1,048,576 leaves.
     pub(crate) fn extend(&mut self) -> Result<(), TreeError>
-        ensures ok { OnOk result (self.new.tree ≡ grow self.old.tree) }
-        ensures err { OnErr result (self.new ≡ self.old) }
+        ensures changed { OnOk result (self.new.tree ≡ extend self.old.tree) }
+        ensures unchanged_on_error { OnErr result (self.new ≡ self.old) }
         ensures too_many_leaves { (result ≡ Err TreeError.TooManyLeaves)
             ↔ (leaf_count self.old.tree ≡ leaf_limit) }
-        ensures else_memory { IfErr result
+        ensures possible_errors { IfErr result
             (λ e. (e ≡ TreeError.TooManyLeaves) ⊎ (e ≡ TreeError.OutOfMemory)) }
     {
         if self.height == 20 {

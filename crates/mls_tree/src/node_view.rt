@@ -4,7 +4,7 @@ ghost use Rattle.std.specs.Prelude.{◌≡◌, None, MatchOption, option_copied}
 ghost use Rattle.mls_tree.specs.Tree.{subtree_at, node_at};
 ghost use Rattle.mls_tree.specs.NodeView.{IsPartAt, parent_of};
 
-use crate::places::{left, level, right};
+use crate::node_indices::{left, level, right};
 use crate::public_tree::PublicTree;
 use mls_nodes::{LeafNode, Node, ParentNode};
 
@@ -27,37 +27,37 @@ pub enum Part<'a> {
 }
 
 impl PublicTree {
-    /// Returns the parent node at node index `place`. `None` if it is blank, a leaf, or not in the tree.
-    pub fn parent(&self, place: u32) -> Option<&ParentNode>
-        ensures { option_copied result ≡ parent_of (node_at self.now.tree place) }
+    /// Returns the parent node at node index `node_index`. `None` if it is blank, a leaf, or not in the tree.
+    pub fn parent(&self, node_index: u32) -> Option<&ParentNode>
+        ensures { option_copied result ≡ parent_of (node_at self.now.tree node_index) }
     {
-        match self.node(place) {
+        match self.node(node_index) {
             Some(Node::Parent(parent)) => Some(&**parent),
             Some(Node::Leaf(_)) => None,
             None => None,
         }
     }
 
-    /// Returns the leaf or parent at node index `place`, blank or not. `None` if it is not in the tree.
-    pub fn part(&self, place: u32) -> Option<Part<'_>>
-        ensures { MatchOption result (subtree_at 0 self.now.tree place ≡ None)
-            (λ part. IsPartAt self.now.tree place part) }
+    /// Returns the leaf or parent at node index `node_index`, blank or not. `None` if it is not in the tree.
+    pub fn part(&self, node_index: u32) -> Option<Part<'_>>
+        ensures { MatchOption result (subtree_at 0 self.now.tree node_index ≡ None)
+            (λ part. IsPartAt self.now.tree node_index part) }
     {
         let leaves = self.leaf_count();
-        if level(place, leaves)? == 0 {
-            let index = place / 2;
+        if level(node_index, leaves)? == 0 {
+            let index = node_index / 2;
             return Some(Part::Leaf {
                 index,
                 node: self.leaf(index),
             });
         }
-        let left = left(place, leaves)?;
-        let right = right(place, leaves)?;
+        let left = left(node_index, leaves)?;
+        let right = right(node_index, leaves)?;
         Some(Part::Parent {
-            node: self.parent(place),
+            node: self.parent(node_index),
             left,
             right,
-            middle: place / 2 + 1,
+            middle: node_index / 2 + 1,
         })
     }
 }

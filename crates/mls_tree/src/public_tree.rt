@@ -1,27 +1,27 @@
 //! The public tree of a group: its nodes, and a cache of the tree hashes of its subtrees.
 ghost use Rattle.std.specs.Prelude.{◌≡◌, ◌≢◌, ◌≤◌, ◌<◌, ◌-◌, ◌*◌, ◌∷◌, ◌==◌, [], length, take, replicate, IfOk, IfErr, IfSome, Err, MatchOption, OnOk, OnErr, IsOk, IsErr, ◌↔◌, ◌⊎◌, None, Some, false, map, option_map, option_copied, slice_get, slice_set, IsSome};
 ghost use Rattle.std.specs.Bool.{OnTrue, OnFalse};
-ghost use Rattle.mls_tree.specs.CellChanges.{rejoined_cells, CellsAgreeExceptAt};
+ghost use Rattle.mls_tree.specs.SlotChanges.{rejoined_slots, SlotsAgreeExceptAt};
 ghost use Rattle.mls_nodes.specs.Limits.{leaf_limit};
 ghost use Rattle.mls_nodes.specs.NodeModel.{entry_value, node_value};
-ghost use Rattle.mls_tree.specs.Tree.{leaf_count, member_count, height, listing, node_at, leaf_at, IsBranch, IsParentPlace};
+ghost use Rattle.mls_tree.specs.Tree.{leaf_count, member_count, height, listing, node_at, leaf_at, IsBranch, IsParentNodeIndex};
 ghost use Rattle.mls_tree.specs.Paths.{direct_path, copath, filtered_direct_path, resolution_at, count_not_in};
 ghost use Rattle.mls_tree.specs.BlankLeaves.{first_blank_leaf, next_blank_leaf, IsFirstBlank, AllLeavesSet};
-ghost use Rattle.mls_tree.specs.TreeOperations.{put_leaf, put_parent, clear_path, change_parent, with_unmerged, without_unmerged, enter_unmerged, is_overfilled, is_overfilled_above, IsOverfull, shrink, blank_tree, grow, left_half, rejoined, seat};
+ghost use Rattle.mls_tree.specs.TreeOperations.{put_leaf, put_parent, blank_path, change_parent, with_unmerged, without_unmerged, add_unmerged, is_overfilled, is_overfilled_above, IsOverfull, truncate, blank_tree, extend, left_subtree, rejoined, seat};
 ghost use Rattle.mls_tree.specs.NodeView.{parent_of};
 ghost use Rattle.mls_tree.specs.TreeSizes.{IsPowerOfTwo, IsTooLong, IsListing};
 ghost use Rattle.mls_tree.specs.HashCache.{emptied, empty_count, extended, parents_from, hash_in, IsRightHash, AreAllFilled};
 
 use crate::cache_update::{
-    clone_cells, clone_front, double, empty_front, empty_leaf, empty_parents, empty_path,
-    join_cells, reserve_double, truncate,
+    clone_front, clone_slots, double, empty_front, empty_leaf, empty_parents, empty_path,
+    join_slots, reserve_double, truncate,
 };
 use crate::cached_counts::{
     Counts, clone_counts, count_anew, count_in_place, counts_in, recount, reserve_counts,
     truncate_counts,
 };
 use crate::error::TreeError;
-use crate::hash_cache::Cells;
+use crate::hash_cache::Slots;
 use crate::hash_kind::HashKind;
 use crate::hash_value::HashValue;
 use crate::node_array::NodeArray;
@@ -44,23 +44,23 @@ use std::mem;
 #[derive(Debug, Drop)]
 pub struct PublicTree {
     tree: NodeArray,
-    cells: Option<Cells>,
+    slots: Option<Slots>,
     counts: Option<Counts>,
 }
 
 impl Model for PublicTree {
     ghost use Rattle.mls_tree.specs.PublicTreeModel.{KeptTree, kept_tree_coded};
-    ghost use Rattle.mls_tree.specs.HashCache.{AreCellsOf};
-    ghost use Rattle.mls_tree.specs.CacheModel.{kind_in, cells_in};
+    ghost use Rattle.mls_tree.specs.HashCache.{AreSlotsOf};
+    ghost use Rattle.mls_tree.specs.CacheModel.{kind_in, slots_in};
     ghost use Rattle.mls_tree.specs.CountsModel.{AreCountsIn};
 
     ghost Value = { KeptTree };
 
     ghost coded = { kept_tree_coded };
 
-    ghost view = { λ s. record { tree = s.tree.tree; shape = s.tree.shape; kind = kind_in s.cells; cells = cells_in s.cells } };
+    ghost view = { λ s. record { tree = s.tree.tree; shape = s.tree.shape; kind = kind_in s.slots; slots = slots_in s.slots } };
 
-    ghost invariant = { λ s. AreCellsOf (kind_in s.cells) s.tree.tree (cells_in s.cells)
+    ghost invariant = { λ s. AreSlotsOf (kind_in s.slots) s.tree.tree (slots_in s.slots)
         × AreCountsIn s.counts s.tree.tree };
 }
 
@@ -77,20 +77,20 @@ impl PublicTree {
         nodes: Vec<Option<Node>>,
     ) -> Result<PublicTree, (TreeError, Vec<Option<Node>>)>
         ensures tree { IfOk result (λ t. listing t.tree ≡ map entry_value nodes.items) }
-        ensures ok { IsOk result ↔ IsListing (map entry_value nodes.items) }
+        ensures is_listing { IsOk result ↔ IsListing (map entry_value nodes.items) }
 
         ensures too_many_leaves { (result ≡ Err (TreeError.TooManyLeaves, nodes))
             ↔ IsTooLong (length nodes.items) }
         ensures bad_shape { (result ≡ Err (TreeError.BadShape, nodes))
             ↔ ((¬ IsListing (map entry_value nodes.items)) × ¬ IsTooLong (length nodes.items)) }
-        ensures handed_back { IfErr result (λ e. e.1 ≡ nodes) }
+        ensures returned_arguments { IfErr result (λ e. e.1 ≡ nodes) }
         ensures kind { IfOk result (λ t. t.kind ≡ None) }
-        ensures cells { IfOk result (λ t. t.cells ≡ []) }
+        ensures slots { IfOk result (λ t. t.slots ≡ []) }
     {
         let tree = NodeArray::from_nodes(nodes)?;
         Ok(PublicTree {
             tree,
-            cells: None,
+            slots: None,
             counts: None,
         })
     }
@@ -107,16 +107,16 @@ impl PublicTree {
         ensures bad_shape { (result ≡ Err TreeError.BadShape) ↔ (¬ IsPowerOfTwo leaves) }
         ensures too_many_leaves { (result ≡ Err TreeError.TooManyLeaves)
             ↔ (IsPowerOfTwo leaves × (leaf_limit < leaves)) }
-        ensures else_memory { IfErr result
+        ensures possible_errors { IfErr result
             (λ e. (e ≡ TreeError.BadShape) ⊎ (e ≡ TreeError.TooManyLeaves)
             ⊎ (e ≡ TreeError.OutOfMemory)) }
         ensures kind { IfOk result (λ t. t.kind ≡ None) }
-        ensures cells { IfOk result (λ t. t.cells ≡ []) }
+        ensures slots { IfOk result (λ t. t.slots ≡ []) }
     {
         let tree = NodeArray::blank(alloc, leaves)?;
         Ok(PublicTree {
             tree,
-            cells: None,
+            slots: None,
             counts: None,
         })
     }
@@ -145,11 +145,11 @@ impl PublicTree {
         self.tree.nodes()
     }
 
-    /// Returns the node at node index `place`. `None` if it is blank or there is none.
-    pub fn node(&self, place: u32) -> Option<&Node>
-        ensures { option_map (λ n. node_value n.now) result ≡ node_at self.now.tree place }
+    /// Returns the node at node index `node_index`. `None` if it is blank or there is none.
+    pub fn node(&self, node_index: u32) -> Option<&Node>
+        ensures { option_map (λ n. node_value n.now) result ≡ node_at self.now.tree node_index }
     {
-        self.tree.node(place)
+        self.tree.node(node_index)
     }
 
     /// Returns a leaf by its leaf index. `None` if it is blank or there is none.
@@ -178,10 +178,10 @@ impl PublicTree {
     /// Returns the direct path of a leaf, lowest node first (RFC 9420, 4.1.2). `NoSuchNode` if the tree has no such
     /// leaf.
     pub fn direct_path(&self, alloc: Global, leaf: u32) -> Result<Vec<u32>, TreeError>
-        ensures places { IfOk result (λ v. v.items ≡ direct_path 0 self.now.tree leaf) }
+        ensures node_indices { IfOk result (λ v. v.items ≡ direct_path 0 self.now.tree leaf) }
         ensures no_such_node { (result ≡ Err TreeError.NoSuchNode)
             ↔ (leaf_count self.now.tree ≤ leaf) }
-        ensures else_memory { IfErr result
+        ensures possible_errors { IfErr result
             (λ e. (e ≡ TreeError.NoSuchNode) ⊎ (e ≡ TreeError.OutOfMemory)) }
     {
         self.tree.direct_path(alloc, leaf)
@@ -189,10 +189,10 @@ impl PublicTree {
 
     /// Returns the copath of a leaf, lowest node first (RFC 9420, 4.1.2). `NoSuchNode` if the tree has no such leaf.
     pub fn copath(&self, alloc: Global, leaf: u32) -> Result<Vec<u32>, TreeError>
-        ensures places { IfOk result (λ v. v.items ≡ copath 0 self.now.tree leaf) }
+        ensures node_indices { IfOk result (λ v. v.items ≡ copath 0 self.now.tree leaf) }
         ensures no_such_node { (result ≡ Err TreeError.NoSuchNode)
             ↔ (leaf_count self.now.tree ≤ leaf) }
-        ensures else_memory { IfErr result
+        ensures possible_errors { IfErr result
             (λ e. (e ≡ TreeError.NoSuchNode) ⊎ (e ≡ TreeError.OutOfMemory)) }
     {
         self.tree.copath(alloc, leaf)
@@ -201,81 +201,81 @@ impl PublicTree {
     /// Returns the filtered direct path of a leaf, lowest node first (RFC 9420, 4.1.2). `NoSuchNode` if the tree has no
     /// such leaf.
     pub fn filtered_direct_path(&self, alloc: Global, leaf: u32) -> Result<Vec<u32>, TreeError>
-        ensures places { IfOk result
+        ensures node_indices { IfOk result
             (λ v. v.items ≡ filtered_direct_path (leaf_count self.now.tree) 0 self.now.tree leaf) }
         ensures no_such_node { (result ≡ Err TreeError.NoSuchNode)
             ↔ (leaf_count self.now.tree ≤ leaf) }
-        ensures else_memory { IfErr result
+        ensures possible_errors { IfErr result
             (λ e. (e ≡ TreeError.NoSuchNode) ⊎ (e ≡ TreeError.OutOfMemory)) }
     {
         self.tree
             .filtered_direct_path(alloc, counts_in(&self.counts), leaf)
     }
 
-    /// Returns the resolution of the node at node index `place` (RFC 9420, 4.1.1). Unmerged leaves that the tree
+    /// Returns the resolution of the node at node index `node_index` (RFC 9420, 4.1.1). Unmerged leaves that the tree
     /// doesn't have are left out. `NoSuchNode` if the tree has no such node.
-    pub fn resolution(&self, alloc: Global, place: u32) -> Result<Vec<u32>, TreeError>
-        ensures places { IfOk result (λ v. resolution_at self.now.tree place ≡ Some v.items) }
+    pub fn resolution(&self, alloc: Global, node_index: u32) -> Result<Vec<u32>, TreeError>
+        ensures node_indices { IfOk result (λ v. resolution_at self.now.tree node_index ≡ Some v.items) }
         ensures no_such_node { (result ≡ Err TreeError.NoSuchNode)
-            ↔ (resolution_at self.now.tree place ≡ None) }
-        ensures else_memory { IfErr result
+            ↔ (resolution_at self.now.tree node_index ≡ None) }
+        ensures possible_errors { IfErr result
             (λ e. (e ≡ TreeError.NoSuchNode) ⊎ (e ≡ TreeError.OutOfMemory)) }
     {
-        self.tree.resolution(alloc, place)
+        self.tree.resolution(alloc, node_index)
     }
 
-    /// Returns whether the resolution of the node at node index `place` (RFC 9420, 4.1.1) has exactly `len` nodes
+    /// Returns whether the resolution of the node at node index `node_index` (RFC 9420, 4.1.1) has exactly `len` nodes
     /// besides those in `without`. `NoSuchNode` if the tree has no such node.
     ///
     /// Does not allocate, and stops as soon as it finds one node more. With a cache, subtrees of blank nodes are passed
     /// by.
     pub fn has_resolution_len(
         &self,
-        place: u32,
+        node_index: u32,
         without: &BTreeSet<u64>,
         len: usize,
     ) -> Result<bool, TreeError>
-        ensures answer { IfOk result (λ b. IfSome (resolution_at self.now.tree place)
+        ensures answer { IfOk result (λ b. IfSome (resolution_at self.now.tree node_index)
             (λ ps. b ≡ (count_not_in without.now ps == len))) }
         ensures no_such_node { (result ≡ Err TreeError.NoSuchNode)
-            ↔ (resolution_at self.now.tree place ≡ None) }
+            ↔ (resolution_at self.now.tree node_index ≡ None) }
         ensures else_no_such { IfErr result (λ e. e ≡ TreeError.NoSuchNode) }
     {
         self.tree
-            .has_resolution_len(counts_in(&self.counts), place, without, len)
+            .has_resolution_len(counts_in(&self.counts), node_index, without, len)
     }
 
     /// Returns the hash function of the cache. `None` if the tree has no cache.
     pub fn hash_kind(&self) -> Option<HashKind>
         ensures { result ≡ self.now.kind }
     {
-        match &self.cells {
-            Some(cells) => Some(cells.kind),
+        match &self.slots {
+            Some(slots) => Some(slots.kind),
             None => None,
         }
     }
 
     /// Returns the number of empty cache slots: 0 without a cache.
-    pub fn empty_cells(&self) -> u32
-        ensures count { result ≡ empty_count self.now.cells }
+    pub fn empty_slots(&self) -> u32
+        ensures count { result ≡ empty_count self.now.slots }
         ensures most { result < 2 * leaf_count self.now.tree }
-        ensures none { AreAllFilled self.now.tree self.now.cells → result ≡ 0 }
+        ensures none { AreAllFilled self.now.tree self.now.slots → result ≡ 0 }
         ensures full { result ≡ 0 → IsSome self.now.kind
-            → AreAllFilled self.now.tree self.now.cells }
+            → AreAllFilled self.now.tree self.now.slots }
     {
-        match &self.cells {
-            Some(cells) => cells.empty as u32,
+        match &self.slots {
+            Some(slots) => slots.empty as u32,
             None => 0,
         }
     }
 
-    /// Returns the cached hash of the subtree at node index `place`. `None` if its slot is empty or there is none.
-    pub fn kept_hash(&self, place: u32) -> Option<HashValue>
-        ensures kept { result ≡ hash_in (slice_get self.now.cells place) }
-        ensures right { IfSome result (IsRightHash self.now.kind self.now.tree place) }
+    /// Returns the cached hash of the subtree at node index `node_index`. `None` if its slot is empty or there is none.
+    pub fn kept_hash(&self, node_index: u32) -> Option<HashValue>
+        ensures kept { result ≡ hash_in (slice_get self.now.slots node_index) }
+        ensures right { IfSome result (IsRightHash self.now.kind self.now.tree node_index) }
     {
-        match &self.cells {
-            Some(cells) => cells.hashes.get(place),
+        match &self.slots {
+            Some(slots) => slots.hashes.get(node_index),
             None => None,
         }
     }
@@ -287,32 +287,32 @@ impl PublicTree {
         ensures kind { OnOk result (self.new.kind ≡ Some kind) }
         ensures stays { self.old.kind ≡ Some kind → self.new ≡ self.old }
         ensures fresh { OnOk result (self.old.kind ≢ Some kind
-            → self.new.cells ≡ replicate (2 * leaf_count self.old.tree - 1) None) }
-        ensures err { OnErr result (self.new ≡ self.old) }
+            → self.new.slots ≡ replicate (2 * leaf_count self.old.tree - 1) None) }
+        ensures unchanged_on_error { OnErr result (self.new ≡ self.old) }
     {
         if self.hash_kind() == Some(kind) {
             return Ok(());
         }
         let count = self.tree.nodes().len();
         let counts = count_anew(alloc, &self.tree)?;
-        let cells = Cells::blank(alloc, kind, count)?;
-        self.cells = Some(cells);
+        let slots = Slots::blank(alloc, kind, count)?;
+        self.slots = Some(slots);
         self.counts = Some(counts);
         Ok(())
     }
 
-    /// Fills the cache slot at node index `place` with the hash of the subtree there. Does not allocate.
-    pub fn keep_hash(&mut self, place: u32, hash: HashValue)
-        requires { IsRightHash self.old.kind self.old.tree place hash }
+    /// Fills the cache slot at node index `node_index` with the hash of the subtree there. Does not allocate.
+    pub fn keep_hash(&mut self, node_index: u32, hash: HashValue)
+        requires { IsRightHash self.old.kind self.old.tree node_index hash }
         ensures tree { self.new.tree ≡ self.old.tree }
         ensures kind { self.new.kind ≡ self.old.kind }
-        ensures cells { self.new.cells ≡ slice_set self.old.cells place (Some hash) }
-        ensures filled { hash_in (slice_get self.new.cells place) ≡ Some hash }
+        ensures slots { self.new.slots ≡ slice_set self.old.slots node_index (Some hash) }
+        ensures filled { hash_in (slice_get self.new.slots node_index) ≡ Some hash }
     {
-        let Some(cells) = &mut self.cells else {
+        let Some(slots) = &mut self.slots else {
             unreachable!();
         };
-        cells.put(place, hash);
+        slots.put(node_index, hash);
     }
 
     /// Returns a tree with the same nodes and cache.
@@ -320,11 +320,11 @@ impl PublicTree {
         ensures { IfOk result (λ t. t ≡ self.now) }
     {
         let tree = self.tree.try_clone(alloc)?;
-        let cells = clone_cells(alloc, &self.cells)?;
+        let slots = clone_slots(alloc, &self.slots)?;
         let counts = clone_counts(alloc, &self.counts)?;
         Ok(PublicTree {
             tree,
-            cells,
+            slots,
             counts,
         })
     }
@@ -340,23 +340,23 @@ impl PublicTree {
         index: u32,
         leaf: Option<Box<LeafNode>>,
     ) -> Result<(), (TreeError, Option<Box<LeafNode>>)>
-        ensures ok { OnOk result
+        ensures changed { OnOk result
             (self.new.tree ≡ put_leaf 0 self.old.tree index (option_map (λ b. b.value) leaf)) }
-        ensures err { OnErr result (self.new ≡ self.old) }
+        ensures unchanged_on_error { OnErr result (self.new ≡ self.old) }
         ensures no_such_node { IsErr result ↔ (leaf_count self.old.tree ≤ index) }
-        ensures handed_back { IfErr result (λ e. e ≡ (TreeError.NoSuchNode, leaf)) }
+        ensures returned_arguments { IfErr result (λ e. e ≡ (TreeError.NoSuchNode, leaf)) }
         ensures kind { self.new.kind ≡ self.old.kind }
-        ensures cells { OnOk result (self.new.cells
-            ≡ emptied self.old.cells (2 * index ∷ direct_path 0 self.old.tree index)) }
+        ensures slots { OnOk result (self.new.slots
+            ≡ emptied self.old.slots (2 * index ∷ direct_path 0 self.old.tree index)) }
     {
         let level = self.tree.height();
         self.tree.set_leaf(index, leaf)?;
-        empty_leaf(&mut self.cells, level, index);
+        empty_leaf(&mut self.slots, level, index);
         recount(&mut self.counts, &self.tree, index);
         Ok(())
     }
 
-    /// Replaces the parent at node index `place`; `None` makes it blank. Empties its cache slot and those of the
+    /// Replaces the parent at node index `node_index`; `None` makes it blank. Empties its cache slot and those of the
     /// parents above it.
     ///
     /// # Errors
@@ -364,22 +364,22 @@ impl PublicTree {
     /// `NoSuchNode`, with the given parent, if the tree has no such node or it is a leaf.
     pub fn put_parent(
         &mut self,
-        place: u32,
+        node_index: u32,
         parent: Option<Box<ParentNode>>,
     ) -> Result<(), (TreeError, Option<Box<ParentNode>>)>
-        ensures ok { OnOk result
-            (self.new.tree ≡ put_parent 0 self.old.tree place (option_map (λ b. b.value) parent)) }
-        ensures err { OnErr result (self.new ≡ self.old) }
-        ensures no_such_node { IsErr result ↔ (¬ IsParentPlace self.old.tree place) }
-        ensures handed_back { IfErr result (λ e. e ≡ (TreeError.NoSuchNode, parent)) }
+        ensures changed { OnOk result
+            (self.new.tree ≡ put_parent 0 self.old.tree node_index (option_map (λ b. b.value) parent)) }
+        ensures unchanged_on_error { OnErr result (self.new ≡ self.old) }
+        ensures no_such_node { IsErr result ↔ (¬ IsParentNodeIndex self.old.tree node_index) }
+        ensures returned_arguments { IfErr result (λ e. e ≡ (TreeError.NoSuchNode, parent)) }
         ensures kind { self.new.kind ≡ self.old.kind }
-        ensures cells { OnOk result (self.new.cells
-            ≡ emptied self.old.cells (parents_from 0 self.old.tree place)) }
+        ensures slots { OnOk result (self.new.slots
+            ≡ emptied self.old.slots (parents_from 0 self.old.tree node_index)) }
     {
         let level = self.tree.height();
-        self.tree.put_parent(place, parent)?;
-        empty_parents(&mut self.cells, level, place);
-        recount(&mut self.counts, &self.tree, place / 2);
+        self.tree.put_parent(node_index, parent)?;
+        empty_parents(&mut self.slots, level, node_index);
+        recount(&mut self.counts, &self.tree, node_index / 2);
         Ok(())
     }
 
@@ -394,12 +394,12 @@ impl PublicTree {
             ≡ put_leaf 0 self.old.tree index (option_map (λ b. b.value) leaf) }
         ensures former { option_map (λ b. b.value) result ≡ leaf_at 0 self.old.tree index }
         ensures kind { self.new.kind ≡ self.old.kind }
-        ensures cells { self.new.cells
-            ≡ emptied self.old.cells (2 * index ∷ direct_path 0 self.old.tree index) }
+        ensures slots { self.new.slots
+            ≡ emptied self.old.slots (2 * index ∷ direct_path 0 self.old.tree index) }
     {
         let level = self.tree.height();
         let former = self.tree.replace_leaf(index, leaf);
-        empty_leaf(&mut self.cells, level, index);
+        empty_leaf(&mut self.slots, level, index);
         recount(&mut self.counts, &self.tree, index);
         former
     }
@@ -407,70 +407,69 @@ impl PublicTree {
     /// Replaces a parent, and returns the previous one; `None` makes it blank. Does not allocate.
     pub(crate) fn replace_parent(
         &mut self,
-        place: u32,
+        node_index: u32,
         parent: Option<Box<ParentNode>>,
     ) -> Option<Box<ParentNode>>
-        requires { IsParentPlace self.old.tree place }
+        requires { IsParentNodeIndex self.old.tree node_index }
         ensures put { self.new.tree
-            ≡ put_parent 0 self.old.tree place (option_map (λ b. b.value) parent) }
-        ensures former { option_map (λ b. b.value) result ≡ parent_of (node_at self.old.tree place) }
+            ≡ put_parent 0 self.old.tree node_index (option_map (λ b. b.value) parent) }
+        ensures former { option_map (λ b. b.value) result ≡ parent_of (node_at self.old.tree node_index) }
         ensures kind { self.new.kind ≡ self.old.kind }
-        ensures cells { self.new.cells
-            ≡ emptied self.old.cells (parents_from 0 self.old.tree place) }
+        ensures slots { self.new.slots
+            ≡ emptied self.old.slots (parents_from 0 self.old.tree node_index) }
     {
         let level = self.tree.height();
-        let former = self.tree.replace_parent(place, parent);
-        empty_parents(&mut self.cells, level, place);
-        recount(&mut self.counts, &self.tree, place / 2);
+        let former = self.tree.replace_parent(node_index, parent);
+        empty_parents(&mut self.slots, level, node_index);
+        recount(&mut self.counts, &self.tree, node_index / 2);
         former
     }
 
-    /// Makes blank the parents above a leaf (RFC 9420, 12.1.2 and 12.1.3), but not the leaf. Called `clear_path` in the
-    /// definitions. Empties the cache slots of these parents. `NoSuchNode` if the tree has no such leaf.
+    /// Makes blank the parents above a leaf (RFC 9420, 12.1.2 and 12.1.3), but not the leaf. Empties the cache slots of
+    /// these parents. `NoSuchNode` if the tree has no such leaf.
     pub fn blank_path(&mut self, index: u32) -> Result<(), TreeError>
-        ensures ok { OnOk result (self.new.tree ≡ clear_path self.old.tree index) }
-        ensures err { OnErr result (self.new ≡ self.old) }
+        ensures changed { OnOk result (self.new.tree ≡ blank_path self.old.tree index) }
+        ensures unchanged_on_error { OnErr result (self.new ≡ self.old) }
         ensures no_such_node { (result ≡ Err TreeError.NoSuchNode)
             ↔ (leaf_count self.old.tree ≤ index) }
         ensures no_other { IfErr result (λ e. e ≡ TreeError.NoSuchNode) }
         ensures kind { self.new.kind ≡ self.old.kind }
-        ensures cells { OnOk result (self.new.cells
-            ≡ emptied self.old.cells (direct_path 0 self.old.tree index)) }
+        ensures slots { OnOk result (self.new.slots
+            ≡ emptied self.old.slots (direct_path 0 self.old.tree index)) }
     {
         let level = self.tree.height();
         self.tree.blank_path(index)?;
-        empty_path(&mut self.cells, level, index);
+        empty_path(&mut self.slots, level, index);
         recount(&mut self.counts, &self.tree, index);
         Ok(())
     }
 
     /// Adds a leaf index to the unmerged leaves of each non-blank parent above the leaf (RFC 9420, 12.1.1), before the
-    /// first entry that is not less. A list that has the leaf index is unchanged. Called `enter_unmerged` in the
-    /// definitions. All new lists are made before one is put in place. Empties the cache slots of all parents above the
-    /// leaf.
+    /// first entry that is not less. A list that has the leaf index is unchanged. All new lists are made before one is
+    /// put in place. Empties the cache slots of all parents above the leaf.
     ///
     /// # Errors
     ///
     /// `NoSuchNode` if the tree has no such leaf, else `TooManyLeaves` if a list without the leaf index has 1,048,576
     /// entries. Both are checked before anything is allocated.
     pub fn add_unmerged(&mut self, alloc: Global, index: u32) -> Result<(), TreeError>
-        ensures ok { OnOk result (self.new.tree ≡ enter_unmerged self.old.tree index) }
-        ensures err { OnErr result (self.new ≡ self.old) }
+        ensures changed { OnOk result (self.new.tree ≡ add_unmerged self.old.tree index) }
+        ensures unchanged_on_error { OnErr result (self.new ≡ self.old) }
 
         ensures no_such_node { (result ≡ Err TreeError.NoSuchNode)
             ↔ (leaf_count self.old.tree ≤ index) }
         ensures too_many_leaves { (result ≡ Err TreeError.TooManyLeaves)
             ↔ ((index < leaf_count self.old.tree) × IsOverfull self.old.tree index) }
-        ensures else_memory { IfErr result
+        ensures possible_errors { IfErr result
             (λ e. (e ≡ TreeError.NoSuchNode) ⊎ (e ≡ TreeError.TooManyLeaves)
             ⊎ (e ≡ TreeError.OutOfMemory)) }
         ensures kind { self.new.kind ≡ self.old.kind }
-        ensures cells { OnOk result (self.new.cells
-            ≡ emptied self.old.cells (direct_path 0 self.old.tree index)) }
+        ensures slots { OnOk result (self.new.slots
+            ≡ emptied self.old.slots (direct_path 0 self.old.tree index)) }
     {
         let level = self.tree.height();
         self.tree.add_unmerged(alloc, index)?;
-        empty_path(&mut self.cells, level, index);
+        empty_path(&mut self.slots, level, index);
         recount(&mut self.counts, &self.tree, index);
         Ok(())
     }
@@ -479,11 +478,11 @@ impl PublicTree {
     pub(crate) fn empty_path(&mut self, index: u32)
         ensures tree { self.new.tree ≡ self.old.tree }
         ensures kind { self.new.kind ≡ self.old.kind }
-        ensures cells { self.new.cells
-            ≡ emptied self.old.cells (direct_path 0 self.old.tree index) }
+        ensures slots { self.new.slots
+            ≡ emptied self.old.slots (direct_path 0 self.old.tree index) }
     {
         let level = self.tree.height();
-        empty_path(&mut self.cells, level, index);
+        empty_path(&mut self.slots, level, index);
     }
 
     /// Returns whether a non-blank parent above a leaf has a full list of unmerged leaves without this leaf index.
@@ -493,67 +492,71 @@ impl PublicTree {
         self.tree.is_overfull(index)
     }
 
-    /// Adds a leaf index to the unmerged leaves of the parent at node index `place`, in place, unless the parent is
-    /// blank or has that leaf index. Returns whether the list has changed. Empties the cache slots of the parent and of
-    /// those above it.
-    pub(crate) fn insert_unmerged_at(&mut self, place: u32, index: u32) -> Result<bool, AllocError>
-        requires there { IsParentPlace self.old.tree place }
-        requires room { is_overfilled index (parent_of (node_at self.old.tree place)) ≡ false }
-        ensures entered { OnOk result
-            (self.new.tree ≡ change_parent (with_unmerged index) 0 self.old.tree place) }
+    /// Adds a leaf index to the unmerged leaves of the parent at node index `node_index`, in place, unless the parent
+    /// is blank or has that leaf index. Returns whether the list has changed. Empties the cache slots of the parent and
+    /// of those above it.
+    pub(crate) fn insert_unmerged_at(
+        &mut self,
+        node_index: u32,
+        index: u32,
+    ) -> Result<bool, AllocError>
+        requires there { IsParentNodeIndex self.old.tree node_index }
+        requires capacity { is_overfilled index (parent_of (node_at self.old.tree node_index)) ≡ false }
+        ensures in_lists { OnOk result
+            (self.new.tree ≡ change_parent (with_unmerged index) 0 self.old.tree node_index) }
         ensures back { IfOk result (λ changed. OnTrue changed
-            (change_parent (without_unmerged index) 0 self.new.tree place ≡ self.old.tree)) }
+            (change_parent (without_unmerged index) 0 self.new.tree node_index ≡ self.old.tree)) }
         ensures same { IfOk result (λ changed. OnFalse changed (self.new.tree ≡ self.old.tree)) }
-        ensures err { OnErr result (self.new.tree ≡ self.old.tree) }
+        ensures unchanged_on_error { OnErr result (self.new.tree ≡ self.old.tree) }
         ensures kind { self.new.kind ≡ self.old.kind }
-        ensures cells { self.new.cells
-            ≡ emptied self.old.cells (parents_from 0 self.old.tree place) }
+        ensures slots { self.new.slots
+            ≡ emptied self.old.slots (parents_from 0 self.old.tree node_index) }
     {
         let level = self.tree.height();
-        let changed = self.tree.insert_unmerged_at(place, index);
-        empty_parents(&mut self.cells, level, place);
-        recount(&mut self.counts, &self.tree, place / 2);
+        let changed = self.tree.insert_unmerged_at(node_index, index);
+        empty_parents(&mut self.slots, level, node_index);
+        recount(&mut self.counts, &self.tree, node_index / 2);
         changed
     }
 
     /// Restores the parent at a node index, if the tree has that index. Does not allocate.
-    pub(crate) fn restore_parent(&mut self, place: u32, parent: Option<Box<ParentNode>>)
+    pub(crate) fn restore_parent(&mut self, node_index: u32, parent: Option<Box<ParentNode>>)
         ensures put { self.new.tree
-            ≡ put_parent 0 self.old.tree place (option_map (λ b. b.value) parent) }
+            ≡ put_parent 0 self.old.tree node_index (option_map (λ b. b.value) parent) }
         ensures kind { self.new.kind ≡ self.old.kind }
-        ensures cells { self.new.cells
-            ≡ emptied self.old.cells (parents_from 0 self.old.tree place) }
+        ensures slots { self.new.slots
+            ≡ emptied self.old.slots (parents_from 0 self.old.tree node_index) }
     {
         let level = self.tree.height();
-        drop(self.tree.put_parent(place, parent));
-        empty_parents(&mut self.cells, level, place);
-        recount(&mut self.counts, &self.tree, place / 2);
+        drop(self.tree.put_parent(node_index, parent));
+        empty_parents(&mut self.slots, level, node_index);
+        recount(&mut self.counts, &self.tree, node_index / 2);
     }
 
     /// Removes a leaf index from the unmerged leaves of the parent at a node index, if the list has it. Does not allocate.
-    pub(crate) fn leave_at(&mut self, place: u32, index: u32)
+    pub(crate) fn leave_at(&mut self, node_index: u32, index: u32)
         ensures left { self.new.tree
-            ≡ change_parent (without_unmerged index) 0 self.old.tree place }
+            ≡ change_parent (without_unmerged index) 0 self.old.tree node_index }
         ensures kind { self.new.kind ≡ self.old.kind }
-        ensures cells { self.new.cells
-            ≡ emptied self.old.cells (parents_from 0 self.old.tree place) }
+        ensures slots { self.new.slots
+            ≡ emptied self.old.slots (parents_from 0 self.old.tree node_index) }
     {
         let level = self.tree.height();
-        self.tree.leave_at(place, index);
-        empty_parents(&mut self.cells, level, place);
-        recount(&mut self.counts, &self.tree, place / 2);
+        self.tree.leave_at(node_index, index);
+        empty_parents(&mut self.slots, level, node_index);
+        recount(&mut self.counts, &self.tree, node_index / 2);
     }
 
     /// Replaces the tree by its left subtree, if it has one. Does not allocate.
     pub(crate) fn cut(&mut self)
-        ensures half { self.new.tree ≡ left_half self.old.tree }
+        ensures half { self.new.tree ≡ left_subtree self.old.tree }
         ensures kind { self.new.kind ≡ self.old.kind }
-        ensures cells { self.new.cells
-            ≡ take (2 * leaf_count (left_half self.old.tree) - 1) self.old.cells }
+        ensures slots { self.new.slots
+            ≡ take (2 * leaf_count (left_subtree self.old.tree) - 1) self.old.slots }
     {
         self.tree.cut();
         let count = self.tree.nodes().len();
-        truncate(&mut self.cells, count);
+        truncate(&mut self.slots, count);
         truncate_counts(&mut self.counts, self.tree.leaf_count());
     }
 
@@ -561,52 +564,51 @@ impl PublicTree {
     pub(crate) fn can_be_halved(&self) -> bool
         ensures halves { OnTrue result (IsBranch self.now.tree) }
         ensures smaller { OnTrue result
-            (shrink self.now.tree ≡ shrink (left_half self.now.tree)) }
-        ensures done { OnFalse result (shrink self.now.tree ≡ self.now.tree) }
-        ensures cells { length self.now.cells < 2 * leaf_count self.now.tree }
+            (truncate self.now.tree ≡ truncate (left_subtree self.now.tree)) }
+        ensures done { OnFalse result (truncate self.now.tree ≡ self.now.tree) }
+        ensures slots { length self.now.slots < 2 * leaf_count self.now.tree }
     {
         self.tree.can_be_halved(counts_in(&self.counts))
     }
 
     /// Truncates the tree (RFC 9420, 7.7): replaces it by its left subtree as long as its right subtree has no
-    /// non-blank leaf. Called `shrink` in the definitions. Does not allocate. The cache slots of the remaining nodes
-    /// are unchanged.
+    /// non-blank leaf. Does not allocate. The cache slots of the remaining nodes are unchanged.
     pub fn truncate(&mut self)
-        ensures tree { self.new.tree ≡ shrink self.old.tree }
+        ensures tree { self.new.tree ≡ truncate self.old.tree }
         ensures kind { self.new.kind ≡ self.old.kind }
-        ensures cells { self.new.cells ≡ take (2 * leaf_count self.new.tree - 1) self.old.cells }
+        ensures slots { self.new.slots ≡ take (2 * leaf_count self.new.tree - 1) self.old.slots }
     {
         self.tree.truncate(counts_in(&self.counts));
         let count = self.tree.nodes().len();
-        truncate(&mut self.cells, count);
+        truncate(&mut self.slots, count);
         truncate_counts(&mut self.counts, self.tree.leaf_count());
     }
 
     /// Takes out and returns the left subtree, with its cache slots. The tree has blank nodes and empty slots in its place.
     pub(crate) fn take_left(&mut self, alloc: Global) -> Result<PublicTree, AllocError>
         requires { IsBranch self.old.tree }
-        ensures left { IfOk result (λ l. l.tree ≡ left_half self.old.tree) }
+        ensures left { IfOk result (λ l. l.tree ≡ left_subtree self.old.tree) }
         ensures rest { IfOk result (λ l. rejoined l.tree self.new.tree ≡ self.old.tree) }
         ensures kind { IfOk result (λ l. l.kind ≡ self.old.kind) }
-        ensures cells { IfOk result
-            (λ l. l.cells ≡ take (2 * leaf_count l.tree - 1) self.old.cells) }
-        ensures err { OnErr result (self.new ≡ self.old) }
+        ensures slots { IfOk result
+            (λ l. l.slots ≡ take (2 * leaf_count l.tree - 1) self.old.slots) }
+        ensures unchanged_on_error { OnErr result (self.new ≡ self.old) }
         ensures rest_kind { OnOk result (self.new.kind ≡ self.old.kind) }
-        ensures count { IfOk result (λ l. length self.old.cells
-            ≡ length (rejoined_cells l.tree l.cells self.new.tree self.new.cells)) }
-        ensures again { IfOk result (λ l. CellsAgreeExceptAt
-            ((leaf_count self.old.tree - 1) ∷ []) self.old.cells
-            (rejoined_cells l.tree l.cells self.new.tree self.new.cells)) }
+        ensures count { IfOk result (λ l. length self.old.slots
+            ≡ length (rejoined_slots l.tree l.slots self.new.tree self.new.slots)) }
+        ensures again { IfOk result (λ l. SlotsAgreeExceptAt
+            ((leaf_count self.old.tree - 1) ∷ []) self.old.slots
+            (rejoined_slots l.tree l.slots self.new.tree self.new.slots)) }
     {
         let count = self.tree.leaf_count() - 1;
-        let cells = clone_front(alloc, &self.cells, count as usize)?;
+        let slots = clone_front(alloc, &self.slots, count as usize)?;
         let left = self.tree.take_left(alloc)?;
-        empty_front(&mut self.cells, count);
+        empty_front(&mut self.slots, count);
         let mut counts = mem::replace(&mut self.counts, None);
         truncate_counts(&mut counts, left.leaf_count());
         Ok(PublicTree {
             tree: left,
-            cells,
+            slots,
             counts,
         })
     }
@@ -616,41 +618,41 @@ impl PublicTree {
     pub(crate) fn rejoin(&mut self, whole: PublicTree)
         ensures tree { self.new.tree ≡ rejoined self.old.tree whole.tree }
         ensures kind { whole.kind ≡ self.old.kind → self.new.kind ≡ self.old.kind }
-        ensures cells { whole.kind ≡ self.old.kind → self.new.cells
-            ≡ rejoined_cells self.old.tree self.old.cells whole.tree whole.cells }
+        ensures slots { whole.kind ≡ self.old.kind → self.new.slots
+            ≡ rejoined_slots self.old.tree self.old.slots whole.tree whole.slots }
     {
         if self.tree.height() + 1 != whole.tree.height() {
             return;
         }
-        let cells = mem::replace(&mut self.cells, None);
+        let slots = mem::replace(&mut self.slots, None);
         let counts = mem::replace(&mut self.counts, None);
         self.tree.rejoin(whole.tree);
-        self.cells = join_cells(cells, whole.cells);
+        self.slots = join_slots(slots, whole.slots);
         self.counts = count_in_place(counts, &self.tree);
     }
 
     /// Extends the tree (RFC 9420, 7.7): it becomes the left subtree of one twice as large, whose other nodes are
-    /// blank. Called `grow` in the definitions. The cache slots are unchanged, those of new nodes empty.
-    /// `TooManyLeaves` if the tree has 1,048,576 leaves.
+    /// blank. The cache slots are unchanged, those of new nodes empty. `TooManyLeaves` if the tree has 1,048,576
+    /// leaves.
     pub fn extend(&mut self) -> Result<(), TreeError>
-        ensures ok { OnOk result (self.new.tree ≡ grow self.old.tree) }
-        ensures err { OnErr result (self.new ≡ self.old) }
+        ensures changed { OnOk result (self.new.tree ≡ extend self.old.tree) }
+        ensures unchanged_on_error { OnErr result (self.new ≡ self.old) }
         ensures too_many_leaves { (result ≡ Err TreeError.TooManyLeaves)
             ↔ (leaf_count self.old.tree ≡ leaf_limit) }
-        ensures else_memory { IfErr result
+        ensures possible_errors { IfErr result
             (λ e. (e ≡ TreeError.TooManyLeaves) ⊎ (e ≡ TreeError.OutOfMemory)) }
         ensures kind { self.new.kind ≡ self.old.kind }
-        ensures cells { OnOk result (self.new.cells ≡ extended self.old.kind self.old.cells) }
+        ensures slots { OnOk result (self.new.slots ≡ extended self.old.kind self.old.slots) }
         ensures front { OnOk result
-            (take (2 * leaf_count self.old.tree - 1) self.new.cells ≡ self.old.cells) }
+            (take (2 * leaf_count self.old.tree - 1) self.new.slots ≡ self.old.slots) }
     {
         if self.tree.leaf_count() == 1_048_576 {
             return Err(TreeError::TooManyLeaves);
         }
-        reserve_double(&mut self.cells)?;
+        reserve_double(&mut self.slots)?;
         reserve_counts(&mut self.counts)?;
         self.tree.extend()?;
-        double(&mut self.cells);
+        double(&mut self.slots);
         let counts = mem::replace(&mut self.counts, None);
         self.counts = count_in_place(counts, &self.tree);
         Ok(())
@@ -665,14 +667,14 @@ impl PublicTree {
     pub fn seat(&mut self) -> Result<u32, TreeError>
         ensures leaf { IfOk result (λ j. j ≡ (seat self.old.tree).leaf) }
         ensures tree { OnOk result (self.new.tree ≡ (seat self.old.tree).tree) }
-        ensures err { OnErr result (self.new ≡ self.old) }
+        ensures unchanged_on_error { OnErr result (self.new ≡ self.old) }
         ensures too_many_leaves { (result ≡ Err TreeError.TooManyLeaves)
             ↔ ((first_blank_leaf 0 self.old.tree ≡ None) × (leaf_count self.old.tree ≡ leaf_limit)) }
-        ensures else_memory { IfErr result
+        ensures possible_errors { IfErr result
             (λ e. (e ≡ TreeError.TooManyLeaves) ⊎ (e ≡ TreeError.OutOfMemory)) }
         ensures kind { self.new.kind ≡ self.old.kind }
         ensures front { OnOk result
-            (take (2 * leaf_count self.old.tree - 1) self.new.cells ≡ self.old.cells) }
+            (take (2 * leaf_count self.old.tree - 1) self.new.slots ≡ self.old.slots) }
     {
         let count = self.tree.leaf_count();
         if let Some(index) = self.first_blank_leaf() {

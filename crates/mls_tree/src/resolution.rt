@@ -6,7 +6,7 @@ ghost use Rattle.std.specs.Prelude.{◌≡◌, ◌≢◌, ℕ, ◌≤◌, ◌+�
 ghost use Rattle.mls_nodes.specs.Limits.{leaf_limit};
 ghost use Rattle.mls_tree.specs.Tree.{leaves_at};
 ghost use Rattle.mls_tree.specs.NodeArray.{tree_in};
-ghost use Rattle.mls_tree.specs.Paths.{resolution, unmerged_places};
+ghost use Rattle.mls_tree.specs.Paths.{resolution, unmerged_node_indices};
 ghost use Rattle.mls_tree.specs.CountsModel.{AreCountsIfAny};
 
 use crate::entries::{as_leaf, as_parent};
@@ -18,7 +18,7 @@ use std::alloc::AllocError;
 // Appends the node indices of unmerged leaves, without those that the tree doesn't have.
 fn push_unmerged(out: &mut Vec<u32>, leaves: u32, unmerged: &[u32]) -> Result<(), AllocError>
     requires { leaves ≤ leaf_limit }
-    ensures { OnOk result (out.new.items ≡ out.old.items ++ unmerged_places leaves unmerged.now) }
+    ensures { OnOk result (out.new.items ≡ out.old.items ++ unmerged_node_indices leaves unmerged.now) }
 {
     for leaf in unmerged {
         if *leaf < leaves {

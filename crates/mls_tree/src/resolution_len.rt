@@ -7,7 +7,7 @@ ghost use Rattle.std.specs.Prelude.{◌≡◌, ℕ, ◌≤◌, ◌+◌, ◌*◌,
 ghost use Rattle.mls_nodes.specs.Limits.{leaf_limit};
 ghost use Rattle.mls_tree.specs.Tree.{leaves_at};
 ghost use Rattle.mls_tree.specs.NodeArray.{tree_in};
-ghost use Rattle.mls_tree.specs.Paths.{resolution, unmerged_places, count_not_in};
+ghost use Rattle.mls_tree.specs.Paths.{resolution, unmerged_node_indices, count_not_in};
 ghost use Rattle.mls_tree.specs.Subtraction.{taken_off};
 ghost use Rattle.mls_tree.specs.CountsModel.{AreCountsIfAny};
 
@@ -17,11 +17,11 @@ use crate::tree_size::leaves_of;
 use mls_nodes::Node;
 use std::collections::BTreeSet;
 
-// Subtracts one for the node at `place`, unless it is in `without`.
-fn take_one(without: &BTreeSet<u64>, place: u32, left: usize) -> Option<usize>
-    ensures { result ≡ taken_off left (count_not_in without.now (place ∷ [])) }
+// Subtracts one for the node at `node_index`, unless it is in `without`.
+fn take_one(without: &BTreeSet<u64>, node_index: u32, left: usize) -> Option<usize>
+    ensures { result ≡ taken_off left (count_not_in without.now (node_index ∷ [])) }
 {
-    if without.contains(&u64::from(place)) {
+    if without.contains(&u64::from(node_index)) {
         return Some(left);
     }
     left.checked_sub(1)
@@ -36,7 +36,7 @@ fn take_unmerged(
 ) -> Option<usize>
     requires { leaves ≤ leaf_limit }
     ensures { result
-        ≡ taken_off left (count_not_in without.now (unmerged_places leaves unmerged.now)) }
+        ≡ taken_off left (count_not_in without.now (unmerged_node_indices leaves unmerged.now)) }
 {
     for leaf in unmerged {
         if *leaf < leaves {
@@ -82,8 +82,8 @@ pub(crate) fn take_resolution(
     requires long { 2 * (first + leaves_at level) ≤ length nodes.now + 1 }
     requires leaves_low { leaves ≤ leaf_limit }
     requires counts { AreCountsIfAny (option_copied counts) first (tree_in nodes.now level first) }
-    ensures { let places = resolution leaves first (tree_in nodes.now level first) in
-        result ≡ taken_off left (count_not_in without.now places) }
+    ensures { let node_indices = resolution leaves first (tree_in nodes.now level first) in
+        result ≡ taken_off left (count_not_in without.now node_indices) }
 {
     if level == 0 {
         return match as_leaf(&nodes[2 * first as usize]) {

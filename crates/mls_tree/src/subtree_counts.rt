@@ -6,7 +6,7 @@ ghost use Rattle.std.specs.Prelude.{◌≡◌, ◌≢◌, ◌≤◌, ◌+◌, �
 ghost use Rattle.mls_nodes.specs.Limits.{leaf_limit};
 ghost use Rattle.mls_tree.specs.Tree.{leaves_at};
 ghost use Rattle.mls_tree.specs.NodeArray.{parent_part, tree_in};
-ghost use Rattle.mls_tree.specs.SubtreeCounts.{parent_weight, counted, AreCounts, AreOutside, IsKeptOutside};
+ghost use Rattle.mls_tree.specs.SubtreeCounts.{parent_weight, subtree_count, AreCounts, AreOutside, IsKeptOutside};
 
 use crate::entries::{as_leaf, as_parent};
 use crate::tree_size::leaves_of;
@@ -34,9 +34,9 @@ pub(crate) fn count_of(nodes: &[Option<Node>], counts: &[Count], level: u32, fir
     requires low { level ≤ 20 }
     requires inside { first + leaves_at level ≤ leaf_limit }
     requires long { 2 * (first + leaves_at level) ≤ length nodes.now + 1 }
-    requires room { first + leaves_at level ≤ length counts.now + 1 }
+    requires capacity { first + leaves_at level ≤ length counts.now + 1 }
     requires counts { AreCounts first (tree_in nodes.now level first) counts.now }
-    ensures { result ≡ counted (tree_in nodes.now level first) }
+    ensures { result ≡ subtree_count (tree_in nodes.now level first) }
 {
     if level == 0 {
         return match as_leaf(&nodes[2 * first as usize]) {
@@ -60,12 +60,12 @@ fn add_up(nodes: &[Option<Node>], counts: &mut [Count], level: u32, first: u32)
     requires deep { level ≢ 0 }
     requires inside { first + leaves_at level ≤ leaf_limit }
     requires long { 2 * (first + leaves_at level) ≤ length nodes.now + 1 }
-    requires room { first + leaves_at level ≤ length counts.old + 1 }
+    requires capacity { first + leaves_at level ≤ length counts.old + 1 }
     requires left { AreCounts first (tree_in nodes.now (level - 1) first) counts.old }
     requires right { AreCounts (first + leaves_at (level - 1))
         (tree_in nodes.now (level - 1) (first + leaves_at (level - 1))) counts.old }
     ensures counts { AreCounts first (tree_in nodes.now level first) counts.new }
-    ensures kept { IsKeptOutside counts.old counts.new first (first + leaves_at level - 1) }
+    ensures preserved { IsKeptOutside counts.old counts.new first (first + leaves_at level - 1) }
 {
     let middle = first + leaves_of(level - 1);
     let left = count_of(nodes, counts, level - 1, first);
@@ -88,10 +88,10 @@ pub(crate) fn recount(
     requires low { level ≤ 20 }
     requires inside { first + leaves_at level ≤ leaf_limit }
     requires long { 2 * (first + leaves_at level) ≤ length nodes.now + 1 }
-    requires room { first + leaves_at level ≤ length counts.old + 1 }
+    requires capacity { first + leaves_at level ≤ length counts.old + 1 }
     requires beside { AreOutside first (tree_in nodes.now level first) leaf counts.old }
     ensures counts { AreCounts first (tree_in nodes.now level first) counts.new }
-    ensures kept { IsKeptOutside counts.old counts.new first (first + leaves_at level - 1) }
+    ensures preserved { IsKeptOutside counts.old counts.new first (first + leaves_at level - 1) }
 {
     if level == 0 {
         return;
@@ -111,9 +111,9 @@ pub(crate) fn count_all(nodes: &[Option<Node>], counts: &mut [Count], level: u32
     requires low { level ≤ 20 }
     requires inside { first + leaves_at level ≤ leaf_limit }
     requires long { 2 * (first + leaves_at level) ≤ length nodes.now + 1 }
-    requires room { first + leaves_at level ≤ length counts.old + 1 }
+    requires capacity { first + leaves_at level ≤ length counts.old + 1 }
     ensures counts { AreCounts first (tree_in nodes.now level first) counts.new }
-    ensures kept { IsKeptOutside counts.old counts.new first (first + leaves_at level - 1) }
+    ensures preserved { IsKeptOutside counts.old counts.new first (first + leaves_at level - 1) }
 {
     if level == 0 {
         return;

@@ -16,7 +16,7 @@ pub(crate) fn swap_prefix(whole: &mut Vec<Option<Node>>, front: &mut Vec<Option<
     ensures long { length whole.new.items ≡ length whole.old.items }
     ensures short { length front.new.items ≡ length front.old.items }
 {
-    for place in 0..front.len() {
-        mem::swap(&mut whole[place], &mut front[place]);
+    for at in 0..front.len() {
+        mem::swap(&mut whole[at], &mut front[at]);
     }
 }

@@ -70,7 +70,7 @@ fn with_number(alloc: Global, list: &Unmerged, number: u32) -> Result<Option<Unm
 }
 
 /// Makes the new lists of the parents above a leaf, lowest parent first. `None` for a blank parent and for a list that
-/// stays as it is.
+/// is unchanged.
 pub(crate) fn push_new_lists(
     out: &mut Vec<Option<Unmerged>>,
     alloc: Global,
@@ -156,13 +156,13 @@ pub(crate) fn put_lists(
 
 /// Adds `number` to the list in place, before the first entry that is not less, unless the list has it. Returns whether
 /// the list has changed.
-pub(crate) fn enter(list: &mut Unmerged, number: u32) -> Result<bool, AllocError>
+pub(crate) fn insert_index(list: &mut Unmerged, number: u32) -> Result<bool, AllocError>
     requires { length (insert_number number list.old) ≤ leaf_limit }
-    ensures entered { OnOk result (list.new ≡ insert_number number list.old) }
+    ensures in_lists { OnOk result (list.new ≡ insert_number number list.old) }
     ensures back { IfOk result (λ changed.
         OnTrue changed (without_number number list.new ≡ list.old)) }
     ensures same { IfOk result (λ changed. OnFalse changed (list.new ≡ list.old)) }
-    ensures err { OnErr result (list.new ≡ list.old) }
+    ensures unchanged_on_error { OnErr result (list.new ≡ list.old) }
 {
     if list.position(number).is_some() {
         return Ok(false);

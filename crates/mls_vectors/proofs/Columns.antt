@@ -6,12 +6,12 @@ use Rattle.std.proofs.lemmas.Option.{none-some, same_Some, option_and_then_some}
 use Rattle.serde_json.specs.Data.{Num, unsigned, negative, float, Data, null, boolean, number, string, array, object}
 use Rattle.serde_json.specs.Find.{as_null, as_number, as_u64}
 use Rattle.mls_tree.specs.RatchetTree.{RatchetTree}
-use Rattle.mls_tree.specs.Tree.{Tree, leaf, branch, height, leaf_count, leaves_at, IsPerfect, Subtree, subtree_at, root_place}
-use Rattle.mls_tree.specs.NodeIndices.{left_at, right_at, left_place, right_place, IsParentOf, AreSiblings}
-use Rattle.mls_tree.proofs.Coordinates.{Coordinates, coordinates, coordinates-unique, root_place-perfect, some_tree, leaf_count-low, left_at-half, right_at-half}
+use Rattle.mls_tree.specs.Tree.{Tree, leaf, branch, height, leaf_count, leaves_at, IsPerfect, Subtree, subtree_at, root_node_index}
+use Rattle.mls_tree.specs.NodeIndices.{left_at, right_at, left_node_index, right_node_index, IsParentOf, AreSiblings}
+use Rattle.mls_tree.proofs.Coordinates.{Coordinates, coordinates, coordinates-unique, root_node_index-perfect, some_tree, leaf_count-low, left_at-half, right_at-half}
 use Rattle.mls_tree.proofs.Numbers.{leaves_at-low}
 use Rattle.mls_tree.proofs.Trees.{leaf_count-perfect, leaf_count-positive, subtree_at-perfect}
-use Rattle.mls_vectors.specs.TreeMath.{IsEntry, entry_place}
+use Rattle.mls_vectors.specs.TreeMath.{IsEntry, entry_node_index}
 use Rattle.mls_vectors.specs.CheckModel.{relation}
 use Rattle.mls_vectors.specs.declared.tree_math.Column.{Column}
 use Rattle.mls_vectors.specs.declared.tree_math.Column.TheVariants as columns
@@ -54,27 +54,27 @@ record Under (q p : ℕ) : Type 0 where
   above : q + 1 ≡ (2 * number + 1) * leaves_at (suc level)
   below : (p + 1 ≡ (2 * (2 * number) + 1) * leaves_at level) ⊎ (p + 1 ≡ (2 * (2 * number + 1) + 1) * leaves_at level)
 
-left_under : (q p first : ℕ) (u : Tree) → IsPerfect u → Coordinates q (record { first = first; tree = u }) → left_place first u ≡ Some p → Under q p
+left_under : (q p first : ℕ) (u : Tree) → IsPerfect u → Coordinates q (record { first = first; tree = u }) → left_node_index first u ≡ Some p → Under q p
 left_under q p first (leaf _) h c e = absurd (none-some p e)
 left_under q p first (branch l d r) h c e =
-    let at : root_place first l ≡ p = same_Some _ _ e in
+    let at : root_node_index first l ≡ p = same_Some _ _ e in
     let f = c.first in
-    record { level = height l; number = c.number; above = c.place; below = inl (omega (arith, root_place-perfect first l h.1)) }
+    record { level = height l; number = c.number; above = c.node_index; below = inl (omega (arith, root_node_index-perfect first l h.1)) }
 
-right_under : (q p first : ℕ) (u : Tree) → IsPerfect u → Coordinates q (record { first = first; tree = u }) → right_place first u ≡ Some p → Under q p
+right_under : (q p first : ℕ) (u : Tree) → IsPerfect u → Coordinates q (record { first = first; tree = u }) → right_node_index first u ≡ Some p → Under q p
 right_under q p first (leaf _) h c e = absurd (none-some p e)
 right_under q p first (branch l d r) h c e =
-    let at : root_place (first + leaf_count l) r ≡ p = same_Some _ _ e in
+    let at : root_node_index (first + leaf_count l) r ≡ p = same_Some _ _ e in
     let f = c.first in
     let w : leaves_at (height l) ≡ leaves_at (height r) = ap leaves_at h.0 in
-    record { level = height l; number = c.number; above = c.place; below = inr (omega (arith, root_place-perfect (first + leaf_count l) r h.2, leaf_count-perfect l h.1)) }
+    record { level = height l; number = c.number; above = c.node_index; below = inr (omega (arith, root_node_index-perfect (first + leaf_count l) r h.2, leaf_count-perfect l h.1)) }
 
 under : (t : RatchetTree) (q p : ℕ) → IsParentOf t.tree q p → Under q p
 under t q p (inl e) =
-    option_and_then_some (λ (u : Subtree). left_place u.first u.tree) (subtree_at 0 t.tree q) p e
+    option_and_then_some (λ (u : Subtree). left_node_index u.first u.tree) (subtree_at 0 t.tree q) p e
     (λ u a b. left_under q p u.first u.tree (subtree_at-perfect 0 t.tree q u a t.shape.perfect).0 (coordinates t.tree t.shape.perfect q u a) b)
 under t q p (inr e) =
-    option_and_then_some (λ (u : Subtree). right_place u.first u.tree) (subtree_at 0 t.tree q) p e
+    option_and_then_some (λ (u : Subtree). right_node_index u.first u.tree) (subtree_at 0 t.tree q) p e
     (λ u a b. right_under q p u.first u.tree (subtree_at-perfect 0 t.tree q u a t.shape.perfect).0 (coordinates t.tree t.shape.perfect q u a) b)
 
 same_above : (q r : ℕ) (j m k n : ℕ) → q + 1 ≡ (2 * m + 1) * leaves_at (suc j) → r + 1 ≡ (2 * n + 1) * leaves_at (suc k) → j ≡ k → m ≡ n → q ≡ r
@@ -124,10 +124,10 @@ relation-one columns.Parent t p a b x y = one_answer (λ q. IsParentOf t.tree q 
 relation-one columns.Sibling t p a b x y = one_answer (λ u. AreSiblings t.tree p u) (λ u v. AreSiblings-one t p u v) a b x y
 
 -- the entry is right where it gives the place that is wanted
-pub entry-wanted : (c : Column) (t : RatchetTree) (p : ℕ) (d : Data) (wanted : Option ℕ) → relation c t.tree p wanted → IsEntry (relation c) t.tree p d ↔ (entry_place d ≡ Some wanted)
-entry-wanted c t p d wanted w = (
-  λ h. h.1 ∙ ap (λ v. Some v) (relation-one c t p h.0 wanted h.2 w),
-  λ e. (wanted, e, w),
+pub entry-expected : (c : Column) (t : RatchetTree) (p : ℕ) (d : Data) (expected : Option ℕ) → relation c t.tree p expected → IsEntry (relation c) t.tree p d ↔ (entry_node_index d ≡ Some expected)
+entry-expected c t p d expected w = (
+  λ h. h.1 ∙ ap (λ v. Some v) (relation-one c t p h.0 expected h.2 w),
+  λ e. (expected, e, w),
 )
 
 number_null : (n : Num) → option_map (λ (p : ℕ). Some p) (as_u64 n) ≢ Some None
@@ -136,7 +136,7 @@ number_null (negative z) e = cc
 number_null (float x) e = cc
 
 -- null gives no place
-pub entry-null : (d : Data) → (is_some (as_null d) ≡ true) ↔ (entry_place d ≡ Some None)
+pub entry-null : (d : Data) → (is_some (as_null d) ≡ true) ↔ (entry_node_index d ≡ Some None)
 entry-null null = (λ e. refl, λ e. refl)
 entry-null (boolean b) = (λ e. cc, λ e. cc)
 entry-null (number n) = (λ e. cc, λ e. absurd (number_null n e))
@@ -150,7 +150,7 @@ number_some (negative z) p = (λ e. cc, λ e. cc)
 number_some (float x) p = (λ e. cc, λ e. cc)
 
 -- a number gives its place
-pub entry-some : (d : Data) (p : ℕ) → (option_and_then as_u64 (as_number d) ≡ Some p) ↔ (entry_place d ≡ Some (Some p))
+pub entry-some : (d : Data) (p : ℕ) → (option_and_then as_u64 (as_number d) ≡ Some p) ↔ (entry_node_index d ≡ Some (Some p))
 entry-some null p = (λ e. cc, λ e. cc)
 entry-some (boolean b) p = (λ e. cc, λ e. cc)
 entry-some (number n) p = number_some n p

@@ -19,8 +19,8 @@ use Rattle.mls_vectors.specs.TreeValidation.{HasSuite, HasTreeUnder, IsSkipped}
 use Rattle.mls_vectors.specs.VectorFile.{bytes_of, vectors_of}
 use Rattle.mls_vectors.specs.VectorResults as outcomes
 use Rattle.mls_vectors.specs.TreeMath.{Relation, IsLeft, IsRight, IsParent, IsSibling}
-use Rattle.mls_vectors.specs.declared.vector_result.Outcome.{Outcome}
-use Rattle.mls_vectors.specs.declared.vector_result.Outcome.TheVariants.{Pass, Fail, Skip}
+use Rattle.mls_vectors.specs.declared.vector_result.VectorResult.{VectorResult}
+use Rattle.mls_vectors.specs.declared.vector_result.VectorResult.TheVariants.{Pass, Fail, Skip}
 use Rattle.mls_vectors.specs.declared.check.CheckKind.{CheckKind}
 use Rattle.mls_vectors.specs.declared.report_lines.Counts as code
 use Rattle.mls_report.specs.declared.verdict.Verdict.{Verdict}
@@ -30,7 +30,7 @@ use Rattle.mls_vectors.specs.declared.tree_math.Column.{Column}
 use Rattle.mls_vectors.specs.declared.tree_math.Column.TheVariants as columns
 
 -- The result in the definitions for a result of the implementation.
-abbrev pub outcome_of : Outcome → outcomes.Outcome
+abbrev pub outcome_of : VectorResult → outcomes.VectorResult
 outcome_of Pass = outcomes.pass
 outcome_of (Fail name) = outcomes.fail name.now
 outcome_of Skip = outcomes.skip
@@ -94,7 +94,7 @@ FindsProposal d (Some p) = HasProposal d p
 abbrev pub AppliesItem : ListItem → Tree → Option Applied → Type 0
 AppliesItem x t None = operations.outcome (x ∷ []) t ≡ None
 AppliesItem x t (Some a) =
-    operations.outcome (x ∷ []) t ≡ Some (operations.grown a.tree.tree a.added)
+    operations.outcome (x ∷ []) t ≡ Some (operations.applied_tree a.tree.tree a.added)
 
 -- `ReadsCommitOf bytes a`: the bytes decode as this commit, or as none.
 abbrev pub ReadsCommitOf : List ℕ → Option AuthenticatedParts → Type 0

@@ -3,7 +3,7 @@ use Rattle.std.specs.Prelude.{if◌then◌else◌, ℕ, ◌+◌, ◌==◌, List,
 use Rattle.std.specs.Fmt.{decimal}
 use Rattle.serde_json.specs.Data.{Data, Items, no_items, item}
 use Rattle.mls_wire.specs.Limits.{input_limit}
-use Rattle.mls_vectors.specs.VectorResults.{Outcome, pass, fail, skip}
+use Rattle.mls_vectors.specs.VectorResults.{VectorResult, pass, fail, skip}
 use Rattle.mls_report.specs.OneInputReport.{WritesReport, WritesPart}
 use Rattle.mls_vectors.specs.TreeMath.{IsTreeMath}
 use Rattle.mls_vectors.specs.TranscriptVectors.{IsTranscript}
@@ -16,27 +16,27 @@ use Rattle.mls_report.specs.declared.verdict.Verdict.{Verdict}
 use Rattle.mls_report.specs.declared.verdict.Verdict.TheVariants.{Yes, No}
 
 -- `IsOutcomeOf k d o`: `o` is the result of the vector `d` of a kind.
-abbrev pub IsOutcomeOf : CheckKind → Data → Outcome → Type 0
+abbrev pub IsOutcomeOf : CheckKind → Data → VectorResult → Type 0
 IsOutcomeOf kind.TreeMath d o = IsTreeMath d o
 IsOutcomeOf kind.TreeValidation d o = IsOutcomeUnlessSkipped IsTreeValidation d o
 IsOutcomeOf kind.TreeOperations d o = IsOutcomeUnlessSkipped IsTreeOperation d o
 IsOutcomeOf kind.Transcript d o = IsOutcomeUnlessSkipped IsTranscript d o
 
 -- `AreOutcomes k vectors outcomes`: these are the results of the vectors, one for each.
-abbrev pub AreOutcomes : CheckKind → Items → List Outcome → Type 0
+abbrev pub AreOutcomes : CheckKind → Items → List VectorResult → Type 0
 AreOutcomes k no_items [] = Unit {0}
 AreOutcomes k no_items (o ∷ os) = ⊥
 AreOutcomes k (item d ds) [] = ⊥
 AreOutcomes k (item d ds) (o ∷ os) = IsOutcomeOf k d o × AreOutcomes k ds os
 
 -- `outcome_text o` is the text of a result.
-abbrev pub outcome_text : Outcome → List ℕ
+abbrev pub outcome_text : VectorResult → List ℕ
 outcome_text pass = codes " pass\n"
 outcome_text (fail name) = codes " fail " ++ (name ++ codes "\n")
 outcome_text skip = codes " skip\n"
 
 -- `outcome_lines n outcomes` is the lines of results, the first of which has number n.
-abbrev pub outcome_lines : ℕ → List Outcome → List ℕ
+abbrev pub outcome_lines : ℕ → List VectorResult → List ℕ
 outcome_lines n [] = []
 outcome_lines n (o ∷ os) = (decimal n ++ outcome_text o) ++ outcome_lines (n + 1) os
 
@@ -46,19 +46,19 @@ pub record Counts : Type 0 where
   pub failed : ℕ
   pub skipped : ℕ
 
--- `counted o c` is the counts with one more result.
-abbrev pub counted : Outcome → Counts → Counts
-counted pass c = record c { passed = c.passed + 1 }
-counted (fail name) c = record c { failed = c.failed + 1 }
-counted skip c = record c { skipped = c.skipped + 1 }
+-- `add_result o c` is the counts with one more result.
+abbrev pub add_result : VectorResult → Counts → Counts
+add_result pass c = record c { passed = c.passed + 1 }
+add_result (fail name) c = record c { failed = c.failed + 1 }
+add_result skip c = record c { skipped = c.skipped + 1 }
 
 -- `counted_all outcomes c` is the counts with further results.
-abbrev pub counted_all : List Outcome → Counts → Counts
+abbrev pub counted_all : List VectorResult → Counts → Counts
 counted_all [] c = c
-counted_all (o ∷ os) c = counted_all os (counted o c)
+counted_all (o ∷ os) c = counted_all os (add_result o c)
 
 -- `counts outcomes` is the counts of results.
-abbrev pub counts : List Outcome → Counts
+abbrev pub counts : List VectorResult → Counts
 counts outcomes = counted_all outcomes (record { passed = 0; failed = 0; skipped = 0 })
 
 -- `counts_line c` is the last line.
@@ -70,7 +70,7 @@ counts_line c =
 
 -- `IsOutcomesReport outcomes text verdict`: the report is the lines of the results and the last line. The verdict is
 -- Yes if none failed.
-pub record IsOutcomesReport (outcomes : List Outcome) (text : List ℕ) (verdict : Verdict)
+pub record IsOutcomesReport (outcomes : List VectorResult) (text : List ℕ) (verdict : Verdict)
     : Type 0 where
   pub text_is : text ≡ outcome_lines 1 outcomes ++ counts_line (counts outcomes)
   pub verdict_is : verdict ≡ if (counts outcomes).failed == 0 then Yes else No
@@ -78,7 +78,7 @@ pub record IsOutcomesReport (outcomes : List Outcome) (text : List ℕ) (verdict
 -- `IsVectorsReport k vectors text verdict`: the report of vectors.
 pub record IsVectorsReport (k : CheckKind) (vectors : Items) (text : List ℕ) (verdict : Verdict)
     : Type 0 where
-  pub outcomes : List Outcome
+  pub outcomes : List VectorResult
   pub are_outcomes : AreOutcomes k vectors outcomes
   pub report : IsOutcomesReport outcomes text verdict
 
@@ -105,8 +105,8 @@ IsCheckReport k bytes text verdict =
     IsUnreadReport bytes text verdict ⊎ IsReadReport k bytes text verdict
 
 -- The report is the line of a file without vectors if and only if no vectors can be read.
-abbrev pub TellsUnreadable : Type 0
-TellsUnreadable =
+abbrev pub ReportsUnreadable : Type 0
+ReportsUnreadable =
     (k : CheckKind) (bytes text : List ℕ) (verdict : Verdict)
     → IsCheckReport k bytes text verdict
     → ((text ≡ codes "vectors unreadable\n") ↔ HoldsNoVectors bytes)

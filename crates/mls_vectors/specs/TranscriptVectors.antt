@@ -8,7 +8,7 @@ use Rattle.mls_msgs.specs.Profile.{authenticated_in}
 use Rattle.mls_msgs.specs.declared.profile.Profile.TheVariants.{Members}
 use Rattle.mls_msgs.specs.declared.authenticated.AuthenticatedParts.{AuthenticatedParts}
 use Rattle.mls_follow.specs.Transcript.{confirmed_hash, interim_hash}
-use Rattle.mls_vectors.specs.VectorResults.{Check, check, Outcome, IsOutcome, IsEarlyFailure}
+use Rattle.mls_vectors.specs.VectorResults.{Check, check, VectorResult, IsOutcome, IsEarlyFailure}
 use Rattle.mls_vectors.specs.TreeValidation.{HasSuite}
 use Rattle.mls_vectors.specs.VectorFile.{bytes_under}
 
@@ -17,7 +17,7 @@ use Rattle.mls_vectors.specs.VectorFile.{bytes_under}
 pub record HasCommit (d : Data) (a : AuthenticatedParts) : Type 0 where
   pub bytes : List ℕ
   pub found : bytes_under (codes "authenticated_content") d ≡ Some bytes
-  pub spelled : authenticated_in Members a ≡ Some bytes
+  pub encoded : authenticated_in Members a ≡ Some bytes
   pub commits : is_commit a.content.content ≡ true
 
 -- `HasInterim d hash`: the vector has this interim transcript hash before the commit.
@@ -56,7 +56,7 @@ hash_checks H interim a d =
     ∷ []
 
 -- `IsHashOutcome d o`: the result of a vector that can be read.
-pub record IsHashOutcome (d : Data) (o : Outcome) : Type 0 where
+pub record IsHashOutcome (d : Data) (o : VectorResult) : Type 0 where
   pub suite : ℕ
   pub has_suite : HasSuite d suite
   pub sent : AuthenticatedParts
@@ -66,5 +66,5 @@ pub record IsHashOutcome (d : Data) (o : Outcome) : Type 0 where
   pub outcome : IsOutcome (hash_checks (hash_of suite) interim sent d) o
 
 -- `IsTranscript d o`: the result of a vector that is not skipped.
-abbrev pub IsTranscript : Data → Outcome → Type 0
+abbrev pub IsTranscript : Data → VectorResult → Type 0
 IsTranscript d o = IsEarlyFailure (commit_checks d) o ⊎ IsHashOutcome d o

@@ -4,19 +4,19 @@ use Rattle.std.specs.Prelude.{ℕ, ◌*◌, ◌-◌, List, [], ◌∷◌, codes,
 use Rattle.serde_json.specs.Data.{Data, null, boolean, number, string, array, object}
 use Rattle.serde_json.specs.Find.{as_u64}
 use Rattle.mls_tree.specs.RatchetTree.{RatchetTree}
-use Rattle.mls_tree.specs.Tree.{Tree, leaf_count, root_place}
+use Rattle.mls_tree.specs.Tree.{Tree, leaf_count, root_node_index}
 use Rattle.mls_tree.specs.NodeIndices.{left_at, right_at, IsParentOf, AreSiblings}
-use Rattle.mls_vectors.specs.VectorResults.{Check, check, Outcome, IsOutcome, IsEarlyFailure}
+use Rattle.mls_vectors.specs.VectorResults.{Check, check, VectorResult, IsOutcome, IsEarlyFailure}
 use Rattle.mls_vectors.specs.VectorFile.{whole_under, HasEntries}
 
--- `entry_place d` is the node index of an entry of an array: a number, or null for none.
-abbrev pub entry_place : Data → Option (Option ℕ)
-entry_place null = Some None
-entry_place (boolean b) = None
-entry_place (number n) = option_map (λ (p : ℕ). Some p) (as_u64 n)
-entry_place (string s) = None
-entry_place (array ds) = None
-entry_place (object ms) = None
+-- `entry_node_index d` is the node index of an entry of an array: a number, or null for none.
+abbrev pub entry_node_index : Data → Option (Option ℕ)
+entry_node_index null = Some None
+entry_node_index (boolean b) = None
+entry_node_index (number n) = option_map (λ (p : ℕ). Some p) (as_u64 n)
+entry_node_index (string s) = None
+entry_node_index (array ds) = None
+entry_node_index (object ms) = None
 
 -- A relation of a tree, a node index, and the node index that an entry must have for it.
 abbrev pub Relation : Type 1
@@ -24,21 +24,21 @@ Relation = Tree → ℕ → Option ℕ → Type 0
 
 -- `IsLeft` and `IsRight`: the left and the right child (RFC 9420, Appendix C).
 abbrev pub IsLeft : Relation
-IsLeft t p place = place ≡ left_at t p
+IsLeft t p node_index = node_index ≡ left_at t p
 
 abbrev pub IsRight : Relation
-IsRight t p place = place ≡ right_at t p
+IsRight t p node_index = node_index ≡ right_at t p
 
 -- `IsParent` and `IsSibling`: the parent and the sibling (RFC 9420, Appendix C). The root has none.
 abbrev pub IsParent : Relation
-IsParent t p place = MatchOption place ((q : ℕ) → ¬ IsParentOf t q p) (λ q. IsParentOf t q p)
+IsParent t p node_index = MatchOption node_index ((q : ℕ) → ¬ IsParentOf t q p) (λ q. IsParentOf t q p)
 
 abbrev pub IsSibling : Relation
-IsSibling t p place = MatchOption place ((q : ℕ) → ¬ AreSiblings t p q) (λ q. AreSiblings t p q)
+IsSibling t p node_index = MatchOption node_index ((q : ℕ) → ¬ AreSiblings t p q) (λ q. AreSiblings t p q)
 
 -- `IsEntry R t p d`: an entry has the node index that R requires for node index p.
 abbrev pub IsEntry : Relation → Tree → ℕ → Data → Type 0
-IsEntry R t p d = (place : Option ℕ) × (entry_place d ≡ Some place) × R t p place
+IsEntry R t p d = (node_index : Option ℕ) × (entry_node_index d ≡ Some node_index) × R t p node_index
 
 -- `HasSize d t`: the tree has as many leaves as the vector says.
 abbrev pub HasSize : Data → RatchetTree → Type 0
@@ -48,12 +48,12 @@ HasSize d t = whole_under (codes "n_leaves") d ≡ Some (leaf_count t.tree)
 abbrev pub size_checks : Data → List Check
 size_checks d = check (codes "n_leaves") ((t : RatchetTree) × HasSize d t) ∷ []
 
--- `place_checks t d` is the further checks, by a tree of that size: a tree of n leaves has 2 * n - 1 nodes (RFC 9420,
--- Appendix C).
-abbrev pub place_checks : Tree → Data → List Check
-place_checks t d =
+-- `node_index_checks t d` is the further checks, by a tree of that size: a tree of n leaves has 2 * n - 1 nodes (RFC
+-- 9420, Appendix C).
+abbrev pub node_index_checks : Tree → Data → List Check
+node_index_checks t d =
     check (codes "n_nodes") (whole_under (codes "n_nodes") d ≡ Some (2 * leaf_count t - 1))
-    ∷ check (codes "root") (whole_under (codes "root") d ≡ Some (root_place 0 t))
+    ∷ check (codes "root") (whole_under (codes "root") d ≡ Some (root_node_index 0 t))
     ∷ check (codes "left") (HasEntries (IsEntry IsLeft t) (leaf_count t) (codes "left") d)
     ∷ check (codes "right") (HasEntries (IsEntry IsRight t) (leaf_count t) (codes "right") d)
     ∷ check (codes "parent") (HasEntries (IsEntry IsParent t) (leaf_count t) (codes "parent") d)
@@ -61,11 +61,11 @@ place_checks t d =
     ∷ []
 
 -- `IsSizedOutcome d o`: the result of a vector whose size is that of a tree.
-pub record IsSizedOutcome (d : Data) (o : Outcome) : Type 0 where
+pub record IsSizedOutcome (d : Data) (o : VectorResult) : Type 0 where
   pub tree : RatchetTree
   pub size : HasSize d tree
-  pub outcome : IsOutcome (place_checks tree.tree d) o
+  pub outcome : IsOutcome (node_index_checks tree.tree d) o
 
 -- `IsTreeMath d o`: the result of a vector.
-abbrev pub IsTreeMath : Data → Outcome → Type 0
+abbrev pub IsTreeMath : Data → VectorResult → Type 0
 IsTreeMath d o = IsEarlyFailure (size_checks d) o ⊎ IsSizedOutcome d o

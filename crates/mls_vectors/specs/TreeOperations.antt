@@ -12,9 +12,9 @@ use Rattle.mls_tree.specs.RatchetTree.{RatchetTree}
 use Rattle.mls_tree.specs.Tree.{Tree, listing}
 use Rattle.mls_tree.specs.TreeHash.{tree_hash}
 use Rattle.mls_hash.specs.SuiteHash.{hash_of}
-use Rattle.mls_apply.specs.AppliedList.{outcome, Grown}
+use Rattle.mls_apply.specs.AppliedList.{outcome, AppliedTree}
 use Rattle.mls_apply.specs.declared.list_item.ListItem.{ListItem}
-use Rattle.mls_vectors.specs.VectorResults.{Check, check, Outcome, IsOutcome, IsEarlyFailure}
+use Rattle.mls_vectors.specs.VectorResults.{Check, check, VectorResult, IsOutcome, IsEarlyFailure}
 use Rattle.mls_vectors.specs.TreeValidation.{HasSuite, HasTreeUnder}
 use Rattle.mls_vectors.specs.VectorFile.{whole_under, bytes_under}
 
@@ -41,7 +41,7 @@ pub record HasTreeHash (H : List ℕ → List ℕ) (name : List ℕ) (t : Tree) 
 -- nodes are all blank has none.
 pub record HasTreeBytes (name : List ℕ) (t : Tree) (d : Data) : Type 0 where
   pub bytes : List ℕ
-  pub spelled : ratchet_tree (trimmed (listing t)) ≡ Some bytes
+  pub encoded : ratchet_tree (trimmed (listing t)) ≡ Some bytes
   pub found : bytes_under name d ≡ Some bytes
 
 -- `operand_checks d` is the first checks: what the vector has can be read.
@@ -80,21 +80,21 @@ after_checks H t d =
 
 -- `IsAppliedOutcome H t x d o`: the result of a vector whose proposal can be applied.
 pub record IsAppliedOutcome (H : List ℕ → List ℕ) (t : Tree) (x : ListItem) (d : Data)
-    (o : Outcome) : Type 0 where
+    (o : VectorResult) : Type 0 where
   pub before : HasTreeHash H (codes "tree_hash_before") t d
-  pub after : Grown
+  pub after : AppliedTree
   pub applied : outcome (x ∷ []) t ≡ Some after
   pub outcome_is : IsOutcome (after_checks H after.tree d) o
 
 -- `IsItemOutcome H t x d o`: the result of a vector by what it has.
-abbrev pub IsItemOutcome : (List ℕ → List ℕ) → Tree → ListItem → Data → Outcome → Type 0
+abbrev pub IsItemOutcome : (List ℕ → List ℕ) → Tree → ListItem → Data → VectorResult → Type 0
 IsItemOutcome H t x d o = IsEarlyFailure (apply_checks H t x d) o ⊎ IsAppliedOutcome H t x d o
 
 -- `IsReadOutcome d o`: the result of a vector that can be read.
-pub record IsReadOutcome (d : Data) (o : Outcome) : Type 0 where
+pub record IsReadOutcome (d : Data) (o : VectorResult) : Type 0 where
   pub operands : Operands d
   pub outcome_is : IsItemOutcome (hash_of operands.suite) operands.tree.tree operands.item d o
 
 -- `IsTreeOperation d o`: the result of a vector that is not skipped.
-abbrev pub IsTreeOperation : Data → Outcome → Type 0
+abbrev pub IsTreeOperation : Data → VectorResult → Type 0
 IsTreeOperation d o = IsEarlyFailure (operand_checks d) o ⊎ IsReadOutcome d o

@@ -11,7 +11,7 @@ use Rattle.mls_hash.specs.SuiteHash.{hash_of}
 use Rattle.mls_hash.specs.WithoutLeaves.{tree_hash_at}
 use Rattle.mls_hash.specs.Suites.{IsSupported}
 use Rattle.mls_check.specs.ValidTree.{Valid}
-use Rattle.mls_vectors.specs.VectorResults.{Check, check, Outcome, skip, IsOutcome, IsEarlyFailure}
+use Rattle.mls_vectors.specs.VectorResults.{Check, check, VectorResult, skip, IsOutcome, IsEarlyFailure}
 use Rattle.mls_vectors.specs.VectorFile.{number_under, whole_under, bytes_of, bytes_under, HasEntries}
 
 -- `IsOtherSuite n`: the number is a whole one, and that of no supported cipher suite (RFC 9420, 17.1).
@@ -26,7 +26,7 @@ abbrev pub IsSkipped : Data → Type 0
 IsSkipped d = IsOtherSuite (number_under (codes "cipher_suite") d)
 
 -- `IsOutcomeUnlessSkipped R d o`: the result is that of R, or the vector is skipped.
-abbrev pub IsOutcomeUnlessSkipped : (Data → Outcome → Type 0) → Data → Outcome → Type 0
+abbrev pub IsOutcomeUnlessSkipped : (Data → VectorResult → Type 0) → Data → VectorResult → Type 0
 IsOutcomeUnlessSkipped R d o = (IsSkipped d × (o ≡ skip)) ⊎ ((¬ IsSkipped d) × R d o)
 
 -- `HasSuite d suite`: the vector has this cipher suite.
@@ -64,9 +64,9 @@ has_numbers ns d = are_numbers_of ns (as_array d)
 
 -- `IsResolution t p d`: an entry has the node indices of the resolution of the node at node index p (RFC 9420, 4.1.1).
 pub record IsResolution (t : Tree) (p : ℕ) (d : Data) : Type 0 where
-  pub places : List ℕ
-  pub resolution : resolution_at t p ≡ Some places
-  pub same : has_numbers places d ≡ true
+  pub node_indices : List ℕ
+  pub resolution : resolution_at t p ≡ Some node_indices
+  pub same : has_numbers node_indices d ≡ true
 
 -- `IsTreeHash H t p d`: an entry is the tree hash of the subtree at node index p (RFC 9420, 7.8).
 pub record IsTreeHash (H : List ℕ → List ℕ) (t : Tree) (p : ℕ) (d : Data) : Type 0 where
@@ -91,7 +91,7 @@ tree_checks H t d =
     ∷ []
 
 -- `IsTreeOutcome d o`: the result of a vector whose suite and tree can be read.
-pub record IsTreeOutcome (d : Data) (o : Outcome) : Type 0 where
+pub record IsTreeOutcome (d : Data) (o : VectorResult) : Type 0 where
   pub suite : ℕ
   pub has_suite : HasSuite d suite
   pub tree : RatchetTree
@@ -99,5 +99,5 @@ pub record IsTreeOutcome (d : Data) (o : Outcome) : Type 0 where
   pub outcome : IsOutcome (tree_checks (hash_of suite) tree.tree d) o
 
 -- `IsTreeValidation d o`: the result of a vector that is not skipped.
-abbrev pub IsTreeValidation : Data → Outcome → Type 0
+abbrev pub IsTreeValidation : Data → VectorResult → Type 0
 IsTreeValidation d o = IsEarlyFailure (reading_checks d) o ⊎ IsTreeOutcome d o

@@ -3,10 +3,10 @@
 use Rattle.std.specs.Prelude.{ℕ, List, [], ◌∷◌, ◌≡◌, ◌⊎◌}
 
 -- The result of a vector: it passes, it fails a check, or it is skipped.
-pub data Outcome : Type 0 where
-  pass : Outcome
-  fail : List ℕ → Outcome
-  skip : Outcome
+pub data VectorResult : Type 0 where
+  pass : VectorResult
+  fail : List ℕ → VectorResult
+  skip : VectorResult
 
 -- A check of a vector: its name, and what has to hold.
 pub record Check : Type 1 where
@@ -28,13 +28,13 @@ IsFirstToFail [] name = ⊥
 IsFirstToFail (c ∷ cs) name = ((name ≡ c.name) × (¬ c.holds)) ⊎ (c.holds × IsFirstToFail cs name)
 
 -- `IsOutcome checks o`: the result by all checks of a vector.
-abbrev pub IsOutcome : List Check → Outcome → Type 0
+abbrev pub IsOutcome : List Check → VectorResult → Type 0
 IsOutcome checks pass = AllHold checks
 IsOutcome checks (fail name) = IsFirstToFail checks name
 IsOutcome checks skip = ⊥
 
 -- `IsEarlyFailure checks o`: the result of a vector that fails one of these checks.
-abbrev pub IsEarlyFailure : List Check → Outcome → Type 0
+abbrev pub IsEarlyFailure : List Check → VectorResult → Type 0
 IsEarlyFailure checks pass = ⊥
 IsEarlyFailure checks (fail name) = IsFirstToFail checks name
 IsEarlyFailure checks skip = ⊥

@@ -13,7 +13,7 @@ use crate::transcript::transcript_outcome;
 use crate::tree_math::tree_math_outcome;
 use crate::tree_operations::tree_operations_outcome;
 use crate::tree_validation::tree_validation_outcome;
-use crate::vector_result::Outcome;
+use crate::vector_result::VectorResult;
 use mls_report::{Report, RunFault, Verdict, read_all, write_bytes};
 use mls_wire::{MAX_INPUT, Sink, Source};
 use serde_json::Value;
@@ -59,7 +59,7 @@ fn vectors_in(whole: &Value) -> Option<&Vec<Value>>
 }
 
 /// Returns the outcome of a vector.
-fn outcome_by(alloc: Global, kind: CheckKind, vector: &Value) -> Result<Outcome, AllocError>
+fn outcome_by(alloc: Global, kind: CheckKind, vector: &Value) -> Result<VectorResult, AllocError>
     ensures { IfOk result (λ o. IsOutcomeOf kind (view vector.now) (outcome_of o)) }
 {
     match kind {
@@ -75,7 +75,7 @@ fn outcomes_by(
     alloc: Global,
     kind: CheckKind,
     vectors: &[Value],
-) -> Result<Vec<Outcome>, AllocError>
+) -> Result<Vec<VectorResult>, AllocError>
     ensures { IfOk result
         (λ v. AreOutcomes kind (items_view vectors.now) (map outcome_of v.items)) }
 {
@@ -89,7 +89,7 @@ fn outcomes_by(
 }
 
 /// Returns the report of outcomes.
-fn outcomes_report(alloc: Global, outcomes: &[Outcome]) -> Result<Report, AllocError>
+fn outcomes_report(alloc: Global, outcomes: &[VectorResult]) -> Result<Report, AllocError>
     ensures { IfOk result
         (λ r. IsOutcomesReport (map outcome_of outcomes.now) r.bytes.items r.verdict) }
 {

@@ -1,8 +1,8 @@
 //! A property of the report's definition. No caller needs to run this function.
 
-ghost use Rattle.mls_vectors.specs.CheckReport.{TellsUnreadable};
+ghost use Rattle.mls_vectors.specs.CheckReport.{ReportsUnreadable};
 
 /// The report of a file is the line `vectors unreadable` exactly if it is no array of vectors.
-pub fn unreadable_is_told()
-    ensures { TellsUnreadable }
+pub fn unreadable_is_reported()
+    ensures { ReportsUnreadable }
 {}

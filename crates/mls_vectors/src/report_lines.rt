@@ -5,7 +5,7 @@ ghost use Rattle.std.specs.Fmt.{decimal};
 ghost use Rattle.mls_vectors.specs.CheckReport as lines;
 ghost use Rattle.mls_vectors.specs.CheckModel.{outcome_of, counts_of};
 
-use crate::vector_result::Outcome;
+use crate::vector_result::VectorResult;
 use std::alloc::{AllocError, Global};
 
 /// The numbers of vectors that passed, failed and were skipped.
@@ -20,19 +20,19 @@ pub(crate) struct Counts {
 }
 
 /// Returns the line of a vector, given its number.
-fn outcome_line(alloc: Global, number: usize, outcome: Outcome) -> Result<String, AllocError>
+fn outcome_line(alloc: Global, number: usize, outcome: VectorResult) -> Result<String, AllocError>
     ensures { IfOk result
         (λ text. string_bytes text ≡ decimal number ++ lines.outcome_text (outcome_of outcome)) }
 {
     match outcome {
-        Outcome::Pass => format!(in alloc; "{number} pass\n"),
-        Outcome::Fail(name) => format!(in alloc; "{number} fail {name}\n"),
-        Outcome::Skip => format!(in alloc; "{number} skip\n"),
+        VectorResult::Pass => format!(in alloc; "{number} pass\n"),
+        VectorResult::Fail(name) => format!(in alloc; "{number} fail {name}\n"),
+        VectorResult::Skip => format!(in alloc; "{number} skip\n"),
     }
 }
 
 /// Returns the lines of all vectors.
-pub(crate) fn outcome_lines(alloc: Global, outcomes: &[Outcome]) -> Result<String, AllocError>
+pub(crate) fn outcome_lines(alloc: Global, outcomes: &[VectorResult]) -> Result<String, AllocError>
     ensures { IfOk result
         (λ text. string_bytes text ≡ lines.outcome_lines 1 (map outcome_of outcomes.now)) }
 {
@@ -45,9 +45,9 @@ pub(crate) fn outcome_lines(alloc: Global, outcomes: &[Outcome]) -> Result<Strin
 }
 
 /// Returns the counts with one more outcome.
-fn counted(counts: Counts, outcome: Outcome) -> Counts
+fn add_result(counts: Counts, outcome: VectorResult) -> Counts
     requires { counts.passed + counts.failed + counts.skipped < 18446744073709551615 }
-    ensures counted { counts_of result ≡ lines.counted (outcome_of outcome) (counts_of counts) }
+    ensures add_result { counts_of result ≡ lines.add_result (outcome_of outcome) (counts_of counts) }
     ensures one { result.passed + result.failed + result.skipped
         ≡ counts.passed + counts.failed + counts.skipped + 1 }
 {
@@ -57,17 +57,17 @@ fn counted(counts: Counts, outcome: Outcome) -> Counts
         skipped,
     } = counts;
     match outcome {
-        Outcome::Pass => Counts {
+        VectorResult::Pass => Counts {
             passed: passed + 1,
             failed,
             skipped,
         },
-        Outcome::Fail(_) => Counts {
+        VectorResult::Fail(_) => Counts {
             passed,
             failed: failed + 1,
             skipped,
         },
-        Outcome::Skip => Counts {
+        VectorResult::Skip => Counts {
             passed,
             failed,
             skipped: skipped + 1,
@@ -76,7 +76,7 @@ fn counted(counts: Counts, outcome: Outcome) -> Counts
 }
 
 /// Returns the counts of all outcomes.
-pub(crate) fn count(outcomes: &[Outcome]) -> Counts
+pub(crate) fn count(outcomes: &[VectorResult]) -> Counts
     ensures { counts_of result ≡ lines.counts (map outcome_of outcomes.now) }
 {
     let mut counts = Counts {
@@ -85,7 +85,7 @@ pub(crate) fn count(outcomes: &[Outcome]) -> Counts
         skipped: 0,
     };
     for outcome in outcomes {
-        counts = counted(counts, *outcome);
+        counts = add_result(counts, *outcome);
     }
     counts
 }

@@ -10,7 +10,7 @@ ghost use Rattle.mls_vectors.specs.TreeValidation.{HasSuite, IsOutcomeUnlessSkip
 
 use crate::json_members::{bytes_under, has_bytes};
 use crate::suite::{SuiteMember, suite_of};
-use crate::vector_result::Outcome;
+use crate::vector_result::VectorResult;
 use mls_follow::{confirmed_hash, interim_hash};
 use mls_hash::Suite;
 use mls_msgs::{Authenticated, decode_authenticated};
@@ -53,7 +53,7 @@ fn hash_outcome(
     interim: &[u8],
     auth: &Authenticated,
     vector: &Value,
-) -> Result<Outcome, AllocError>
+) -> Result<VectorResult, AllocError>
     requires { HasCommit (view vector.now) auth.now }
     ensures { IfOk result (λ o.
         IsOutcome (hash_checks (hash_of suite) interim.now auth.now (view vector.now))
@@ -66,7 +66,7 @@ fn hash_outcome(
         "confirmed_transcript_hash_after",
         confirmed.as_slice(),
     )? {
-        return Ok(Outcome::Fail("confirmed_transcript_hash_after"));
+        return Ok(VectorResult::Fail("confirmed_transcript_hash_after"));
     }
     let Some(tag) = auth.confirmation_tag() else {
         unreachable!()
@@ -78,9 +78,9 @@ fn hash_outcome(
         "interim_transcript_hash_after",
         after.as_slice(),
     )? {
-        return Ok(Outcome::Fail("interim_transcript_hash_after"));
+        return Ok(VectorResult::Fail("interim_transcript_hash_after"));
     }
-    Ok(Outcome::Pass)
+    Ok(VectorResult::Pass)
 }
 
 /// Returns the outcome, given the suite and the commit.
@@ -89,19 +89,19 @@ fn commit_outcome(
     suite: Suite,
     auth: &Authenticated,
     vector: &Value,
-) -> Result<Outcome, AllocError>
+) -> Result<VectorResult, AllocError>
     requires suite { HasSuite (view vector.now) suite }
     requires commit { HasCommit (view vector.now) auth.now }
     ensures { IfOk result (λ o. IsTranscript (view vector.now) (outcome_of o)) }
 {
     match bytes_under(alloc, vector, "interim_transcript_hash_before")? {
         Some(interim) => hash_outcome(alloc, suite, interim.as_slice(), auth, vector),
-        None => Ok(Outcome::Fail("interim_transcript_hash_before")),
+        None => Ok(VectorResult::Fail("interim_transcript_hash_before")),
     }
 }
 
 /// Returns the outcome, given the suite.
-fn suite_outcome(alloc: Global, suite: Suite, vector: &Value) -> Result<Outcome, AllocError>
+fn suite_outcome(alloc: Global, suite: Suite, vector: &Value) -> Result<VectorResult, AllocError>
     requires { HasSuite (view vector.now) suite }
     ensures { IfOk result (λ o. IsTranscript (view vector.now) (outcome_of o)) }
 {
@@ -111,18 +111,18 @@ fn suite_outcome(alloc: Global, suite: Suite, vector: &Value) -> Result<Outcome,
             drop(auth);
             outcome
         }
-        None => Ok(Outcome::Fail("authenticated_content")),
+        None => Ok(VectorResult::Fail("authenticated_content")),
     }
 }
 
 /// Returns the outcome of a vector.
-pub(crate) fn transcript_outcome(alloc: Global, vector: &Value) -> Result<Outcome, AllocError>
+pub(crate) fn transcript_outcome(alloc: Global, vector: &Value) -> Result<VectorResult, AllocError>
     ensures { IfOk result
         (λ o. IsOutcomeUnlessSkipped IsTranscript (view vector.now) (outcome_of o)) }
 {
     match suite_of(vector) {
         SuiteMember::Followed(suite) => suite_outcome(alloc, suite, vector),
-        SuiteMember::Other => Ok(Outcome::Skip),
-        SuiteMember::Missing => Ok(Outcome::Fail("cipher_suite")),
+        SuiteMember::Other => Ok(VectorResult::Skip),
+        SuiteMember::Missing => Ok(VectorResult::Fail("cipher_suite")),
     }
 }

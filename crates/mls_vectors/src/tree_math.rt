@@ -7,11 +7,11 @@ ghost use Rattle.mls_tree.specs.RatchetTree.{RatchetTree};
 ghost use Rattle.mls_tree.specs.Tree.{leaf_count};
 ghost use Rattle.mls_vectors.specs.CheckModel.{outcome_of, relation, column_name};
 ghost use Rattle.mls_vectors.specs.VectorResults.{IsOutcome};
-ghost use Rattle.mls_vectors.specs.TreeMath.{HasSize, IsEntry, IsTreeMath, place_checks};
+ghost use Rattle.mls_vectors.specs.TreeMath.{HasSize, IsEntry, IsTreeMath, node_index_checks};
 ghost use Rattle.mls_vectors.specs.VectorFile.{AreEntries, HasEntries};
 
 use crate::json_members::{array_under, has_number, is_number, whole_under};
-use crate::vector_result::Outcome;
+use crate::vector_result::VectorResult;
 use mls_tree::{left, parent, right, root, sibling};
 use serde_json::Value;
 
@@ -43,27 +43,27 @@ fn name_of(column: Column) -> &'static str
     }
 }
 
-/// Returns the related node of the node at node index `place`.
-fn place_of(column: Column, place: u32, leaves: u32) -> Option<u32>
-    ensures { (t : RatchetTree) → leaf_count t.tree ≡ leaves → relation column t.tree place result }
+/// Returns the related node of the node at node index `node_index`.
+fn related_node_index(column: Column, node_index: u32, leaves: u32) -> Option<u32>
+    ensures { (t : RatchetTree) → leaf_count t.tree ≡ leaves → relation column t.tree node_index result }
 {
     match column {
-        Column::Left => left(place, leaves),
-        Column::Right => right(place, leaves),
-        Column::Parent => parent(place, leaves),
-        Column::Sibling => sibling(place, leaves),
+        Column::Left => left(node_index, leaves),
+        Column::Right => right(node_index, leaves),
+        Column::Parent => parent(node_index, leaves),
+        Column::Sibling => sibling(node_index, leaves),
     }
 }
 
-/// Returns whether an entry is the right one for the node at node index `place`.
-fn is_entry(column: Column, leaves: u32, place: u32, entry: &Value) -> bool
+/// Returns whether an entry is the right one for the node at node index `node_index`.
+fn is_entry(column: Column, leaves: u32, node_index: u32, entry: &Value) -> bool
     ensures { (t : RatchetTree)
         → leaf_count t.tree ≡ leaves
-        → (IsTrue result ↔ IsEntry (relation column) t.tree place (view entry.now)) }
+        → (IsTrue result ↔ IsEntry (relation column) t.tree node_index (view entry.now)) }
 {
-    match place_of(column, place, leaves) {
+    match related_node_index(column, node_index, leaves) {
         None => entry.is_null(),
-        Some(wanted) => is_number(entry, u64::from(wanted)),
+        Some(expected) => is_number(entry, u64::from(expected)),
     }
 }
 
@@ -78,14 +78,14 @@ fn are_entries(column: Column, leaves: u32, entries: &[Value]) -> bool
     if entries.len() + 1 != 2 * leaves as usize {
         return false;
     }
-    let mut place = 0;
+    let mut node_index = 0;
     let mut rest = entries;
     while let Some((entry, tail)) = rest.split_first() {
-        if !is_entry(column, leaves, place, entry) {
+        if !is_entry(column, leaves, node_index, entry) {
             return false;
         }
         rest = tail;
-        place += 1;
+        node_index += 1;
     }
     true
 }
@@ -123,40 +123,40 @@ fn size_of(vector: &Value) -> Option<u32>
 }
 
 /// Returns the outcome of a vector with this number of leaves.
-fn place_outcome(leaves: u32, vector: &Value) -> Outcome
+fn node_index_outcome(leaves: u32, vector: &Value) -> VectorResult
     requires low { leaves ≤ leaf_limit }
     requires some { 0 < leaves }
     ensures { (t : RatchetTree)
         → leaf_count t.tree ≡ leaves
-        → IsOutcome (place_checks t.tree (view vector.now)) (outcome_of result) }
+        → IsOutcome (node_index_checks t.tree (view vector.now)) (outcome_of result) }
 {
     if !has_number(vector, "n_nodes", 2 * u64::from(leaves) - 1) {
-        return Outcome::Fail("n_nodes");
+        return VectorResult::Fail("n_nodes");
     }
     if !has_number(vector, "root", u64::from(leaves) - 1) {
-        return Outcome::Fail("root");
+        return VectorResult::Fail("root");
     }
     if !has_entries(Column::Left, leaves, vector) {
-        return Outcome::Fail("left");
+        return VectorResult::Fail("left");
     }
     if !has_entries(Column::Right, leaves, vector) {
-        return Outcome::Fail("right");
+        return VectorResult::Fail("right");
     }
     if !has_entries(Column::Parent, leaves, vector) {
-        return Outcome::Fail("parent");
+        return VectorResult::Fail("parent");
     }
     if !has_entries(Column::Sibling, leaves, vector) {
-        return Outcome::Fail("sibling");
+        return VectorResult::Fail("sibling");
     }
-    Outcome::Pass
+    VectorResult::Pass
 }
 
 /// Returns the outcome of a vector.
-pub(crate) fn tree_math_outcome(vector: &Value) -> Outcome
+pub(crate) fn tree_math_outcome(vector: &Value) -> VectorResult
     ensures { IsTreeMath (view vector.now) (outcome_of result) }
 {
     match size_of(vector) {
-        Some(leaves) => place_outcome(leaves, vector),
-        None => Outcome::Fail("n_leaves"),
+        Some(leaves) => node_index_outcome(leaves, vector),
+        None => VectorResult::Fail("n_leaves"),
     }
 }

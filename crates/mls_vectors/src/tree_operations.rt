@@ -14,7 +14,7 @@ ghost use Rattle.mls_vectors.specs.TreeValidation.{HasSuite, HasTreeUnder, IsOut
 
 use crate::json_members::{bytes_under, has_bytes, whole_under};
 use crate::suite::{SuiteMember, suite_of};
-use crate::vector_result::Outcome;
+use crate::vector_result::VectorResult;
 use crate::vector_trees::{tree_under, whole_hash};
 use mls_apply::{Applied, ApplyFault, ListItem, apply_list};
 use mls_hash::Suite;
@@ -75,7 +75,7 @@ fn has_tree_hash(
 }
 
 /// Encodes a tree. `None` if all its nodes are blank: then it has no encoding.
-fn spelling_of(alloc: Global, tree: &PublicTree) -> Result<Option<Vec<u8>>, AllocError>
+fn encoding_of(alloc: Global, tree: &PublicTree) -> Result<Option<Vec<u8>>, AllocError>
     ensures { IfOk result (λ o.
         option_map (λ v. v.items) o ≡ ratchet_tree (trimmed (listing tree.now.tree))) }
 {
@@ -98,7 +98,7 @@ fn has_tree_bytes(
     ensures { IfOk result (λ b. IsTrue b
         ↔ HasTreeBytes name.now tree.now.tree (view vector.now)) }
 {
-    match spelling_of(alloc, tree)? {
+    match encoding_of(alloc, tree)? {
         Some(bytes) => has_bytes(alloc, vector, name, bytes.as_slice()),
         None => Ok(false),
     }
@@ -110,20 +110,20 @@ fn after_outcome(
     suite: Suite,
     tree: &PublicTree,
     vector: &Value,
-) -> Result<Outcome, AllocError>
+) -> Result<VectorResult, AllocError>
     ensures { IfOk result (λ o.
         IsOutcome (after_checks (hash_of suite) tree.now.tree (view vector.now)) (outcome_of o)) }
 {
     if !has_tree_bytes(alloc, tree, vector, "tree_after")? {
-        return Ok(Outcome::Fail("tree_after"));
+        return Ok(VectorResult::Fail("tree_after"));
     }
     if !has_tree_hash(alloc, suite, tree, vector, "tree_hash_after")? {
-        return Ok(Outcome::Fail("tree_hash_after"));
+        return Ok(VectorResult::Fail("tree_hash_after"));
     }
-    Ok(Outcome::Pass)
+    Ok(VectorResult::Pass)
 }
 
-/// The tree after one proposal. None where it can't be applied.
+/// The tree after one proposal. None if it can't be applied.
 fn applied(
     alloc: Global,
     tree: &PublicTree,
@@ -147,12 +147,12 @@ fn item_outcome(
     tree: &PublicTree,
     item: &ListItem<'_>,
     vector: &Value,
-) -> Result<Outcome, AllocError>
+) -> Result<VectorResult, AllocError>
     ensures { IfOk result (λ o.
         IsItemOutcome (hash_of suite) tree.now.tree item.now (view vector.now) (outcome_of o)) }
 {
     if !has_tree_hash(alloc, suite, tree, vector, "tree_hash_before")? {
-        return Ok(Outcome::Fail("tree_hash_before"));
+        return Ok(VectorResult::Fail("tree_hash_before"));
     }
     match applied(alloc, tree, item)? {
         Some(after) => {
@@ -160,7 +160,7 @@ fn item_outcome(
             drop(after);
             outcome
         }
-        None => Ok(Outcome::Fail("apply")),
+        None => Ok(VectorResult::Fail("apply")),
     }
 }
 
@@ -171,7 +171,7 @@ fn proposal_outcome(
     tree: &PublicTree,
     proposal: Proposal,
     vector: &Value,
-) -> Result<Outcome, AllocError>
+) -> Result<VectorResult, AllocError>
     requires suite { HasSuite (view vector.now) suite }
     requires tree { HasTreeUnder (codes "tree_before") (view vector.now) (plain tree.now) }
     requires proposal { HasProposal (view vector.now) proposal }
@@ -189,7 +189,7 @@ fn proposal_outcome(
         }
         None => {
             drop(proposal);
-            Ok(Outcome::Fail("proposal_sender"))
+            Ok(VectorResult::Fail("proposal_sender"))
         }
     }
 }
@@ -200,19 +200,19 @@ fn tree_outcome(
     suite: Suite,
     tree: &PublicTree,
     vector: &Value,
-) -> Result<Outcome, AllocError>
+) -> Result<VectorResult, AllocError>
     requires suite { HasSuite (view vector.now) suite }
     requires tree { HasTreeUnder (codes "tree_before") (view vector.now) (plain tree.now) }
     ensures { IfOk result (λ o. IsTreeOperation (view vector.now) (outcome_of o)) }
 {
     match proposal_in(alloc, vector)? {
         Some(proposal) => proposal_outcome(alloc, suite, tree, proposal, vector),
-        None => Ok(Outcome::Fail("proposal")),
+        None => Ok(VectorResult::Fail("proposal")),
     }
 }
 
 /// Returns the outcome, given the suite.
-fn suite_outcome(alloc: Global, suite: Suite, vector: &Value) -> Result<Outcome, AllocError>
+fn suite_outcome(alloc: Global, suite: Suite, vector: &Value) -> Result<VectorResult, AllocError>
     requires { HasSuite (view vector.now) suite }
     ensures { IfOk result (λ o. IsTreeOperation (view vector.now) (outcome_of o)) }
 {
@@ -222,18 +222,21 @@ fn suite_outcome(alloc: Global, suite: Suite, vector: &Value) -> Result<Outcome,
             drop(tree);
             outcome
         }
-        None => Ok(Outcome::Fail("tree_before")),
+        None => Ok(VectorResult::Fail("tree_before")),
     }
 }
 
 /// Returns the outcome of a vector.
-pub(crate) fn tree_operations_outcome(alloc: Global, vector: &Value) -> Result<Outcome, AllocError>
+pub(crate) fn tree_operations_outcome(
+    alloc: Global,
+    vector: &Value,
+) -> Result<VectorResult, AllocError>
     ensures { IfOk result
         (λ o. IsOutcomeUnlessSkipped IsTreeOperation (view vector.now) (outcome_of o)) }
 {
     match suite_of(vector) {
         SuiteMember::Followed(suite) => suite_outcome(alloc, suite, vector),
-        SuiteMember::Other => Ok(Outcome::Skip),
-        SuiteMember::Missing => Ok(Outcome::Fail("cipher_suite")),
+        SuiteMember::Other => Ok(VectorResult::Skip),
+        SuiteMember::Missing => Ok(VectorResult::Fail("cipher_suite")),
     }
 }

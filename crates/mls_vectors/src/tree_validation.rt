@@ -15,7 +15,7 @@ ghost use Rattle.mls_vectors.specs.VectorFile.{AreEntries, HasEntries};
 
 use crate::json_members::{array_under, gives_bytes, is_number};
 use crate::suite::{SuiteMember, suite_of};
-use crate::vector_result::Outcome;
+use crate::vector_result::VectorResult;
 use crate::vector_trees::{tree_under, whole_hash};
 use mls_check::{TreeFault, validate_tree};
 use mls_hash::{SubtreeHashes, Suite};
@@ -58,14 +58,14 @@ fn has_numbers(entry: &Value, numbers: &[u32]) -> bool
 fn is_resolution(
     alloc: Global,
     tree: &PublicTree,
-    place: u32,
+    node_index: u32,
     entry: &Value,
 ) -> Result<bool, AllocError>
     ensures { IfOk result
-        (λ b. IsTrue b ↔ IsResolution tree.now.tree place (view entry.now)) }
+        (λ b. IsTrue b ↔ IsResolution tree.now.tree node_index (view entry.now)) }
 {
-    match tree.resolution(alloc, place) {
-        Ok(places) => Ok(has_numbers(entry, places.as_slice())),
+    match tree.resolution(alloc, node_index) {
+        Ok(node_indices) => Ok(has_numbers(entry, node_indices.as_slice())),
         Err(TreeError::NoSuchNode) => Ok(false),
         Err(_) => Err(AllocError),
     }
@@ -80,14 +80,14 @@ fn are_resolutions(alloc: Global, tree: &PublicTree, entries: &[Value]) -> Resul
     if entries.len() + 1 != 2 * tree.leaf_count() as usize {
         return Ok(false);
     }
-    let mut place = 0;
+    let mut node_index = 0;
     let mut rest = entries;
     while let Some((entry, tail)) = rest.split_first() {
-        if !is_resolution(alloc, tree, place, entry)? {
+        if !is_resolution(alloc, tree, node_index, entry)? {
             return Ok(false);
         }
         rest = tail;
-        place += 1;
+        node_index += 1;
     }
     Ok(true)
 }
@@ -108,12 +108,12 @@ fn has_resolutions(alloc: Global, tree: &PublicTree, vector: &Value) -> Result<b
 fn is_kept_hash(
     alloc: Global,
     hashes: &SubtreeHashes,
-    place: u32,
+    node_index: u32,
     entry: &Value,
 ) -> Result<bool, AllocError>
-    ensures { IfOk result (λ b. IsTrue b ↔ IsKeptHash hashes.now place (view entry.now)) }
+    ensures { IfOk result (λ b. IsTrue b ↔ IsKeptHash hashes.now node_index (view entry.now)) }
 {
-    match hashes.get(place) {
+    match hashes.get(node_index) {
         Some(hash) => gives_bytes(alloc, entry, hash.as_slice()),
         None => Ok(false),
     }
@@ -133,14 +133,14 @@ fn are_kept_hashes(
     if entries.len() + 1 != 2 * leaves as usize {
         return Ok(false);
     }
-    let mut place = 0;
+    let mut node_index = 0;
     let mut rest = entries;
     while let Some((entry, tail)) = rest.split_first() {
-        if !is_kept_hash(alloc, hashes, place, entry)? {
+        if !is_kept_hash(alloc, hashes, node_index, entry)? {
             return Ok(false);
         }
         rest = tail;
-        place += 1;
+        node_index += 1;
     }
     Ok(true)
 }
@@ -240,24 +240,24 @@ fn tree_outcome(
     suite: Suite,
     tree: &PublicTree,
     vector: &Value,
-) -> Result<Outcome, AllocError>
+) -> Result<VectorResult, AllocError>
     ensures { IfOk result (λ o.
         IsOutcome (tree_checks (hash_of suite) tree.now.tree (view vector.now)) (outcome_of o)) }
 {
     if !has_resolutions(alloc, tree, vector)? {
-        return Ok(Outcome::Fail("resolutions"));
+        return Ok(VectorResult::Fail("resolutions"));
     }
     if !has_tree_hashes(alloc, suite, tree, vector)? {
-        return Ok(Outcome::Fail("tree_hashes"));
+        return Ok(VectorResult::Fail("tree_hashes"));
     }
     if !is_valid(alloc, suite, tree)? {
-        return Ok(Outcome::Fail("valid"));
+        return Ok(VectorResult::Fail("valid"));
     }
-    Ok(Outcome::Pass)
+    Ok(VectorResult::Pass)
 }
 
 /// Returns the outcome, given the suite.
-fn suite_outcome(alloc: Global, suite: Suite, vector: &Value) -> Result<Outcome, AllocError>
+fn suite_outcome(alloc: Global, suite: Suite, vector: &Value) -> Result<VectorResult, AllocError>
     requires { HasSuite (view vector.now) suite }
     ensures { IfOk result (λ o. IsTreeValidation (view vector.now) (outcome_of o)) }
 {
@@ -267,18 +267,21 @@ fn suite_outcome(alloc: Global, suite: Suite, vector: &Value) -> Result<Outcome,
             drop(tree);
             outcome
         }
-        None => Ok(Outcome::Fail("tree")),
+        None => Ok(VectorResult::Fail("tree")),
     }
 }
 
 /// Returns the outcome of a vector.
-pub(crate) fn tree_validation_outcome(alloc: Global, vector: &Value) -> Result<Outcome, AllocError>
+pub(crate) fn tree_validation_outcome(
+    alloc: Global,
+    vector: &Value,
+) -> Result<VectorResult, AllocError>
     ensures { IfOk result
         (λ o. IsOutcomeUnlessSkipped IsTreeValidation (view vector.now) (outcome_of o)) }
 {
     match suite_of(vector) {
         SuiteMember::Followed(suite) => suite_outcome(alloc, suite, vector),
-        SuiteMember::Other => Ok(Outcome::Skip),
-        SuiteMember::Missing => Ok(Outcome::Fail("cipher_suite")),
+        SuiteMember::Other => Ok(VectorResult::Skip),
+        SuiteMember::Missing => Ok(VectorResult::Fail("cipher_suite")),
     }
 }

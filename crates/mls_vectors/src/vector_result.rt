@@ -2,7 +2,7 @@
 
 /// The outcome of a vector.
 #[derive(Clone, Copy, Debug, PartialEq, Eq)]
-pub(crate) enum Outcome {
+pub(crate) enum VectorResult {
     /// Every check holds.
     Pass,
     /// The name of the first check that fails.

@@ -36,15 +36,15 @@ front_size (b ∷ bs) n e = (b, bs, refl, form_size n b bs e)
 record_head : (read body : List ℕ) → IsRecord read body → (first : ℕ) × (more : List ℕ) × (read ≡ first ∷ more) × (length_size first ≤ length read)
 unfolding vector
 record_head read body made =
-    let a = joined (length_form (length body)) (Some body) read made.spelled in
+    let a = joined (length_form (length body)) (Some body) read made.encoded in
     let f = front_size a.0 (length body) a.2 in
     (f.0, f.1 ++ a.1, a.4 ∙ ap (λ (x : List ℕ). x ++ a.1) f.2, omega (arith, f.3, ap length a.4, length-append a.0 a.1))
 
 -- bytes begin with one record at most
 one_record : (r q x y b c : List ℕ) → IsRecord r b → IsRecord q c → r ++ x ≡ q ++ y → (b ≡ c) × (x ≡ y)
 one_record r q x y b c one two e =
-    let left = vector_exact.again b r x 0 tt one.spelled in
-    let right = vector_exact.again c q y 0 tt two.spelled in
+    let left = vector_exact.again b r x 0 tt one.encoded in
+    let right = vector_exact.again c q y 0 tt two.encoded in
     let same : (b, at (0 + length r) x) ≡ (c, at (0 + length q) y) = some_is _ _ (sym left ∙ (ap (λ (z : List ℕ). vector_at (at 0 z)) e ∙ right)) in
     (ap (λ (z : List ℕ × Input). z.0) same, ap (λ (z : List ℕ × Input). z.1.left) same)
 

@@ -49,7 +49,7 @@ form_size n first more e =
 -- the length of a body, and the body
 pub record_made : (head body : List ℕ) → length_form (length body) ≡ Some head → length body ≤ input_limit → IsRecord (head ++ body) body
 unfolding vector
-record_made head body e le = record { spelled = join _ _ head body e refl; bounded = le }
+record_made head body e le = record { encoded = join _ _ head body e refl; bounded = le }
 
 nothing_short : (n : ℕ) (xs : List ℕ) → length xs ≡ n → 0 < n → xs ≢ []
 nothing_short n xs e lt none = omega (arith, ap length none)
@@ -92,7 +92,7 @@ bad_length read first more begins whole refused = record {
   begins = begins;
   whole = whole;
   none = λ body rest made.
-      let a = joined (length_form (length body)) (Some body) (read ++ rest) made.spelled in
+      let a = joined (length_form (length body)) (Some body) (read ++ rest) made.encoded in
       let front : read ≡ a.0 = front_form read rest a.0 a.1 (length body) first more a.2 begins whole a.4 in
       refused (length body) made.bounded (a.2 ∙ ap (λ (x : List ℕ). Some x) (sym front));
 }

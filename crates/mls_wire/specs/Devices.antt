@@ -30,16 +30,16 @@ pub record MemoryLeft : Type 0 where
 abbrev pub fails_to_pull : MemoryLeft → Bool
 fails_to_pull s = s.is_failed || is_failing_call s.fails_at (next_call s.calls)
 
--- `pulled_count s room` is the number of bytes that the next call gives for a buffer of `room` bytes, if it does not
--- fail.
+-- `pulled_count s capacity` is the number of bytes that the next call gives for a buffer of `capacity` bytes, if it
+-- does not fail.
 abbrev pub pulled_count : MemoryLeft → ℕ → ℕ
-pulled_count s room = min (min s.piece room) (length s.left)
+pulled_count s capacity = min (min s.piece capacity) (length s.left)
 
 -- The model of a sink over memory: the bytes that it holds, its capacity, the most that it takes in one call, the
 -- number of calls so far, the number of the call at which it fails, and whether it has failed.
 pub record MemoryHeld : Type 0 where
   pub held : List ℕ
-  pub room : ℕ
+  pub capacity : ℕ
   pub piece : ℕ
   pub calls : ℕ
   pub fails_at : Option ℕ
@@ -48,8 +48,8 @@ pub record MemoryHeld : Type 0 where
 -- `fails_to_push s count`: the next call of the sink fails for `count` bytes. It also fails if the sink is full and
 -- there are any.
 abbrev pub fails_to_push : MemoryHeld → ℕ → Bool
-fails_to_push s count = s.is_failed || is_failing_call s.fails_at (next_call s.calls) || (nat_eq (length s.held) s.room && not (nat_eq count 0))
+fails_to_push s count = s.is_failed || is_failing_call s.fails_at (next_call s.calls) || (nat_eq (length s.held) s.capacity && not (nat_eq count 0))
 
 -- `pushed_count s count` is the number of bytes, of `count`, that the next call takes, if it does not fail.
 abbrev pub pushed_count : MemoryHeld → ℕ → ℕ
-pushed_count s count = min (min s.piece count) (s.room - length s.held)
+pushed_count s count = min (min s.piece count) (s.capacity - length s.held)

@@ -10,7 +10,7 @@ use Rattle.mls_wire.specs.Encoding.{◌⊕◌, number, length_form, vector, size
 use Rattle.mls_wire.specs.OptionBind.{some_is}
 use Rattle.mls_wire.specs.EncodingConcat.{no_left, joined, join}
 use Rattle.mls_wire.specs.LengthsExact.{form_1, form_2, form_4, no_length}
-use Rattle.mls_wire.specs.SaturatingSizes.{counted, size, joint_size}
+use Rattle.mls_wire.specs.SaturatingSizes.{saturated, size, joint_size}
 use Rattle.mls_wire.specs.IntegersExact.{IsWide, number_made}
 use Rattle.mls_wire.specs.VectorsExact.{vector_within}
 use Rattle.mls_wire.specs.ListsExact.{sized_parts, sized_of}
@@ -120,7 +120,7 @@ unfolding size
 no_size_of o e = rw e refl
 
 -- A size is that of a text.
-pub sized_text : (o : Option (List ℕ)) (n : ℕ) → Some n ≡ size o → (t : List ℕ) × (o ≡ Some t) × (counted (length t) ≡ n)
+pub sized_text : (o : Option (List ℕ)) (n : ℕ) → Some n ≡ size o → (t : List ℕ) × (o ≡ Some t) × (saturated (length t) ≡ n)
 unfolding size
 sized_text None n e = absurd cc
 sized_text (Some t) n e = (t, refl, sym (some_is _ _ e))
@@ -148,22 +148,22 @@ pub size_number : (w : Width) → IsWide w → (n : ℕ) → n < 2 ^ bits w → 
 size_number w wide n lt small = size_exact (number w n) (byte_len w) (number_size w wide n lt) small
 
 -- The size of a vector, by that of its body.
-pub size_short : (s : List ℕ) (n k : ℕ) (front : List ℕ) → counted (length s) ≡ n → n ≤ vector_limit → length_form (length s) ≡ Some front → length front ≡ k → k ≤ 4 → Some (n + k) ≡ size (vector s)
+pub size_short : (s : List ℕ) (n k : ℕ) (front : List ℕ) → saturated (length s) ≡ n → n ≤ vector_limit → length_form (length s) ≡ Some front → length front ≡ k → k ≤ 4 → Some (n + k) ≡ size (vector s)
 size_short s n k front e le f g small =
     let same : length s ≡ n = omega (arith, e) in
     size_exact (vector s) (n + k) (ap (λ (m : ℕ). Some (m + k)) (sym same) ∙ vector_size s front k f g) (omega arith)
 
 -- A body that is too long has no vector.
-pub size_long : (s : List ℕ) (n : ℕ) → counted (length s) ≡ n → vector_limit < n → None ≡ size (vector s)
+pub size_long : (s : List ℕ) (n : ℕ) → saturated (length s) ≡ n → vector_limit < n → None ≡ size (vector s)
 unfolding vector
 size_long s n e lt = no_size_of _ (no_left (length_form (length s)) (Some s) (no_length (length s) (omega (arith, e))))
 
 -- The encoding of a length in saturating arithmetic.
-pub counted_form : (n : ℕ) → length_form (counted n) ≡ length_form n
+pub counted_form : (n : ℕ) → length_form (saturated n) ≡ length_form n
 counted_form n =
     elim (cases_lt n (2 ^ 64)) [
       | inl lt ↦ ap length_form (omega arith)
-      | inr le ↦ no_length (counted n) (omega arith) ∙ sym (no_length n (omega arith))
+      | inr le ↦ no_length (saturated n) (omega arith) ∙ sym (no_length n (omega arith))
     ]
 
 -- A text and nothing more.
@@ -190,7 +190,7 @@ module _ {A : Type 0} (s : A → Option (List ℕ)) where
   unfolding items size
   size_nothing = refl
 
-  pub size_added : (xs : List A) (i : ℕ) (x : A) (m n : ℕ) → i < length xs → x ≡ get_or xs i x → Some m ≡ size (items s (take i xs)) → Some n ≡ size (s x) → Some (counted (m + n)) ≡ size (items s (take (i + 1) xs))
+  pub size_added : (xs : List A) (i : ℕ) (x : A) (m n : ℕ) → i < length xs → x ≡ get_or xs i x → Some m ≡ size (items s (take i xs)) → Some n ≡ size (s x) → Some (saturated (m + n)) ≡ size (items s (take (i + 1) xs))
   unfolding joint_size
   size_added xs i x m n lt is e f =
       let more : take (i + 1) xs ≡ take i xs ++ x ∷ [] = rw (take_more xs i x lt, ← is) refl in
@@ -204,7 +204,7 @@ module _ {A : Type 0} (s : A → Option (List ℕ)) where
   size_all xs i n le e = e ∙ ap (λ (ys : List A). size (items s ys)) (take_all i xs le)
 
   -- The list of items whose size is known.
-  pub list_sized : (xs : List A) (n : ℕ) → Some n ≡ size (items s xs) → (t : List ℕ) × (items s xs ≡ Some t) × (counted (length t) ≡ n) × (list s xs ≡ vector t)
+  pub list_sized : (xs : List A) (n : ℕ) → Some n ≡ size (items s xs) → (t : List ℕ) × (items s xs ≡ Some t) × (saturated (length t) ≡ n) × (list s xs ≡ vector t)
   unfolding list
   list_sized xs n e =
       let a = sized_text (items s xs) n e in

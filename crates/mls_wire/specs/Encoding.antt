@@ -15,7 +15,7 @@ None ⊕ b = None
 unfoldable pub number : Width → ℕ → Option (List ℕ)
 number w n = if nat_lt n (2 ^ bits w) then Some (to_be_bytes w n) else None
 
--- `length_form n` is the encoding of a length, in the shortest of three forms, which the two highest bits tell apart
+-- `length_form n` is the encoding of a length, in the shortest of three forms, which the two highest bits distinguish
 -- (RFC 9420, 2.1.2).
 unfoldable pub length_form : ℕ → Option (List ℕ)
 length_form n =
@@ -54,16 +54,16 @@ optional item (Some x) = Some (1 ∷ []) ⊕ item x
 
 -- ---- properties of the encodings of a type
 
--- `IsInjective spelling`: bytes are the encoding of at most one value.
+-- `IsInjective encoding`: bytes are the encoding of at most one value.
 abbrev pub IsInjective : {A : Type 0} → (A → Option (List ℕ)) → Type 0
-IsInjective {A} spelling = (x y : A) (bytes : List ℕ) → spelling x ≡ Some bytes → spelling y ≡ Some bytes → x ≡ y
+IsInjective {A} encoding = (x y : A) (bytes : List ℕ) → encoding x ≡ Some bytes → encoding y ≡ Some bytes → x ≡ y
 
--- `IsPrefixFree spelling`: no encoding is a proper prefix of another.
+-- `IsPrefixFree encoding`: no encoding is a proper prefix of another.
 abbrev pub IsPrefixFree : {A : Type 0} → (A → Option (List ℕ)) → Type 0
-IsPrefixFree {A} spelling = (x y : A) (bytes more : List ℕ) → spelling x ≡ Some bytes → spelling y ≡ Some (bytes ++ more) → more ≡ []
+IsPrefixFree {A} encoding = (x y : A) (bytes more : List ℕ) → encoding x ≡ Some bytes → encoding y ≡ Some (bytes ++ more) → more ≡ []
 
--- `IsUniquelyDecodable spelling`: both hold. So bytes that begin with an encoding determine the value and where it
+-- `IsUniquelyDecodable encoding`: both hold. So bytes that begin with an encoding determine the value and where it
 -- ends.
-pub record IsUniquelyDecodable {A : Type 0} (spelling : A → Option (List ℕ)) : Type 0 where
-  pub once : IsInjective spelling
-  pub prefix_free : IsPrefixFree spelling
+pub record IsUniquelyDecodable {A : Type 0} (encoding : A → Option (List ℕ)) : Type 0 where
+  pub once : IsInjective encoding
+  pub prefix_free : IsPrefixFree encoding

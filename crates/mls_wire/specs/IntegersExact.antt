@@ -8,7 +8,7 @@ use Rattle.std.proofs.lemmas.List.{take_at, drop_at, take-append-drop, length-ap
 use Rattle.std.proofs.lemmas.Nat.{be_bytes_2, be_bytes_4, be_bytes_8, from_be_bytes-to_be_bytes_2, from_be_bytes-to_be_bytes_4, from_be_bytes-to_be_bytes_8}
 use Rattle.mls_wire.specs.Input.{Input, at, skip}
 use Rattle.mls_wire.specs.Encoding.{number, items}
-use Rattle.mls_wire.specs.ReadContracts.{Takes}
+use Rattle.mls_wire.specs.ReadContracts.{IsEncodedAt}
 use Rattle.mls_wire.specs.Parsing.{all_bytes, number_at}
 use Rattle.mls_wire.specs.OptionBind.{some_is, guarded, allowed}
 use Rattle.mls_wire.specs.EncodingConcat.{joined}
@@ -145,7 +145,7 @@ number_exact w wide = record {
       let len : length front ≡ byte_len w = omega (arith, length-take (byte_len w) i.left) in
       let same = wide.back front len fits in
       let lt : ltb (from_be_bytes w front) (2 ^ bits w) ≡ true = lt-ltb _ _ (wide.below front fits) in
-      subst (λ (x : ℕ × Input). Any x.0 × Takes (number w) x.0 i x.1) (some_is (from_be_bytes w front, skip (byte_len w) i) (n, j) b.1)
+      subst (λ (x : ℕ × Input). Any x.0 × IsEncodedAt (number w) x.0 i x.1) (some_is (from_be_bytes w front, skip (byte_len w) i) (n, j) b.1)
       (tt, (front, rw (lt, same) refl, sym (take-append-drop (byte_len w) i.left), omega arith));
   again = λ n front rest offset p e.
       let a = allowed (ltb n (2 ^ bits w)) _ front e in

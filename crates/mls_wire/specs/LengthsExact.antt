@@ -5,7 +5,7 @@ use mir.Val.{bits}
 use Rattle.std.proofs.lemmas.Bool.{cases_lt, ltb-false, ltb-true, le-ltb, lt-ltb}
 use Rattle.mls_wire.specs.Input.{Input, at}
 use Rattle.mls_wire.specs.Encoding.{number, length_form}
-use Rattle.mls_wire.specs.ReadContracts.{Takes}
+use Rattle.mls_wire.specs.ReadContracts.{IsEncodedAt}
 use Rattle.mls_wire.specs.Parsing.{number_at, longer, length_at}
 use Rattle.mls_wire.specs.OptionBind.{bind_some, some_is, guarded}
 use Rattle.mls_wire.specs.ExactParsers.{IsExact}
@@ -15,13 +15,13 @@ use Rattle.mls_wire.specs.IntegersExact.{IsWide, wide16, wide32, number_below, n
 head_is : (a b : ℕ) (x y s : List ℕ) → s ≡ a ∷ x → s ≡ b ∷ y → a ≡ b
 head_is a b x y s p q = let e : a ∷ x ≡ b ∷ y = sym p ∙ q in cc
 
-longer_takes : (w : Width) (wide : IsWide w) (low by : ℕ) (i : Input) (n : ℕ) (j : Input) → longer w low by i ≡ Some (n, j) → (m : ℕ) × (low ≤ m) × (m - by ≡ n) × Takes (number w) m i j
+longer_takes : (w : Width) (wide : IsWide w) (low by : ℕ) (i : Input) (n : ℕ) (j : Input) → longer w low by i ≡ Some (n, j) → (m : ℕ) × (low ≤ m) × (m - by ≡ n) × IsEncodedAt (number w) m i j
 longer_takes w wide low by i n j e =
     let a = bind_some (number_at w i) (λ n. cond (ltb n.0 low) None (Some (n.0 - by, n.1))) (n, j) e in
     let b = guarded (ltb a.0.0 low) (Some (a.0.0 - by, a.0.1)) (n, j) a.2 in
     let c = some_is (a.0.0 - by, a.0.1) (n, j) b.1 in
     let t = ((number_exact w wide).takes i a.0.0 a.0.1 a.1).1 in
-    (a.0.0, ltb-false _ _ b.0, ap (λ (x : ℕ × Input). x.0) c, subst (λ (x : Input). Takes (number w) a.0.0 i x) (ap (λ (x : ℕ × Input). x.1) c) t)
+    (a.0.0, ltb-false _ _ b.0, ap (λ (x : ℕ × Input). x.0) c, subst (λ (x : Input). IsEncodedAt (number w) a.0.0 i x) (ap (λ (x : ℕ × Input). x.1) c) t)
 
 -- A length in one byte.
 pub form_1 : (n : ℕ) → n < 64 → length_form n ≡ Some (n ∷ [])
@@ -38,10 +38,10 @@ pub form_4 : (n m : ℕ) → 16384 ≤ n → n < 1073741824 → m ≡ n + 214748
 unfolding length_form
 form_4 n m le lt e = let le2 : 64 ≤ n = omega arith in rw (e, le-ltb n 64 le2, le-ltb n 16384 le, lt-ltb n 1073741824 lt) refl
 
-length_takes_1 : (i : Input) (b : ℕ) (k : Input) → number_at w8 i ≡ Some (b, k) → b < 64 → Takes length_form b i k
+length_takes_1 : (i : Input) (b : ℕ) (k : Input) → number_at w8 i ≡ Some (b, k) → b < 64 → IsEncodedAt length_form b i k
 length_takes_1 i b k a lt = let t = byte_takes i b k a in (b ∷ [], form_1 b lt, t.0, t.2)
 
-length_takes_2 : (i : Input) (b : ℕ) (k : Input) (n : ℕ) (j : Input) → number_at w8 i ≡ Some (b, k) → b < 128 → longer w16 16448 16384 i ≡ Some (n, j) → Takes length_form n i j
+length_takes_2 : (i : Input) (b : ℕ) (k : Input) (n : ℕ) (j : Input) → number_at w8 i ≡ Some (b, k) → b < 128 → longer w16 16448 16384 i ≡ Some (n, j) → IsEncodedAt length_form n i j
 length_takes_2 i b k n j a lt e =
     let l = longer_takes w16 wide16 16448 16384 i n j e in
     let m = l.0 in
@@ -50,7 +50,7 @@ length_takes_2 i b k n j a lt e =
     let first : b ≡ m / 256 % 256 = head_is b _ k.left _ i.left (byte_takes i b k a).0 (t.2 ∙ ap (λ (x : List ℕ). x ++ j.left) (sym w.1)) in
     (t.0, form_2 n m (omega (arith, l.1, l.2)) (omega (arith, l.1, l.2, w.0)) (omega (arith, l.1, l.2)) ∙ ap (λ (x : List ℕ). Some x) w.1, t.2, t.3)
 
-length_takes_4 : (i : Input) (b : ℕ) (k : Input) (n : ℕ) (j : Input) → number_at w8 i ≡ Some (b, k) → b < 192 → longer w32 2147500032 2147483648 i ≡ Some (n, j) → Takes length_form n i j
+length_takes_4 : (i : Input) (b : ℕ) (k : Input) (n : ℕ) (j : Input) → number_at w8 i ≡ Some (b, k) → b < 192 → longer w32 2147500032 2147483648 i ≡ Some (n, j) → IsEncodedAt length_form n i j
 length_takes_4 i b k n j a lt e =
     let l = longer_takes w32 wide32 2147500032 2147483648 i n j e in
     let m = l.0 in
@@ -60,14 +60,14 @@ length_takes_4 i b k n j a lt e =
     (t.0, form_4 n m (omega (arith, l.1, l.2)) (omega (arith, l.1, l.2, w.0)) (omega (arith, l.1, l.2)) ∙ ap (λ (x : List ℕ). Some x) w.1, t.2, t.3)
 
 length_forms : (i : Input) (b : ℕ) (k : Input) (n : ℕ) (j : Input) → number_at w8 i ≡ Some (b, k) → (x y z : Bool) → ltb b 64 ≡ x → ltb b 128 ≡ y → ltb b 192 ≡ z
-    → cond x (Some (b, k)) (cond y (longer w16 16448 16384 i) (cond z (longer w32 2147500032 2147483648 i) None)) ≡ Some (n, j) → Takes length_form n i j
-length_forms i b k n j a true y z p q r e = subst (λ (x : ℕ × Input). Takes length_form x.0 i x.1) (some_is (b, k) (n, j) e) (length_takes_1 i b k a (ltb-true _ _ p))
+    → cond x (Some (b, k)) (cond y (longer w16 16448 16384 i) (cond z (longer w32 2147500032 2147483648 i) None)) ≡ Some (n, j) → IsEncodedAt length_form n i j
+length_forms i b k n j a true y z p q r e = subst (λ (x : ℕ × Input). IsEncodedAt length_form x.0 i x.1) (some_is (b, k) (n, j) e) (length_takes_1 i b k a (ltb-true _ _ p))
 length_forms i b k n j a false true z p q r e = length_takes_2 i b k n j a (ltb-true _ _ q) e
 length_forms i b k n j a false false true p q r e = length_takes_4 i b k n j a (ltb-true _ _ r) e
 length_forms i b k n j a false false false p q r e = absurd cc
 
 -- What is read as a length is encoded so.
-pub length_takes : (i : Input) (n : ℕ) (j : Input) → length_at i ≡ Some (n, j) → Takes length_form n i j
+pub length_takes : (i : Input) (n : ℕ) (j : Input) → length_at i ≡ Some (n, j) → IsEncodedAt length_form n i j
 unfolding length_at
 length_takes i n j e =
     let a = bind_some (number_at w8 i) (λ first. cond (ltb first.0 64) (Some first) (cond (ltb first.0 128) (longer w16 16448 16384 i) (cond (ltb first.0 192) (longer w32 2147500032 2147483648 i) None))) (n, j) e in

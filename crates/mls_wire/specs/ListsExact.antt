@@ -4,7 +4,7 @@ use Rattle.std.proofs.lemmas.Bool.{eqb-true, ne_eqb}
 use Rattle.std.proofs.lemmas.List.{length-append, nil_from_length}
 use Rattle.mls_wire.specs.Input.{Input, at}
 use Rattle.mls_wire.specs.Encoding.{vector, sized, items, list}
-use Rattle.mls_wire.specs.ReadContracts.{Takes}
+use Rattle.mls_wire.specs.ReadContracts.{IsEncodedAt}
 use Rattle.mls_wire.specs.Parsing.{◌>>=◌, body_at, items_at, list_at}
 use Rattle.mls_wire.specs.OptionBind.{bind_some, some_is, allowed, chosen_parts, none_of}
 use Rattle.mls_wire.specs.EncodingConcat.{joined, join}
@@ -76,7 +76,7 @@ module _ {A : Type 0} (s : A → Option (List ℕ)) (f : Input → Option (A × 
         let b = bind_some (items_at f (length a.0.0.left) a.0.0) (λ ys. Some (ys, a.0.1)) (xs, j) a.2 in
         let t = (body_takes i a.0.0 a.0.1 a.1).0 in
         let whole : sized (items s b.0) ≡ Some t.0 = sized_of _ _ (items_take (length a.0.0.left) a.0.0 b.0 b.1) ∙ t.1 in
-        (tt, subst (λ (x : List A × Input). Takes (list s) x.0 i x.1) (some_is (b.0, a.0.1) (xs, j) b.2) (t.0, whole, t.2, t.3));
+        (tt, subst (λ (x : List A × Input). IsEncodedAt (list s) x.0 i x.1) (some_is (b.0, a.0.1) (xs, j) b.2) (t.0, whole, t.2, t.3));
     again = λ xs front rest offset p e.
         let a = sized_parts (items s xs) front e in
         let b = body_again a.0 front rest offset a.2 in

@@ -20,7 +20,7 @@ length_size first =
 
 -- `IsRecord read body`: the bytes `read` are the vector of `body`, which is within the limit of an input.
 pub record IsRecord (read body : List ℕ) : Type 0 where
-  pub spelled : vector body ≡ Some read
+  pub encoded : vector body ≡ Some read
   pub bounded : length body ≤ input_limit
 
 -- `IsBadLength read`: the bytes are a whole length that begins no record. It is malformed, or over the limit of an
@@ -62,9 +62,9 @@ pub record HeldLog (R : Type 0) : Type 0 where
   pub source : R
   pub log : LogState
 
--- `begun most` is the model of a reader that has read nothing.
-abbrev pub begun : ℕ → LogState
-begun most = record { most = most; is_over = false; body = [] }
+-- `unread_log most` is the model of a reader that has read nothing.
+abbrev pub unread_log : ℕ → LogState
+unread_log most = record { most = most; is_over = false; body = [] }
 
 -- `ended old` is the model of a reader whose log is over.
 abbrev pub ended : LogState → LogState

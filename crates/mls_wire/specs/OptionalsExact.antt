@@ -6,7 +6,7 @@ use Rattle.mls_wire.specs.Encoding.{◌⊕◌, number, flag, optional}
 use Rattle.mls_wire.specs.Parsing.{number_at, flag_at, optional_at}
 use Rattle.mls_wire.specs.OptionBind.{some_is}
 use Rattle.mls_wire.specs.EncodingConcat.{long_left}
-use Rattle.mls_wire.specs.ExactParsers.{Any, IsExact, IsLong, field_then, made_of, chosen, never, known, spelled_as, tag_is}
+use Rattle.mls_wire.specs.ExactParsers.{Any, IsExact, IsLong, field_then, made_of, chosen, never, known, encoded_as, tag_is}
 use Rattle.mls_wire.specs.IntegersExact.{wide8, number_exact}
 
 -- The byte for absent or present.
@@ -14,10 +14,10 @@ abbrev bit : Bool → ℕ
 bit false = 0
 bit true = 1
 
-flag_spelled : (b : Bool) → number w8 (bit b) ⊕ Some [] ≡ flag b
+flag_encoded : (b : Bool) → number w8 (bit b) ⊕ Some [] ≡ flag b
 unfolding number flag ◌⊕◌
-flag_spelled false = refl
-flag_spelled true = refl
+flag_encoded false = refl
+flag_encoded true = refl
 
 is_false : (b : Bool) → Unit {0} × (bit b ≡ 0) → false ≡ b
 is_false false p = refl
@@ -34,7 +34,7 @@ no_flag n x y true p = y (sym p.1)
 -- Reading this byte is exact.
 pub flag_exact : IsExact flag flag_at
 unfolding flag_at
-flag_exact = spelled_as Any flag _ flag_at flag_spelled
+flag_exact = encoded_as Any flag _ flag_at flag_encoded
     (field_then Any bit (number w8) (λ b. Some []) (number_at w8) _ (number_exact w8 wide8)
     (λ n. tag_is bit _ _ _ n 0 (known _ _ false (tt, refl) refl is_false)
     (λ x. tag_is bit _ _ _ n 1 (known _ _ true (tt, refl) refl is_true)
@@ -55,19 +55,19 @@ none_there b e (Some x) p = let bad : true ≡ false = p.1 ∙ e in absurd cc
 
 module _ {A : Type 0} (s : A → Option (List ℕ)) (f : Input → Option (A × Input)) where
   -- The encoding of the value alone, if there is one.
-  abbrev there_spelled : Option A → Option (List ℕ)
-  there_spelled None = Some []
-  there_spelled (Some x) = s x
+  abbrev there_encoded : Option A → Option (List ℕ)
+  there_encoded None = Some []
+  there_encoded (Some x) = s x
 
-  optional_spelled : (o : Option A) → flag (is_there o) ⊕ there_spelled o ≡ optional s o
+  optional_encoded : (o : Option A) → flag (is_there o) ⊕ there_encoded o ≡ optional s o
   unfolding flag optional ◌⊕◌
-  optional_spelled None = refl
-  optional_spelled (Some x) = refl
+  optional_encoded None = refl
+  optional_encoded (Some x) = refl
 
   pub optional_exact : IsExact s f → IsExact (optional s) (optional_at f)
   unfolding optional_at
-  optional_exact exact = spelled_as Any (optional s) _ (optional_at f) optional_spelled
-      (field_then Any is_there flag there_spelled flag_at _ flag_exact
+  optional_exact exact = encoded_as Any (optional s) _ (optional_at f) optional_encoded
+      (field_then Any is_there flag there_encoded flag_at _ flag_exact
       (λ b. chosen _ _ _ _ b
       (λ e. made_of _ Some s _ f exact (λ x. (tt, sym e)) (λ x. refl) (some_there b e))
       (λ e. known _ _ None (tt, sym e) refl (none_there b e))))

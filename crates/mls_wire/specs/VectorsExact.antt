@@ -5,7 +5,7 @@ use Rattle.std.proofs.lemmas.List.{take_at, drop_at, take-append-drop, length-ap
 use Rattle.mls_wire.specs.Limits.{vector_limit}
 use Rattle.mls_wire.specs.Input.{Input, at, skip}
 use Rattle.mls_wire.specs.Encoding.{length_form, vector}
-use Rattle.mls_wire.specs.ReadContracts.{Takes}
+use Rattle.mls_wire.specs.ReadContracts.{IsEncodedAt}
 use Rattle.mls_wire.specs.Parsing.{length_at, body_at, vector_at}
 use Rattle.mls_wire.specs.OptionBind.{bind_some, some_is, guarded}
 use Rattle.mls_wire.specs.EncodingConcat.{joined, join}
@@ -13,7 +13,7 @@ use Rattle.mls_wire.specs.ExactParsers.{IsExact}
 use Rattle.mls_wire.specs.LengthsExact.{length_takes, length_exact, length_below}
 
 -- What is read as a body is encoded as a vector.
-pub body_takes : (i b j : Input) → body_at i ≡ Some (b, j) → Takes vector b.left i j × (b.offset + length b.left ≡ j.offset)
+pub body_takes : (i b j : Input) → body_at i ≡ Some (b, j) → IsEncodedAt vector b.left i j × (b.offset + length b.left ≡ j.offset)
 unfolding body_at vector
 body_takes i b j e =
     let a = bind_some (length_at i) (λ n. cond (ltb (length n.1.left) n.0) None (Some (at n.1.offset (take n.0 n.1.left), skip n.0 n.1))) (b, j) e in
@@ -24,7 +24,7 @@ body_takes i b j e =
     let le : n ≤ length k.left = ltb-false _ _ c.0 in
     let len : length (take n k.left) ≡ n = omega (arith, length-take n k.left) in
     let text : i.left ≡ (t.0 ++ take n k.left) ++ drop n k.left = t.2 ∙ ap (λ (x : List ℕ). t.0 ++ x) (sym (take-append-drop n k.left)) ∙ sym (append_assoc t.0 (take n k.left) (drop n k.left)) in
-    subst (λ (x : Input × Input). Takes vector x.0.left i x.1 × (x.0.offset + length x.0.left ≡ x.1.offset)) (some_is (at k.offset (take n k.left), skip n k) (b, j) c.1)
+    subst (λ (x : Input × Input). IsEncodedAt vector x.0.left i x.1 × (x.0.offset + length x.0.left ≡ x.1.offset)) (some_is (at k.offset (take n k.left), skip n k) (b, j) c.1)
     ((t.0 ++ take n k.left, join _ _ t.0 (take n k.left) (rw len t.1) refl, text, omega (arith, t.3, len, length-append t.0 (take n k.left))), omega (arith, len))
 
 -- What is encoded as a vector is read as a body.
@@ -47,7 +47,7 @@ vector_exact = record {
   takes = λ i s j e.
       let a = bind_some (body_at i) (λ body. Some (body.0.left, body.1)) (s, j) e in
       let t = body_takes i a.0.0 a.0.1 a.1 in
-      (tt, subst (λ (x : List ℕ × Input). Takes vector x.0 i x.1) (some_is (a.0.0.left, a.0.1) (s, j) a.2) t.0);
+      (tt, subst (λ (x : List ℕ × Input). IsEncodedAt vector x.0 i x.1) (some_is (a.0.0.left, a.0.1) (s, j) a.2) t.0);
   again = λ s front rest offset p e. let b = body_again s front rest offset e in rw b.1 refl;
 }
 

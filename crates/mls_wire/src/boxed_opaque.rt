@@ -114,7 +114,7 @@ impl BoxedOpaque {
 }
 
 impl Decode for BoxedOpaque {
-    ghost spelling = { vector };
+    ghost encoding = { vector };
 
     ghost reading = { vector_at };
 

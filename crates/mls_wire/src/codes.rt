@@ -147,7 +147,7 @@ fn list_of(alloc: Global, reader: &mut Reader<'_>) -> Result<Stored, CodecFault>
     if u16::is_uneven(body.len()) {
         return Err(CodecFault::Wire(WireFault {
             kind: WireFaultKind::OddLength,
-            at: reader.place(),
+            at: reader.position(),
         }));
     }
     let codes = codes_of(alloc, body)?;
@@ -168,7 +168,7 @@ impl Decode for Codes {
     ghost use Rattle.mls_wire.specs.IntegersExact.{number_exact, number_long, wide16};
     ghost use Rattle.mls_wire.specs.ListsExact.{list_exact, list_long};
 
-    ghost spelling = { list (number w16) };
+    ghost encoding = { list (number w16) };
 
     ghost reading = { list_at (number_at w16) };
 

@@ -23,7 +23,7 @@ pub const MAX_INPUT: usize = 268435456;
 /// [`fork`](Reader::fork) of the reader.
 pub trait Decode: Drop {
     /// The encoding of a value, if the value is within its limits.
-    ghost spelling: { Self → Option (List ℕ) };
+    ghost encoding: { Self → Option (List ℕ) };
 
     /// The value at the front of an input.
     ghost reading: { Input → Option (Self × Input) };
@@ -35,16 +35,16 @@ pub trait Decode: Drop {
     /// Returns true only if no list of values has an encoding of this many bytes. A list is then refused as
     /// `OddLength`.
     fn is_uneven(_len: usize) -> bool
-        ensures { IsTrue result → NoListHasSize spelling _len }
+        ensures { IsTrue result → NoListHasSize encoding _len }
     {
         false
     }
 
     /// The encoding and the reading function agree.
-    ghost exact: { IsExact spelling reading };
+    ghost exact: { IsExact encoding reading };
 
     /// An encoding has at least one byte.
-    ghost long: { IsLong spelling };
+    ghost long: { IsLong encoding };
 }
 
 /// Returns the values whose encodings are all of the body, one after the other.
@@ -71,7 +71,7 @@ fn list_of<T: Decode>(alloc: Global, reader: &mut Reader<'_>) -> Result<Vec<T>, 
     if T::is_uneven(body.len()) {
         return Err(CodecFault::Wire(WireFault {
             kind: WireFaultKind::OddLength,
-            at: reader.place(),
+            at: reader.position(),
         }));
     }
     let items = items_of(alloc, body)?;
@@ -84,7 +84,7 @@ pub(crate) fn read_list<T: Decode>(
     alloc: Global,
     reader: &mut Reader<'_>,
 ) -> Result<Vec<T>, CodecFault>
-    ensures fits { IfOk result (λ v. IsSome (list T.spelling v.items)) }
+    ensures fits { IfOk result (λ v. IsSome (list T.encoding v.items)) }
     ensures exact { GivesOrFull (list_at T.reading) reader.old reader.new
         (seen (λ v. v.items) result) }
 {
@@ -97,7 +97,7 @@ pub(crate) fn read_list<T: Decode>(
 ///
 /// A wire fault if and only if no value is encoded there, or `OutOfMemory`. The reader is then unchanged.
 pub fn read_value<T: Decode>(alloc: Global, reader: &mut Reader<'_>) -> Result<T, CodecFault>
-    ensures { Decodes T.spelling reader.old reader.new result }
+    ensures { Decodes T.encoding reader.old reader.new result }
 {
     T::read(alloc, reader)
 }
@@ -118,7 +118,7 @@ fn whole<T: Decode>(alloc: Global, bytes: &[u8]) -> Result<T, CodecFault>
 ///
 /// The faults of the value, then `Trailing` if bytes are left, or `OutOfMemory`.
 pub fn read_all_of<T: Decode>(alloc: Global, bytes: &[u8]) -> Result<T, CodecFault>
-    ensures { DecodesAll T.spelling bytes.now result }
+    ensures { DecodesAll T.encoding bytes.now result }
 {
     whole(alloc, bytes)
 }
@@ -130,7 +130,7 @@ pub fn read_all_of<T: Decode>(alloc: Global, bytes: &[u8]) -> Result<T, CodecFau
 /// `TooLong` at 0 for an input of more than [`MAX_INPUT`] bytes, before anything is read or allocated. Then the faults
 /// of the value, `Trailing` if bytes are left, or `OutOfMemory`.
 pub fn read_input<T: Decode>(alloc: Global, bytes: &[u8]) -> Result<T, CodecFault>
-    ensures spelled { DecodesInput T.spelling bytes.now result }
+    ensures encoded { DecodesInput T.encoding bytes.now result }
     ensures long { input_limit < length bytes.now → result ≡ Err (CodecFault.Wire (too_long_at 0)) }
 {
     if bytes.len() > MAX_INPUT {

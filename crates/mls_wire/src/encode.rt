@@ -18,7 +18,7 @@ pub trait Encode: Decode {
     /// Returns the length of the encoding in bytes, or [`usize::MAX`] if it is larger. `None` if and only if the value
     /// has no encoding, being over a limit. Does not allocate.
     fn size(&self) -> Option<usize>
-        ensures { result ≡ size (Self.spelling self.now) };
+        ensures { result ≡ size (Self.encoding self.now) };
 
     /// Adds the encoding to a draft.
     ///
@@ -27,12 +27,12 @@ pub trait Encode: Decode {
     /// `TooLong`, only if the value has no encoding, or `OutOfMemory`. A part may have been added, which whoever made
     /// the draft removes.
     fn put(&self, alloc: Global, draft: &mut Draft) -> Result<(), CodecFault>
-        ensures { Puts (Self.spelling self.now) draft.old draft.new result };
+        ensures { Puts (Self.encoding self.now) draft.old draft.new result };
 }
 
 /// Adds the encodings of the values, one after the other.
 fn put_items<T: Encode>(alloc: Global, values: &[T], draft: &mut Draft) -> Result<(), CodecFault>
-    ensures { Puts (items T.spelling values.now) draft.old draft.new result }
+    ensures { Puts (items T.encoding values.now) draft.old draft.new result }
 {
     for value in values {
         value.put(alloc, draft)?;
@@ -47,7 +47,7 @@ fn put_items<T: Encode>(alloc: Global, values: &[T], draft: &mut Draft) -> Resul
 /// `TooLong`, at the number of bytes written so far, if and only if an item has no encoding, or the items have more
 /// bytes than the body of a vector may have. This is checked before anything is allocated. Or `OutOfMemory`.
 pub fn put_list<T: Encode>(alloc: Global, values: &[T], draft: &mut Draft) -> Result<(), CodecFault>
-    ensures { PutsPiece (list T.spelling values.now) draft.old draft.new result }
+    ensures { PutsPiece (list T.encoding values.now) draft.old draft.new result }
 {
     let Some(body) = size_of_items(values) else {
         return Err(CodecFault::Wire(draft.too_long()));
@@ -62,7 +62,7 @@ pub fn put_list<T: Encode>(alloc: Global, values: &[T], draft: &mut Draft) -> Re
 ///
 /// `TooLong` at 0 if and only if the value has no encoding, being over a limit, or `OutOfMemory`.
 pub fn bytes_of<T: Encode>(alloc: Global, value: &T) -> Result<Vec<u8>, CodecFault>
-    ensures { MakesPiece (T.spelling value.now) (seen (λ v. v.items) result) }
+    ensures { MakesPiece (T.encoding value.now) (seen (λ v. v.items) result) }
 {
     let mut writer = Writer::new(alloc);
     writer.write(alloc, value)?;

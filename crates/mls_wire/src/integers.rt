@@ -15,7 +15,7 @@ use crate::reader::Reader;
 use std::alloc::Global;
 
 impl Decode for u16 {
-    ghost spelling = { number w16 };
+    ghost encoding = { number w16 };
 
     ghost reading = { number_at w16 };
 
@@ -36,7 +36,7 @@ impl Decode for u16 {
 }
 
 impl Decode for u32 {
-    ghost spelling = { number w32 };
+    ghost encoding = { number w32 };
 
     ghost reading = { number_at w32 };
 
@@ -79,7 +79,7 @@ impl Encode for u32 {
 }
 
 impl Decode for u8 {
-    ghost spelling = { number w8 };
+    ghost encoding = { number w8 };
 
     ghost reading = { number_at w8 };
 
@@ -104,7 +104,7 @@ impl Encode for u8 {
 }
 
 impl Decode for u64 {
-    ghost spelling = { number w64 };
+    ghost encoding = { number w64 };
 
     ghost reading = { number_at w64 };
 

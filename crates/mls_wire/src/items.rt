@@ -15,7 +15,7 @@ use std::marker::Model;
 /// Returns whether the encodings of the values have together no more bytes than the body of a vector may have
 /// (RFC 9420, 2.1.2). It visits each value once.
 pub fn fits<T: Encode>(values: &[T]) -> bool
-    ensures { IsTrue result ↔ IsSome (list T.spelling values.now) }
+    ensures { IsTrue result ↔ IsSome (list T.encoding values.now) }
 {
     size_of_list(values).is_some()
 }
@@ -41,13 +41,13 @@ impl<T: Encode> Model for Items<T> {
 
     ghost view = { λ a. a.items.items };
 
-    ghost invariant = { λ a. IsSome (list T.spelling a.items.items) };
+    ghost invariant = { λ a. IsSome (list T.encoding a.items.items) };
 }
 
 impl<T: Encode> Items<T> {
     /// Returns the list of these items, which fit into one vector.
     pub(crate) fn of_fitting(items: Vec<T>) -> Items<T>
-        requires { IsSome (list T.spelling items.items) }
+        requires { IsSome (list T.encoding items.items) }
         ensures { result ≡ items.items }
     {
         Items { items }
@@ -57,7 +57,7 @@ impl<T: Encode> Items<T> {
     pub fn new(items: Vec<T>) -> Result<Items<T>, Vec<T>>
         ensures { MatchResult result
             (λ made. made ≡ items.items)
-            (λ back. (back ≡ items) × (IsSome (list T.spelling items.items) → ⊥)) }
+            (λ back. (back ≡ items) × (IsSome (list T.encoding items.items) → ⊥)) }
     {
         if fits(items.as_slice()) {
             Ok(Items { items })
@@ -69,7 +69,7 @@ impl<T: Encode> Items<T> {
     /// The items.
     pub fn as_slice(&self) -> &[T]
         ensures items { result.now ≡ self.now }
-        ensures limit { IsSome (list T.spelling self.now) }
+        ensures limit { IsSome (list T.encoding self.now) }
     {
         self.items.as_slice()
     }
@@ -81,11 +81,11 @@ impl<T: Encode> Items<T> {
     /// The item, if an allocation fails. The list is then unchanged.
     pub fn insert(&mut self, index: usize, item: T) -> Result<(), AllocFailed<T>>
         requires inside { index ≤ length self.old }
-        requires fits { IsSome (list T.spelling self.old)
-            → IsSome (list T.spelling (insert self.old index item)) }
-        ensures ok { OnOk result (self.new ≡ insert self.old index item) }
-        ensures err { OnErr result (self.new ≡ self.old) }
-        ensures handed_back { IfErr result (λ failed. failed.value ≡ item) }
+        requires fits { IsSome (list T.encoding self.old)
+            → IsSome (list T.encoding (insert self.old index item)) }
+        ensures changed { OnOk result (self.new ≡ insert self.old index item) }
+        ensures unchanged_on_error { OnErr result (self.new ≡ self.old) }
+        ensures returned_arguments { IfErr result (λ failed. failed.value ≡ item) }
     {
         self.items.insert(index, item)
     }
@@ -105,7 +105,7 @@ impl<T: Encode> Decode for Items<T> {
     ghost use Rattle.mls_wire.specs.Parsing.{list_at};
     ghost use Rattle.mls_wire.specs.ListsExact.{list_exact, list_long};
 
-    ghost spelling = { list T.spelling };
+    ghost encoding = { list T.encoding };
 
     ghost reading = { list_at T.reading };
 
@@ -116,9 +116,9 @@ impl<T: Encode> Decode for Items<T> {
         Ok(Items { items })
     }
 
-    ghost exact = { list_exact T.spelling T.reading T.exact T.long };
+    ghost exact = { list_exact T.encoding T.reading T.exact T.long };
 
-    ghost long = { list_long T.spelling };
+    ghost long = { list_long T.encoding };
 }
 
 impl<T: Encode> Encode for Items<T> {

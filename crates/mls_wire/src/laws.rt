@@ -13,9 +13,9 @@ use crate::decode::Decode;
 /// For every type that can be decoded: its encoding is injective and prefix-free, and the result of a read is
 /// determined.
 pub fn one_value<T: Decode>()
-    ensures once { IsInjective T.spelling }
-    ensures whole { IsPrefixFree T.spelling }
-    ensures reading { ReadIsDeterministic T.spelling }
+    ensures once { IsInjective T.encoding }
+    ensures whole { IsPrefixFree T.encoding }
+    ensures reading { ReadIsDeterministic T.encoding }
 {}
 
 /// For unsigned integers, lengths, vectors and the byte before an optional value (RFC 9420, 2.1): bytes determine the

@@ -4,7 +4,7 @@ ghost use Rattle.std.specs.Prelude.{◌≡◌, ◌+◌, ◌<◌, ◌≤◌, ◌|
 ghost use Rattle.std.specs.Io.KnownBytes.{Consumes, IsAtEnd};
 ghost use Rattle.mls_wire.specs.Limits.{input_limit};
 ghost use Rattle.mls_wire.specs.Encoding.{length_form};
-ghost use Rattle.mls_wire.specs.Logs.{length_size, IsBadLength, IsTruncatedRecord, begun, ended, ReadsRecord, ReaderAfter, is_read_fault};
+ghost use Rattle.mls_wire.specs.Logs.{length_size, IsBadLength, IsTruncatedRecord, unread_log, ended, ReadsRecord, ReaderAfter, is_read_fault};
 
 use crate::decode::MAX_INPUT;
 use crate::fault::DeviceFault;
@@ -122,7 +122,7 @@ fn next_byte<R: Source>(source: &mut R) -> Result<Option<u8>, DeviceFault>
     ensures end { IfOk result (λ o. IfNone o (IsAtEnd (R.left source.new))) }
     ensures part { OnErr result (Consumes (R.left source.old) (R.left source.new) []) }
     ensures failed { R.is_failed source.new ≡ (R.is_failed source.old || is_err result) }
-    ensures stays { R.is_failed source.old ≡ true → IsErr result }
+    ensures remains_failed { R.is_failed source.old ≡ true → IsErr result }
 {
     let mut byte = [0u8; 1];
     if fill(source, &mut byte)? == 0 {
@@ -209,7 +209,7 @@ fn next_step<R: Source>(
 ) -> Result<LogStep, RecordFault>
     ensures meets { ReadsRecord (R.left source.old) (R.left source.new) most body.new.items result }
     ensures failed { R.is_failed source.new ≡ (R.is_failed source.old || is_read_fault result) }
-    ensures stays { R.is_failed source.old ≡ true → result ≡ Err RecordFault.Read }
+    ensures remains_failed { R.is_failed source.old ≡ true → result ≡ Err RecordFault.Read }
 {
     let Some(first) = next_byte(source)? else {
         return Ok(LogStep::End);
@@ -232,7 +232,7 @@ impl Records {
     /// Returns a reader of a log of which nothing was read, and of which at most `most` records may come. It will
     /// allocate from `alloc`.
     pub fn new(alloc: Global, most: u32) -> Records
-        ensures { result ≡ begun most }
+        ensures { result ≡ unread_log most }
     {
         Records {
             most,
@@ -261,7 +261,7 @@ impl Records {
         ensures goes_on { self.old.is_over ≡ false → ReaderAfter self.old self.new result }
         ensures failed { R.is_failed source.new
             ≡ (R.is_failed source.old || is_read_fault result) }
-        ensures stays { self.old.is_over ≡ false → R.is_failed source.old ≡ true
+        ensures remains_failed { self.old.is_over ≡ false → R.is_failed source.old ≡ true
             → result ≡ Err RecordFault.Read }
     {
         if self.is_over {

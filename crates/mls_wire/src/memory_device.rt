@@ -86,7 +86,7 @@ impl<'a> Source for MemorySource<'a> {
         ensures bound { ReadsAtMost result into.new }
         ensures bytes { ReadConsumes (Some self.old.left) (Some self.new.left) result into.new }
         ensures failed { self.new.is_failed ≡ (self.old.is_failed || is_err result) }
-        ensures stays { self.old.is_failed ≡ true → IsErr result }
+        ensures remains_failed { self.old.is_failed ≡ true → IsErr result }
 
         ensures fails { is_err result ≡ fails_to_pull self.old }
         ensures count { IfOk result (λ n. n ≡ pulled_count self.old (length into.old)) }
@@ -118,7 +118,7 @@ impl<'a> Source for MemorySource<'a> {
 #[derive(Drop)]
 pub struct MemorySink {
     bytes: Vec<u8>,
-    room: usize,
+    capacity: usize,
     piece: usize,
     calls: usize,
     fails_at: Option<usize>,
@@ -133,7 +133,7 @@ impl Model for MemorySink {
 
     ghost view = { λ s. record {
       held = s.bytes.items;
-      room = s.room;
+      capacity = s.capacity;
       piece = s.piece;
       calls = s.calls;
       fails_at = s.fails_at;
@@ -141,8 +141,8 @@ impl Model for MemorySink {
     } };
 
     ghost invariant = { λ s. (0 < s.piece)
-        × (length s.bytes.items ≤ s.room)
-        × (s.room ≤ vec_capacity s.bytes) };
+        × (length s.bytes.items ≤ s.capacity)
+        × (s.capacity ≤ vec_capacity s.bytes) };
 }
 
 impl MemorySink {
@@ -151,13 +151,13 @@ impl MemorySink {
     /// go beyond the greatest `usize`.
     pub fn new(
         alloc: Global,
-        room: usize,
+        capacity: usize,
         piece: usize,
         fails_at: Option<usize>,
     ) -> Result<MemorySink, CodecFault>
         requires { 0 < piece }
         ensures held { IfOk result (λ s. s.held ≡ []) }
-        ensures room { IfOk result (λ s. s.room ≡ room) }
+        ensures capacity { IfOk result (λ s. s.capacity ≡ capacity) }
         ensures piece { IfOk result (λ s. s.piece ≡ piece) }
         ensures calls { IfOk result (λ s. s.calls ≡ 0) }
         ensures fails_at { IfOk result (λ s. s.fails_at ≡ fails_at) }
@@ -165,8 +165,8 @@ impl MemorySink {
         ensures memory { IfErr result (λ e. e ≡ CodecFault.OutOfMemory) }
     {
         Ok(MemorySink {
-            bytes: Vec::with_capacity(alloc, room)?,
-            room,
+            bytes: Vec::with_capacity(alloc, capacity)?,
+            capacity,
             piece,
             calls: 0,
             fails_at,
@@ -192,17 +192,17 @@ impl Sink for MemorySink {
         ensures bytes { WriteAppends (Some self.old.held) (Some self.new.held) result bytes.now }
         ensures takes { IfOk result (λ n. 0 < length bytes.now → 0 < n) }
         ensures failed { self.new.is_failed ≡ (self.old.is_failed || is_err result) }
-        ensures stays { self.old.is_failed ≡ true → IsErr result }
+        ensures remains_failed { self.old.is_failed ≡ true → IsErr result }
 
         ensures fails { is_err result ≡ fails_to_push self.old (length bytes.now) }
         ensures count { IfOk result (λ n. n ≡ pushed_count self.old (length bytes.now)) }
         ensures calls { self.new.calls ≡ next_call self.old.calls }
-        ensures room { self.new.room ≡ self.old.room }
+        ensures capacity { self.new.capacity ≡ self.old.capacity }
         ensures piece { self.new.piece ≡ self.old.piece }
         ensures fails_at { self.new.fails_at ≡ self.old.fails_at }
     {
         self.calls = self.calls.saturating_add(1);
-        let is_full = self.bytes.len() == self.room;
+        let is_full = self.bytes.len() == self.capacity;
         if self.has_failed
             || is_failing(self.fails_at, self.calls)
             || (is_full && !bytes.is_empty())
@@ -210,7 +210,7 @@ impl Sink for MemorySink {
             self.has_failed = true;
             return Err(DeviceFault);
         }
-        let space = self.room - self.bytes.len();
+        let space = self.capacity - self.bytes.len();
         let count = self.piece.min(bytes.len()).min(space);
         if self.bytes.extend_from_slice(&bytes[..count]).is_err() {
             unreachable!();

@@ -147,7 +147,7 @@ impl Opaque {
 }
 
 impl Decode for Opaque {
-    ghost spelling = { vector };
+    ghost encoding = { vector };
 
     ghost reading = { vector_at };
 

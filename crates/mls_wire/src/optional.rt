@@ -13,7 +13,7 @@ impl<T: Decode> Decode for Option<T> {
     ghost use Rattle.mls_wire.specs.Parsing.{optional_at};
     ghost use Rattle.mls_wire.specs.OptionalsExact.{optional_exact, optional_long};
 
-    ghost spelling = { optional T.spelling };
+    ghost encoding = { optional T.encoding };
 
     ghost reading = { optional_at T.reading };
 
@@ -29,9 +29,9 @@ impl<T: Decode> Decode for Option<T> {
         Ok(value)
     }
 
-    ghost exact = { optional_exact T.spelling T.reading T.exact };
+    ghost exact = { optional_exact T.encoding T.reading T.exact };
 
-    ghost long = { optional_long T.spelling };
+    ghost long = { optional_long T.encoding };
 }
 
 impl<T: Encode> Encode for Option<T> {

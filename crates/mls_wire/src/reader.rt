@@ -61,7 +61,7 @@ impl<'a> Reader<'a> {
     }
 
     /// Returns the offset: how many bytes of the outermost input are before what is left.
-    pub fn place(&self) -> usize
+    pub fn position(&self) -> usize
         ensures { result ≡ self.now.offset }
     {
         self.offset

@@ -1,7 +1,7 @@
 //! A reader of a log that holds its source.
 
 ghost use Rattle.std.specs.Prelude.{◌≡◌, ◌||◌, true, false, Ok, Err};
-ghost use Rattle.mls_wire.specs.Logs.{begun, ended, ReadsRecord, ReaderAfter, is_read_fault};
+ghost use Rattle.mls_wire.specs.Logs.{unread_log, ended, ReadsRecord, ReaderAfter, is_read_fault};
 
 use crate::log::{LogStep, RecordFault, Records};
 use crate::source::Source;
@@ -31,7 +31,7 @@ impl<'a, R: Source> RecordReader<'a, R> {
     /// `alloc`.
     pub fn new(alloc: Global, source: &'a mut R, most: u32) -> RecordReader<'a, R>
         ensures source { result.source ≡ source.old }
-        ensures log { result.log ≡ begun most }
+        ensures log { result.log ≡ unread_log most }
     {
         RecordReader {
             source,
@@ -50,7 +50,7 @@ impl<'a, R: Source> RecordReader<'a, R> {
         ensures goes_on { self.old.log.is_over ≡ false → ReaderAfter self.old.log self.new.log result }
         ensures failed { R.is_failed self.new.source
             ≡ (R.is_failed self.old.source || is_read_fault result) }
-        ensures stays { self.old.log.is_over ≡ false → R.is_failed self.old.source ≡ true
+        ensures remains_failed { self.old.log.is_over ≡ false → R.is_failed self.old.source ≡ true
             → result ≡ Err RecordFault.Read }
     {
         self.records.next(self.source)

@@ -54,7 +54,7 @@ impl<T: Decode> Decode for Sequence<T> {
     ghost use Rattle.mls_wire.specs.Parsing.{list_at};
     ghost use Rattle.mls_wire.specs.ListsExact.{list_exact, list_long};
 
-    ghost spelling = { list T.spelling };
+    ghost encoding = { list T.encoding };
 
     ghost reading = { list_at T.reading };
 
@@ -65,9 +65,9 @@ impl<T: Decode> Decode for Sequence<T> {
         Ok(Sequence { items })
     }
 
-    ghost exact = { list_exact T.spelling T.reading T.exact T.long };
+    ghost exact = { list_exact T.encoding T.reading T.exact T.long };
 
-    ghost long = { list_long T.spelling };
+    ghost long = { list_long T.encoding };
 }
 
 impl<T: Encode> Encode for Sequence<T> {

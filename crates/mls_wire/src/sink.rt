@@ -23,7 +23,7 @@ pub trait Sink: Drop {
         ensures bytes { WriteAppends (written self.old) (written self.new) result bytes.now }
         ensures takes { IfOk result (λ n. 0 < length bytes.now → 0 < n) }
         ensures failed { is_failed self.new ≡ (is_failed self.old || is_err result) }
-        ensures stays { is_failed self.old ≡ true → IsErr result };
+        ensures remains_failed { is_failed self.old ≡ true → IsErr result };
 
     /// Returns whether a call has returned [`DeviceFault`].
     fn failed(&self) -> bool

@@ -4,7 +4,7 @@
 
 ghost use Rattle.std.specs.Prelude.{◌≡◌, List, ℕ, length};
 ghost use Rattle.mls_wire.specs.Encoding.{items, list, vector};
-ghost use Rattle.mls_wire.specs.SaturatingSizes.{counted, joint_size, size};
+ghost use Rattle.mls_wire.specs.SaturatingSizes.{saturated, joint_size, size};
 
 use crate::encode::Encode;
 use crate::opaque::MAX_BODY;
@@ -19,7 +19,7 @@ pub fn add_sizes(first: Option<usize>, second: Option<usize>) -> Option<usize>
 
 /// Returns the size of a vector whose body has this size (RFC 9420, 2.1.2).
 pub(crate) fn size_of_vector(body: usize) -> Option<usize>
-    ensures { (s : List ℕ) → counted (length s) ≡ body → result ≡ size (vector s) }
+    ensures { (s : List ℕ) → saturated (length s) ≡ body → result ≡ size (vector s) }
 {
     if body < 64 {
         Some(body + 1)
@@ -34,7 +34,7 @@ pub(crate) fn size_of_vector(body: usize) -> Option<usize>
 
 /// Returns the size of the values, one after the other.
 pub(crate) fn size_of_items<T: Encode>(values: &[T]) -> Option<usize>
-    ensures { result ≡ size (items T.spelling values.now) }
+    ensures { result ≡ size (items T.encoding values.now) }
 {
     let mut total: usize = 0;
     for value in values {
@@ -45,7 +45,7 @@ pub(crate) fn size_of_items<T: Encode>(values: &[T]) -> Option<usize>
 
 /// Returns the size of a list: its length in bytes, and its items (RFC 9420, 2.1.2).
 pub fn size_of_list<T: Encode>(values: &[T]) -> Option<usize>
-    ensures { result ≡ size (list T.spelling values.now) }
+    ensures { result ≡ size (list T.encoding values.now) }
 {
     size_of_vector(size_of_items(values)?)
 }

@@ -21,7 +21,7 @@ pub trait Source: Drop {
         ensures bound { ReadsAtMost result into.new }
         ensures bytes { ReadConsumes (left self.old) (left self.new) result into.new }
         ensures failed { is_failed self.new ≡ (is_failed self.old || is_err result) }
-        ensures stays { is_failed self.old ≡ true → IsErr result };
+        ensures remains_failed { is_failed self.old ≡ true → IsErr result };
 
     /// Returns whether a call has returned [`DeviceFault`].
     fn failed(&self) -> bool
@@ -84,7 +84,7 @@ pub fn fill<S: Source>(source: &mut S, into: &mut [u8]) -> Result<usize, DeviceF
         × (length got < length into.old)
         × Consumes (S.left source.old) (S.left source.new) got) }
     ensures failed { S.is_failed source.new ≡ (S.is_failed source.old || is_err result) }
-    ensures stays { S.is_failed source.old ≡ true → 0 < length into.old → IsErr result }
+    ensures remains_failed { S.is_failed source.old ≡ true → 0 < length into.old → IsErr result }
 {
     let mut at = 0;
     while at < into.len() {

@@ -173,7 +173,7 @@ impl Writer {
 
     /// Writes a value. `TooLong` if and only if it has no encoding, which is checked before anything is allocated.
     pub fn write<T: Encode>(&mut self, alloc: Global, value: &T) -> Result<(), CodecFault>
-        ensures { WritesPiece (T.spelling value.now) self.old self.new result }
+        ensures { WritesPiece (T.encoding value.now) self.old self.new result }
     {
         let Some(size) = value.size() else {
             return Err(CodecFault::Wire(self.too_long()));

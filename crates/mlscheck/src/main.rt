@@ -94,9 +94,10 @@ impl<R: fs::Files> Files for StdFiles<'_, R> {
     /// the device has them before this file is renamed. So at any time the name has the old file or the new one, whole,
     /// also if the disk is full or the machine stops.
     ///
-    /// If the folder's names can't be written to the device, the new file is in place, and `false` says that the old one
-    /// may come back if the machine stops. Two processes must not store the same name at once. A name that is a symbolic
-    /// link becomes a file. The new file has the owner and the permissions of any file that the process creates.
+    /// If the folder's names can't be written to the device, the new file is in place, and `false` says that the old
+    /// one may be there again if the machine stops. Two processes must not store the same name at once. A name that is
+    /// a symbolic link becomes a file. The new file has the owner and the permissions of any file that the process
+    /// creates.
     fn save(&self, name: &str, bytes: &[u8]) -> bool {
         let Ok(beside) = format!(in self.alloc; "{name}.new") else {
             return false;

@@ -9,7 +9,7 @@ ghost use Rattle.mls_nodes.specs.Limits.{entry_limit};
 ghost use Rattle.mls_nodes.specs.NodeModel.{node_value, entry_value};
 ghost use Rattle.mls_nodes.specs.RatchetTreeEncoding.{ends_set, full_size, filled};
 ghost use Rattle.mls_nodes.specs.RatchetTreeContracts.{DecodesTree};
-ghost use Rattle.mls_nodes.specs.Parsing.{node_at, node_in, placed, tree_at, FindsNodes, GivesNode};
+ghost use Rattle.mls_nodes.specs.Parsing.{node_at, node_in, well_laid_out, tree_at, FindsNodes, GivesNode};
 ghost use Rattle.mls_nodes.specs.declared.fault.NodeFault.TheVariants as faults;
 
 use crate::fault::NodeFault;
@@ -36,14 +36,20 @@ fn read_body<'a>(reader: &mut Reader<'a>) -> Result<Reader<'a>, WireFault>
 
 /// Reads the node of the entry at a node index. Its type is checked before its body is read.
 #[tactic(auto, unfolding(crate::specs::Parsing::node_in))]
-fn read_node(alloc: Global, place: usize, reader: &mut Reader<'_>) -> Result<Node, NodeFault>
-    ensures { GivesNode (node_in place) reader.old reader.new (seen node_value result) }
+fn read_node(alloc: Global, node_index: usize, reader: &mut Reader<'_>) -> Result<Node, NodeFault>
+    ensures { GivesNode (node_in node_index) reader.old reader.new (seen node_value result) }
 {
-    let at = reader.place();
+    let at = reader.position();
     match u8::read(alloc, reader)? {
-        1 if place % 2 == 0 => Ok(Node::Leaf(Box::new(alloc, LeafNode::read(alloc, reader)?)?)),
-        2 if place % 2 == 1 => Ok(Node::Parent(Box::new(alloc, ParentNode::read(alloc, reader)?)?)),
-        1 | 2 => Err(NodeFault::WrongNodeKind(place)),
+        1 if node_index % 2 == 0 => Ok(Node::Leaf(Box::new(
+            alloc,
+            LeafNode::read(alloc, reader)?,
+        )?)),
+        2 if node_index % 2 == 1 => Ok(Node::Parent(Box::new(
+            alloc,
+            ParentNode::read(alloc, reader)?,
+        )?)),
+        1 | 2 => Err(NodeFault::WrongNodeKind(node_index)),
         kind => Err(NodeFault::Wire(WireFault {
             kind: WireFaultKind::BadTag(u16::from(kind)),
             at,
@@ -55,31 +61,31 @@ fn read_node(alloc: Global, place: usize, reader: &mut Reader<'_>) -> Result<Nod
 #[tactic(auto, unfolding(mls_wire::specs::Parsing::optional_at))]
 fn read_entry(
     alloc: Global,
-    place: usize,
+    node_index: usize,
     reader: &mut Reader<'_>,
 ) -> Result<Option<Node>, NodeFault>
-    ensures { GivesNode (optional_at (node_in place)) reader.old reader.new
+    ensures { GivesNode (optional_at (node_in node_index)) reader.old reader.new
         (seen entry_value result) }
 {
     if !read_presence(reader)? {
         return Ok(None);
     }
-    Ok(Some(read_node(alloc, place, reader)?))
+    Ok(Some(read_node(alloc, node_index, reader)?))
 }
 
 /// Reads the entries of a tree, one after the other.
 fn read_entries(alloc: Global, mut body: Reader<'_>) -> Result<Vec<Option<Node>>, NodeFault>
     ensures { FindsNodes
-        (placed (items_at (optional_at node_at) (length body.entry.left) body.entry))
+        (well_laid_out (items_at (optional_at node_at) (length body.entry.left) body.entry))
         (seen (λ v. map entry_value v.items) result) }
 {
     let mut entries = Vec::new(alloc);
     while !body.at_end() {
-        let place = entries.len();
-        if place >= MAX_ENTRIES {
+        let node_index = entries.len();
+        if node_index >= MAX_ENTRIES {
             return Err(NodeFault::TooManyLeaves);
         }
-        let entry = read_entry(alloc, place, &mut body)?;
+        let entry = read_entry(alloc, node_index, &mut body)?;
         entries.push(entry)?;
     }
     Ok(entries)
@@ -150,7 +156,7 @@ fn fill(mut entries: Vec<Option<Node>>) -> Result<Vec<Option<Node>>, NodeFault>
 /// vector. `TooManyLeaves` is found where the entry with node index 2,097,151 begins, and `WrongNodeKind` at the type
 /// of a node, before its body is read. Or `OutOfMemory`.
 pub fn decode_ratchet_tree(alloc: Global, bytes: &[u8]) -> Result<Vec<Option<Node>>, NodeFault>
-    ensures spelled { DecodesTree bytes.now (seen (λ v. map entry_value v.items) result) }
+    ensures encoded { DecodesTree bytes.now (seen (λ v. map entry_value v.items) result) }
     ensures long { input_limit < length bytes.now → result ≡ Err (faults.Wire (too_long_at 0)) }
 {
     if bytes.len() > MAX_INPUT {

@@ -11,9 +11,9 @@ ghost use Rattle.mls_wire.specs.declared.fault.WireFault.{WireFault};
 ghost use Rattle.mls_nodes.specs.Limits.{entry_limit};
 ghost use Rattle.mls_nodes.specs.NodeModel.{node_value, entry_value};
 ghost use Rattle.mls_nodes.specs.Layout.{node};
-ghost use Rattle.mls_nodes.specs.RatchetTreeEncoding.{stands_at, trimmed, IsFirstMisplaced};
+ghost use Rattle.mls_nodes.specs.RatchetTreeEncoding.{fits_at, trimmed, IsFirstMisplaced};
 ghost use Rattle.mls_nodes.specs.RatchetTreeContracts.{EncodesTree};
-ghost use Rattle.mls_nodes.specs.RatchetTreeWriting.{FitsPlaces, WritesTree};
+ghost use Rattle.mls_nodes.specs.RatchetTreeWriting.{FitsNodeIndices, WritesTree};
 ghost use Rattle.mls_nodes.specs.declared.fault.NodeFault.TheVariants as faults;
 
 use crate::fault::NodeFault;
@@ -34,26 +34,26 @@ fn trim(entries: &[Option<Node>]) -> &[Option<Node>]
 }
 
 /// Returns whether an entry may be at a node index.
-fn may_stand(place: usize, entry: &Option<Node>) -> bool
-    ensures { result ≡ stands_at place (entry_value entry.now) }
+fn may_be_at(node_index: usize, entry: &Option<Node>) -> bool
+    ensures { result ≡ fits_at node_index (entry_value entry.now) }
 {
     match entry {
         None => true,
-        Some(Node::Leaf(_)) => place % 2 == 0,
-        Some(Node::Parent(_)) => place % 2 == 1,
+        Some(Node::Leaf(_)) => node_index % 2 == 0,
+        Some(Node::Parent(_)) => node_index % 2 == 1,
     }
 }
 
 /// Checks the kinds and the number of the entries.
 fn check_node_kinds(entries: &[Option<Node>]) -> Result<(), NodeFault>
-    ensures { FitsPlaces (map entry_value entries.now) result }
+    ensures { FitsNodeIndices (map entry_value entries.now) result }
 {
-    for place in 0..entries.len() {
-        if place >= MAX_ENTRIES {
+    for node_index in 0..entries.len() {
+        if node_index >= MAX_ENTRIES {
             return Err(NodeFault::TooManyLeaves);
         }
-        if !may_stand(place, &entries[place]) {
-            return Err(NodeFault::WrongNodeKind(place));
+        if !may_be_at(node_index, &entries[node_index]) {
+            return Err(NodeFault::WrongNodeKind(node_index));
         }
     }
     Ok(())
@@ -202,9 +202,9 @@ fn encode_trimmed(alloc: Global, entries: &[Option<Node>]) -> Result<Vec<u8>, No
 pub fn encode_ratchet_tree(alloc: Global, nodes: &[Option<Node>]) -> Result<Vec<u8>, NodeFault>
     ensures encoded { EncodesTree (map entry_value nodes.now) (seen (λ v. v.items) result) }
     ensures empty { (result ≡ Err faults.EmptyTree) ↔ (trimmed (map entry_value nodes.now) ≡ []) }
-    ensures misplaced { (place : ℕ)
-        → result ≡ Err (faults.WrongNodeKind place)
-        → IsFirstMisplaced (trimmed (map entry_value nodes.now)) place }
+    ensures misplaced { (node_index : ℕ)
+        → result ≡ Err (faults.WrongNodeKind node_index)
+        → IsFirstMisplaced (trimmed (map entry_value nodes.now)) node_index }
     ensures many { result ≡ Err faults.TooManyLeaves
         → entry_limit < length (trimmed (map entry_value nodes.now)) }
     ensures long { (f : WireFault) → result ≡ Err (faults.Wire f) → f ≡ too_long_at 0 }

@@ -9,7 +9,7 @@ use Rattle.mls_apply.proofs.adds.add_member.Goals as goal
 pub put_copy-requires : goal.put_copy-requires
 put_copy-requires c =
     let same = leaf_count-change_above (with_unmerged c.in_ok-index.index) 0 c.leaf_for_member.new.tree.tree c.in_ok-index.index in
-    let entered = ap leaf_count c.in_ok-enter_unmerged.ensures.entered in
+    let in_lists = ap leaf_count c.in_ok-add_unmerged.ensures.in_lists in
     omega (arith, c.in_ok-index.ensures.inside)
 
 pub returns-clause-added : goal.returns-clause-added
@@ -20,8 +20,8 @@ returns-clause-added c =
       index = c.in_ok-index.ensures.index;
       tree =
           c.in_ok-put_copy.ensures.put
-          ∙ ap (λ (t : Tree). put_leaf 0 t j (Some x)) c.in_ok-enter_unmerged.ensures.entered
+          ∙ ap (λ (t : Tree). put_leaf 0 t j (Some x)) c.in_ok-add_unmerged.ensures.in_lists
           ∙ (λ i. add_at (c.in_ok-index.ensures.tree i) (c.in_ok-index.ensures.index i) x);
-      fits = sym (λ i. is_overfilled_above 0 (c.in_ok-index.ensures.tree i) (c.in_ok-index.ensures.index i)) ∙ c.in_ok-enter_unmerged.ensures.fits;
+      fits = sym (λ i. is_overfilled_above 0 (c.in_ok-index.ensures.tree i) (c.in_ok-index.ensures.index i)) ∙ c.in_ok-add_unmerged.ensures.fits;
       small = omega (arith, c.in_ok-index.ensures.inside, leaf_count-limit (plain c.leaf_for_member.new.tree));
     }

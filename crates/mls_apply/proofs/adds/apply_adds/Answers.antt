@@ -1,23 +1,23 @@
 use Rattle.std.proofs.Common.{◌≡◌, Some, Err, ◌∙◌, ◌+◌, drop, ap, sym, subst}
 use Rattle.std.proofs.lemmas.Result.{err_from_is_err_and}
 use Rattle.mls_tree.specs.Journals.{before}
-use Rattle.mls_apply.specs.AppliedList.{grown, after_adds, new_members}
+use Rattle.mls_apply.specs.AppliedList.{applied_tree, after_adds, new_members}
 use Rattle.mls_apply.specs.declared.fault.ApplyFault.TheVariants.{TooManyLeaves}
 use Rattle.mls_apply.specs.declared.list_item.ListItem.{ListItem}
 use Rattle.mls_apply.proofs.Updating.{next_item}
-use Rattle.mls_apply.proofs.Adding.{Adding, adding-other, adding-room, adding-member, adding-refused, adding-all}
+use Rattle.mls_apply.proofs.Adding.{Adding, adding-other, adding-capacity, adding-member, adding-refused, adding-all}
 use Rattle.mls_apply.proofs.adds.apply_adds.Goals.{in-Add+in_ok-index+in_ok-push, in_default}
 use Rattle.mls_apply.proofs.adds.apply_adds.Goals as goal
 
-pub add_member-requires-clause-room : goal.add_member-requires-clause-room
-add_member-requires-clause-room c =
+pub add_member-requires-clause-capacity : goal.add_member-requires-clause-capacity
+add_member-requires-clause-capacity c =
     let items = c.args.items.now in
     let i = c.loop-item.item-index in
     let x = c.item-item.result in
     let t = c.loop-item.tree.tree in
     let whole = after_adds (new_members items) c.args.tree.now.tree in
     let here = subst (λ xs. Adding whole xs t c.loop-item.added.items c.loop-item.start) (next_item items i x c.loop-item-test.true c.item-item.is) c.loop-item.invariant.adding in
-    adding-room whole x (drop (i + 1) items) t c.loop-item.added.items c.loop-item.start here c.in-Add.key_package (ap (λ (y : ListItem). y.proposal) (sym c.item.view_is) ∙ c.in-Add.is)
+    adding-capacity whole x (drop (i + 1) items) t c.loop-item.added.items c.loop-item.start here c.in-Add.key_package (ap (λ (y : ListItem). y.proposal) (sym c.item.view_is) ∙ c.in-Add.is)
 
 pub returns-in_err-index-clause-too_many_leaves : goal.returns-in_err-index-clause-too_many_leaves
 returns-in_err-index-clause-too_many_leaves c =
@@ -28,8 +28,8 @@ returns-in_err-index-clause-too_many_leaves c =
     let whole = after_adds (new_members items) c.args.tree.now.tree in
     let here = subst (λ xs. Adding whole xs t c.loop-item.added.items c.loop-item.start) (next_item items i x c.loop-item-test.true c.item-item.is) c.loop-item.invariant.adding in
     let p = err_from_is_err_and c.from_residual.result c.from_residual.ensures.1 in
-    λ told.
-    let joined = sym p.1 ∙ told in
+    λ mapped.
+    let joined = sym p.1 ∙ mapped in
     let fault : p.0 ≡ TooManyLeaves = cc in
     adding-refused whole x (drop (i + 1) items) t c.loop-item.added.items c.loop-item.start here c.in-Add.key_package (ap (λ (y : ListItem). y.proposal) (sym c.item.view_is) ∙ c.in-Add.is)
     (c.in_err-index.ensures.too_many_leaves (ap Err (sym p.2 ∙ fault)))
@@ -64,4 +64,4 @@ pub returns-clause-added : goal.returns-clause-added
 returns-clause-added c =
     adding-all (after_adds (new_members c.args.items.now) c.args.tree.now.tree) c.args.items.now c.loop-item.item-index c.loop-item.tree.tree
     c.loop-item.added.items c.loop-item.start c.loop-item-test.false c.loop-item.invariant.adding
-    ∙ ap (λ js. Some (grown c.loop-item.tree.tree js)) (sym c.new.ensures)
+    ∙ ap (λ js. Some (applied_tree c.loop-item.tree.tree js)) (sym c.new.ensures)

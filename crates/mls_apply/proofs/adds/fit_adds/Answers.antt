@@ -6,12 +6,12 @@ use Rattle.mls_apply.specs.Outline.{IsOutline}
 use Rattle.mls_apply.specs.declared.fault.ApplyFault.TheVariants.{TooManyLeaves}
 use Rattle.mls_apply.specs.declared.list_item.ListItem.{ListItem}
 use Rattle.mls_apply.proofs.Updating.{next_item}
-use Rattle.mls_apply.proofs.Fitting.{Fitting, fitting-other, fitting-room, fitting-member, fitting-refused, fitting-all, placed, outlined}
+use Rattle.mls_apply.proofs.Fitting.{Fitting, fitting-other, fitting-capacity, fitting-member, fitting-refused, fitting-all, consistent, outlined}
 use Rattle.mls_apply.proofs.adds.fit_adds.Goals.{in-Add+in_ok-index+in_ok-push, in_default}
 use Rattle.mls_apply.proofs.adds.fit_adds.Goals as goal
 
-pub add_member-requires-clause-room : goal.add_member-requires-clause-room
-add_member-requires-clause-room c =
+pub add_member-requires-clause-capacity : goal.add_member-requires-clause-capacity
+add_member-requires-clause-capacity c =
     let items = c.args.items.now in
     let i = c.loop-item.item-index in
     let x = c.item-item.result in
@@ -20,7 +20,7 @@ add_member-requires-clause-room c =
     let added = c.loop-item.added.items in
     let whole = after_adds (new_members items) first in
     let here = subst (λ xs. Fitting whole xs first t added c.loop-item.start) (next_item items i x c.loop-item-test.true c.item-item.is) c.loop-item.invariant.fitting in
-    fitting-room whole x (drop (i + 1) items) first t added c.loop-item.start here c.in-Add.field-0 (ap (λ (y : ListItem). y.proposal) (sym c.item.view_is) ∙ c.in-Add.is)
+    fitting-capacity whole x (drop (i + 1) items) first t added c.loop-item.start here c.in-Add.field-0 (ap (λ (y : ListItem). y.proposal) (sym c.item.view_is) ∙ c.in-Add.is)
 
 pub returns-in_err-index-clause-too_many_leaves : goal.returns-in_err-index-clause-too_many_leaves
 returns-in_err-index-clause-too_many_leaves c =
@@ -33,8 +33,8 @@ returns-in_err-index-clause-too_many_leaves c =
     let whole = after_adds (new_members items) first in
     let here = subst (λ xs. Fitting whole xs first t added c.loop-item.start) (next_item items i x c.loop-item-test.true c.item-item.is) c.loop-item.invariant.fitting in
     let p = err_from_is_err_and c.from_residual.result c.from_residual.ensures.1 in
-    λ told.
-    let joined = sym p.1 ∙ told in
+    λ mapped.
+    let joined = sym p.1 ∙ mapped in
     let fault : p.0 ≡ TooManyLeaves = cc in
     fitting-refused whole x (drop (i + 1) items) first t added c.loop-item.start here c.in-Add.field-0 (ap (λ (y : ListItem). y.proposal) (sym c.item.view_is) ∙ c.in-Add.is)
     (c.in_err-index.ensures.too_many_leaves (ap Err (sym p.2 ∙ fault)))
@@ -71,7 +71,7 @@ pub returns-clause-fit : goal.returns-clause-fit
 returns-clause-fit c =
     let items = c.args.items.now in
     let first = c.args.tree.now.tree in
-    placed (after_adds (new_members items) first) c.loop-item.added.items
+    consistent (after_adds (new_members items) first) c.loop-item.added.items
     (fitting-all (after_adds (new_members items) first) items c.loop-item.item-index first c.loop-item.tree.tree c.loop-item.added.items c.loop-item.start c.loop-item-test.false
     c.loop-item.invariant.fitting)
 

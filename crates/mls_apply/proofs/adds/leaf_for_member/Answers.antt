@@ -24,8 +24,8 @@ pub unreachable-requires : goal.unreachable-requires
 unreachable-requires c =
     let t = c.args.tree.now.tree in
     let none = sym (next_blank_leaf-first t c.args.start c.requires.set) ∙ sym c.in_default.ensures in
-    elim c.in-Err.ensures.else_memory [
-      | inl e ↦ room_to_grow t none c.requires.room (c.in-Err.ensures.too_many_leaves.0 (ap Err e))
+    elim c.in-Err.ensures.possible_errors [
+      | inl e ↦ room_to_grow t none c.requires.capacity (c.in-Err.ensures.too_many_leaves.0 (ap Err e))
       | inr e ↦ search rules
     ]
 
@@ -38,11 +38,11 @@ returns-in-Ok-clause-index c =
 pub returns-in-Ok-clause-inside : goal.returns-in-Ok-clause-inside
 returns-in-Ok-clause-inside c =
     let t = c.args.tree.now.tree in
-    let more = ap leaf_count c.in-Ok.ensures.ok in
+    let more = ap leaf_count c.in-Ok.ensures.changed in
     omega (arith, c.leaf_count-index.ensures, leaf_count-positive (blank_tree (height t)))
 
 pub returns-in-Ok-clause-tree : goal.returns-in-Ok-clause-tree
 returns-in-Ok-clause-tree c =
     let t = c.args.tree.now.tree in
     let none = sym (next_blank_leaf-first t c.args.start c.requires.set) ∙ sym c.in_default.ensures in
-    c.in-Ok.ensures.ok ∙ ap (λ o. grown_for o t) (sym none)
+    c.in-Ok.ensures.changed ∙ ap (λ o. grown_for o t) (sym none)

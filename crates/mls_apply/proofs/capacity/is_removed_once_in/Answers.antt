@@ -2,7 +2,7 @@ use Rattle.std.proofs.Common.{◌∙◌, ◌+◌, ◌∷◌, List, Bool, ap, sym
 use Rattle.std.specs.Prelude.{◌&&◌}
 use Rattle.std.proofs.lemmas.List.{drop_more, length-replicate}
 use Rattle.mls_apply.specs.declared.list_item.ListItem.{ListItem}
-use Rattle.mls_apply.specs.ListRules.{tells_once}
+use Rattle.mls_apply.specs.ListRules.{maps_once}
 use Rattle.mls_apply.specs.TargetLeaves.{removed_by, removed_in}
 use Rattle.mls_apply.proofs.Concerned.{are_apart, once-start, once-none, once-new}
 use Rattle.mls_apply.proofs.LackingRoom.{flag, flag-clear, flag-set, number_low}
@@ -22,8 +22,8 @@ loop-item-preserved c =
     let x = c.item-item.result in
     let rest = drop (c.loop-item.item-index + 1) items in
     let flags = c.loop-item.removed in
-    let told = λ (fs : List Bool) (xs : List ListItem). are_apart f (flag fs) xs && tells_once f xs in
-    let known = c.loop-item.invariant.known ∙ ap (told flags) (drop_more items c.loop-item.item-index x c.loop-item-test.true ∙ ap (λ y. y ∷ rest) (sym c.item-item.is)) in
+    let mapped = λ (fs : List Bool) (xs : List ListItem). are_apart f (flag fs) xs && maps_once f xs in
+    let known = c.loop-item.invariant.known ∙ ap (mapped flags) (drop_more items c.loop-item.item-index x c.loop-item-test.true ∙ ap (λ y. y ∷ rest) (sym c.item-item.is)) in
     elim c.match-removed_in.branch [
       | in-Some+else-removed-number w ↦
           (let k = w.in-Some.number in
@@ -32,15 +32,15 @@ loop-item-preserved c =
           record {
             long = ap length w.removed-is ∙ length-set flags k true ∙ c.loop-item.invariant.long;
             known =
-                once-new f (tells_once f items) (flag flags) x rest known (flag (set flags k true)) k is w.if-removed-number.false
+                once-new f (maps_once f items) (flag flags) x rest known (flag (set flags k true)) k is w.if-removed-number.false
                 (flag-set flags k (omega (arith, inside, c.loop-item.invariant.long)))
-                ∙ ap (λ fs. told fs rest) (sym w.removed-is);
+                ∙ ap (λ fs. mapped fs rest) (sym w.removed-is);
           })
       | in_default w ↦
           record {
             long = ap length w.removed-is ∙ c.loop-item.invariant.long;
             known =
-                once-none f (tells_once f items) (flag flags) x rest known (sym w.in_default.ensures)
-                ∙ ap (λ fs. told fs rest) (sym w.removed-is);
+                once-none f (maps_once f items) (flag flags) x rest known (sym w.in_default.ensures)
+                ∙ ap (λ fs. mapped fs rest) (sym w.removed-is);
           }
     ]

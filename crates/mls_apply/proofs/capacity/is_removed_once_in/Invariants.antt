@@ -1,6 +1,6 @@
 use Rattle.std.proofs.Common.{◌≡◌, drop, length}
 use Rattle.std.specs.Prelude.{◌&&◌}
-use Rattle.mls_apply.specs.ListRules.{tells_once}
+use Rattle.mls_apply.specs.ListRules.{maps_once}
 use Rattle.mls_apply.specs.TargetLeaves.{removed_in}
 use Rattle.mls_apply.proofs.Concerned.{are_apart}
 use Rattle.mls_apply.proofs.LackingRoom.{flag}
@@ -10,6 +10,6 @@ abbrev pub invariant-loop-item : goal.invariant-loop-item
 invariant-loop-item l = record {
   long : length l.removed ≡ 65536;
   known :
-      tells_once (removed_in l.first) l.items
-      ≡ (are_apart (removed_in l.first) (flag l.removed) (drop l.item-index l.items) && tells_once (removed_in l.first) (drop l.item-index l.items));
+      maps_once (removed_in l.first) l.items
+      ≡ (are_apart (removed_in l.first) (flag l.removed) (drop l.item-index l.items) && maps_once (removed_in l.first) (drop l.item-index l.items));
 }

@@ -1,5 +1,5 @@
 use Rattle.std.proofs.Common.{◌∙◌}
-use Rattle.mls_apply.proofs.Outcomes.{without_adds-set, room_left, outcome-room}
+use Rattle.mls_apply.proofs.Outcomes.{without_adds-set, room_left, outcome-capacity}
 use Rattle.mls_apply.proofs.list_fit.fit_items.Goals as goal
 
 pub fit_adds-answer-requires : goal.fit_adds-answer-requires
@@ -10,14 +10,14 @@ fit_adds-answer-requires c =
 pub returns-clause-fit : goal.returns-clause-fit
 returns-clause-fit c =
     rw
-    (outcome-room c.args.items.now c.args.tree.now.tree c.apply_updates.new.tree.tree c.apply_removes.new.tree.tree
+    (outcome-capacity c.args.items.now c.args.tree.now.tree c.apply_updates.new.tree.tree c.apply_removes.new.tree.tree
     c.in_ok-apply_updates.ensures.updated c.in_ok-apply_removes.ensures.removed c.requires)
     c.fit_adds-answer.ensures.fit
 
 pub returns-clause-outline : goal.returns-clause-outline
 returns-clause-outline c =
     rw
-    (outcome-room c.args.items.now c.args.tree.now.tree c.apply_updates.new.tree.tree c.apply_removes.new.tree.tree
+    (outcome-capacity c.args.items.now c.args.tree.now.tree c.apply_updates.new.tree.tree c.apply_removes.new.tree.tree
     c.in_ok-apply_updates.ensures.updated c.in_ok-apply_removes.ensures.removed c.requires)
     c.fit_adds-answer.ensures.outline
 
@@ -29,4 +29,4 @@ returns-clause-too_many_leaves c =
     let v = c.apply_removes.new.tree.tree in
     let updated = c.in_ok-apply_updates.ensures.updated in
     let removed = c.in_ok-apply_removes.ensures.removed in
-    λ told. (without_adds-set items t u v updated removed, outcome-room items t u v updated removed c.requires ∙ c.fit_adds-answer.ensures.too_many_leaves told)
+    λ mapped. (without_adds-set items t u v updated removed, outcome-capacity items t u v updated removed c.requires ∙ c.fit_adds-answer.ensures.too_many_leaves mapped)

@@ -7,7 +7,7 @@ loop-parent-preserved c =
     let t = c.loop-parent.tree.tree in
     let u = c.put_parent.new.self.tree in
     let split = c.in-Some.ensures.items in
-    let put = c.in-Ok.ensures.ok in
+    let put = c.in-Ok.ensures.changed in
     record {
       left = c.loop-parent.invariant.left ∙ put-left t u c.loop-parent.parents.items c.pop.new.self.items c.in-Some.parent split put;
       parents = put-parents t u c.loop-parent.parents.items c.pop.new.self.items c.in-Some.parent split put c.loop-parent.invariant.parents;

@@ -1,6 +1,6 @@
 use Rattle.std.proofs.Common.{◌≡◌, map, vec_len}
 use Rattle.std.specs.Prelude.{All}
-use Rattle.mls_tree.specs.Tree.{IsParentPlace}
+use Rattle.mls_tree.specs.Tree.{IsParentNodeIndex}
 use Rattle.mls_apply.specs.PathParents.{changed}
 use Rattle.mls_apply.specs.PathModel.{change_of}
 use Rattle.mls_apply.proofs.new_parents.put_parents.Given as goal
@@ -8,7 +8,7 @@ use Rattle.mls_apply.proofs.new_parents.put_parents.Given as goal
 abbrev pub invariant-loop-parent : goal.invariant-loop-parent
 invariant-loop-parent l = record {
   left : changed 0 l.initial.tree.tree (map change_of l.initial.parents.items) ≡ changed 0 l.tree.tree (map change_of l.parents.items);
-  parents : All (λ p. IsParentPlace l.tree.tree p.place) l.parents.items;
+  parents : All (λ p. IsParentNodeIndex l.tree.tree p.node_index) l.parents.items;
 }
 
 abbrev pub decreases-loop-parent : goal.decreases-loop-parent

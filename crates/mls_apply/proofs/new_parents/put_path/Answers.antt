@@ -1,17 +1,17 @@
 use Rattle.std.proofs.Common.{◌∙◌, None, map, refl, ap, arith}
 use Rattle.std.proofs.lemmas.List.Elements.{All-weaker}
-use Rattle.mls_tree.specs.Tree.{leaf_count, IsParentPlace}
+use Rattle.mls_tree.specs.Tree.{leaf_count, IsParentNodeIndex}
 use Rattle.mls_tree.proofs.Kept.{leaf_count-change_above}
 use Rattle.mls_apply.specs.PathModel.{change_of}
-use Rattle.mls_apply.proofs.Making.{IsParentPlace-like}
+use Rattle.mls_apply.proofs.Making.{IsParentNodeIndex-like}
 use Rattle.mls_apply.proofs.Routes.{leaf_count-changed}
 use Rattle.mls_apply.proofs.new_parents.put_path.Goals as goal
 
 pub put_parents-requires : goal.put_parents-requires
 put_parents-requires c =
     let t = c.args.tree.now.tree in
-    All-weaker (λ p. IsParentPlace t p.place) (λ p. IsParentPlace c.blank_direct_path.new.tree.tree p.place)
-    (λ p. IsParentPlace-like t c.blank_direct_path.new.tree.tree (ap leaf_count c.blank_direct_path.ensures ∙ leaf_count-change_above (λ _. None) 0 t c.args.leaf) p.place)
+    All-weaker (λ p. IsParentNodeIndex t p.node_index) (λ p. IsParentNodeIndex c.blank_direct_path.new.tree.tree p.node_index)
+    (λ p. IsParentNodeIndex-like t c.blank_direct_path.new.tree.tree (ap leaf_count c.blank_direct_path.ensures ∙ leaf_count-change_above (λ _. None) 0 t c.args.leaf) p.node_index)
     c.args.new.parents.items c.requires.parents
 
 pub unreachable-requires : goal.unreachable-requires

@@ -1,7 +1,7 @@
 use Rattle.std.proofs.Common.{◌∙◌, ◌+◌, Some, Err, drop, ap, sym}
 use Rattle.std.proofs.lemmas.Result.{err_from_is_err_and}
 use Rattle.mls_tree.specs.Tree.{Tree}
-use Rattle.mls_tree.specs.TreeOperations.{shrink}
+use Rattle.mls_tree.specs.TreeOperations.{truncate}
 use Rattle.mls_tree.specs.Journals.{before}
 use Rattle.mls_apply.specs.AppliedList.{after_removes}
 use Rattle.mls_apply.specs.declared.list_item.ListItem.{ListItem}
@@ -19,8 +19,8 @@ returns-in_err-clear_leaf-clause-no_such_leaf c =
     let removed = c.loop-item.has_removed in
     let known = c.loop-item.invariant.known ∙ ap (λ xs. after_removes xs (shrunk_if removed t)) (next_item items c.loop-item.item-index x c.loop-item-test.true c.item-item.is) in
     let p = err_from_is_err_and c.from_residual.result c.from_residual.ensures.1 in
-    λ told.
-    known ∙ removes-blank x rest removed t c.in-Remove.index (ap (λ (y : ListItem). y.proposal) (sym c.item.view_is) ∙ c.in-Remove.is) (c.in_err-clear_leaf.ensures.no_such_leaf (ap Err (sym p.2) ∙ sym p.1 ∙ told))
+    λ mapped.
+    known ∙ removes-blank x rest removed t c.in-Remove.index (ap (λ (y : ListItem). y.proposal) (sym c.item.view_is) ∙ c.in-Remove.is) (c.in_err-clear_leaf.ensures.no_such_leaf (ap Err (sym p.2) ∙ sym p.1 ∙ mapped))
 
 pub loop-item-preserved : goal.loop-item-preserved
 loop-item-preserved c =
@@ -36,7 +36,7 @@ loop-item-preserved c =
             known =
                 known
                 ∙ removes-set x rest removed t w.in-Remove.index (ap (λ (y : ListItem). y.proposal) (sym c.item.view_is) ∙ w.in-Remove.is) w.in_ok-clear_leaf.ensures.set
-                ∙ ap (λ (v : Tree). after_removes rest (shrink v)) (sym w.in_ok-clear_leaf.ensures.cleared)
+                ∙ ap (λ (v : Tree). after_removes rest (truncate v)) (sym w.in_ok-clear_leaf.ensures.cleared)
                 ∙ sym (λ k. after_removes rest (shrunk_if (w.has_removed-is k) (w.tree-is k).tree));
             same_before = (λ k. before (w.journal-is k) (w.tree-is k).tree) ∙ w.clear_leaf.ensures.before ∙ c.loop-item.invariant.same_before;
           }

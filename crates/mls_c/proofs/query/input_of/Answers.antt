@@ -17,7 +17,7 @@ returns c =
     let C = vector c.as_slice-2.result.now in
     let K = vector c.as_slice.result.now in
     let all =
-    after_then c.new-draft.result.more (number w16 c.args.wanted.now.suite) (K ⊕ (C ⊕ S)) c.put_u16.new.self.more suite.0
+    after_then c.new-draft.result.more (number w16 c.args.needed.now.suite) (K ⊕ (C ⊕ S)) c.put_u16.new.self.more suite.0
     ∙ after_then c.put_u16.new.self.more K (C ⊕ S) c.put_vec.new.self.more key.0
     ∙ after_then c.put_vec.new.self.more C S c.put_vec-2.new.self.more content.0 ∙ signature.0 in
     let whole = drafted _ c.new-draft.result c.put_vec-3.new.self c.finish.result.items c.new-draft.ensures.kept c.new-draft.ensures.more (all, signature.1 ∙ content.1 ∙ key.1 ∙ suite.1) c.finish.ensures in

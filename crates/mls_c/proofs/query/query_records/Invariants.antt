@@ -6,4 +6,4 @@ use Rattle.mls_c.proofs.query.query_records.Given as goal
 abbrev pub invariant-loop-signature : goal.invariant-loop-signature
 invariant-loop-signature g l =
     let G = g.C.SignatureCheck.meaning l.checker in
-    l.records.items ++ query_records G (drop l.signature-index l.wanted) ≡ query_records G l.wanted
+    l.records.items ++ query_records G (drop l.signature-index l.needed) ≡ query_records G l.needed

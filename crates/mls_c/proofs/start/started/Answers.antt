@@ -4,7 +4,7 @@ use Rattle.mls_c.proofs.start.started.Goals as goal
 
 pub returns-in-Ok-clause-started : goal.returns-in-Ok-clause-started
 returns-in-Ok-clause-started g c =
-    IfOk-weaker c.start_from.result _ _ (λ f start. record { info = c.in-Ok.inputs.info; handed = _; is_read = c.in-Ok.ensures.read; start = start }) c.start_from.ensures.started
+    IfOk-weaker c.start_from.result _ _ (λ f start. record { info = c.in-Ok.inputs.info; supplied = _; is_read = c.in-Ok.ensures.read; start = start }) c.start_from.ensures.started
 
 pub returns-in-Ok-clause-refused : goal.returns-in-Ok-clause-refused
 returns-in-Ok-clause-refused g c =

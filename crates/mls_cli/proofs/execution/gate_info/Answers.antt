@@ -13,7 +13,7 @@ returns-clause-carried g c =
       info_given = search rules;
       tree_given = c.in-Some-open_named.ensures.given;
       records_given = search rules;
-      told = c.run_gate_in.ensures.told;
+      printed = c.run_gate_in.ensures.printed;
       part = c.run_gate_in.ensures.part;
       failed = c.run_gate_in.ensures.read;
     })))

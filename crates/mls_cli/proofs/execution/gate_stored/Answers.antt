@@ -10,7 +10,7 @@ returns-clause-carried g c =
       records_ended = c.run_gate_state.new.records;
       state_given = search rules;
       records_given = search rules;
-      told = c.run_gate_state.ensures.told;
+      printed = c.run_gate_state.ensures.printed;
       part = c.run_gate_state.ensures.part;
       failed = c.run_gate_state.ensures.read;
     }))

@@ -13,7 +13,7 @@ returns-clause-carried g c =
       info_given = search rules;
       tree_given = c.in-Some-open_named.ensures.given;
       log_given = c.in-Some-open_named-2.ensures.given;
-      told = c.run_signatures_in.ensures.told;
+      printed = c.run_signatures_in.ensures.printed;
       part = c.run_signatures_in.ensures.part;
       failed = c.run_signatures_in.ensures.read;
     })))

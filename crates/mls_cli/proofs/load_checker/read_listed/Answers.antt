@@ -4,8 +4,8 @@ use Rattle.mls_check.proofs.ReceiptSets.{same_mean}
 use Rattle.mls_cli.proofs.load_checker.read_listed.Goals as goal
 
 -- a set with the digests of the file accepts what the file lists
-pub returns-in-Ok-read-clause-judge : goal.returns-in-Ok-read-clause-judge
-returns-in-Ok-read-clause-judge g c =
+pub returns-in-Ok-read-clause-verifier : goal.returns-in-Ok-read-clause-verifier
+returns-in-Ok-read-clause-verifier g c =
     let kept = c.in-Ok-read.ensures.receipts in
     record {
       bytes = c.in-Ok.bytes.items;

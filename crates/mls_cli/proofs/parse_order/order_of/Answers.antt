@@ -38,7 +38,7 @@ returns-in-Ok-clause-refused c =
     IfErr-weaker c.read_order-order.result _ _ (λ e h not_memory o is_order. h not_memory o (subst (λ f. IsGiven f o) (sym found) is_order.found)) c.read_order-order.ensures.refused
 
 pub returns-in-Ok-clause-help : goal.returns-in-Ok-clause-help
-returns-in-Ok-clause-help c = IfErr-weaker c.read_order-order.result _ _ (λ e h help. absurd (h help)) c.read_order-order.ensures.own
+returns-in-Ok-clause-help c = IfErr-weaker c.read_order-order.result _ _ (λ e h help. absurd (h help)) c.read_order-order.ensures.never_help
 
 pub returns-in-Err-clause-refused : goal.returns-in-Err-clause-refused
 returns-in-Err-clause-refused c not_memory o is_order =
@@ -89,4 +89,4 @@ returns-in-Ok-clause-usage c =
     let app_is = c.in_ok-command.ensures.app in
     let words : List Text = map string_bytes c.args.words.now in
     let passes = ap (λ (a : App). fault_of a words) (sym app_is) ∙ c.in-Ok.ensures.kinds (ap is_simple_and_free app_is ∙ app_is_free) in
-    IfErr-weaker c.read_order-order.result _ _ (λ e own usage alone. elim alone [ inl only ↦ cc | inr only ↦ cc ]) c.read_order-order.ensures.own
+    IfErr-weaker c.read_order-order.result _ _ (λ e own usage alone. elim alone [ inl only ↦ cc | inr only ↦ cc ]) c.read_order-order.ensures.never_help

@@ -11,7 +11,7 @@ returns-in_err-check_leaf_nodes-clause-refused g c =
     let distinct : has_distinct_keys c.args.tree.now.tree ≡ true = search rules in
     rw (p.1, p.2) (tree_failed _ (in_context c.args.rules.now.context.now) c.args.rules.now.required.now c.args.tree.now.tree distinct c.in_err-check_leaf_nodes.field-0.0 c.in_err-check_leaf_nodes.ensures.fault)
 
-pub returns-clause-kept : goal.returns-clause-kept
-returns-clause-kept g c =
+pub returns-clause-rules_hold : goal.returns-clause-rules_hold
+returns-clause-rules_hold g c =
     let distinct : has_distinct_keys c.args.tree.now.tree ≡ true = search rules in
     tree_kept _ (in_context c.args.rules.now.context.now) c.args.rules.now.required.now c.args.tree.now.tree distinct c.in_ok-check_leaf_nodes.ensures.members

@@ -1,11 +1,11 @@
 use Rattle.std.proofs.Common.{ap, inl, inr, sym, Option, Some, Err, ◌∙◌}
 use Rattle.std.proofs.lemmas.Result.{err_from_is_err_and}
 use Rattle.mls_hash.specs.SuiteHash.{hash_of}
-use Rattle.mls_apply.specs.AppliedList.{Grown, outcome}
+use Rattle.mls_apply.specs.AppliedList.{AppliedTree, outcome}
 use Rattle.mls_apply.specs.RuleLists.{first_failing}
-use Rattle.mls_follow.specs.CommitTree.{place_rules, change_rules}
-use Rattle.mls_follow.specs.MessageRules.{Placed, refusal_of}
-use Rattle.mls_follow.proofs.Committing.{no_outcome, change_placed, changed_placed}
+use Rattle.mls_follow.specs.CommitTree.{committer_rules, change_rules}
+use Rattle.mls_follow.specs.MessageRules.{CommitterTree, refusal_of}
+use Rattle.mls_follow.proofs.Committing.{no_outcome, change_committer_tree, changed_committer_tree}
 use Rattle.mls_follow.proofs.Staying.{committer_present}
 use Rattle.mls_follow.proofs.commit_changes.change_tree.Goals as goal
 
@@ -16,16 +16,16 @@ returns-in_err-added-clause-refused c =
     let commit = c.args.commit.now in
     let no_such_leaf = rw c.as_slice.ensures.value at c.in_err-added.ensures.no_such_leaf in
     let too_many_leaves = rw c.as_slice.ensures.value at c.in_err-added.ensures.too_many_leaves in
-    let failed = ap (λ (o : Option Grown). first_failing (change_rules (hash_of c.args.suite) commit.committer commit.path.now o)) in
-    rw (p.1, p.2) (λ not_memory. elim c.in_err-added.ensures.else_memory [
+    let failed = ap (λ (o : Option AppliedTree). first_failing (change_rules (hash_of c.args.suite) commit.committer commit.path.now o)) in
+    rw (p.1, p.2) (λ not_memory. elim c.in_err-added.ensures.possible_errors [
       | inl n ↦ failed (no_outcome commit.items.items c.args.tree.now.tree (no_such_leaf (ap Err n))) ∙ ap (λ fault. Some (refusal_of fault)) (sym n)
       | inr (inl n) ↦ failed ((too_many_leaves (ap Err n)).1) ∙ ap (λ fault. Some (refusal_of fault)) (sym n)
       | inr (inr n) ↦ absurd (not_memory (ap refusal_of n))
     ])
 
 -- the committer's leaf stays
-pub place_committer-requires : goal.place_committer-requires
-place_committer-requires c =
+pub committer_in_tree-requires : goal.committer_in_tree-requires
+committer_in_tree-requires c =
     let commit = c.args.commit.now in
     let applied = rw c.as_slice.ensures.value at c.in_ok-added.ensures.applied in
     committer_present commit.committer commit.items.items commit.path.now c.args.tree.now.tree _ commit.listed applied c.requires
@@ -38,28 +38,28 @@ returns-in_err-committer-clause-refused c =
     let applied = rw c.as_slice.ensures.value at c.in_ok-added.ensures.applied in
     rw (p.1, p.2) (λ not_memory.
     let none = c.in_err-committer.ensures.refused not_memory in
-    ap (λ (o : Option Grown). first_failing (change_rules (hash_of c.args.suite) commit.committer commit.path.now o)) applied
-    ∙ ap (λ (q : Option Placed). first_failing (place_rules (hash_of c.args.suite) commit.path.now q)) none.0
+    ap (λ (o : Option AppliedTree). first_failing (change_rules (hash_of c.args.suite) commit.committer commit.path.now o)) applied
+    ∙ ap (λ (q : Option CommitterTree). first_failing (committer_rules (hash_of c.args.suite) commit.path.now q)) none.0
     ∙ ap Some (sym none.1))
 
 -- the path, in the tree in which the committer has its leaf
-pub returns-clause-kept : goal.returns-clause-kept
-returns-clause-kept c =
+pub returns-clause-rules_hold : goal.returns-clause-rules_hold
+returns-clause-rules_hold c =
     let commit = c.args.commit.now in
     let applied = rw c.as_slice.ensures.value at c.in_ok-added.ensures.applied in
-    rw (change_placed (hash_of c.args.suite) commit.committer commit.path.now (outcome commit.items.items c.args.tree.now.tree) _ _ applied c.in_ok-committer.ensures.placed)
-    c.merge.ensures.kept
+    rw (change_committer_tree (hash_of c.args.suite) commit.committer commit.path.now (outcome commit.items.items c.args.tree.now.tree) _ _ applied c.in_ok-committer.ensures.committer_tree)
+    c.merge.ensures.rules_hold
 
 pub returns-clause-tree : goal.returns-clause-tree
 returns-clause-tree c =
     let commit = c.args.commit.now in
     let applied = rw c.as_slice.ensures.value at c.in_ok-added.ensures.applied in
-    rw (changed_placed (hash_of c.args.suite) commit.committer commit.path.now (outcome commit.items.items c.args.tree.now.tree) _ _ applied c.in_ok-committer.ensures.placed)
+    rw (changed_committer_tree (hash_of c.args.suite) commit.committer commit.path.now (outcome commit.items.items c.args.tree.now.tree) _ _ applied c.in_ok-committer.ensures.committer_tree)
     c.merge.ensures.tree
 
 pub returns-clause-refused : goal.returns-clause-refused
 returns-clause-refused c =
     let commit = c.args.commit.now in
     let applied = rw c.as_slice.ensures.value at c.in_ok-added.ensures.applied in
-    rw (change_placed (hash_of c.args.suite) commit.committer commit.path.now (outcome commit.items.items c.args.tree.now.tree) _ _ applied c.in_ok-committer.ensures.placed)
+    rw (change_committer_tree (hash_of c.args.suite) commit.committer commit.path.now (outcome commit.items.items c.args.tree.now.tree) _ _ applied c.in_ok-committer.ensures.committer_tree)
     c.merge.ensures.refused

@@ -29,6 +29,6 @@ returns-in_err-check_list-clause-refused g c =
     let later : nat_lt group.context.epoch last_epoch ≡ true = is_less group.context.epoch last_epoch (search rules) in
     rw (p.1, p.2) (λ not_memory. list_failed
     (g.C.SignatureCheck.meaning c.args.checker.now) (with_known (group_state group) c.args.received.now.known.now) group.required
-    c.args.received.now.committer c.args.received.now.commit.now later c.in_ok-items.items.items c.in_ok-items.ensures.items c.in_ok-check_inline.ensures.kept
+    c.args.received.now.committer c.args.received.now.commit.now later c.in_ok-items.items.items c.in_ok-items.ensures.items c.in_ok-check_inline.ensures.rules_hold
     c.in_err-check_list.field-0.0
     ((λ i. list_refusal (Member c.args.received.now.committer) (sym c.as_slice.ensures.value i) (sym c.is_some.ensures i)) ∙ c.in_err-check_list.ensures.refused (λ e. not_memory (ap refusal_of e))))

@@ -11,7 +11,7 @@ pub returns-in-Err-clause-refused : goal.returns-in-Err-clause-refused
 returns-in-Err-clause-refused c =
     let items = c.args.items.now in
     let t = c.args.tree.now.tree in
-    rw c.from.ensures (λ own G s required i. elim c.in-Err.ensures.else_memory [
+    rw c.from.ensures (λ own G s required i. elim c.in-Err.ensures.possible_errors [
       | inl n ↦ unfit_refused items t G s required i (no_outcome items t (c.in-Err.ensures.no_such_leaf (ap Err n))) ∙ ap (λ fault. Some (refusal_of fault)) (sym n)
       | inr (inl n) ↦ unfit_refused items t G s required i ((c.in-Err.ensures.too_many_leaves (ap Err n)).1) ∙ ap (λ fault. Some (refusal_of fault)) (sym n)
       | inr (inr n) ↦ absurd (own (ap refusal_of n))

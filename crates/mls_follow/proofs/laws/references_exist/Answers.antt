@@ -1,4 +1,4 @@
-use Rattle.mls_follow.proofs.Spelled.{reference_exists}
+use Rattle.mls_follow.proofs.Encoded.{reference_exists}
 use Rattle.mls_follow.proofs.laws.references_exist.Goals as goal
 
 pub returns : goal.returns

@@ -8,6 +8,6 @@ use Rattle.mls_follow.proofs.start.check_start.Goals as goal
 pub returns-in-Ok-clause-started : goal.returns-in-Ok-clause-started
 returns-in-Ok-clause-started g c =
     let info = c.args.info.now in
-    let handed = Some (plain c.in-Some.tree) in
-    rw c.in-Some.is (λ profile. subst (λ (t : Tree). IsStart profile (g.C.SignatureCheck.meaning c.args.checker.now) info handed (state_in profile info t c.in-Ok.found.1.interim))
-    (sym c.in-Ok.ensures.tree) (c.in-Ok.ensures.started profile handed refl))
+    let supplied = Some (plain c.in-Some.tree) in
+    rw c.in-Some.is (λ profile. subst (λ (t : Tree). IsStart profile (g.C.SignatureCheck.meaning c.args.checker.now) info supplied (state_in profile info t c.in-Ok.found.1.interim))
+    (sym c.in-Ok.ensures.tree) (c.in-Ok.ensures.started profile supplied refl))

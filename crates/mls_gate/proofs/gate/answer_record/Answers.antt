@@ -6,8 +6,8 @@ use Rattle.mls_report.specs.declared.verdict.RunFault.TheVariants.{Write}
 use Rattle.mls_report.proofs.Outcomes.{IfErr-is}
 use Rattle.mls_gate.proofs.gate.answer_record.Goals as goal
 
-pub returns-clause-told : goal.returns-clause-told
-returns-clause-told g c = record {
+pub returns-clause-printed : goal.returns-clause-printed
+returns-clause-printed g c = record {
   text = string_bytes c.in_ok-answer.answer.text;
   replies = c.in_ok-answer.ensures.answered;
   wrote = subst (Appends _ _) c.as_str.ensures.value c.in_ok-write_text.ensures.all;

@@ -10,8 +10,8 @@ use Rattle.mls_gate.proofs.gate.gate_after.Goals as goal
 pub serve-requires-clause-inputs : goal.serve-requires-clause-inputs
 serve-requires-clause-inputs g c = readable (OfGroup (files_of c.args.inputs)) _ (c.requires.opens)
 
-pub returns-clause-told : goal.returns-clause-told
-returns-clause-told g c =
+pub returns-clause-printed : goal.returns-clause-printed
+returns-clause-printed g c =
     IfOk-weaker c.serve.result _ _ (λ v h. inr (record {
       i = OfGroup (files_of c.args.inputs);
       read = refl;
@@ -19,8 +19,8 @@ returns-clause-told g c =
       can_start = c.requires.opens;
       between = g.K.Sink.written c.write_start_query.new.out;
       wrote = c.in_ok-write_start_query.ensures.all;
-      tells = h;
-    })) c.serve.ensures.told
+      reports = h;
+    })) c.serve.ensures.printed
 
 pub returns-clause-part : goal.returns-clause-part
 returns-clause-part g c =
@@ -31,7 +31,7 @@ returns-clause-part g c =
       can_start = c.requires.opens;
       between = g.K.Sink.written c.write_start_query.new.out;
       wrote = c.in_ok-write_start_query.ensures.all;
-      tells = h;
+      reports = h;
     })) c.serve.ensures.part
 
 pub returns-in_err-write_start_query-clause-part : goal.returns-in_err-write_start_query-clause-part

@@ -3,13 +3,13 @@ use Rattle.std.proofs.lemmas.Result.{IfOk-weaker, IfErr-weaker}
 use Rattle.mls_report.proofs.Outcomes.{IfErr-is}
 use Rattle.mls_gate.specs.GateSteps.{files_of}
 use Rattle.mls_gate.specs.Phases.{OfGroup}
-use Rattle.mls_gate.proofs.Starting.{told-read, part-read, part-unread}
+use Rattle.mls_gate.proofs.Starting.{printed-read, part-read, part-unread}
 use Rattle.mls_gate.proofs.gate.run_gate_in.Goals as goal
 
-pub returns-clause-told : goal.returns-clause-told
-returns-clause-told g c =
+pub returns-clause-printed : goal.returns-clause-printed
+returns-clause-printed g c =
     let i = OfGroup (files_of (record { profile = c.args.profile; bytes = c.in_ok-bytes.bytes })) in
-    IfOk-weaker c.gate_from.result _ _ (λ v h. told-read _ _ i (refl, c.in_ok-bytes.ensures.both) _ _ _ _ v h) c.gate_from.ensures.told
+    IfOk-weaker c.gate_from.result _ _ (λ v h. printed-read _ _ i (refl, c.in_ok-bytes.ensures.both) _ _ _ _ v h) c.gate_from.ensures.printed
 
 pub returns-clause-part : goal.returns-clause-part
 returns-clause-part g c =

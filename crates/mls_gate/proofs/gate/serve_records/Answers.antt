@@ -4,7 +4,7 @@ use Rattle.mls_gate.specs.GateReport.{record_limit}
 use Rattle.mls_report.proofs.Outcomes.{IfErr-is}
 use Rattle.std.proofs.lemmas.Result.{IfOk-weaker}
 use Rattle.mls_gate.proofs.Answering.{there}
-use Rattle.mls_gate.proofs.Serving.{so_far-none, so_far-snoc, ready-snoc, told-last, part-record, part-read, told-end, told-broken, in-broken, write-part}
+use Rattle.mls_gate.proofs.Serving.{so_far-none, so_far-snoc, ready-snoc, printed-last, part-record, part-read, printed-end, printed-broken, in-broken, write-part}
 use Rattle.mls_gate.proofs.gate.serve_records.Goals as goal
 
 pub records-init : goal.records-init
@@ -28,31 +28,31 @@ returns-in_err-answer_record-in-Record-clause-part g c =
     IfErr-is c.from_residual-in_err-answer_record-in-Record.result _ c.in_err-answer_record-in-Record.field-0.0 (search rules)
     (part-record p _ _ _ _ _ _ _ (inv.0 p e) c.next_record.new.reader.body meets.1 below meets.3 meets.2 _ _ c.in_err-answer_record-in-Record.field-0.0 stops))
 
-pub returns-in-End-clause-told : goal.returns-in-End-clause-told
-returns-in-End-clause-told g c =
+pub returns-in-End-clause-printed : goal.returns-in-End-clause-printed
+returns-in-End-clause-printed g c =
     λ p e. (let inv = c.records.invariant in
     let meets = rw c.in-End.is at c.in_ok-next_record.ensures.meets in
-    told-end p _ _ _ _ _ _ _ _ (inv.0 p e) inv.2 c.end_verdict.result c.end_verdict.ensures meets.0 meets.1)
+    printed-end p _ _ _ _ _ _ _ _ (inv.0 p e) inv.2 c.end_verdict.result c.end_verdict.ensures meets.0 meets.1)
 
-pub returns-in-Broken-clause-told : goal.returns-in-Broken-clause-told
-returns-in-Broken-clause-told g c =
+pub returns-in-Broken-clause-printed : goal.returns-in-Broken-clause-printed
+returns-in-Broken-clause-printed g c =
     λ p e. (let inv = c.records.invariant in
     let meets = rw c.in-Broken.is at c.in_ok-next_record.ensures.meets in
-    IfOk-weaker c.tell_broken.result _ _ (λ v told. told-broken p _ _ _ _ _ _ _ _ (inv.0 p e) inv.2 meets.0 meets.1 meets.2 _ v told.0 told.1) c.tell_broken.ensures.told)
+    IfOk-weaker c.report_broken.result _ _ (λ v printed. printed-broken p _ _ _ _ _ _ _ _ (inv.0 p e) inv.2 meets.0 meets.1 meets.2 _ v printed.0 printed.1) c.report_broken.ensures.printed)
 
 pub returns-in-Broken-clause-part : goal.returns-in-Broken-clause-part
 returns-in-Broken-clause-part g c =
     λ p e. (let inv = c.records.invariant in
     let meets = rw c.in-Broken.is at c.in_ok-next_record.ensures.meets in
-    write-part c.tell_broken.result _ c.tell_broken.ensures.part (λ part. in-broken p _ _ _ _ _ _ _ _ (inv.0 p e) inv.2 meets.0 meets.1 meets.2 _ part) c.tell_broken.ensures.fault)
+    write-part c.report_broken.result _ c.report_broken.ensures.part (λ part. in-broken p _ _ _ _ _ _ _ _ (inv.0 p e) inv.2 meets.0 meets.1 meets.2 _ part) c.report_broken.ensures.fault)
 
-pub returns-then-branch-clause-told : goal.returns-then-branch-clause-told
-returns-then-branch-clause-told g c =
+pub returns-then-branch-clause-printed : goal.returns-then-branch-clause-printed
+returns-then-branch-clause-printed g c =
     λ p e. (let inv = c.records.invariant in
     let meets = rw c.in-Record.is at c.in_ok-next_record.ensures.meets in
     let below : c.records.n < record_limit = omega (arith, inv.2, meets.0) in
-    let told = rw c.body.ensures at c.in_ok-answer_record-in-Record.ensures.told in
-    told-last p _ _ _ _ _ _ _ (inv.0 p e) c.next_record.new.reader.body meets.1 below meets.3 meets.2 _ _ c.in_ok-answer_record-in-Record.field-0 c.if-branch.true told)
+    let printed = rw c.body.ensures at c.in_ok-answer_record-in-Record.ensures.printed in
+    printed-last p _ _ _ _ _ _ _ (inv.0 p e) c.next_record.new.reader.body meets.1 below meets.3 meets.2 _ _ c.in_ok-answer_record-in-Record.field-0 c.if-branch.true printed)
 
 pub records-preserved : goal.records-preserved
 records-preserved g c =
@@ -60,10 +60,10 @@ records-preserved g c =
     let meets = rw c.in-Record.is at c.in_ok-next_record.ensures.meets in
     let goes_on = rw c.in-Record.is at c.in_ok-next_record.ensures.goes_on in
     let below : c.records.n < record_limit = omega (arith, inv.2, meets.0) in
-    let told = rw c.body.ensures at c.in_ok-answer_record-in-Record.ensures.told in
+    let printed = rw c.body.ensures at c.in_ok-answer_record-in-Record.ensures.printed in
     let first = there _ c.requires.ready in (
-      λ p e. so_far-snoc p _ _ _ _ _ _ _ (inv.0 p e) c.next_record.new.reader.body meets.1 below meets.3 meets.2 _ _ c.in_ok-answer_record-in-Record.field-0 c.if-branch.false told,
-      ready-snoc first.0 _ _ _ _ _ _ _ (inv.0 first.0 first.1) c.next_record.new.reader.body meets.1 below meets.3 meets.2 _ _ c.in_ok-answer_record-in-Record.field-0 c.if-branch.false inv.1 told,
+      λ p e. so_far-snoc p _ _ _ _ _ _ _ (inv.0 p e) c.next_record.new.reader.body meets.1 below meets.3 meets.2 _ _ c.in_ok-answer_record-in-Record.field-0 c.if-branch.false printed,
+      ready-snoc first.0 _ _ _ _ _ _ _ (inv.0 first.0 first.1) c.next_record.new.reader.body meets.1 below meets.3 meets.2 _ _ c.in_ok-answer_record-in-Record.field-0 c.if-branch.false inv.1 printed,
       omega (arith, inv.2, goes_on.0),
       goes_on.1,
       search rules,

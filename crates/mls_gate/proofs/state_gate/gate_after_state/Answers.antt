@@ -11,8 +11,8 @@ use Rattle.mls_gate.proofs.state_gate.gate_after_state.Goals as goal
 pub serve-requires-clause-inputs : goal.serve-requires-clause-inputs
 serve-requires-clause-inputs g c = readable (OfState c.args.bytes.items) _ (record { state = state_of c.args.follower; resumed = c.requires.resumed; signatures_are = refl })
 
-pub returns-clause-told : goal.returns-clause-told
-returns-clause-told g c =
+pub returns-clause-printed : goal.returns-clause-printed
+returns-clause-printed g c =
     IfOk-weaker c.serve.result _ _ (λ v h. inr (record {
       i = OfState c.args.bytes.items;
       read = refl;
@@ -20,8 +20,8 @@ returns-clause-told g c =
       can_start = record { state = state_of c.args.follower; resumed = c.requires.resumed; signatures_are = refl };
       between = g.K.Sink.written c.write_state_query.new.out;
       wrote = c.in_ok-write_state_query.ensures.all;
-      tells = h;
-    })) c.serve.ensures.told
+      reports = h;
+    })) c.serve.ensures.printed
 
 pub returns-clause-part : goal.returns-clause-part
 returns-clause-part g c =
@@ -32,7 +32,7 @@ returns-clause-part g c =
       can_start = record { state = state_of c.args.follower; resumed = c.requires.resumed; signatures_are = refl };
       between = g.K.Sink.written c.write_state_query.new.out;
       wrote = c.in_ok-write_state_query.ensures.all;
-      tells = h;
+      reports = h;
     })) c.serve.ensures.part
 
 pub returns-in_err-write_state_query-clause-part : goal.returns-in_err-write_state_query-clause-part

@@ -2,12 +2,12 @@ use Rattle.std.proofs.Common.{rules}
 use Rattle.std.proofs.lemmas.Result.{IfOk-weaker, IfErr-weaker}
 use Rattle.mls_report.proofs.Outcomes.{IfErr-is}
 use Rattle.mls_gate.specs.Phases.{OfState}
-use Rattle.mls_gate.proofs.Starting.{told-read, part-read, part-unread}
+use Rattle.mls_gate.proofs.Starting.{printed-read, part-read, part-unread}
 use Rattle.mls_gate.proofs.state_gate.run_gate_state.Goals as goal
 
-pub returns-clause-told : goal.returns-clause-told
-returns-clause-told g c =
-    IfOk-weaker c.gate_from_state.result _ _ (λ v h. told-read _ _ (OfState c.in_ok-bytes.bytes.items) c.in_ok-bytes.ensures.all _ _ _ _ v h) c.gate_from_state.ensures.told
+pub returns-clause-printed : goal.returns-clause-printed
+returns-clause-printed g c =
+    IfOk-weaker c.gate_from_state.result _ _ (λ v h. printed-read _ _ (OfState c.in_ok-bytes.bytes.items) c.in_ok-bytes.ensures.all _ _ _ _ v h) c.gate_from_state.ensures.printed
 
 pub returns-clause-part : goal.returns-clause-part
 returns-clause-part g c =

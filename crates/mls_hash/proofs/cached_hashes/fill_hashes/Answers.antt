@@ -10,4 +10,4 @@ returns-clause-all c =
     λ other.
     let fresh = c.in_ok-reserve_hashes.ensures.fresh (λ e. other (e ∙ ap (λ k. Some k) c.kind.ensures.kind)) in
     let t = c.args.tree.now.tree in
-    omega (arith, c.empty_cells-empty.ensures.count, ap empty_count fresh, empty_count-fresh (2 * leaf_count t - 1), leaf_count-positive t)
+    omega (arith, c.empty_slots-empty.ensures.count, ap empty_count fresh, empty_count-fresh (2 * leaf_count t - 1), leaf_count-positive t)

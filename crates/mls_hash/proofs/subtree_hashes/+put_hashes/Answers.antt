@@ -11,7 +11,7 @@ pub put-requires : goal.put-requires
 put-requires t c =
     let part = rw c.in-Some-Leaf.field-0-is at c.in-Some-Leaf.ensures in
     record {
-      place = omega (arith, c.requires.count, inside_bound c.args.tree.now.tree c.args.place _ part);
+      slot = omega (arith, c.requires.count, inside_bound c.args.tree.now.tree c.args.node_index _ part);
       width = length-hashed c.args.suite _ _ c.in_ok-hash-in-Some-Leaf.ensures ∙ sym c.requires.width;
     }
 
@@ -19,45 +19,45 @@ pub put_hashes-requires-in-Some-Parent : goal.put_hashes-requires-in-Some-Parent
 put_hashes-requires-in-Some-Parent t c =
     let tree : RatchetTree = plain c.args.tree.now in
     let part = rw c.in-Some-Parent.field-0-is at c.in-Some-Parent.ensures in
-    (omega (arith, c.decreases, right_lower tree _ _ _ _ _ part), c.put_hashes.ensures.room)
+    (omega (arith, c.decreases, right_lower tree _ _ _ _ _ part), c.put_hashes.ensures.capacity)
 
 pub put-requires-in-Some-Parent : goal.put-requires-in-Some-Parent
 put-requires-in-Some-Parent t c =
     let part = rw c.in-Some-Parent.field-0-is at c.in-Some-Parent.ensures in
-    let room = c.put_hashes-in-Some-Parent.ensures.room in
+    let capacity = c.put_hashes-in-Some-Parent.ensures.capacity in
     record {
-      place = omega (arith, room.count, inside_bound c.args.tree.now.tree c.args.place _ part.whole);
-      width = length-hashed c.args.suite _ _ c.in_ok-hash-in-Some-Parent.ensures ∙ sym room.width;
+      slot = omega (arith, capacity.count, inside_bound c.args.tree.now.tree c.args.node_index _ part.whole);
+      width = length-hashed c.args.suite _ _ c.in_ok-hash-in-Some-Parent.ensures ∙ sym capacity.width;
     }
 
-pub returns-in_ok-hash-in-Some-Leaf-clause-room : goal.returns-in_ok-hash-in-Some-Leaf-clause-room
-returns-in_ok-hash-in-Some-Leaf-clause-room t c =
-    put_room c.args.suite c.args.tree.now.tree c.args.hashes.now c.put.new.self c.args.place c.in_ok-hash-in-Some-Leaf.hash c.requires c.put.ensures
+pub returns-in_ok-hash-in-Some-Leaf-clause-capacity : goal.returns-in_ok-hash-in-Some-Leaf-clause-capacity
+returns-in_ok-hash-in-Some-Leaf-clause-capacity t c =
+    put_room c.args.suite c.args.tree.now.tree c.args.hashes.now c.put.new.self c.args.node_index c.in_ok-hash-in-Some-Leaf.hash c.requires c.put.ensures
 
 pub returns-in_ok-hash-in-Some-Leaf-clause-kept : goal.returns-in_ok-hash-in-Some-Leaf-clause-kept
 returns-in_ok-hash-in-Some-Leaf-clause-kept t c =
     let part = rw c.in-Some-Leaf.field-0-is at c.in-Some-Leaf.ensures in
-    put_keeps (hash_of c.args.suite) c.args.tree.now.tree c.args.hashes.now.hashes c.put.new.self.hashes c.args.place c.in_ok-hash-in-Some-Leaf.hash
-    (omega (arith, c.requires.count, inside_bound c.args.tree.now.tree c.args.place _ part)) (ap (λ l. l.hashes) c.put.ensures)
-    (leaf_hashed (hash_of c.args.suite) c.args.tree.now.tree c.args.place _ _ (Ok c.in_ok-hash-in-Some-Leaf.hash) part c.in_ok-hash-in-Some-Leaf.ensures)
+    put_keeps (hash_of c.args.suite) c.args.tree.now.tree c.args.hashes.now.hashes c.put.new.self.hashes c.args.node_index c.in_ok-hash-in-Some-Leaf.hash
+    (omega (arith, c.requires.count, inside_bound c.args.tree.now.tree c.args.node_index _ part)) (ap (λ l. l.hashes) c.put.ensures)
+    (leaf_hashed (hash_of c.args.suite) c.args.tree.now.tree c.args.node_index _ _ (Ok c.in_ok-hash-in-Some-Leaf.hash) part c.in_ok-hash-in-Some-Leaf.ensures)
 
 pub returns-in_ok-hash-in-Some-Leaf-clause-put : goal.returns-in_ok-hash-in-Some-Leaf-clause-put
 returns-in_ok-hash-in-Some-Leaf-clause-put t c =
     let part = rw c.in-Some-Leaf.field-0-is at c.in-Some-Leaf.ensures in
-    leaf_put (hash_of c.args.suite) c.args.tree.now.tree c.args.hashes.now.hashes c.put.new.self.hashes c.args.place c.in_ok-hash-in-Some-Leaf.hash
-    (omega (arith, c.requires.count, inside_bound c.args.tree.now.tree c.args.place _ part)) (ap (λ l. l.hashes) c.put.ensures)
-    (leaf_hashed (hash_of c.args.suite) c.args.tree.now.tree c.args.place _ _ (Ok c.in_ok-hash-in-Some-Leaf.hash) part c.in_ok-hash-in-Some-Leaf.ensures) _ _ part
+    leaf_put (hash_of c.args.suite) c.args.tree.now.tree c.args.hashes.now.hashes c.put.new.self.hashes c.args.node_index c.in_ok-hash-in-Some-Leaf.hash
+    (omega (arith, c.requires.count, inside_bound c.args.tree.now.tree c.args.node_index _ part)) (ap (λ l. l.hashes) c.put.ensures)
+    (leaf_hashed (hash_of c.args.suite) c.args.tree.now.tree c.args.node_index _ _ (Ok c.in_ok-hash-in-Some-Leaf.hash) part c.in_ok-hash-in-Some-Leaf.ensures) _ _ part
 
-pub returns-in_ok-hash-in-Some-Parent-clause-room : goal.returns-in_ok-hash-in-Some-Parent-clause-room
-returns-in_ok-hash-in-Some-Parent-clause-room t c =
-    put_room c.args.suite c.args.tree.now.tree c.put_hashes-in-Some-Parent.new.hashes c.put-in-Some-Parent.new.self c.args.place c.in_ok-hash-in-Some-Parent.hash
-    c.put_hashes-in-Some-Parent.ensures.room c.put-in-Some-Parent.ensures
+pub returns-in_ok-hash-in-Some-Parent-clause-capacity : goal.returns-in_ok-hash-in-Some-Parent-clause-capacity
+returns-in_ok-hash-in-Some-Parent-clause-capacity t c =
+    put_room c.args.suite c.args.tree.now.tree c.put_hashes-in-Some-Parent.new.hashes c.put-in-Some-Parent.new.self c.args.node_index c.in_ok-hash-in-Some-Parent.hash
+    c.put_hashes-in-Some-Parent.ensures.capacity c.put-in-Some-Parent.ensures
 
 pub returns-in_ok-hash-in-Some-Parent-clause-hash :
     goal.returns-in_ok-hash-in-Some-Parent-clause-hash
 returns-in_ok-hash-in-Some-Parent-clause-hash t c =
     let part = rw c.in-Some-Parent.field-0-is at c.in-Some-Parent.ensures in
-    parent_hashed (hash_of c.args.suite) c.args.tree.now.tree c.args.place _ _ _ _ part _ c.in_ok-left-in-Some-Parent.left c.in_ok-right-in-Some-Parent.right
+    parent_hashed (hash_of c.args.suite) c.args.tree.now.tree c.args.node_index _ _ _ _ part _ c.in_ok-left-in-Some-Parent.left c.in_ok-right-in-Some-Parent.right
     (Ok c.in_ok-hash-in-Some-Parent.hash) c.empty.ensures c.in_ok-left-in-Some-Parent.ensures.hash c.in_ok-right-in-Some-Parent.ensures.hash c.in_ok-hash-in-Some-Parent.ensures
 
 pub returns-in_ok-hash-in-Some-Parent-clause-kept :
@@ -65,9 +65,9 @@ pub returns-in_ok-hash-in-Some-Parent-clause-kept :
 returns-in_ok-hash-in-Some-Parent-clause-kept t c =
     let part = rw c.in-Some-Parent.field-0-is at c.in-Some-Parent.ensures in
     λ q e.
-    put_keeps (hash_of c.args.suite) c.args.tree.now.tree c.put_hashes-in-Some-Parent.new.hashes.hashes c.put-in-Some-Parent.new.self.hashes c.args.place c.in_ok-hash-in-Some-Parent.hash
-    (omega (arith, c.put_hashes-in-Some-Parent.ensures.room.count, inside_bound c.args.tree.now.tree c.args.place _ part.whole)) (ap (λ l. l.hashes) c.put-in-Some-Parent.ensures)
-    (parent_hashed (hash_of c.args.suite) c.args.tree.now.tree c.args.place _ _ _ _ part _ c.in_ok-left-in-Some-Parent.left c.in_ok-right-in-Some-Parent.right
+    put_keeps (hash_of c.args.suite) c.args.tree.now.tree c.put_hashes-in-Some-Parent.new.hashes.hashes c.put-in-Some-Parent.new.self.hashes c.args.node_index c.in_ok-hash-in-Some-Parent.hash
+    (omega (arith, c.put_hashes-in-Some-Parent.ensures.capacity.count, inside_bound c.args.tree.now.tree c.args.node_index _ part.whole)) (ap (λ l. l.hashes) c.put-in-Some-Parent.ensures)
+    (parent_hashed (hash_of c.args.suite) c.args.tree.now.tree c.args.node_index _ _ _ _ part _ c.in_ok-left-in-Some-Parent.left c.in_ok-right-in-Some-Parent.right
     (Ok c.in_ok-hash-in-Some-Parent.hash) c.empty.ensures c.in_ok-left-in-Some-Parent.ensures.hash c.in_ok-right-in-Some-Parent.ensures.hash c.in_ok-hash-in-Some-Parent.ensures)
     q (c.in_ok-right-in-Some-Parent.ensures.kept q (c.in_ok-left-in-Some-Parent.ensures.kept q e))
 
@@ -75,9 +75,9 @@ pub returns-in_ok-hash-in-Some-Parent-clause-put :
     goal.returns-in_ok-hash-in-Some-Parent-clause-put
 returns-in_ok-hash-in-Some-Parent-clause-put t c =
     let part = rw c.in-Some-Parent.field-0-is at c.in-Some-Parent.ensures in
-    parent_put (hash_of c.args.suite) c.args.tree.now.tree c.put_hashes-in-Some-Parent.new.hashes.hashes c.put-in-Some-Parent.new.self.hashes c.args.place c.in_ok-hash-in-Some-Parent.hash
-    (omega (arith, c.put_hashes-in-Some-Parent.ensures.room.count, inside_bound c.args.tree.now.tree c.args.place _ part.whole)) (ap (λ l. l.hashes) c.put-in-Some-Parent.ensures)
-    (parent_hashed (hash_of c.args.suite) c.args.tree.now.tree c.args.place _ _ _ _ part _ c.in_ok-left-in-Some-Parent.left c.in_ok-right-in-Some-Parent.right
+    parent_put (hash_of c.args.suite) c.args.tree.now.tree c.put_hashes-in-Some-Parent.new.hashes.hashes c.put-in-Some-Parent.new.self.hashes c.args.node_index c.in_ok-hash-in-Some-Parent.hash
+    (omega (arith, c.put_hashes-in-Some-Parent.ensures.capacity.count, inside_bound c.args.tree.now.tree c.args.node_index _ part.whole)) (ap (λ l. l.hashes) c.put-in-Some-Parent.ensures)
+    (parent_hashed (hash_of c.args.suite) c.args.tree.now.tree c.args.node_index _ _ _ _ part _ c.in_ok-left-in-Some-Parent.left c.in_ok-right-in-Some-Parent.right
     (Ok c.in_ok-hash-in-Some-Parent.hash) c.empty.ensures c.in_ok-left-in-Some-Parent.ensures.hash c.in_ok-right-in-Some-Parent.ensures.hash c.in_ok-hash-in-Some-Parent.ensures)
     _ _ _ _ part
     (keep_under (hash_of c.args.suite) c.args.tree.now.tree c.put_hashes.new.hashes.hashes c.put_hashes-in-Some-Parent.new.hashes.hashes _ c.in_ok-right-in-Some-Parent.ensures.kept c.in_ok-left-in-Some-Parent.ensures.put)

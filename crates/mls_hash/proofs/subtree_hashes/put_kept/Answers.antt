@@ -9,40 +9,40 @@ use Rattle.mls_hash.proofs.Filling.{all_listed, put_here, put_keeps, put_room}
 use Rattle.mls_hash.proofs.Lengths.{length-tree_hash_at}
 use Rattle.mls_hash.proofs.subtree_hashes.put_kept.Goals as goal
 
-pub overflow_mul-place-end : goal.overflow_mul-place-end
-overflow_mul-place-end c = omega (arith, c.leaf_count.ensures, leaf_count-limit (plain c.args.tree.now))
+pub overflow_mul-node_index-end : goal.overflow_mul-node_index-end
+overflow_mul-node_index-end c = omega (arith, c.leaf_count.ensures, leaf_count-limit (plain c.args.tree.now))
 
-pub overflow_sub-place-end : goal.overflow_sub-place-end
-overflow_sub-place-end c = omega (arith, c.leaf_count.ensures, leaf_count-positive c.args.tree.now.tree)
+pub overflow_sub-node_index-end : goal.overflow_sub-node_index-end
+overflow_sub-node_index-end c = omega (arith, c.leaf_count.ensures, leaf_count-positive c.args.tree.now.tree)
 
 pub put-requires : goal.put-requires
 put-requires c =
-    let room = c.loop-place.invariant.room in
+    let capacity = c.loop-node_index.invariant.capacity in
     record {
-      place = omega (arith, room.count, c.loop-place-test.true, c.leaf_count.ensures);
-      width = length-tree_hash_at c.args.suite c.args.tree.now.tree c.loop-place.place c.in-Some.hash c.in-Some.ensures ∙ sym room.width;
+      slot = omega (arith, capacity.count, c.loop-node_index-test.true, c.leaf_count.ensures);
+      width = length-tree_hash_at c.args.suite c.args.tree.now.tree c.loop-node_index.node_index c.in-Some.hash c.in-Some.ensures ∙ sym capacity.width;
     }
 
-pub loop-place-preserved : goal.loop-place-preserved
-loop-place-preserved c =
+pub loop-node_index-preserved : goal.loop-node_index-preserved
+loop-node_index-preserved c =
     let H = hash_of c.args.suite in
     let t = c.args.tree.now.tree in
-    let old = c.loop-place.hashes in
+    let old = c.loop-node_index.hashes in
     let new = c.put.new.self in
-    let room = c.loop-place.invariant.room in
-    let under : c.loop-place.place < length old.hashes = omega (arith, room.count, c.loop-place-test.true, c.leaf_count.ensures) in
+    let capacity = c.loop-node_index.invariant.capacity in
+    let under : c.loop-node_index.node_index < length old.hashes = omega (arith, capacity.count, c.loop-node_index-test.true, c.leaf_count.ensures) in
     let is = ap (λ l. l.hashes) c.put.ensures in
     record {
-      room = put_room c.args.suite t old new c.loop-place.place c.in-Some.hash room c.put.ensures;
+      capacity = put_room c.args.suite t old new c.loop-node_index.node_index c.in-Some.hash capacity c.put.ensures;
       put = λ p lt.
-          elim (cases_order p c.loop-place.place) [
-            | inl at ↦ subst (λ q. IsSubtreeHashAt H t new.hashes q) (sym at) (put_here H t old.hashes new.hashes c.loop-place.place c.in-Some.hash under is c.in-Some.ensures)
-            | inr (inl less) ↦ put_keeps H t old.hashes new.hashes c.loop-place.place c.in-Some.hash under is c.in-Some.ensures p (c.loop-place.invariant.put p less)
+          elim (cases_order p c.loop-node_index.node_index) [
+            | inl at ↦ subst (λ q. IsSubtreeHashAt H t new.hashes q) (sym at) (put_here H t old.hashes new.hashes c.loop-node_index.node_index c.in-Some.hash under is c.in-Some.ensures)
+            | inr (inl less) ↦ put_keeps H t old.hashes new.hashes c.loop-node_index.node_index c.in-Some.hash under is c.in-Some.ensures p (c.loop-node_index.invariant.put p less)
             | inr (inr more) ↦ absurd (omega arith)
           ];
     }
 
 pub returns-clause-kept : goal.returns-clause-kept
 returns-clause-kept c =
-    all_listed (hash_of c.args.suite) c.args.tree.now.tree c.loop-place.hashes.hashes c.loop-place.invariant.room.count
-    (λ p lt. c.loop-place.invariant.put p (omega (arith, c.loop-place-test.false, c.leaf_count.ensures)))
+    all_listed (hash_of c.args.suite) c.args.tree.now.tree c.loop-node_index.hashes.hashes c.loop-node_index.invariant.capacity.count
+    (λ p lt. c.loop-node_index.invariant.put p (omega (arith, c.loop-node_index-test.false, c.leaf_count.ensures)))

@@ -15,5 +15,5 @@ hash_subtree-requires-in-Some-Parent t c =
 pub returns-in_ok-right-in-Some-Parent : goal.returns-in_ok-right-in-Some-Parent
 returns-in_ok-right-in-Some-Parent t c =
     let part = rw c.in-Some-Parent.field-0-is at c.in-Some-Parent.ensures in
-    parent_answer c.args.tree.now.tree c.args.place c.in-Some-Parent.left c.in-Some-Parent.right _ _ part (hash_of c.args.suite) c.args.left_out.now
+    parent_answer c.args.tree.now.tree c.args.node_index c.in-Some-Parent.left c.in-Some-Parent.right _ _ part (hash_of c.args.suite) c.args.left_out.now
     c.in_ok-left-in-Some-Parent.left c.in_ok-right-in-Some-Parent.right c.hash_parent.result c.in_ok-left-in-Some-Parent.ensures c.in_ok-right-in-Some-Parent.ensures c.hash_parent.ensures

@@ -12,5 +12,5 @@ returns-else-has_authenticated c = record { decoded = authenticated_foreign c.ar
 
 pub fault_found-requires : goal.fault_found-requires
 fault_found-requires c =
-    found c.judge_authenticated.result (passes is_members_authenticated (authenticated_content_at (at 0 c.args.bytes.now)) ≡ true) c.judge_authenticated.ensures
+    found c.check_authenticated.result (passes is_members_authenticated (authenticated_content_at (at 0 c.args.bytes.now)) ≡ true) c.check_authenticated.ensures
     (λ h. authenticated_is_in c.args.profile c.in-Ok.auth c.args.bytes.now c.in-Ok.ensures h (sym c.if-has_authenticated.ensures))

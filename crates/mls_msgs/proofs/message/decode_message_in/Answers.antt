@@ -11,5 +11,5 @@ returns-else-has_message-clause-decoded c =
 
 pub fault_found-requires : goal.fault_found-requires
 fault_found-requires c =
-    found c.judge_message.result (message_passes (message_at c.args.bytes.now) ≡ true) c.judge_message.ensures
+    found c.check_message.result (message_passes (message_at c.args.bytes.now) ≡ true) c.check_message.ensures
     (λ h. message_is_in c.args.profile c.in-Ok.message c.args.bytes.now c.in-Ok.ensures h (sym c.if-has_message.ensures))

@@ -11,5 +11,5 @@ returns-else-has_proposal c = record { decoded = proposal_foreign c.args.profile
 
 pub fault_found-requires : goal.fault_found-requires
 fault_found-requires c =
-    found c.judge_proposal.result (passes is_members_proposal (proposal_at c.new.result) ≡ true) c.judge_proposal.ensures
+    found c.check_proposal.result (passes is_members_proposal (proposal_at c.new.result) ≡ true) c.check_proposal.ensures
     (λ h. proposal_is_in c.args.profile c.in-Ok.proposal c.args.bytes.now c.in-Ok.ensures (rw c.new.ensures at h) (sym c.if-has_proposal.ensures))

@@ -1,12 +1,12 @@
-use Rattle.mls_nodes.specs.FilledTree.{filled-full, filled-room, filled-least, filled-front, filled-back}
+use Rattle.mls_nodes.specs.FilledTree.{filled-full, filled-capacity, filled-least, filled-front, filled-back}
 use Rattle.mls_nodes.proofs.Trimming.{tree_again_trimmed}
 use Rattle.mls_nodes.proofs.laws.filling.Goals as goal
 
 pub returns-clause-full : goal.returns-clause-full
 returns-clause-full c = filled-full
 
-pub returns-clause-room : goal.returns-clause-room
-returns-clause-room c = filled-room
+pub returns-clause-capacity : goal.returns-clause-capacity
+returns-clause-capacity c = filled-capacity
 
 pub returns-clause-least : goal.returns-clause-least
 returns-clause-least c = filled-least

@@ -34,11 +34,11 @@ messages-preserved g c =
     let meets = rw c.in-Record.is at c.in_ok-next_record.ensures.meets in
     let goes_on = rw c.in-Record.is at c.in_ok-next_record.ensures.goes_on in
     let below : length so_far.0 < message_limit = omega (arith, so_far.3, meets.0) in
-    let told = rw (c.body.ensures, c.messages.invariant.1) at c.in_ok-is_accepted-in-Record.ensures.told in
-    let t : ProcessedMessage = record { bytes = c.next_record.new.reader.body; answer = told.answer; state = state_of c.write_message_line.new.follower } in
-    let more = so_far-snoc _ _ _ _ _ _ _ _ so_far.0 (state_of c.messages.follower) c.messages.n c.next_record.new.reader.body meets.1 (state_of c.write_message_line.new.follower) c.in_ok-is_accepted-in-Record.is_accepted so_far.1 so_far.2 below meets.3 meets.2 told in
+    let printed = rw (c.body.ensures, c.messages.invariant.1) at c.in_ok-is_accepted-in-Record.ensures.printed in
+    let t : ProcessedMessage = record { bytes = c.next_record.new.reader.body; answer = printed.answer; state = state_of c.write_message_line.new.follower } in
+    let more = so_far-snoc _ _ _ _ _ _ _ _ so_far.0 (state_of c.messages.follower) c.messages.n c.next_record.new.reader.body meets.1 (state_of c.write_message_line.new.follower) c.in_ok-is_accepted-in-Record.is_accepted so_far.1 so_far.2 below meets.3 meets.2 printed in
     let size : length (so_far.0 ++ t ∷ []) ≡ length so_far.0 + 1 = length-append so_far.0 (t ∷ []) in
-    let accepted = accepted-more so_far.0 t c.messages.tally.accepted c.count.new.self.accepted c.in_ok-is_accepted-in-Record.is_accepted so_far.4 told.counted c.count.ensures.accepted in (
+    let accepted = accepted-more so_far.0 t c.messages.tally.accepted c.count.new.self.accepted c.in_ok-is_accepted-in-Record.is_accepted so_far.4 printed.counted c.count.ensures.accepted in (
       (so_far.0 ++ t ∷ [], more, omega (arith, size, so_far.2), omega (arith, size, so_far.3, goes_on.0), accepted, omega (arith, size, so_far.5, c.count.ensures.all)),
       c.write_message_line.ensures.checker ∙ c.messages.invariant.1,
       goes_on.1,

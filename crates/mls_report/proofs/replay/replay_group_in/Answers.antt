@@ -8,13 +8,13 @@ use Rattle.mls_report.proofs.replay.replay_group_in.Goals as goal
 
 pub returns-in-Ok-clause-replayed : goal.returns-in-Ok-clause-replayed
 returns-in-Ok-clause-replayed g c =
-    IfOk-weaker c.replay_log.result _ _ (λ r h. group-to _ _ _ _ _ _ _ _ c.in_ok-bytes.ensures.both _ c.in-Ok.ensures.checker _ c.in-Ok.ensures.started _ _ _ _ _ _ h) c.replay_log.ensures.told
+    IfOk-weaker c.replay_log.result _ _ (λ r h. group-to _ _ _ _ _ _ _ _ c.in_ok-bytes.ensures.both _ c.in-Ok.ensures.checker _ c.in-Ok.ensures.started _ _ _ _ _ _ h) c.replay_log.ensures.printed
 
 pub returns-in-Err-clause-replayed : goal.returns-in-Err-clause-replayed
 returns-in-Err-clause-replayed g c =
     IfOk-both c.replay_nothing.result _ _ _
-    (λ r told none. group-none _ _ _ _ _ _ _ _ c.in_ok-bytes.ensures.both c.in-Err.failure c.in-Err.ensures.refused _ _ _ _ _ (ap (option_map (λ f. state_of f)) none) told)
-    c.replay_nothing.ensures.told c.replay_nothing.ensures.none
+    (λ r printed none. group-none _ _ _ _ _ _ _ _ c.in_ok-bytes.ensures.both c.in-Err.failure c.in-Err.ensures.refused _ _ _ _ _ (ap (option_map (λ f. state_of f)) none) printed)
+    c.replay_nothing.ensures.printed c.replay_nothing.ensures.none
 
 pub returns-in-Err-clause-part : goal.returns-in-Err-clause-part
 returns-in-Err-clause-part g c =

@@ -5,7 +5,7 @@ use Rattle.mls_report.proofs.replay.replay_state.Goals as goal
 pub returns-in-Ok-clause-replayed : goal.returns-in-Ok-clause-replayed
 returns-in-Ok-clause-replayed g c =
     let resumed = rw c.as_slice.ensures.value at c.in-Ok.ensures.resumed in
-    IfOk-weaker c.replay_log.result _ _ (λ r h. state-to _ _ _ _ c.in_ok-bytes.ensures.all _ c.in-Ok.ensures.checker _ resumed _ _ _ _ _ _ h) c.replay_log.ensures.told
+    IfOk-weaker c.replay_log.result _ _ (λ r h. state-to _ _ _ _ c.in_ok-bytes.ensures.all _ c.in-Ok.ensures.checker _ resumed _ _ _ _ _ _ h) c.replay_log.ensures.printed
 
 pub returns-clause-part : goal.returns-clause-part
 returns-clause-part g c =

@@ -5,15 +5,15 @@ use Rattle.mls_nodes.specs.declared.context.GroupContext.{GroupContext}
 use Rattle.mls_report.specs.Replay.{last_lines}
 use Rattle.mls_report.specs.declared.verdict.RunFault.TheVariants.{Write}
 use Rattle.mls_report.proofs.Outcomes.{IfErr-is}
-use Rattle.mls_report.proofs.Replaying.{part-ending, told-log}
+use Rattle.mls_report.proofs.Replaying.{part-ending, printed-log}
 use Rattle.mls_report.proofs.replay.write_log_report.Goals as goal
 
-pub returns-clause-told : goal.returns-clause-told
-returns-clause-told g c =
+pub returns-clause-printed : goal.returns-clause-printed
+returns-clause-printed g c =
     let tally = c.follow_log.new.tally in
     let epoch = ap (λ (x : GroupContext). x.epoch) c.context.ensures in
     let text = c.as_str.ensures.value ∙ c.in_ok-text.ensures ∙ ap (λ k. last_lines c.in_ok-is_broken.is_broken tally.accepted tally.refused k) epoch in
-    told-log _ _ _ _ _ _ _ _ _ _ _ _ c.in_ok-is_broken.ensures.followed (subst (Appends _ _) text c.in_ok-write_text.ensures.all) c.verdict_of.ensures
+    printed-log _ _ _ _ _ _ _ _ _ _ _ _ c.in_ok-is_broken.ensures.followed (subst (Appends _ _) text c.in_ok-write_text.ensures.all) c.verdict_of.ensures
 
 pub returns-in_err-write_text-clause-part : goal.returns-in_err-write_text-clause-part
 returns-in_err-write_text-clause-part g c =

@@ -14,8 +14,8 @@ returns-in_err-write_text-clause-part g c =
       wrote = search rules;
     })
 
-pub returns-clause-told : goal.returns-clause-told
-returns-clause-told g c = record {
+pub returns-clause-printed : goal.returns-clause-printed
+returns-clause-printed g c = record {
   answer = c.take-answer.result;
   is_answer = let t = c.take-answer.ensures in answered _ _ _ c.take-answer.result _ t.accepted t.next t.refused t.stays (first_of (search rules, grind arith));
   counted = search rules;

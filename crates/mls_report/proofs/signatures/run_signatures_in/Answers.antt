@@ -1,23 +1,23 @@
 use Rattle.std.proofs.Common.{rules}
 use Rattle.std.proofs.lemmas.Result.{IfOk-weaker, IfErr-weaker}
-use Rattle.mls_report.proofs.AskedStarts.{report-behind, part-behind, report-declined, part-declined, part-unread, reads-start, reads-declines}
+use Rattle.mls_report.proofs.SignatureStarts.{report-behind, part-behind, report-declined, part-declined, part-unread, reads-start, reads-declines}
 use Rattle.mls_report.proofs.Outcomes.{IfErr-is}
 use Rattle.mls_report.proofs.signatures.run_signatures_in.Goals as goal
 
-pub returns-in-Ok-clause-told : goal.returns-in-Ok-clause-told
-returns-in-Ok-clause-told g c =
+pub returns-in-Ok-clause-printed : goal.returns-in-Ok-clause-printed
+returns-in-Ok-clause-printed g c =
     let starts = reads-start _ _ _ _ _ _ _ c.in_ok-bytes.ensures.both _ _ c.in-Ok.ensures.starts in
-    IfOk-weaker c.tell_started-verdict.result _ _ (λ v h. report-behind _ _ _ _ _ starts _ _ _ _ v h) c.tell_started-verdict.ensures.told
+    IfOk-weaker c.report_started-verdict.result _ _ (λ v h. report-behind _ _ _ _ _ starts _ _ _ _ v h) c.report_started-verdict.ensures.printed
 
 pub returns-in-Ok-clause-part : goal.returns-in-Ok-clause-part
 returns-in-Ok-clause-part g c =
     let starts = reads-start _ _ _ _ _ _ _ c.in_ok-bytes.ensures.both _ _ c.in-Ok.ensures.starts in
-    IfErr-weaker c.tell_started-verdict.result _ _ (λ e h. part-behind _ _ _ _ _ starts _ _ _ _ e h) c.tell_started-verdict.ensures.part
+    IfErr-weaker c.report_started-verdict.result _ _ (λ e h. part-behind _ _ _ _ _ starts _ _ _ _ e h) c.report_started-verdict.ensures.part
 
-pub returns-in-Err-clause-told : goal.returns-in-Err-clause-told
-returns-in-Err-clause-told g c =
+pub returns-in-Err-clause-printed : goal.returns-in-Err-clause-printed
+returns-in-Err-clause-printed g c =
     let declines = reads-declines _ _ _ _ _ _ _ c.in_ok-bytes.ensures.both c.in-Err.failure c.in-Err.ensures.refused in
-    IfOk-weaker c.decline.result _ _ (λ v h. report-declined _ _ _ (λ f d. d.verdict) c.in-Err.failure declines _ _ _ v h) c.decline.ensures.told
+    IfOk-weaker c.decline.result _ _ (λ v h. report-declined _ _ _ (λ f d. d.verdict) c.in-Err.failure declines _ _ _ v h) c.decline.ensures.printed
 
 pub returns-in-Err-clause-part : goal.returns-in-Err-clause-part
 returns-in-Err-clause-part g c =

@@ -1,6 +1,6 @@
 use Rattle.std.proofs.Common.{rules}
 use Rattle.std.proofs.lemmas.Result.{IfOk-weaker, IfErr-weaker}
-use Rattle.mls_report.proofs.AskedStarts.{report-behind, part-behind, report-declined, part-declined, part-unread, reads-state, reads-declines-state}
+use Rattle.mls_report.proofs.SignatureStarts.{report-behind, part-behind, report-declined, part-declined, part-unread, reads-state, reads-declines-state}
 use Rattle.mls_report.proofs.Outcomes.{IfErr-is}
 use Rattle.mls_report.proofs.signatures.run_signatures_state.Goals as goal
 
@@ -8,19 +8,19 @@ pub returns-in-Ok-clause-reported : goal.returns-in-Ok-clause-reported
 returns-in-Ok-clause-reported g c =
     let resumed = rw c.as_slice.ensures.value at c.in-Ok.ensures.resumed in
     let starts = reads-state _ _ _ c.in_ok-bytes.ensures.all _ resumed in
-    IfOk-weaker c.tell_resumed-verdict.result _ _ (λ v h. report-behind _ _ _ _ _ starts _ _ _ _ v h) c.tell_resumed-verdict.ensures.reported
+    IfOk-weaker c.report_resumed-verdict.result _ _ (λ v h. report-behind _ _ _ _ _ starts _ _ _ _ v h) c.report_resumed-verdict.ensures.reported
 
 pub returns-in-Ok-clause-part : goal.returns-in-Ok-clause-part
 returns-in-Ok-clause-part g c =
     let resumed = rw c.as_slice.ensures.value at c.in-Ok.ensures.resumed in
     let starts = reads-state _ _ _ c.in_ok-bytes.ensures.all _ resumed in
-    IfErr-weaker c.tell_resumed-verdict.result _ _ (λ e h. part-behind _ _ _ _ _ starts _ _ _ _ e h) c.tell_resumed-verdict.ensures.part
+    IfErr-weaker c.report_resumed-verdict.result _ _ (λ e h. part-behind _ _ _ _ _ starts _ _ _ _ e h) c.report_resumed-verdict.ensures.part
 
 pub returns-clause-reported : goal.returns-clause-reported
 returns-clause-reported g c =
     let refused = rw c.as_slice.ensures.value at c.in-Err.ensures.refused in
     let declines = reads-declines-state _ _ _ c.in_ok-bytes.ensures.all c.in-Err.failure refused in
-    IfOk-weaker c.decline.result _ _ (λ v h. report-declined _ _ _ (λ f d. d.verdict) c.in-Err.failure declines _ _ _ v h) c.decline.ensures.told
+    IfOk-weaker c.decline.result _ _ (λ v h. report-declined _ _ _ (λ f d. d.verdict) c.in-Err.failure declines _ _ _ v h) c.decline.ensures.printed
 
 pub returns-clause-part : goal.returns-clause-part
 returns-clause-part g c =

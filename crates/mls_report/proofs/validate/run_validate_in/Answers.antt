@@ -5,11 +5,11 @@ use Rattle.mls_report.proofs.Outcomes.{read-nothing}
 use Rattle.mls_report.proofs.validate.run_validate_in.Goals as goal
 
 pub returns-clause-read : goal.returns-clause-read
-returns-clause-read g c = read-nothing c.tell.result c.tell.ensures.fault (λ failed. let read = c.in_ok-bytes.ensures.read.1 failed in absurd cc)
+returns-clause-read g c = read-nothing c.report_finding.result c.report_finding.ensures.fault (λ failed. let read = c.in_ok-bytes.ensures.read.1 failed in absurd cc)
 
 pub returns-clause-validated : goal.returns-clause-validated
 returns-clause-validated g c =
-    IfOk-weaker c.tell.result _ _ (λ verdict told. record {
+    IfOk-weaker c.report_finding.result _ _ (λ verdict printed. record {
       finding = c.in_ok-finding.finding;
       found = record {
         info_bytes = c.in_ok-bytes.bytes.info.items;
@@ -17,13 +17,13 @@ returns-clause-validated g c =
         read = c.in_ok-bytes.ensures.both;
         found = c.in_ok-finding.ensures.found;
       };
-      wrote = told.0;
-      verdict_is = told.1;
-    }) c.tell.ensures.told
+      wrote = printed.0;
+      verdict_is = printed.1;
+    }) c.report_finding.ensures.printed
 
 pub returns-clause-part : goal.returns-clause-part
 returns-clause-part g c =
-    on_err_weaker c.tell.result (λ told. inr (record {
+    on_err_weaker c.report_finding.result (λ printed. inr (record {
       finding = c.in_ok-finding.finding;
       found = record {
         info_bytes = c.in_ok-bytes.bytes.info.items;
@@ -31,5 +31,5 @@ returns-clause-part g c =
         read = c.in_ok-bytes.ensures.both;
         found = c.in_ok-finding.ensures.found;
       };
-      wrote = told;
-    })) c.tell.ensures.part
+      wrote = printed;
+    })) c.report_finding.ensures.part

@@ -5,7 +5,7 @@ use Rattle.mls_report.proofs.validate_tree.run_validate_tree.Goals as goal
 pub returns-clause-validated : goal.returns-clause-validated
 returns-clause-validated g c =
     let found = rw c.as_slice.ensures.value at c.in_ok-finding.ensures.found in
-    IfOk-weaker c.tell.result _ _ (λ verdict told. record {
+    IfOk-weaker c.report_finding.result _ _ (λ verdict printed. record {
       finding = c.in_ok-finding.finding;
       found = record {
         context_bytes = c.in_ok-context_bytes.context_bytes.items;
@@ -14,14 +14,14 @@ returns-clause-validated g c =
         tree_read = c.in_ok-tree_bytes.ensures.all;
         found = found;
       };
-      wrote = told.0;
-      verdict_is = told.1;
-    }) c.tell.ensures.told
+      wrote = printed.0;
+      verdict_is = printed.1;
+    }) c.report_finding.ensures.printed
 
 pub returns-clause-part : goal.returns-clause-part
 returns-clause-part g c =
     let found = rw c.as_slice.ensures.value at c.in_ok-finding.ensures.found in
-    on_err_weaker c.tell.result (λ told. inr (record {
+    on_err_weaker c.report_finding.result (λ printed. inr (record {
       finding = c.in_ok-finding.finding;
       found = record {
         context_bytes = c.in_ok-context_bytes.context_bytes.items;
@@ -30,5 +30,5 @@ returns-clause-part g c =
         tree_read = c.in_ok-tree_bytes.ensures.all;
         found = found;
       };
-      wrote = told;
-    })) c.tell.ensures.part
+      wrote = printed;
+    })) c.report_finding.ensures.part

@@ -4,13 +4,13 @@ use Rattle.mls_tree.specs.NodeArray.{tree_in}
 use Rattle.mls_tree.specs.CountsModel.{AreCountsIfAny}
 use Rattle.mls_tree.specs.declared.subtree_counts.Count.{Count}
 use Rattle.mls_tree.proofs.Arrays.{leaf_count-tree_in}
-use Rattle.mls_tree.proofs.CountsRead.{has_set_leaf-counted}
+use Rattle.mls_tree.proofs.CountsRead.{has_set_leaf-subtree_count}
 use Rattle.mls_tree.proofs.blanks.counts_set_leaf.Goals as goal
 
-pub count_of-requires-clause-room : goal.count_of-requires-clause-room
-count_of-requires-clause-room c =
+pub count_of-requires-clause-capacity : goal.count_of-requires-clause-capacity
+count_of-requires-clause-capacity c =
     let ok = subst (λ o. AreCountsIfAny (option_copied o) c.args.first (tree_in c.args.nodes.now c.args.level c.args.first)) c.in-Some.is c.requires.counts in
-    let room = ok.0 in
+    let capacity = ok.0 in
     omega (arith, leaf_count-tree_in c.args.nodes.now c.args.level c.args.first)
 
 pub count_of-requires-clause-counts : goal.count_of-requires-clause-counts
@@ -19,4 +19,4 @@ count_of-requires-clause-counts c =
     ok.1
 
 pub returns-in-Some : goal.returns-in-Some
-returns-in-Some c = ap (λ (v : Count). nat_lt 0 v.members) c.count_of.ensures ∙ sym (has_set_leaf-counted (tree_in c.args.nodes.now c.args.level c.args.first))
+returns-in-Some c = ap (λ (v : Count). nat_lt 0 v.members) c.count_of.ensures ∙ sym (has_set_leaf-subtree_count (tree_in c.args.nodes.now c.args.level c.args.first))

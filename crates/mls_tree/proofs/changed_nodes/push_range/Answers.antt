@@ -1,5 +1,5 @@
 use Rattle.std.proofs.Common.{arith}
-use Rattle.mls_tree.proofs.ChangedPlaces.{range-pushed}
+use Rattle.mls_tree.proofs.ChangedNodeIndices.{range-pushed}
 use Rattle.mls_tree.proofs.changed_nodes.push_range.Goals as goal
 
 pub loop-offset-preserved : goal.loop-offset-preserved

@@ -7,10 +7,10 @@ use Rattle.mls_tree.proofs.Arrays.{leaf_count-tree_in}
 use Rattle.mls_tree.proofs.CountsRead.{resolution-none}
 use Rattle.mls_tree.proofs.resolution_len.is_counted_empty.Goals as goal
 
-pub count_of-requires-clause-room : goal.count_of-requires-clause-room
-count_of-requires-clause-room c =
+pub count_of-requires-clause-capacity : goal.count_of-requires-clause-capacity
+count_of-requires-clause-capacity c =
     let ok = subst (λ o. AreCountsIfAny (option_copied o) c.args.first (tree_in c.args.nodes.now c.args.level c.args.first)) c.in-Some.is c.requires.counts in
-    let room = ok.0 in
+    let capacity = ok.0 in
     omega (arith, leaf_count-tree_in c.args.nodes.now c.args.level c.args.first)
 
 pub count_of-requires-clause-counts : goal.count_of-requires-clause-counts

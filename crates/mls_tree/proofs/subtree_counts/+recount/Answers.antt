@@ -28,7 +28,7 @@ pub add_up-requires-clause-right : goal.add_up-requires-clause-right
 add_up-requires-clause-right t c =
     let e = c.leaves_of.ensures.value in
     subst (λ k. AreCounts (c.args.first + k) (tree_in c.args.nodes.now (c.args.level - 1) (c.args.first + k)) c.recount.new.counts) e
-    (kept-far c.args.nodes.now c.args.first c.leaves_of.result c.args.level c.if-level-eq0.false e c.args.counts.now c.recount.new.counts c.recount.ensures.kept
+    (kept-far c.args.nodes.now c.args.first c.leaves_of.result c.args.level c.if-level-eq0.false e c.args.counts.now c.recount.new.counts c.recount.ensures.preserved
     (beside-left c.args.nodes.now c.args.first c.leaves_of.result c.args.level c.if-level-eq0.false e c.args.counts.now c.args.leaf c.if-leaf-middle.true c.requires.beside).1)
 
 pub recount-requires-else-leaf-middle : goal.recount-requires-else-leaf-middle
@@ -53,5 +53,5 @@ recount-requires-else-leaf-middle t c =
 pub add_up-requires-else-leaf-middle-clause-left : goal.add_up-requires-else-leaf-middle-clause-left
 add_up-requires-else-leaf-middle-clause-left t c =
     kept-near c.args.nodes.now c.args.first c.leaves_of.result c.args.level c.if-level-eq0.false c.leaves_of.ensures.value c.args.counts.now c.recount-else-leaf-middle.new.counts
-    c.recount-else-leaf-middle.ensures.kept
+    c.recount-else-leaf-middle.ensures.preserved
     (beside-right c.args.nodes.now c.args.first c.leaves_of.result c.args.level c.if-level-eq0.false c.leaves_of.ensures.value c.args.counts.now c.args.leaf c.if-leaf-middle.false c.requires.beside).0

@@ -2,7 +2,7 @@ use Rattle.std.proofs.Common.{◌+◌, ◌-◌, ◌∙◌, ap, sym, subst, refl,
 use Rattle.mls_tree.specs.NodeArray.{tree_in}
 use Rattle.mls_tree.specs.SubtreeCounts.{AreCounts, parent_weight}
 use Rattle.mls_tree.proofs.Walking.{leaves_at-split, parent-found}
-use Rattle.mls_tree.proofs.Counting.{sums-low, added-kept, added-counts, sum-counted}
+use Rattle.mls_tree.proofs.Counting.{sums-low, added-kept, added-counts, sum-subtree_count}
 use Rattle.mls_tree.proofs.subtree_counts.add_up.Goals as goal
 
 pub overflow_add-counts : goal.overflow_add-counts
@@ -28,14 +28,14 @@ overflow_add-counts-3 c =
 
 pub returns-clause-counts : goal.returns-clause-counts
 returns-clause-counts c =
-    added-counts c.args.nodes.now c.args.first c.leaves_of.result c.args.level c.requires.deep c.leaves_of.ensures.value c.args.counts.now _ _ c.requires.room refl
-    (sum-counted c.args.nodes.now c.args.first c.leaves_of.result c.args.level c.requires.deep c.leaves_of.ensures.value c.count_of-left.result c.count_of-right.result c.weight-own.result
+    added-counts c.args.nodes.now c.args.first c.leaves_of.result c.args.level c.requires.deep c.leaves_of.ensures.value c.args.counts.now _ _ c.requires.capacity refl
+    (sum-subtree_count c.args.nodes.now c.args.first c.leaves_of.result c.args.level c.requires.deep c.leaves_of.ensures.value c.count_of-left.result c.count_of-right.result c.weight-own.result
     c.count_of-left.ensures c.count_of-right.ensures
     (c.weight-own.ensures
     ∙ ap parent_weight (sym (parent-found c.args.nodes.now _ c.index-nodes-middle.result
     (omega (arith, leaves_at-split _ _ c.requires.deep c.leaves_of.ensures.value, c.requires.long, c.leaves_of.ensures.positive)) c.index-nodes-middle.is))))
     c.requires.left (subst (λ k. AreCounts (c.args.first + k) (tree_in c.args.nodes.now (c.args.level - 1) (c.args.first + k)) c.args.counts.now) (sym c.leaves_of.ensures.value) c.requires.right)
 
-pub returns-clause-kept : goal.returns-clause-kept
-returns-clause-kept c =
-    added-kept c.args.nodes.now c.args.first c.leaves_of.result c.args.level c.requires.deep c.leaves_of.ensures.value c.args.counts.now _ _ c.requires.room refl
+pub returns-clause-preserved : goal.returns-clause-preserved
+returns-clause-preserved c =
+    added-kept c.args.nodes.now c.args.first c.leaves_of.result c.args.level c.requires.deep c.leaves_of.ensures.value c.args.counts.now _ _ c.requires.capacity refl

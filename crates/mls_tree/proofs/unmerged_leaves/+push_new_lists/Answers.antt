@@ -2,7 +2,7 @@ use Rattle.std.proofs.Common.{ap, ◌∙◌, sym, arith, refl}
 use Rattle.std.specs.Prelude.{option_copied}
 use Rattle.mls_tree.specs.TreeOperations.{is_overfilled}
 use Rattle.mls_tree.proofs.Walking.{leaves_at-split, parent-found}
-use Rattle.mls_tree.proofs.Lists.{new_lists-pushed_left, new_lists-pushed_right, room-here, room-near, room-far, is_overfilled-room}
+use Rattle.mls_tree.proofs.Lists.{new_lists-pushed_left, new_lists-pushed_right, capacity-here, capacity-near, capacity-far, is_overfilled-capacity}
 use Rattle.mls_tree.proofs.unmerged_leaves.+push_new_lists.Goals as goal
 use Rattle.mls_tree.proofs.unmerged_leaves.+push_new_lists.Goals.{then-leaf-middle+in_ok-push_new_lists, else-leaf-middle+in_ok-push_new_lists-2}
 
@@ -16,7 +16,7 @@ push_new_lists-requires t c =
           omega (arith, s, c.requires.inside, c.leaves_of.ensures.value),
           (
             omega (arith, s, c.requires.long, c.leaves_of.ensures.value),
-            room-near c.args.nodes.now c.args.first c.leaves_of.result c.args.level c.if-level-eq0.false c.leaves_of.ensures.value c.args.leaf c.requires.fits c.if-leaf-middle.true,
+            capacity-near c.args.nodes.now c.args.first c.leaves_of.result c.args.level c.if-level-eq0.false c.leaves_of.ensures.value c.args.leaf c.requires.fits c.if-leaf-middle.true,
           ),
         ),
       ),
@@ -32,7 +32,7 @@ push_new_lists-requires-else-leaf-middle t c =
           omega (arith, s, c.requires.inside, c.leaves_of.ensures.value),
           (
             omega (arith, s, c.requires.long, c.leaves_of.ensures.value),
-            room-far c.args.nodes.now c.args.first c.leaves_of.result c.args.level c.if-level-eq0.false c.leaves_of.ensures.value c.args.leaf c.requires.fits c.if-leaf-middle.false,
+            capacity-far c.args.nodes.now c.args.first c.leaves_of.result c.args.level c.if-level-eq0.false c.leaves_of.ensures.value c.args.leaf c.requires.fits c.if-leaf-middle.false,
           ),
         ),
       ),
@@ -43,9 +43,9 @@ with_number-requires t c =
     let at = parent-found c.args.nodes.now _ c.index-nodes-middle.result
     (omega (arith, leaves_at-split _ _ c.if-level-eq0.false c.leaves_of.ensures.value, c.requires.long, c.leaves_of.ensures.positive))
     c.index-nodes-middle.is ∙ sym c.as_parent.ensures ∙ ap (λ o. option_copied o) c.in-Some.is in
-    is_overfilled-room c.args.leaf c.in-Some.parent.now
+    is_overfilled-capacity c.args.leaf c.in-Some.parent.now
     (sym (ap (λ p. is_overfilled c.args.leaf p) at)
-    ∙ room-here c.args.nodes.now c.args.first c.leaves_of.result c.args.level c.if-level-eq0.false c.leaves_of.ensures.value c.args.leaf c.requires.fits)
+    ∙ capacity-here c.args.nodes.now c.args.first c.leaves_of.result c.args.level c.if-level-eq0.false c.leaves_of.ensures.value c.args.leaf c.requires.fits)
 
 pub returns-in_ok-push-in-Some : goal.returns-in_ok-push-in-Some
 returns-in_ok-push-in-Some t c =

@@ -21,7 +21,7 @@ loop-entry-preserved c = record {
       let rest = ap items_view c.in-Some.ensures.cases.0 in
       let E = IsEntry (relation c.args.column) t.tree in
       let here = (c.is_entry.ensures t e).0 c.if-not-is_entry.false in (
-        λ h. (subst (λ (vs : Items). AreEntries E c.args.leaves c.loop-entry.place vs) rest (all.0 h)).1,
-        λ h. all.1 (subst (λ (vs : Items). AreEntries E c.args.leaves c.loop-entry.place vs) (sym rest) (here, h)),
+        λ h. (subst (λ (vs : Items). AreEntries E c.args.leaves c.loop-entry.node_index vs) rest (all.0 h)).1,
+        λ h. all.1 (subst (λ (vs : Items). AreEntries E c.args.leaves c.loop-entry.node_index vs) (sym rest) (here, h)),
       );
 }

@@ -10,10 +10,10 @@ use Rattle.mls_vectors.proofs.tree_math.are_entries.Given as goal
 -- what is asked of all entries is asked of those that are left
 abbrev pub invariant-loop-entry : goal.invariant-loop-entry
 invariant-loop-entry l = record {
-  left : l.place + length l.rest + 1 ≡ 2 * l.leaves;
+  left : l.node_index + length l.rest + 1 ≡ 2 * l.leaves;
   same : (t : RatchetTree) → leaf_count t.tree ≡ l.leaves
       → (AreEntries (IsEntry (relation l.column) t.tree) l.leaves 0 (items_view l.entries)
-      ↔ AreEntries (IsEntry (relation l.column) t.tree) l.leaves l.place (items_view l.rest));
+      ↔ AreEntries (IsEntry (relation l.column) t.tree) l.leaves l.node_index (items_view l.rest));
 }
 
 abbrev pub decreases-loop-entry : goal.decreases-loop-entry

@@ -25,7 +25,7 @@ unapplied items t fault cases other leaf many =
 pub returns-in_default : goal.returns-in_default
 returns-in_default c =
     let tree : RatchetTree = plain c.args.tree.now in
-    let none = unapplied c.from_ref.result.now tree.tree c.in-Err.fault c.in-Err.ensures.else_memory c.in_default.not-OutOfMemory
+    let none = unapplied c.from_ref.result.now tree.tree c.in-Err.fault c.in-Err.ensures.possible_errors c.in_default.not-OutOfMemory
     (λ e. c.in-Err.ensures.no_such_leaf (ap (λ (f : ApplyFault). Err f) e))
     (λ e. (c.in-Err.ensures.too_many_leaves (ap (λ (f : ApplyFault). Err f) e)).1) in
     subst (λ (items : List ListItem). outcome items tree.tree ≡ None) c.from_ref.ensures.value none

@@ -14,5 +14,5 @@ returns-then-entries-leaf_count c =
       λ h. absurd (omega (arith, AreEntries-length (IsResolution tree.tree) (leaf_count tree.tree) 0 c.args.entries.now h, c.leaf_count.ensures, c.if-entries-leaf_count.true)),
     )
 
-pub overflow_add-place : goal.overflow_add-place
-overflow_add-place c = omega (arith, c.loop-entry.invariant.left, leaves_low (plain c.args.tree.now))
+pub overflow_add-node_index : goal.overflow_add-node_index
+overflow_add-node_index c = omega (arith, c.loop-entry.invariant.left, leaves_low (plain c.args.tree.now))

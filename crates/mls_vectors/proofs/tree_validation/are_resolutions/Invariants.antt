@@ -8,9 +8,9 @@ use Rattle.mls_vectors.proofs.tree_validation.are_resolutions.Given as goal
 -- what is asked of all entries is asked of those that are left
 abbrev pub invariant-loop-entry : goal.invariant-loop-entry
 invariant-loop-entry l = record {
-  left : l.place + length l.rest + 1 ≡ 2 * leaf_count l.tree.tree;
+  left : l.node_index + length l.rest + 1 ≡ 2 * leaf_count l.tree.tree;
   same : AreEntries (IsResolution l.tree.tree) (leaf_count l.tree.tree) 0 (items_view l.entries)
-      ↔ AreEntries (IsResolution l.tree.tree) (leaf_count l.tree.tree) l.place (items_view l.rest);
+      ↔ AreEntries (IsResolution l.tree.tree) (leaf_count l.tree.tree) l.node_index (items_view l.rest);
 }
 
 abbrev pub decreases-loop-entry : goal.decreases-loop-entry

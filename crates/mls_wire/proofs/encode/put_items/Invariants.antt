@@ -6,5 +6,5 @@ use Rattle.mls_wire.proofs.encode.put_items.Given as goal
 abbrev pub invariant-loop-value : goal.invariant-loop-value
 invariant-loop-value g l = record {
   kept : l.draft.kept ≡ l.initial.draft.kept;
-  more : after l.initial.draft.more (items g.T.Decode.spelling (take l.value-index l.values)) ≡ Some l.draft.more;
+  more : after l.initial.draft.more (items g.T.Decode.encoding (take l.value-index l.values)) ≡ Some l.draft.more;
 }

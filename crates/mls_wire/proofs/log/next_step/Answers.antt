@@ -24,8 +24,8 @@ returns-in_err-read_body-clause-meets g c =
     let form = rw c.in-Some-2.is at sized in
     let (got, short, body) = c.in_err-read_body.ensures.part in
     let some : 0 < c.args.most = omega (arith, c.if-most-eq0.false) in
-    let begun = Consumes-trans _ _ _ (c.in-Some.first ∷ []) more first taken in
-    meets_fault _ _ _ _ (c.in-Some.first ∷ (more ++ got)) c.from_residual-in_err-read_body.result (search rules) (Consumes-trans _ _ _ (c.in-Some.first ∷ more) got begun body)
+    let unread_log = Consumes-trans _ _ _ (c.in-Some.first ∷ []) more first taken in
+    meets_fault _ _ _ _ (c.in-Some.first ∷ (more ++ got)) c.from_residual-in_err-read_body.result (search rules) (Consumes-trans _ _ _ (c.in-Some.first ∷ more) got unread_log body)
     (inr (some, body_cut c.in-Some-2.size c.in-Some.first more got form.1 form.0 short))
 
 pub returns-then-len-size-clause-meets : goal.returns-then-len-size-clause-meets
@@ -36,8 +36,8 @@ returns-then-len-size-clause-meets g c =
     let got : List ℕ = c.read_body.new.body.items in
     let short : length got < c.in-Some-2.size = omega (arith, c.if-len-size.true, c.len.ensures) in
     let some : 0 < c.args.most = omega (arith, c.if-most-eq0.false) in
-    let begun = Consumes-trans _ _ _ (c.in-Some.first ∷ []) more first taken in
-    (c.in-Some.first ∷ (more ++ got), Consumes-trans _ _ _ (c.in-Some.first ∷ more) got begun c.in_ok-read_body.ensures.bytes, inr (some, inr (body_cut c.in-Some-2.size c.in-Some.first more got form.1 form.0 short, c.in_ok-read_body.ensures.end short)))
+    let unread_log = Consumes-trans _ _ _ (c.in-Some.first ∷ []) more first taken in
+    (c.in-Some.first ∷ (more ++ got), Consumes-trans _ _ _ (c.in-Some.first ∷ more) got unread_log c.in_ok-read_body.ensures.bytes, inr (some, inr (body_cut c.in-Some-2.size c.in-Some.first more got form.1 form.0 short, c.in_ok-read_body.ensures.end short)))
 
 pub returns-clause-meets : goal.returns-clause-meets
 returns-clause-meets g c =
@@ -47,5 +47,5 @@ returns-clause-meets g c =
     let got : List ℕ = c.read_body.new.body.items in
     let len : length got ≡ c.in-Some-2.size = omega (arith, c.if-len-size.false, c.len.ensures, c.in_ok-read_body.ensures.bound) in
     let some : 0 < c.args.most = omega (arith, c.if-most-eq0.false) in
-    let begun = Consumes-trans _ _ _ (c.in-Some.first ∷ []) more first taken in
-    (some, c.in-Some.first ∷ (more ++ got), Consumes-trans _ _ _ (c.in-Some.first ∷ more) got begun c.in_ok-read_body.ensures.bytes, body_bytes c.in-Some-2.size c.in-Some.first more got form.1 form.0 len)
+    let unread_log = Consumes-trans _ _ _ (c.in-Some.first ∷ []) more first taken in
+    (some, c.in-Some.first ∷ (more ++ got), Consumes-trans _ _ _ (c.in-Some.first ∷ more) got unread_log c.in_ok-read_body.ensures.bytes, body_bytes c.in-Some-2.size c.in-Some.first more got form.1 form.0 len)

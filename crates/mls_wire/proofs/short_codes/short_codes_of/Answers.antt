@@ -22,7 +22,7 @@ loop-body-preserved c =
     record {
       so_far = rw c.push.ensures (items_go_on (number_at w16) short16
           c.loop-body.codes c.loop-body.body c.in_ok-code.code c.read.new.reader _ (λ e. let bad = t.1 e in absurd cc) c.in_ok-code.ensures c.loop-body.invariant.so_far);
-      room = omega (arith, c.loop-body.invariant.room, two_bytes c.loop-body.body c.in_ok-code.code c.read.new.reader c.in_ok-code.ensures, ap length c.push.ensures, length-append c.loop-body.codes (c.in_ok-code.code ∷ []));
+      capacity = omega (arith, c.loop-body.invariant.capacity, two_bytes c.loop-body.body c.in_ok-code.code c.read.new.reader c.in_ok-code.ensures, ap length c.push.ensures, length-append c.loop-body.codes (c.in_ok-code.code ∷ []));
     }
 
 pub returns : goal.returns

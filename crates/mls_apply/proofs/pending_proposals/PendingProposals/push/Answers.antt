@@ -2,7 +2,7 @@ use Rattle.std.proofs.Common.{◌∙◌, ◌≡◌, List, ℕ, sym, ap, subst, t
 use Rattle.std.specs.Prelude.{is_some}
 use Rattle.std.specs.Map.{lookup}
 use Rattle.mls_apply.specs.PendingIndex.{position_of}
-use Rattle.mls_apply.proofs.Pending.{is_key, known_again, entered}
+use Rattle.mls_apply.proofs.Pending.{is_key, known_again, staged_nodes}
 use Rattle.mls_apply.proofs.pending_proposals.PendingProposals.push.Goals as goal
 
 pub invariant_of-self-then-not-is_new : goal.invariant_of-self-then-not-is_new
@@ -22,6 +22,6 @@ invariant_of-self-in-Ok-insert c = λ r.
     subst (λ (s : List ℕ). is_some (position_of ks s) ≡ false) same
     (sym (ap is_some (c.self.invariant c.as_slice-2.result.now)) ∙ sym c.contains_key-is_new.ensures ∙ c.if-not-is_new.false) in
     ap (λ es. lookup (is_key r) es) c.in-Ok-insert.ensures.entries
-    ∙ entered ks c.args.proposal c.self.inside.positions.entries c.in-Ok.reference c.len-position.result
+    ∙ staged_nodes ks c.args.proposal c.self.inside.positions.entries c.in-Ok.reference c.len-position.result
     (c.in-Ok.ensures.items ∙ c.as_slice.ensures.bytes) (c.len-position.ensures ∙ c.self.inside.proposals.ok.0) unknown c.self.invariant r
     ∙ ap (λ l. position_of l r) (sym c.in_ok-push.ensures.items)

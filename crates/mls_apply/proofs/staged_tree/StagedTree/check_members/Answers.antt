@@ -4,17 +4,17 @@ use Rattle.mls_index.proofs.Changed.{members-requirements, members-keys}
 use Rattle.mls_apply.proofs.Staging.{extensions_kept, signatures_kept, extensions_found, signatures_found}
 use Rattle.mls_apply.proofs.staged_tree.StagedTree.check_members.Goals as goal
 
-pub first_failing-requires-clause-kept : goal.first_failing-requires-clause-kept
-first_failing-requires-clause-kept g c = extensions_kept _ _ _ _ _ c.requires.kept
+pub first_failing-requires-clause-rules_hold : goal.first_failing-requires-clause-rules_hold
+first_failing-requires-clause-rules_hold g c = extensions_kept _ _ _ _ _ c.requires.rules_hold
 
-pub first_unmet-requires-clause-kept : goal.first_unmet-requires-clause-kept
-first_unmet-requires-clause-kept g c = members-requirements _ _ _ _ _ c.requires.kept
+pub first_unmet-requires-clause-rules_hold : goal.first_unmet-requires-clause-rules_hold
+first_unmet-requires-clause-rules_hold g c = members-requirements _ _ _ _ _ c.requires.rules_hold
 
-pub first_repeated-requires-clause-kept : goal.first_repeated-requires-clause-kept
-first_repeated-requires-clause-kept g c = members-keys _ _ _ _ _ c.requires.kept
+pub first_repeated-requires-clause-rules_hold : goal.first_repeated-requires-clause-rules_hold
+first_repeated-requires-clause-rules_hold g c = members-keys _ _ _ _ _ c.requires.rules_hold
 
-pub first_failing-requires-2-clause-kept : goal.first_failing-requires-2-clause-kept
-first_failing-requires-2-clause-kept g c = signatures_kept _ _ _ _ _ c.requires.kept
+pub first_failing-requires-2-clause-rules_hold : goal.first_failing-requires-2-clause-rules_hold
+first_failing-requires-2-clause-rules_hold g c = signatures_kept _ _ _ _ _ c.requires.rules_hold
 
 -- ---- the rules one after the other
 

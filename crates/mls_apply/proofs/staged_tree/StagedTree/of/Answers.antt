@@ -10,6 +10,6 @@ invariant_of-result c =
     let tree = c.args.tree.tree in
     record {
       between = subst (λ (t : Tree). HasBase t c.in-Ok.index) (sym (c.new.ensures.nothing tree)) (index_between tree c.in-Ok.index c.in-Ok.ensures);
-      entered = tt;
+      staged_nodes = tt;
       clean = subst (λ (t : Tree). IsIndexOf t c.in-Ok.index) (sym (c.new.ensures.nothing tree)) c.in-Ok.ensures;
     }

@@ -1,5 +1,5 @@
 use Rattle.mls_follow.specs.GroupModel.{group_state}
-use Rattle.mls_follow.proofs.Learning.{learns, judged_stays}
+use Rattle.mls_follow.proofs.Learning.{learns, checked_stays}
 use Rattle.mls_follow.proofs.follower.Follower.learn.Goals as goal
 
 -- the state stays judged by what the checker means now
@@ -9,9 +9,9 @@ invariant_of-self g c =
     let G = g.C.SignatureCheck.meaning old.checker in
     let K = g.C.SignatureCheck.meaning c.learn_receipt.new.self in
     record {
-      judged =
-          judged_stays G K (group_state old.group)
-          (learns G K c.args.digest c.learn_receipt.result c.learn_receipt.ensures.learnt c.learn_receipt.ensures.unchanged) old.judged;
+      checked =
+          checked_stays G K (group_state old.group)
+          (learns G K c.args.digest c.learn_receipt.result c.learn_receipt.ensures.learnt c.learn_receipt.ensures.unchanged) old.checked;
     }
 
 pub returns-clause-extends : goal.returns-clause-extends

@@ -1,8 +1,8 @@
 use Rattle.std.proofs.Common.{sym, subst}
 use Rattle.std.specs.Prelude.{option_map}
 use Rattle.mls_tree.specs.PublicTreeModel.{plain}
-use Rattle.mls_follow.specs.FollowerInvariant.{IsJudged}
-use Rattle.mls_follow.proofs.Judged.{start_judged}
+use Rattle.mls_follow.specs.FollowerInvariant.{HasUniqueKeysAndValidLeaves}
+use Rattle.mls_follow.proofs.InvariantLemmas.{start_checked}
 use Rattle.mls_follow.proofs.Starting.{version_followed, suite_followed}
 use Rattle.mls_follow.proofs.follower.Follower.start_in.Goals as goal
 
@@ -18,5 +18,5 @@ returns-in-Err-check_start-clause-unsupported_suite g c =
 pub invariant_of-result : goal.invariant_of-result
 invariant_of-result g c =
     record {
-      judged = subst (IsJudged (g.C.SignatureCheck.meaning c.args.checker)) (sym c.initial_group.ensures) (start_judged c.args.profile _ c.args.info (option_map plain c.args.tree) _ (c.in-Ok-check_start.ensures.started c.args.profile));
+      checked = subst (HasUniqueKeysAndValidLeaves (g.C.SignatureCheck.meaning c.args.checker)) (sym c.initial_group.ensures) (start_checked c.args.profile _ c.args.info (option_map plain c.args.tree) _ (c.in-Ok-check_start.ensures.started c.args.profile));
     }

@@ -1,5 +1,5 @@
 use Rattle.mls_follow.specs.GroupModel.{group_state}
-use Rattle.mls_follow.proofs.Judged.{taken_judged}
+use Rattle.mls_follow.proofs.InvariantLemmas.{taken_checked}
 use Rattle.mls_follow.proofs.follower.Follower.take_message.Goals as goal
 
 -- what was taken was judged
@@ -8,5 +8,5 @@ invariant_of-self g c =
     let input = c.requires in
     let old = c.args.self.now in
     record {
-      judged = taken_judged (g.C.SignatureCheck.meaning old.checker) (group_state old.group) input.0 c.take.result (group_state c.take.new.self) (c.take.ensures input.0 input.1) old.judged;
+      checked = taken_checked (g.C.SignatureCheck.meaning old.checker) (group_state old.group) input.0 c.take.result (group_state c.take.new.self) (c.take.ensures input.0 input.1) old.checked;
     }

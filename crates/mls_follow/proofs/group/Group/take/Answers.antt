@@ -1,10 +1,10 @@
 use Rattle.std.proofs.Common.{subst}
 use Rattle.mls_msgs.specs.Message.{message}
 use Rattle.mls_msgs.specs.declared.message.Message.TheVariants as messages
-use Rattle.mls_apply.proofs.Spellings.{put_back}
+use Rattle.mls_apply.proofs.Encodings.{put_back}
 use Rattle.mls_follow.specs.State.{HasEncoding}
 use Rattle.mls_follow.specs.GroupModel.{group_state}
-use Rattle.mls_follow.proofs.Spelled.{confirmed_exists, reference_exists}
+use Rattle.mls_follow.proofs.Encoded.{confirmed_exists, reference_exists}
 use Rattle.mls_follow.proofs.Taking.{frame_taken}
 use Rattle.mls_follow.proofs.group.Group.take.Goals as goal
 
@@ -12,9 +12,9 @@ pub take_frame-requires : goal.take_frame-requires
 take_frame-requires g c =
     let input = subst (HasEncoding c.args.self.now.profile) c.in-Public.is c.requires.input in
     record {
-      hashed = rw c.auth.ensures.value (confirmed_exists c.in-Public.public (put_back (message (messages.Public c.in-Public.public)) input.0 input.1.spelled));
+      hashed = rw c.auth.ensures.value (confirmed_exists c.in-Public.public (put_back (message (messages.Public c.in-Public.public)) input.0 input.1.encoded));
       referenced = rw c.auth.ensures.value (reference_exists c.args.self.now.profile c.args.self.now.context c.in-Public.public input);
-      judged = c.requires.judged;
+      checked = c.requires.checked;
     }
 
 pub returns-in-Public : goal.returns-in-Public

@@ -1,28 +1,28 @@
 use Rattle.std.proofs.Common.{◌≡◌, ◌∙◌, List, sym, ap}
 use Rattle.mls_tree.proofs.Choices.{is_less}
 use Rattle.mls_msgs.specs.declared.framed_content.Sender.TheVariants.{NewMemberCommit}
-use Rattle.mls_apply.specs.ContextExtensions.{brought}
+use Rattle.mls_apply.specs.ContextExtensions.{proposed_extensions}
 use Rattle.mls_apply.specs.AppliedList.{outcome}
 use Rattle.mls_apply.specs.RuleLists.{first_failing}
 use Rattle.mls_apply.specs.declared.list_item.ListItem.{ListItem}
-use Rattle.mls_follow.specs.MessageRules.{external_commit_refusal, required_after, rules_under}
+use Rattle.mls_follow.specs.MessageRules.{external_commit_refusal, required_after, rules_with_requirements}
 use Rattle.mls_follow.specs.GroupModel.{group_state}
 use Rattle.mls_follow.specs.State.{last_epoch}
 use Rattle.mls_follow.proofs.Committing.{past_join}
 use Rattle.mls_follow.proofs.group.Group.take_external_commit.Goals as goal
 
-pub returns-clause-kept : goal.returns-clause-kept
-returns-clause-kept g c =
+pub returns-clause-rules_hold : goal.returns-clause-rules_hold
+returns-clause-rules_hold g c =
     let G = g.C.SignatureCheck.meaning c.args.checker.now in
     let group = c.args.self.now in
     let commit = c.args.commit.now in
     let items = c.in_ok-items.items.items in
     let same = c.in_ok-items.ensures.items in
     let whole : external_commit_refusal G (group_state group) group.required commit
-    ≡ first_failing (rules_under G (group_state group) NewMemberCommit commit.path (outcome items group.tree.tree) (required_after group.required (brought items)))
-    = past_join G (group_state group) group.required commit c.requires.path (is_less group.context.epoch last_epoch c.in_ok-items.ensures.later) c.in_ok-items.ensures.list
-    ∙ ap (λ (xs : List ListItem). first_failing (rules_under G (group_state group) NewMemberCommit commit.path (outcome xs group.tree.tree) (required_after group.required (brought xs)))) (sym same) in
-    rw whole c.take_resolved-answer.ensures.kept
+    ≡ first_failing (rules_with_requirements G (group_state group) NewMemberCommit commit.path (outcome items group.tree.tree) (required_after group.required (proposed_extensions items)))
+    = past_join G (group_state group) group.required commit c.requires.path (is_less group.context.epoch last_epoch c.in_ok-items.ensures.not_last_epoch) c.in_ok-items.ensures.list
+    ∙ ap (λ (xs : List ListItem). first_failing (rules_with_requirements G (group_state group) NewMemberCommit commit.path (outcome xs group.tree.tree) (required_after group.required (proposed_extensions xs)))) (sym same) in
+    rw whole c.take_resolved-answer.ensures.rules_hold
 
 pub returns-clause-refused : goal.returns-clause-refused
 returns-clause-refused g c =
@@ -32,7 +32,7 @@ returns-clause-refused g c =
     let items = c.in_ok-items.items.items in
     let same = c.in_ok-items.ensures.items in
     let whole : external_commit_refusal G (group_state group) group.required commit
-    ≡ first_failing (rules_under G (group_state group) NewMemberCommit commit.path (outcome items group.tree.tree) (required_after group.required (brought items)))
-    = past_join G (group_state group) group.required commit c.requires.path (is_less group.context.epoch last_epoch c.in_ok-items.ensures.later) c.in_ok-items.ensures.list
-    ∙ ap (λ (xs : List ListItem). first_failing (rules_under G (group_state group) NewMemberCommit commit.path (outcome xs group.tree.tree) (required_after group.required (brought xs)))) (sym same) in
+    ≡ first_failing (rules_with_requirements G (group_state group) NewMemberCommit commit.path (outcome items group.tree.tree) (required_after group.required (proposed_extensions items)))
+    = past_join G (group_state group) group.required commit c.requires.path (is_less group.context.epoch last_epoch c.in_ok-items.ensures.not_last_epoch) c.in_ok-items.ensures.list
+    ∙ ap (λ (xs : List ListItem). first_failing (rules_with_requirements G (group_state group) NewMemberCommit commit.path (outcome xs group.tree.tree) (required_after group.required (proposed_extensions xs)))) (sym same) in
     rw whole c.take_resolved-answer.ensures.refused

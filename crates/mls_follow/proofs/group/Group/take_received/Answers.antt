@@ -2,27 +2,27 @@ use Rattle.std.proofs.Common.{◌≡◌, ◌∙◌}
 use Rattle.mls_tree.proofs.Choices.{is_less}
 use Rattle.mls_msgs.specs.declared.framed_content.Content.TheVariants as contents
 use Rattle.mls_msgs.specs.declared.framed_content.Sender.TheVariants.{Member}
-use Rattle.mls_apply.specs.ContextExtensions.{brought}
+use Rattle.mls_apply.specs.ContextExtensions.{proposed_extensions}
 use Rattle.mls_apply.specs.AppliedList.{outcome}
 use Rattle.mls_apply.specs.RuleLists.{first_failing}
-use Rattle.mls_follow.specs.MessageRules.{handshake_refusal, required_after, rules_under}
+use Rattle.mls_follow.specs.MessageRules.{handshake_refusal, required_after, rules_with_requirements}
 use Rattle.mls_follow.specs.GroupModel.{group_state, with_known}
 use Rattle.mls_follow.specs.State.{last_epoch}
 use Rattle.mls_follow.proofs.Committing.{of_commit, past_list}
 use Rattle.mls_follow.proofs.group.Group.take_received.Goals as goal
 
-pub returns-clause-kept : goal.returns-clause-kept
-returns-clause-kept g c =
+pub returns-clause-rules_hold : goal.returns-clause-rules_hold
+returns-clause-rules_hold g c =
     let G = g.C.SignatureCheck.meaning c.args.checker.now in
     let group = c.args.self.now in
     let s = with_known (group_state group) c.args.received.now.known.now in
     let commit = c.args.received.now.commit.now in
     let items = c.in_ok-items.items.items in
     let whole : handshake_refusal G s group.required c.args.auth.now c.args.received.now.committer (contents.Commit commit)
-    ≡ first_failing (rules_under G s (Member c.args.received.now.committer) commit.path (outcome items group.tree.tree) (required_after group.required (brought items)))
+    ≡ first_failing (rules_with_requirements G s (Member c.args.received.now.committer) commit.path (outcome items group.tree.tree) (required_after group.required (proposed_extensions items)))
     = of_commit G s group.required c.args.auth.now c.args.received.now.committer commit
-    ∙ past_list G s group.required c.args.received.now.committer commit (is_less group.context.epoch last_epoch c.in_ok-items.ensures.later) items c.in_ok-items.ensures.items c.in_ok-items.ensures.inline c.in_ok-items.ensures.list in
-    rw whole c.take_resolved-answer.ensures.kept
+    ∙ past_list G s group.required c.args.received.now.committer commit (is_less group.context.epoch last_epoch c.in_ok-items.ensures.not_last_epoch) items c.in_ok-items.ensures.items c.in_ok-items.ensures.inline c.in_ok-items.ensures.list in
+    rw whole c.take_resolved-answer.ensures.rules_hold
 
 pub returns-clause-refused : goal.returns-clause-refused
 returns-clause-refused g c =
@@ -32,7 +32,7 @@ returns-clause-refused g c =
     let commit = c.args.received.now.commit.now in
     let items = c.in_ok-items.items.items in
     let whole : handshake_refusal G s group.required c.args.auth.now c.args.received.now.committer (contents.Commit commit)
-    ≡ first_failing (rules_under G s (Member c.args.received.now.committer) commit.path (outcome items group.tree.tree) (required_after group.required (brought items)))
+    ≡ first_failing (rules_with_requirements G s (Member c.args.received.now.committer) commit.path (outcome items group.tree.tree) (required_after group.required (proposed_extensions items)))
     = of_commit G s group.required c.args.auth.now c.args.received.now.committer commit
-    ∙ past_list G s group.required c.args.received.now.committer commit (is_less group.context.epoch last_epoch c.in_ok-items.ensures.later) items c.in_ok-items.ensures.items c.in_ok-items.ensures.inline c.in_ok-items.ensures.list in
+    ∙ past_list G s group.required c.args.received.now.committer commit (is_less group.context.epoch last_epoch c.in_ok-items.ensures.not_last_epoch) items c.in_ok-items.ensures.items c.in_ok-items.ensures.inline c.in_ok-items.ensures.list in
     rw whole c.take_resolved-answer.ensures.refused

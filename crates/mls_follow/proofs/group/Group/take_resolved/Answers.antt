@@ -9,10 +9,10 @@ returns-in_err-terms-clause-refused g c =
     let refused = rw c.as_slice.ensures.value at c.in_err-terms.ensures.refused in
     rw (p.1, p.2) (λ own. (let r = refused own in rw r.1 (ap Some (sym r.0))))
 
-pub returns-clause-kept : goal.returns-clause-kept
-returns-clause-kept g c =
+pub returns-clause-rules_hold : goal.returns-clause-rules_hold
+returns-clause-rules_hold g c =
     let required = rw c.as_slice.ensures.value at c.in_ok-terms.ensures.required in
-    rw required c.apply_commit.ensures.kept
+    rw required c.apply_commit.ensures.rules_hold
 
 pub returns-clause-next : goal.returns-clause-next
 returns-clause-next g c =

@@ -13,14 +13,14 @@ pub new-left_out-requires : goal.new-left_out-requires
 new-left_out-requires c =
     let w = c.in-Some-Parent-Some-default-default-default in
     let t = c.args.tree.now.tree in
-    let part = subst (λ o. HasChildren t c.args.place w.left w.right w.middle (option_copied o)) w.field-0-0-is (rw w.field-0-is at w.ensures) in
-    subst IsNonDecreasing (sym c.as_slice.ensures.items) (c.requires.sorted c.args.place w.parent.now (here t _ _ _ _ _ part))
+    let part = subst (λ o. HasChildren t c.args.node_index w.left w.right w.middle (option_copied o)) w.field-0-0-is (rw w.field-0-is at w.ensures) in
+    subst IsNonDecreasing (sym c.as_slice.ensures.items) (c.requires.sorted c.args.node_index w.parent.now (here t _ _ _ _ _ part))
 
 pub original_hash-requires-clause-under : goal.original_hash-requires-clause-under
 original_hash-requires-clause-under c =
     let w = c.in-Some-Parent-Some-default-default-default in
     let t = c.args.tree.now.tree in
-    let part = subst (λ o. HasChildren t c.args.place w.left w.right w.middle (option_copied o)) w.field-0-0-is (rw w.field-0-is at w.ensures) in
+    let part = subst (λ o. HasChildren t c.args.node_index w.left w.right w.middle (option_copied o)) w.field-0-0-is (rw w.field-0-is at w.ensures) in
     let cut = c.split-before.ensures in
     left_under t _ _ _ _ _ part c.new-left_out.result _ _ cut.whole cut.front cut.rest
     (list_under t _ _ _ _ w.parent.now part c.new-left_out.result (c.new-left_out.ensures ∙ c.as_slice.ensures.items) c.requires.own_leaves)
@@ -29,7 +29,7 @@ pub original_hash-requires-2-clause-under : goal.original_hash-requires-2-clause
 original_hash-requires-2-clause-under c =
     let w = c.in-Some-Parent-Some-default-default-default in
     let t = c.args.tree.now.tree in
-    let part = subst (λ o. HasChildren t c.args.place w.left w.right w.middle (option_copied o)) w.field-0-0-is (rw w.field-0-is at w.ensures) in
+    let part = subst (λ o. HasChildren t c.args.node_index w.left w.right w.middle (option_copied o)) w.field-0-0-is (rw w.field-0-is at w.ensures) in
     let cut = c.split-before.ensures in
     right_under t _ _ _ _ _ part c.new-left_out.result _ _ cut.whole cut.front cut.rest
     (list_under t _ _ _ _ w.parent.now part c.new-left_out.result (c.new-left_out.ensures ∙ c.as_slice.ensures.items) c.requires.own_leaves)
@@ -38,7 +38,7 @@ pub returns-clause-hashes : goal.returns-clause-hashes
 returns-clause-hashes c =
     let w = c.in-Some-Parent-Some-default-default-default in
     let t = c.args.tree.now.tree in
-    let part = subst (λ o. HasChildren t c.args.place w.left w.right w.middle (option_copied o)) w.field-0-0-is (rw w.field-0-is at w.ensures) in
+    let part = subst (λ o. HasChildren t c.args.node_index w.left w.right w.middle (option_copied o)) w.field-0-0-is (rw w.field-0-is at w.ensures) in
     let cut = c.split-before.ensures in
     child_hashes t _ _ _ _ w.parent.now part c.new-left_out.result (c.new-left_out.ensures ∙ c.as_slice.ensures.items) (hash_of c.args.suite) c.requires.own_leaves
     _ _ cut.whole cut.front cut.rest c.in_ok-left.left c.in_ok-right.right c.in_ok-left.ensures.hash c.in_ok-right.ensures.hash
@@ -47,7 +47,7 @@ pub returns-clause-known : goal.returns-clause-known
 returns-clause-known c =
     let w = c.in-Some-Parent-Some-default-default-default in
     let t = c.args.tree.now.tree in
-    let part = subst (λ o. HasChildren t c.args.place w.left w.right w.middle (option_copied o)) w.field-0-0-is (rw w.field-0-is at w.ensures) in
+    let part = subst (λ o. HasChildren t c.args.node_index w.left w.right w.middle (option_copied o)) w.field-0-0-is (rw w.field-0-is at w.ensures) in
     let cut = c.split-before.ensures in
     let H = hash_of c.args.suite in
     let same : c.original_hash-2.new.self ≡ c.args.self.now = c.original_hash-2.ensures.same ∙ c.original_hash.ensures.same in
@@ -55,7 +55,7 @@ returns-clause-known c =
     elim c.if-not-is_empty.branch [
       | then-not-is_empty+in_ok-own w' ↦
           (let before = subst (λ k. AreKnownHashes H t k) (sym w'.self.view_is) known in
-          elim (w'.keep.ensures) [
+          elim (w'.store.ensures) [
             | inl same ↦ subst (λ k. AreKnownHashes H t k) (sym (w'.self-is ∙ same)) before
             | inr kept ↦
                 subst (λ k. AreKnownHashes H t k) (sym (w'.self-is ∙ kept))

@@ -28,7 +28,7 @@ put_kept-requires c =
     }
 
 pub returns-then-put_kept : goal.returns-then-put_kept
-returns-then-put_kept c = record { each = rw c.if-put_kept.true at c.put_kept.ensures.kept; count = c.put_kept.ensures.room.count }
+returns-then-put_kept c = record { each = rw c.if-put_kept.true at c.put_kept.ensures.kept; count = c.put_kept.ensures.capacity.count }
 
 pub unreachable-requires : goal.unreachable-requires
 unreachable-requires c =
@@ -39,8 +39,8 @@ unreachable-requires c =
 pub returns-in-Ok : goal.returns-in-Ok
 returns-in-Ok c =
     let tree : RatchetTree = plain c.args.tree.now in
-    let room = c.put_hashes.ensures.room in
+    let capacity = c.put_hashes.ensures.capacity in
     record {
-      each = all_put (hash_of c.args.suite) tree.tree c.put_hashes.new.hashes.hashes (c.leaf_count-root.result - 1) room.count (root-seen tree c.leaf_count-root.result (sym c.leaf_count-root.ensures)) c.in-Ok.ensures.put;
-      count = room.count;
+      each = all_put (hash_of c.args.suite) tree.tree c.put_hashes.new.hashes.hashes (c.leaf_count-root.result - 1) capacity.count (root-seen tree c.leaf_count-root.result (sym c.leaf_count-root.ensures)) c.in-Ok.ensures.put;
+      count = capacity.count;
     }

@@ -1,14 +1,14 @@
 use Rattle.std.proofs.Common.{◌≡◌, sym, subst, arith}
-use Rattle.mls_index.specs.NodeKeys.{begun}
-use Rattle.mls_index.specs.KeyTable.{IsFilled}
+use Rattle.mls_index.specs.NodeKeys.{fingerprint_at}
+use Rattle.mls_index.specs.KeyTable.{IndexesFirst}
 use Rattle.mls_index.proofs.Tables.{filled-all}
 use Rattle.mls_index.proofs.key_table.KeyTable.fill.Goals as goal
 
-pub loop-place-preserved : goal.loop-place-preserved
-loop-place-preserved c = c.in_ok-append.ensures (begun c.args.kind c.args.tree.now.tree) (sym c.begun.ensures) c.loop-place.invariant
+pub loop-node_index-preserved : goal.loop-node_index-preserved
+loop-node_index-preserved c = c.in_ok-append.ensures (fingerprint_at c.args.kind c.args.tree.now.tree) (sym c.fingerprint_at.ensures) c.loop-node_index.invariant
 
 pub returns : goal.returns
 returns c =
-    let last : c.loop-place.place ≡ c.place_count-place-end.result = omega arith in
-    filled-all c.args.kind c.args.tree.now.tree c.place_count-place-end.result c.loop-place.self c.place_count-place-end.ensures.count
-    (subst (λ n. IsFilled (begun c.args.kind c.args.tree.now.tree) n c.loop-place.self) last c.loop-place.invariant)
+    let last : c.loop-node_index.node_index ≡ c.node_index_count-node_index-end.result = omega arith in
+    filled-all c.args.kind c.args.tree.now.tree c.node_index_count-node_index-end.result c.loop-node_index.self c.node_index_count-node_index-end.ensures.count
+    (subst (λ n. IndexesFirst (fingerprint_at c.args.kind c.args.tree.now.tree) n c.loop-node_index.self) last c.loop-node_index.invariant)

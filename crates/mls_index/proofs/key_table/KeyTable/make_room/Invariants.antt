@@ -1,13 +1,13 @@
 use Rattle.std.proofs.Common.{◌≡◌, ◌-◌, ℕ, vec_len}
-use Rattle.mls_index.specs.KeyTable.{settled_at}
+use Rattle.mls_index.specs.KeyTable.{base_at}
 use Rattle.mls_index.proofs.key_table.KeyTable.make_room.Given as goal
 
 abbrev pub invariant-loop-self : goal.invariant-loop-self
 invariant-loop-self l = record {
-  settled : (p : ℕ) → settled_at l.self p ≡ settled_at l.initial.self p;
+  base : (p : ℕ) → base_at l.self p ≡ base_at l.initial.self p;
   entries : l.self.entries ≡ l.initial.self.entries;
   came : l.self.came ≡ l.initial.self.came;
 }
 
 abbrev pub decreases-loop-self : goal.decreases-loop-self
-decreases-loop-self l = l.count - vec_len l.self.beginnings
+decreases-loop-self l = l.count - vec_len l.self.fingerprints

@@ -1,10 +1,10 @@
 use Rattle.std.proofs.Common.{◌≡◌, ◌≤◌, map, take, true}
 use Rattle.mls_nodes.specs.NodeModel.{entry_value}
-use Rattle.mls_nodes.specs.RatchetTreeEncoding.{stand_from}
+use Rattle.mls_nodes.specs.RatchetTreeEncoding.{fit_from}
 use Rattle.mls_nodes.proofs.ratchet_tree.encode.check_node_kinds.Given as goal
 
-abbrev pub invariant-loop-place : goal.invariant-loop-place
-invariant-loop-place l = record {
-  stand : stand_from 0 (take l.place (map entry_value l.entries)) ≡ true;
-  few : l.place ≤ 2097151;
+abbrev pub invariant-loop-node_index : goal.invariant-loop-node_index
+invariant-loop-node_index l = record {
+  stand : fit_from 0 (take l.node_index (map entry_value l.entries)) ≡ true;
+  few : l.node_index ≤ 2097151;
 }

@@ -4,9 +4,9 @@ use Rattle.mls_tree.proofs.HashRows.{length-hashes_in}
 use Rattle.mls_tree.proofs.hash_list.HashList.get.Goals as goal
 
 pub at-requires : goal.at-requires
-at-requires c = let i = c.self.inside in omega (arith, c.if-place-self.true, ap (λ v. length v.hashes) c.self.view_is, length-hashes_in i.width i.count i.bytes.items)
+at-requires c = let i = c.self.inside in omega (arith, c.if-slot-self.true, ap (λ v. length v.hashes) c.self.view_is, length-hashes_in i.width i.count i.bytes.items)
 
-pub returns-else-place-self : goal.returns-else-place-self
-returns-else-place-self c =
+pub returns-else-slot-self : goal.returns-else-slot-self
+returns-else-slot-self c =
     let i = c.self.inside in
-    sym (slice_get_past c.args.self.now.hashes c.args.place (omega (arith, c.if-place-self.false, ap (λ v. length v.hashes) c.self.view_is, length-hashes_in i.width i.count i.bytes.items)))
+    sym (slice_get_past c.args.self.now.hashes c.args.slot (omega (arith, c.if-slot-self.false, ap (λ v. length v.hashes) c.self.view_is, length-hashes_in i.width i.count i.bytes.items)))

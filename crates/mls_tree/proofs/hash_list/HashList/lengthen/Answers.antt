@@ -22,8 +22,8 @@ returns-clause-count c =
     let count : length c.args.self.now.hashes ≡ i.count = ap (λ (v : EqualHashes). length v.hashes) (sym c.self.view_is) ∙ length-hashes_in i.width i.count i.bytes.items in
     length-hashes_in i.width (i.count + c.args.more) c.push_zeros.new.bytes.items ∙ ap (λ n. n + c.args.more) (sym count)
 
-pub returns-clause-kept : goal.returns-clause-kept
-returns-clause-kept c =
+pub returns-clause-preserved : goal.returns-clause-preserved
+returns-clause-preserved c =
     let i = c.self.inside in
     let all = i.count + c.args.more in
     let zeros : List ℕ = replicate (c.args.more * i.width) 0 in

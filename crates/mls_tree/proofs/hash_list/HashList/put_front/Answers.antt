@@ -10,7 +10,7 @@ use Rattle.mls_tree.proofs.hash_list.HashList.put_front.Goals as goal
 pub overflow_mul-count : goal.overflow_mul-count
 overflow_mul-count c =
     let i = c.self.inside in
-    let low : c.args.count ≤ i.count = omega (arith, c.requires.place, ap (λ (v : EqualHashes). length v.hashes) c.self.view_is, length-hashes_in i.width i.count i.bytes.items) in
+    let low : c.args.count ≤ i.count = omega (arith, c.requires.slot, ap (λ (v : EqualHashes). length v.hashes) c.self.view_is, length-hashes_in i.width i.count i.bytes.items) in
     omega (arith, mul-le-mul_left {m = c.args.count} {n = i.count} i.width low, c.self.invariant.long, i.bytes.ok.0, i.bytes.ok.1, i.bytes.small)
 
 pub part-front-requires-clause-inside : goal.part-front-requires-clause-inside
@@ -28,7 +28,7 @@ put_part-requires c =
     let f = c.front.inside in
     let width : f.width ≡ i.width = ap (λ (v : EqualHashes). v.width) c.front.view_is ∙ c.requires.width ∙ sym (ap (λ (v : EqualHashes). v.width) c.self.view_is) in
     let few : c.args.count ≤ f.count = omega (arith, c.requires.there, ap (λ (v : EqualHashes). length v.hashes) c.front.view_is, length-hashes_in f.width f.count f.bytes.items) in
-    let low : c.args.count ≤ i.count = omega (arith, c.requires.place, ap (λ (v : EqualHashes). length v.hashes) c.self.view_is, length-hashes_in i.width i.count i.bytes.items) in
+    let low : c.args.count ≤ i.count = omega (arith, c.requires.slot, ap (λ (v : EqualHashes). length v.hashes) c.self.view_is, length-hashes_in i.width i.count i.bytes.items) in
     let long : length f.bytes.items ≡ f.count * i.width = c.front.invariant.long ∙ ap (λ n. f.count * n) width in
     let enough : c.args.count * i.width ≤ length f.bytes.items = omega (arith, mul-le-mul_left {m = c.args.count} {n = f.count} i.width few, long) in
     let read : length c.part-front.result.now ≡ c.args.count * i.width
@@ -42,7 +42,7 @@ returns c =
     let end = c.args.count * i.width in
     let width : f.width ≡ i.width = ap (λ (v : EqualHashes). v.width) c.front.view_is ∙ c.requires.width ∙ sym (ap (λ (v : EqualHashes). v.width) c.self.view_is) in
     let few : c.args.count ≤ f.count = omega (arith, c.requires.there, ap (λ (v : EqualHashes). length v.hashes) c.front.view_is, length-hashes_in f.width f.count f.bytes.items) in
-    let low : c.args.count ≤ i.count = omega (arith, c.requires.place, ap (λ (v : EqualHashes). length v.hashes) c.self.view_is, length-hashes_in i.width i.count i.bytes.items) in
+    let low : c.args.count ≤ i.count = omega (arith, c.requires.slot, ap (λ (v : EqualHashes). length v.hashes) c.self.view_is, length-hashes_in i.width i.count i.bytes.items) in
     let short : length f.bytes.items ≡ f.count * i.width = c.front.invariant.long ∙ ap (λ n. f.count * n) width in
     let enough : end ≤ length f.bytes.items = omega (arith, mul-le-mul_left {m = c.args.count} {n = f.count} i.width few, short) in
     let read : c.part-front.result.now ≡ take end f.bytes.items = c.part-front.ensures ∙ slice_range-start c.as_slice.result.now end ∙ ap (take end) c.as_slice.ensures.value in

@@ -38,7 +38,7 @@ long : (c : goal.After-result-1) → (2 * c.args.leaves - 1) + 1 ≡ 2 * leaves_
 long c = omega (arith, leaves_at-positive c.in_ok-height.height, c.in_ok-height.ensures)
 
 items : (c : goal.After-result-1) → c.push_blanks.new.nodes.items ≡ replicate (2 * c.args.leaves - 1) None
-items c = c.in_ok-push_blanks.ensures.ok ∙ ap (λ v. v ++ replicate (2 * c.args.leaves - 1) None) c.new-nodes.ensures.items
+items c = c.in_ok-push_blanks.ensures.changed ∙ ap (λ v. v ++ replicate (2 * c.args.leaves - 1) None) c.new-nodes.ensures.items
 
 pub invariant_of-result-2 : goal.invariant_of-result-2
 invariant_of-result-2 c = IsArrayOf-blank c.push_blanks.new.nodes.items (2 * c.args.leaves - 1) c.in_ok-height.height (long c) (items c)

@@ -7,7 +7,7 @@ use Rattle.mls_tree.proofs.node_array.NodeArray.copath.Goals as goal
 pub push_copath-requires-clause-inside : goal.push_copath-requires-clause-inside
 push_copath-requires-clause-inside c = omega (arith, leaves_at-low c.self.inside.height c.self.inside.low)
 
-pub returns-clause-places : goal.returns-clause-places
-returns-clause-places c =
+pub returns-clause-node_indices : goal.returns-clause-node_indices
+returns-clause-node_indices c =
     let xs = c.self.inside.nodes.items in
     c.in_ok-push_copath.ensures _ (tree_in-perfect xs c.self.inside.height 0) (height-tree_in xs c.self.inside.height 0) ∙ ap (λ v. v ++ copath 0 (tree_in xs c.self.inside.height 0) c.args.leaf) c.new-out.ensures.items ∙ ap (λ r. copath 0 r.tree c.args.leaf) c.self.view_is

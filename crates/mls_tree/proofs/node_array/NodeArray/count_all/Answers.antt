@@ -8,11 +8,11 @@ use Rattle.mls_tree.proofs.node_array.NodeArray.count_all.Goals as goal
 pub count_all-requires-clause-inside : goal.count_all-requires-clause-inside
 count_all-requires-clause-inside c = omega (arith, leaves_at-low c.self.inside.height c.self.inside.low)
 
-pub count_all-requires-clause-room : goal.count_all-requires-clause-room
-count_all-requires-clause-room c = omega (arith, c.requires, leaf_count-seen _ _ c.self.invariant c.args.self.now.tree (ap (λ r. r.tree) c.self.view_is))
+pub count_all-requires-clause-capacity : goal.count_all-requires-clause-capacity
+count_all-requires-clause-capacity c = omega (arith, c.requires, leaf_count-seen _ _ c.self.invariant c.args.self.now.tree (ap (λ r. r.tree) c.self.view_is))
 
 pub returns-clause-count : goal.returns-clause-count
-returns-clause-count c = c.count_all.ensures.kept.count
+returns-clause-count c = c.count_all.ensures.preserved.count
 
 pub returns-clause-counts : goal.returns-clause-counts
 returns-clause-counts c =

@@ -1,6 +1,6 @@
 use Rattle.std.proofs.Common.{ap, ◌∙◌, sym, subst, arith, ◌≡◌, ◌-◌, suc}
 use Rattle.mls_tree.specs.NodeArray.{IsArrayOf, tree_in}
-use Rattle.mls_tree.specs.TreeOperations.{left_half}
+use Rattle.mls_tree.specs.TreeOperations.{left_subtree}
 use Rattle.mls_tree.proofs.Growing.{IsArrayOf-take, tree_in-take}
 use Rattle.mls_tree.proofs.node_array.NodeArray.cut.Goals as goal
 
@@ -14,5 +14,5 @@ returns c =
     let up : suc (c.self.inside.height - 1) ≡ c.self.inside.height = omega (arith, c.if-self-eq0.false) in
     ap (λ xs. tree_in xs (c.self.inside.height - 1) 0) c.truncate.ensures.items
     ∙ tree_in-take _ c.self.inside.height c.if-self-eq0.false c.self.invariant _ c.leaves_of.ensures.value
-    ∙ ap (λ h. left_half (tree_in c.self.inside.nodes.items h 0)) up
-    ∙ ap (λ r. left_half r.tree) c.self.view_is
+    ∙ ap (λ h. left_subtree (tree_in c.self.inside.nodes.items h 0)) up
+    ∙ ap (λ r. left_subtree r.tree) c.self.view_is

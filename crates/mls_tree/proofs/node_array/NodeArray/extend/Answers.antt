@@ -11,18 +11,18 @@ use Rattle.mls_tree.proofs.node_array.NodeArray.extend.Goals as goal
 
 pub invariant_of-self-2 : goal.invariant_of-self-2
 invariant_of-self-2 c =
-    subst (λ xs. IsArrayOf xs (c.self.inside.height + 1)) (sym c.in_ok-push_blanks.ensures.ok)
+    subst (λ xs. IsArrayOf xs (c.self.inside.height + 1)) (sym c.in_ok-push_blanks.ensures.changed)
     (IsArrayOf-fill _ c.self.inside.height c.self.invariant _ (ap (λ v. 2 * v) c.leaves_of-more.ensures.value))
 
-pub returns-clause-ok : goal.returns-clause-ok
-returns-clause-ok c =
-    ap (λ xs. tree_in xs (c.self.inside.height + 1) 0) c.in_ok-push_blanks.ensures.ok
+pub returns-clause-changed : goal.returns-clause-changed
+returns-clause-changed c =
+    ap (λ xs. tree_in xs (c.self.inside.height + 1) 0) c.in_ok-push_blanks.ensures.changed
     ∙ tree_in-fill _ c.self.inside.height c.self.invariant _ (ap (λ v. 2 * v) c.leaves_of-more.ensures.value) _ (ap (λ r. r.tree) c.self.view_is)
 
-pub returns-in_err-push_blanks-clause-err : goal.returns-in_err-push_blanks-clause-err
-returns-in_err-push_blanks-clause-err c =
+pub returns-in_err-push_blanks-clause-unchanged_on_error : goal.returns-in_err-push_blanks-clause-unchanged_on_error
+returns-in_err-push_blanks-clause-unchanged_on_error c =
     OnErr-from c.from_residual.result _
-    (RatchetTree-same _ _ (ap (λ xs. tree_in xs c.self.inside.height 0) c.in_err-push_blanks.ensures.err.0 ∙ ap (λ r. r.tree) c.self.view_is))
+    (RatchetTree-same _ _ (ap (λ xs. tree_in xs c.self.inside.height 0) c.in_err-push_blanks.ensures.unchanged_on_error.0 ∙ ap (λ r. r.tree) c.self.view_is))
 
 pub returns-then-self-eq20-clause-too_many_leaves : goal.returns-then-self-eq20-clause-too_many_leaves
 returns-then-self-eq20-clause-too_many_leaves c =

@@ -1,7 +1,7 @@
 use Rattle.std.proofs.Common.{sym, ◌∙◌, arith, subst, refl, ◌≡◌, ◌+◌, ◌*◌, length, map}
 use Rattle.std.specs.Prelude.{slice_get}
 use Rattle.mls_nodes.specs.NodeModel.{entry_value}
-use Rattle.mls_tree.specs.NodeArray.{FitsPlace, IsNoLength, ratchet_tree_in, tree_in}
+use Rattle.mls_tree.specs.NodeArray.{FitsNodeIndex, IsNoLength, ratchet_tree_in, tree_in}
 use Rattle.mls_tree.specs.Tree.{listing, leaves_at}
 use Rattle.mls_tree.specs.TreeSizes.{IsListing, IsTooLong}
 use Rattle.mls_tree.specs.declared.error.TreeError.TheVariants.{BadShape}
@@ -14,8 +14,8 @@ use Rattle.mls_tree.proofs.node_array.NodeArray.from_nodes.Goals as goal
 bad_size : (c : goal.In-Err) → IsBad c.in-Err.error c.args.nodes.items
 bad_size c = bad_length c.in-Err.error c.args.nodes.items (subst (λ n. IsNoLength c.in-Err.error n) (c.len.ensures ∙ c.args.nodes.ok.0) c.in-Err.ensures)
 
-pub returns-in-Err-clause-ok : goal.returns-in-Err-clause-ok
-returns-in-Err-clause-ok c = bad-ok (Unit {0}) _ c.args.nodes.items c.args.nodes c.in-Err.error (bad_size c)
+pub returns-in-Err-clause-is_listing : goal.returns-in-Err-clause-is_listing
+returns-in-Err-clause-is_listing c = bad-ok (Unit {0}) _ c.args.nodes.items c.args.nodes c.in-Err.error (bad_size c)
 
 pub returns-in-Err-clause-too_many_leaves : goal.returns-in-Err-clause-too_many_leaves
 returns-in-Err-clause-too_many_leaves c = bad-too_many _ _ c.args.nodes.items c.args.nodes c.in-Err.error (bad_size c)
@@ -29,12 +29,12 @@ long c = omega (arith, c.in-Ok.ensures.1, c.len.ensures, c.args.nodes.ok.0)
 
 bad_kind : (c : goal.Then-not-all_fit) → IsBad BadShape c.args.nodes.items
 bad_kind c = record {
-  none = λ (t, e). absurd (cc (c.if-not-all_fit.ensures.1 (λ p. subst (λ v. FitsPlace p (slice_get v p)) (sym c.as_slice.ensures.value) (listing-fits t.tree c.args.nodes.items e p))));
+  none = λ (t, e). absurd (cc (c.if-not-all_fit.ensures.1 (λ p. subst (λ v. FitsNodeIndex p (slice_get v p)) (sym c.as_slice.ensures.value) (listing-fits t.tree c.args.nodes.items e p))));
   cause = IsTooLong-height (length c.args.nodes.items) c.in-Ok.height c.in-Ok.ensures.0 (long c);
 }
 
-pub returns-then-not-all_fit-clause-ok : goal.returns-then-not-all_fit-clause-ok
-returns-then-not-all_fit-clause-ok c = bad-ok (Unit {0}) _ c.args.nodes.items c.args.nodes BadShape (bad_kind c)
+pub returns-then-not-all_fit-clause-is_listing : goal.returns-then-not-all_fit-clause-is_listing
+returns-then-not-all_fit-clause-is_listing c = bad-ok (Unit {0}) _ c.args.nodes.items c.args.nodes BadShape (bad_kind c)
 
 pub returns-then-not-all_fit-clause-too_many_leaves : goal.returns-then-not-all_fit-clause-too_many_leaves
 returns-then-not-all_fit-clause-too_many_leaves c = bad-too_many _ _ c.args.nodes.items c.args.nodes BadShape (bad_kind c)
@@ -55,8 +55,8 @@ tree c = (ratchet_tree_in c.args.nodes.items c.in-Ok.height c.in-Ok.ensures.0, f
 pub returns-clause-tree : goal.returns-clause-tree
 returns-clause-tree c = found c
 
-pub returns-clause-ok : goal.returns-clause-ok
-returns-clause-ok c = (λ h. tree c, λ h. refl)
+pub returns-clause-is_listing : goal.returns-clause-is_listing
+returns-clause-is_listing c = (λ h. tree c, λ h. refl)
 
 pub returns-clause-too_many_leaves : goal.returns-clause-too_many_leaves
 returns-clause-too_many_leaves c =

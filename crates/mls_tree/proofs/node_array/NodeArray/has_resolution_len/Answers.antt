@@ -19,7 +19,7 @@ pub take_resolution-requires-clause-inside : goal.take_resolution-requires-claus
 take_resolution-requires-clause-inside c =
     omega (
       arith,
-      HasLevel-inside _ _ c.args.self.now (ap (λ r. r.tree) c.self.view_is) c.args.place c.leaf_count-leaves.result c.in-Some.level ((c.args.place + 1 - c.leaves_of.result) / 2) (sym c.leaf_count-leaves.ensures) c.in-Some.ensures (ap (λ v. (c.args.place + 1 - v) / 2) c.leaves_of.ensures.value),
+      HasLevel-inside _ _ c.args.self.now (ap (λ r. r.tree) c.self.view_is) c.args.node_index c.leaf_count-leaves.result c.in-Some.level ((c.args.node_index + 1 - c.leaves_of.result) / 2) (sym c.leaf_count-leaves.ensures) c.in-Some.ensures (ap (λ v. (c.args.node_index + 1 - v) / 2) c.leaves_of.ensures.value),
       c.in-Some.ensures.count,
       leaves_at-low c.in-Some.ensures.height c.in-Some.ensures.low,
     )
@@ -28,7 +28,7 @@ pub take_resolution-requires-clause-long : goal.take_resolution-requires-clause-
 take_resolution-requires-clause-long c =
     omega (
       arith,
-      HasLevel-inside _ _ c.args.self.now (ap (λ r. r.tree) c.self.view_is) c.args.place c.leaf_count-leaves.result c.in-Some.level ((c.args.place + 1 - c.leaves_of.result) / 2) (sym c.leaf_count-leaves.ensures) c.in-Some.ensures (ap (λ v. (c.args.place + 1 - v) / 2) c.leaves_of.ensures.value),
+      HasLevel-inside _ _ c.args.self.now (ap (λ r. r.tree) c.self.view_is) c.args.node_index c.leaf_count-leaves.result c.in-Some.level ((c.args.node_index + 1 - c.leaves_of.result) / 2) (sym c.leaf_count-leaves.ensures) c.in-Some.ensures (ap (λ v. (c.args.node_index + 1 - v) / 2) c.leaves_of.ensures.value),
       length-seen _ _ c.self.invariant _ (ap (λ r. r.tree) c.self.view_is),
     )
 
@@ -37,38 +37,38 @@ take_resolution-requires-clause-leaves_low c = omega (arith, c.in-Some.ensures.c
 
 pub take_resolution-requires-clause-counts : goal.take_resolution-requires-clause-counts
 take_resolution-requires-clause-counts c =
-    let first = (c.args.place + 1 - c.leaves_of.result) / 2 in
+    let first = (c.args.node_index + 1 - c.leaves_of.result) / 2 in
     subst (λ xs. AreCountsIfAny (option_copied c.args.counts) first (tree_in xs c.in-Some.level first)) (sym c.as_slice-nodes.ensures.value)
-    (if_any-subtree (option_copied c.args.counts) 0 c.args.self.now.tree c.args.place _
-    (subtree_at-seen _ _ c.args.self.now (ap (λ r. r.tree) c.self.view_is) c.args.place c.leaf_count-leaves.result c.in-Some.level ((c.args.place + 1 - c.leaves_of.result) / 2) (sym c.leaf_count-leaves.ensures) c.in-Some.ensures (ap (λ v. (c.args.place + 1 - v) / 2) c.leaves_of.ensures.value))
+    (if_any-subtree (option_copied c.args.counts) 0 c.args.self.now.tree c.args.node_index _
+    (subtree_at-seen _ _ c.args.self.now (ap (λ r. r.tree) c.self.view_is) c.args.node_index c.leaf_count-leaves.result c.in-Some.level ((c.args.node_index + 1 - c.leaves_of.result) / 2) (sym c.leaf_count-leaves.ensures) c.in-Some.ensures (ap (λ v. (c.args.node_index + 1 - v) / 2) c.leaves_of.ensures.value))
     c.requires)
 
 pub returns-in-Some-take_resolution-clause-answer : goal.returns-in-Some-take_resolution-clause-answer
 returns-in-Some-take_resolution-clause-answer c =
-    let first = (c.args.place + 1 - c.leaves_of.result) / 2 in
+    let first = (c.args.node_index + 1 - c.leaves_of.result) / 2 in
     let n = c.leaf_count-leaves.result in
     subst (λ (o : Option (List ℕ)). IfSome o (λ ps. (c.in-Some-take_resolution.left == 0) ≡ (count_not_in c.args.without.now ps == c.args.len)))
-    (sym (resolution_at-seen _ _ c.args.self.now (ap (λ r. r.tree) c.self.view_is) c.args.place c.leaf_count-leaves.result c.in-Some.level ((c.args.place + 1 - c.leaves_of.result) / 2) (sym c.leaf_count-leaves.ensures) c.in-Some.ensures (ap (λ v. (c.args.place + 1 - v) / 2) c.leaves_of.ensures.value)))
+    (sym (resolution_at-seen _ _ c.args.self.now (ap (λ r. r.tree) c.self.view_is) c.args.node_index c.leaf_count-leaves.result c.in-Some.level ((c.args.node_index + 1 - c.leaves_of.result) / 2) (sym c.leaf_count-leaves.ensures) c.in-Some.ensures (ap (λ v. (c.args.node_index + 1 - v) / 2) c.leaves_of.ensures.value)))
     (taken_off-all c.args.len _ c.in-Some-take_resolution.left
     (sym c.in-Some-take_resolution.is ∙ c.take_resolution.ensures
     ∙ ap (λ xs. taken_off c.args.len (count_not_in c.args.without.now (resolution n first (tree_in xs c.in-Some.level first)))) c.as_slice-nodes.ensures.value))
 
 pub returns-in-Some-take_resolution-clause-no_such_node : goal.returns-in-Some-take_resolution-clause-no_such_node
 returns-in-Some-take_resolution-clause-no_such_node c =
-    no_refusal-ok _ _ (resolution_at c.args.self.now.tree c.args.place ≡ None)
-    (λ none. none-some _ (sym none ∙ resolution_at-seen _ _ c.args.self.now (ap (λ r. r.tree) c.self.view_is) c.args.place c.leaf_count-leaves.result c.in-Some.level ((c.args.place + 1 - c.leaves_of.result) / 2) (sym c.leaf_count-leaves.ensures) c.in-Some.ensures (ap (λ v. (c.args.place + 1 - v) / 2) c.leaves_of.ensures.value)))
+    no_refusal-ok _ _ (resolution_at c.args.self.now.tree c.args.node_index ≡ None)
+    (λ none. none-some _ (sym none ∙ resolution_at-seen _ _ c.args.self.now (ap (λ r. r.tree) c.self.view_is) c.args.node_index c.leaf_count-leaves.result c.in-Some.level ((c.args.node_index + 1 - c.leaves_of.result) / 2) (sym c.leaf_count-leaves.ensures) c.in-Some.ensures (ap (λ v. (c.args.node_index + 1 - v) / 2) c.leaves_of.ensures.value)))
 
 pub returns-in-None-clause-answer : goal.returns-in-None-clause-answer
 returns-in-None-clause-answer c =
-    let first = (c.args.place + 1 - c.leaves_of.result) / 2 in
+    let first = (c.args.node_index + 1 - c.leaves_of.result) / 2 in
     let n = c.leaf_count-leaves.result in
     subst (λ (o : Option (List ℕ)). IfSome o (λ ps. false ≡ (count_not_in c.args.without.now ps == c.args.len)))
-    (sym (resolution_at-seen _ _ c.args.self.now (ap (λ r. r.tree) c.self.view_is) c.args.place c.leaf_count-leaves.result c.in-Some.level ((c.args.place + 1 - c.leaves_of.result) / 2) (sym c.leaf_count-leaves.ensures) c.in-Some.ensures (ap (λ v. (c.args.place + 1 - v) / 2) c.leaves_of.ensures.value)))
+    (sym (resolution_at-seen _ _ c.args.self.now (ap (λ r. r.tree) c.self.view_is) c.args.node_index c.leaf_count-leaves.result c.in-Some.level ((c.args.node_index + 1 - c.leaves_of.result) / 2) (sym c.leaf_count-leaves.ensures) c.in-Some.ensures (ap (λ v. (c.args.node_index + 1 - v) / 2) c.leaves_of.ensures.value)))
     (taken_off-too_few c.args.len _
     (sym c.in-None.is ∙ c.take_resolution.ensures
     ∙ ap (λ xs. taken_off c.args.len (count_not_in c.args.without.now (resolution n first (tree_in xs c.in-Some.level first)))) c.as_slice-nodes.ensures.value))
 
 pub returns-in-None-clause-no_such_node : goal.returns-in-None-clause-no_such_node
 returns-in-None-clause-no_such_node c =
-    no_refusal-ok _ _ (resolution_at c.args.self.now.tree c.args.place ≡ None)
-    (λ none. none-some _ (sym none ∙ resolution_at-seen _ _ c.args.self.now (ap (λ r. r.tree) c.self.view_is) c.args.place c.leaf_count-leaves.result c.in-Some.level ((c.args.place + 1 - c.leaves_of.result) / 2) (sym c.leaf_count-leaves.ensures) c.in-Some.ensures (ap (λ v. (c.args.place + 1 - v) / 2) c.leaves_of.ensures.value)))
+    no_refusal-ok _ _ (resolution_at c.args.self.now.tree c.args.node_index ≡ None)
+    (λ none. none-some _ (sym none ∙ resolution_at-seen _ _ c.args.self.now (ap (λ r. r.tree) c.self.view_is) c.args.node_index c.leaf_count-leaves.result c.in-Some.level ((c.args.node_index + 1 - c.leaves_of.result) / 2) (sym c.leaf_count-leaves.ensures) c.in-Some.ensures (ap (λ v. (c.args.node_index + 1 - v) / 2) c.leaves_of.ensures.value)))

@@ -11,10 +11,10 @@ use Rattle.mls_tree.proofs.node_array.NodeArray.next_blank_leaf.Goals as goal
 pub counted_blank_leaf-requires-clause-inside : goal.counted_blank_leaf-requires-clause-inside
 counted_blank_leaf-requires-clause-inside c = omega (arith, leaves_at-low c.self.inside.height c.self.inside.low)
 
-pub counted_blank_leaf-requires-clause-room : goal.counted_blank_leaf-requires-clause-room
-counted_blank_leaf-requires-clause-room c =
+pub counted_blank_leaf-requires-clause-capacity : goal.counted_blank_leaf-requires-clause-capacity
+counted_blank_leaf-requires-clause-capacity c =
     let ok = subst (λ o. AreCountsIfAny (option_copied o) 0 c.args.self.now.tree) c.in-Some.is c.requires in
-    let room = ok.0 in
+    let capacity = ok.0 in
     omega (arith, leaf_count-seen _ _ c.self.invariant c.args.self.now.tree (ap (λ r. r.tree) c.self.view_is))
 
 pub counted_blank_leaf-requires-clause-counts : goal.counted_blank_leaf-requires-clause-counts

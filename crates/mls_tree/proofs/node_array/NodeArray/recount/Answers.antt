@@ -8,8 +8,8 @@ use Rattle.mls_tree.proofs.node_array.NodeArray.recount.Goals as goal
 pub recount-requires-clause-inside : goal.recount-requires-clause-inside
 recount-requires-clause-inside c = omega (arith, leaves_at-low c.self.inside.height c.self.inside.low)
 
-pub recount-requires-clause-room : goal.recount-requires-clause-room
-recount-requires-clause-room c = omega (arith, c.requires.count, leaf_count-seen _ _ c.self.invariant c.args.self.now.tree (ap (λ r. r.tree) c.self.view_is))
+pub recount-requires-clause-capacity : goal.recount-requires-clause-capacity
+recount-requires-clause-capacity c = omega (arith, c.requires.count, leaf_count-seen _ _ c.self.invariant c.args.self.now.tree (ap (λ r. r.tree) c.self.view_is))
 
 pub recount-requires-clause-beside : goal.recount-requires-clause-beside
 recount-requires-clause-beside c =
@@ -17,7 +17,7 @@ recount-requires-clause-beside c =
     subst (λ t. AreOutside 0 t c.args.leaf c.args.counts.now) (sym at) c.requires.beside
 
 pub returns-clause-count : goal.returns-clause-count
-returns-clause-count c = c.recount.ensures.kept.count
+returns-clause-count c = c.recount.ensures.preserved.count
 
 pub returns-clause-counts : goal.returns-clause-counts
 returns-clause-counts c =

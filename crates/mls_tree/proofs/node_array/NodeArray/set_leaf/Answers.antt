@@ -10,8 +10,8 @@ returns-then-index-leaves_of-clause-no_such_node c =
 pub invariant_of-self : goal.invariant_of-self
 invariant_of-self c = IsArrayOf-set_leaf _ _ c.args.index c.leaf_entry.result c.self.invariant c.leaf_entry.ensures.no_parent (omega (arith, c.self.invariant.long))
 
-pub returns-clause-ok : goal.returns-clause-ok
-returns-clause-ok c =
+pub returns-clause-changed : goal.returns-clause-changed
+returns-clause-changed c =
     set_leaf-seen _ _ c.self.invariant _ (ap (λ r. r.tree) c.self.view_is) c.args.index c.leaf_entry.result _ (omega arith) c.leaf_entry.ensures.part
 
 pub returns-clause-no_such_node : goal.returns-clause-no_such_node

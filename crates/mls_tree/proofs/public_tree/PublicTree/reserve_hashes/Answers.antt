@@ -1,11 +1,11 @@
 use Rattle.std.proofs.Common.{ap, ◌∙◌, ◌*◌, ◌-◌, length, sym, subst, arith, replicate, None}
 use Rattle.mls_tree.specs.Tree.{leaf_count}
 use Rattle.mls_tree.specs.PublicTreeModel.{KeptTree}
-use Rattle.mls_tree.specs.HashCache.{AreCells, hash_by}
+use Rattle.mls_tree.specs.HashCache.{AreSlots, hash_by}
 use Rattle.mls_tree.proofs.Trees.{leaf_count-positive}
 use Rattle.mls_tree.proofs.Descent.{leaf_count-limit}
-use Rattle.mls_tree.proofs.Emptying.{AreCells-fresh}
-use Rattle.mls_tree.proofs.KeptCells.{listed}
+use Rattle.mls_tree.proofs.Emptying.{AreSlots-fresh}
+use Rattle.mls_tree.proofs.KeptSlots.{listed}
 use Rattle.mls_tree.proofs.public_tree.PublicTree.reserve_hashes.Goals as goal
 
 pub blank-requires : goal.blank-requires
@@ -15,9 +15,9 @@ pub invariant_of-self : goal.invariant_of-self
 invariant_of-self c =
     let t = c.self.inside.tree.tree in
     let nodes = c.nodes-count.result.now in
-    let kind = c.in_ok-cells.ensures.kind in (
-      subst (λ k. AreCells (hash_by k) t c.in_ok-cells.cells.hashes.items) (sym kind)
-          (AreCells-fresh (hash_by c.args.kind) t c.in_ok-cells.cells.hashes.items (length nodes) c.in_ok-cells.ensures.cells (omega (arith, listed nodes t c.nodes-count.ensures, leaf_count-positive t))),
+    let kind = c.in_ok-slots.ensures.kind in (
+      subst (λ k. AreSlots (hash_by k) t c.in_ok-slots.slots.hashes.items) (sym kind)
+          (AreSlots-fresh (hash_by c.args.kind) t c.in_ok-slots.slots.hashes.items (length nodes) c.in_ok-slots.ensures.slots (omega (arith, listed nodes t c.nodes-count.ensures, leaf_count-positive t))),
       c.in_ok-counts.ensures,
     )
 
@@ -25,4 +25,4 @@ pub returns-clause-fresh : goal.returns-clause-fresh
 returns-clause-fresh c =
     let t = c.self.inside.tree.tree in
     let nodes = c.nodes-count.result.now in
-    λ other. c.in_ok-cells.ensures.cells ∙ ap (λ n. replicate n None) (listed nodes t c.nodes-count.ensures ∙ ap (λ (v : KeptTree). 2 * leaf_count v.tree - 1) c.self.view_is)
+    λ other. c.in_ok-slots.ensures.slots ∙ ap (λ n. replicate n None) (listed nodes t c.nodes-count.ensures ∙ ap (λ (v : KeptTree). 2 * leaf_count v.tree - 1) c.self.view_is)

@@ -17,5 +17,5 @@ returns-in-Ok g c =
 
 pub returns-in-Err : goal.returns-in-Err
 returns-in-Err g c =
-    put_undone c.in-Err.fault (g.T.Decode.spelling c.args.value.now) c.in-Some.size c.args.self.now _ c.after-draft.result c.put.new.draft c.in-Some.ensures c.in-Err.ensures
+    put_undone c.in-Err.fault (g.T.Decode.encoding c.args.value.now) c.in-Some.size c.args.self.now _ c.after-draft.result c.put.new.draft c.in-Some.ensures c.in-Err.ensures
     (c.after-draft.ensures.kept ∙ (ap (λ v. v.items) c.replace.ensures.value ∙ (c.in_ok-reserve.ensures.items ∙ c.self.view_is))) c.undo.ensures

@@ -1,0 +1,63 @@
+use Rattle.std.proofs.Common.{◌≢◌, ◌∙◌, Some, Err, length, ap, sym, inl, inr, arith}
+use Rattle.std.proofs.lemmas.Result.{err_from_is_err_and}
+use Rattle.mls_apply.specs.AppliedList.{applied_tree}
+use Rattle.mls_apply.specs.PathRules.{path_length}
+use Rattle.mls_apply.proofs.Counting.{has_ciphertexts-counted}
+use Rattle.mls_tree.proofs.Choices.{is_less}
+use Rattle.mls_apply.proofs.Paths.{filtered-parents}
+use Rattle.mls_apply.proofs.Refusals.{path-no_leaf, path-other_length, path-no_commit, path-old_key, path-other_count, path-checked, path-long}
+use Rattle.mls_apply.proofs.path_merge.checked_node_indices.Goals as goal
+
+pub returns-in_err-node_indices-clause-refused : goal.returns-in_err-node_indices-clause-refused
+returns-in_err-node_indices-clause-refused c =
+    let p = err_from_is_err_and c.from_residual.result c.from_residual.ensures.1 in
+    rw (p.1, p.2) (λ not_memory H.
+    elim c.in_err-node_indices.ensures.possible_errors [
+      | inl e ↦ path-no_leaf (applied_tree c.args.tree.now.tree c.args.path.now.added.now) c.args.path.now.leaf c.args.path.now.path.now H (c.in_err-node_indices.ensures.outside.0 (ap Err e)) ∙ ap Some (sym e)
+      | inr e ↦ absurd (not_memory e)
+    ])
+
+pub returns-then-nodes-len-clause-refused : goal.returns-then-nodes-len-clause-refused
+returns-then-nodes-len-clause-refused c _ H =
+    let nodes = ap length c.as_slice-nodes.ensures in
+    let node_indices = ap length c.in_ok-node_indices.ensures.node_indices in
+    let kept = c.in_ok-node_indices.node_indices.ok in
+    let other : length c.args.path.now.path.now.nodes ≢ path_length c.args.tree.now.tree c.args.path.now.leaf = λ e. c.if-nodes-len.true (omega arith) in
+    path-other_length (applied_tree c.args.tree.now.tree c.args.path.now.added.now) c.args.path.now.leaf c.args.path.now.path.now H (is_less _ _ c.in_ok-node_indices.ensures.inside) other
+
+pub returns-then-not-is_from_commit-clause-refused : goal.returns-then-not-is_from_commit-clause-refused
+returns-then-not-is_from_commit-clause-refused c _ H =
+    let long = path-long c.args.tree.now.tree c.args.path.now.leaf c.len.result c.as_slice-nodes.result.now c.args.path.now.path.now.nodes c.in_ok-node_indices.node_indices.items
+    c.as_slice-nodes.ensures c.in_ok-node_indices.ensures.node_indices (omega (arith, c.in_ok-node_indices.node_indices.ok)) c.if-nodes-len.false in
+    path-no_commit (applied_tree c.args.tree.now.tree c.args.path.now.added.now) c.args.path.now.leaf c.args.path.now.path.now H (is_less _ _ c.in_ok-node_indices.ensures.inside) long (sym c.is_from_commit.ensures ∙ c.if-not-is_from_commit.true)
+
+pub returns-then-not-branch-clause-refused : goal.returns-then-not-branch-clause-refused
+returns-then-not-branch-clause-refused c _ H =
+    let long = path-long c.args.tree.now.tree c.args.path.now.leaf c.len.result c.as_slice-nodes.result.now c.args.path.now.path.now.nodes c.in_ok-node_indices.node_indices.items
+    c.as_slice-nodes.ensures c.in_ok-node_indices.ensures.node_indices (omega (arith, c.in_ok-node_indices.node_indices.ok)) c.if-nodes-len.false in
+    let commit = sym c.is_from_commit.ensures ∙ c.if-not-is_from_commit.false in
+    path-old_key (applied_tree c.args.tree.now.tree c.args.path.now.added.now) c.args.path.now.leaf c.args.path.now.path.now H (is_less _ _ c.in_ok-node_indices.ensures.inside) long commit (sym c.in_ok-has_new_keys.ensures ∙ c.if-not-branch.true)
+
+pub have_counts-requires-clause-parents : goal.have_counts-requires-clause-parents
+have_counts-requires-clause-parents c =
+    filtered-parents c.args.tree.now.tree c.args.path.now.leaf c.deref.result.now (c.deref.ensures.value ∙ c.in_ok-node_indices.ensures.node_indices)
+
+pub returns-then-not-branch-2-clause-refused : goal.returns-then-not-branch-2-clause-refused
+returns-then-not-branch-2-clause-refused c _ H =
+    let long = path-long c.args.tree.now.tree c.args.path.now.leaf c.len.result c.as_slice-nodes.result.now c.args.path.now.path.now.nodes c.in_ok-node_indices.node_indices.items
+    c.as_slice-nodes.ensures c.in_ok-node_indices.ensures.node_indices (omega (arith, c.in_ok-node_indices.node_indices.ok)) c.if-nodes-len.false in
+    let commit = sym c.is_from_commit.ensures ∙ c.if-not-is_from_commit.false in
+    let new = sym c.in_ok-has_new_keys.ensures ∙ c.if-not-branch.false in
+    let counted = has_ciphertexts-counted c.args.path.now.path.now (applied_tree c.args.tree.now.tree c.args.path.now.added.now) c.args.path.now.leaf c.as_slice-added.result.now c.deref.result.now c.as_slice-nodes.result.now c.in_ok-have_counts.field-0
+    c.as_slice-added.ensures (c.deref.ensures.value ∙ c.in_ok-node_indices.ensures.node_indices) c.as_slice-nodes.ensures c.in_ok-have_counts.ensures in
+    path-other_count (applied_tree c.args.tree.now.tree c.args.path.now.added.now) c.args.path.now.leaf c.args.path.now.path.now H (is_less _ _ c.in_ok-node_indices.ensures.inside) long commit new (counted ∙ c.if-not-branch-2.true)
+
+pub returns-clause-rules_hold : goal.returns-clause-rules_hold
+returns-clause-rules_hold c H =
+    let long = path-long c.args.tree.now.tree c.args.path.now.leaf c.len.result c.as_slice-nodes.result.now c.args.path.now.path.now.nodes c.in_ok-node_indices.node_indices.items
+    c.as_slice-nodes.ensures c.in_ok-node_indices.ensures.node_indices (omega (arith, c.in_ok-node_indices.node_indices.ok)) c.if-nodes-len.false in
+    let commit = sym c.is_from_commit.ensures ∙ c.if-not-is_from_commit.false in
+    let new = sym c.in_ok-has_new_keys.ensures ∙ c.if-not-branch.false in
+    let counted = has_ciphertexts-counted c.args.path.now.path.now (applied_tree c.args.tree.now.tree c.args.path.now.added.now) c.args.path.now.leaf c.as_slice-added.result.now c.deref.result.now c.as_slice-nodes.result.now c.in_ok-have_counts.field-0
+    c.as_slice-added.ensures (c.deref.ensures.value ∙ c.in_ok-node_indices.ensures.node_indices) c.as_slice-nodes.ensures c.in_ok-have_counts.ensures in
+    path-checked (applied_tree c.args.tree.now.tree c.args.path.now.added.now) c.args.path.now.leaf c.args.path.now.path.now H (is_less _ _ c.in_ok-node_indices.ensures.inside) long commit new (counted ∙ c.if-not-branch-2.false)

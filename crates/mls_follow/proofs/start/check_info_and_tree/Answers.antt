@@ -1,0 +1,17 @@
+use Rattle.mls_tree.specs.PublicTreeModel.{plain}
+use Rattle.mls_follow.proofs.Starting.{signature_fails, starts, starts_again, fails_again}
+use Rattle.mls_follow.proofs.start.check_info_and_tree.Goals as goal
+
+pub returns-in-Ok-clause-started : goal.returns-in-Ok-clause-started
+returns-in-Ok-clause-started g c =
+    let G = g.C.SignatureCheck.meaning c.args.checker.now in
+    starts_again G c.args.info.now (plain c.validated_requirements.new.tree) (plain c.args.tree.now) _ c.validated_requirements.ensures.tree
+    (starts G c.args.info.now (plain c.validated_requirements.new.tree) c.in_ok-required.required c.in_ok-required.ensures.members
+    _ c.in-Ok.ensures.signed c.in-Ok.ensures.hashed)
+
+pub returns-in-Err-clause-refused : goal.returns-in-Err-clause-refused
+returns-in-Err-clause-refused g c =
+    let G = g.C.SignatureCheck.meaning c.args.checker.now in
+    fails_again G c.args.info.now (plain c.validated_requirements.new.tree) (plain c.args.tree.now) _ c.validated_requirements.ensures.tree
+    (signature_fails G c.args.info.now (plain c.validated_requirements.new.tree) c.in_ok-required.required c.in_ok-required.ensures.members
+    _ c.in-Err.ensures.refused)

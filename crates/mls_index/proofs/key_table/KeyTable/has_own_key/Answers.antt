@@ -1,6 +1,0 @@
-use Rattle.mls_index.proofs.Lookups.{own-other}
-use Rattle.mls_index.proofs.key_table.KeyTable.has_own_key.Goals as goal
-
-pub returns : goal.returns
-returns c = λ covers.
-    own-other c.args.kind c.args.tree.now.tree c.args.place c.first_other.result c.is_none.result c.is_none.ensures (c.first_other.ensures covers)

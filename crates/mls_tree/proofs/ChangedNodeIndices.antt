@@ -1,0 +1,330 @@
+-- The places at which a tree differs from the tree before a change.
+use Rattle.std.proofs.Common.{◌≡◌, ◌≢◌, get_or, ℕ, zero, suc, ◌+◌, ◌*◌, ◌-◌, ◌/◌, ◌<◌, ◌≤◌, List, [], ◌∷◌, ◌++◌, drop, length, Option, Some, None, true, false, refl, sym, ap, ◌∙◌, subst, inl, inr, arith, unwrap_or, nat_lt, Box, Global}
+use Rattle.std.specs.Prelude.{slice_get, ◌⊎◌, ◌==◌, if◌then◌else◌, option_map}
+use Rattle.std.specs.List.{list_any, range_with_len}
+use Rattle.std.proofs.lemmas.Bool.{cases_lt, cases_eq, cases_order}
+use Rattle.std.proofs.lemmas.Bool.Decides.{nat_tests}
+use Rattle.std.proofs.lemmas.List.{append_assoc, drop_more}
+use Rattle.std.proofs.lemmas.List.Folds.{list_any-append}
+use Rattle.std.proofs.lemmas.Option.{slice_get_past}
+use Rattle.std.proofs.Math.ListN.{drop_of_length-le}
+use Rattle.mls_nodes.specs.declared.leaf.LeafNode.{LeafNode}
+use Rattle.mls_nodes.specs.declared.parent.ParentNode.{ParentNode}
+use Rattle.mls_tree.specs.Tree.{Tree, leaf, branch, height, leaf_count, leaves_at, listing, leaf_entry, parent_entry, node_at, Subtree, subtree_at, IsBranch, IsParent, IsPerfect}
+use Rattle.mls_tree.specs.RatchetTree.{HasShape, RatchetTree}
+use Rattle.mls_tree.specs.PublicTreeModel.{KeptTree}
+use Rattle.mls_tree.specs.TreeOperations.{put_leaf, put_parent, left_subtree, with_left, rejoined}
+use Rattle.mls_tree.specs.Journals.{undone, all_undone}
+use Rattle.mls_tree.specs.ChangedNodes.{AgreeExceptAt}
+use Rattle.mls_tree.specs.declared.journal.UndoEntry.{UndoEntry}
+use Rattle.mls_tree.specs.declared.journal.UndoEntry.TheVariants.{Leaf, Parent, AddedUnmerged, Extended, Halved}
+use Rattle.mls_tree.proofs.Arrays.{slice_get-set_other}
+use Rattle.mls_tree.proofs.Choices.{false_no_true, below, from}
+use Rattle.mls_tree.proofs.Elsewhere.{put_parent-elsewhere}
+use Rattle.mls_tree.proofs.Growing.{slice_get-append_left}
+use Rattle.mls_tree.proofs.Kept.{either, or_none, height-put_leaf, IsPerfect-put_leaf, leaf_count-put_leaf, leaf_count-put_parent}
+use Rattle.mls_tree.proofs.Positions.{node_at-listing}
+use Rattle.mls_tree.proofs.Rejoining.{rejoined-fits, rejoined-not}
+use Rattle.mls_tree.proofs.Replacing.{listing-put_leaf, listing-put_parent}
+use Rattle.mls_tree.proofs.Trees.{leaf_count-positive, leaf_count-perfect, length-listing}
+use Rattle.mls_tree.proofs.Numbers.{leaves_at-positive, leaves_at-le, leaves_at-low}
+
+-- ---- lists of places
+
+-- what two lists name together
+pub same-append : (old mid new : Tree) (ps qs : List ℕ) → AgreeExceptAt qs old mid → AgreeExceptAt ps mid new → AgreeExceptAt (ps ++ qs) old new
+same-append old mid new ps qs a b p out = let e = or_none _ _ (sym (list_any-append (λ q. q == p) ps qs) ∙ out) in a p e.1 ∙ b p e.0
+
+is_one : (q p : ℕ) → p ≡ q → (q == p) ≡ true
+is_one q p e = grind (arith, nat_tests)
+
+not_one : (q p : ℕ) → (q == p) ≡ false → p ≢ q
+not_one q p out e = false_no_true (sym out ∙ is_one q p e)
+
+-- a place that is not in a range
+outside : (a n p : ℕ) → list_any (λ q. q == p) (range_with_len a n) ≡ false → (p < a) ⊎ (a + n ≤ p)
+outside a zero p out = elim (cases_lt p a) [ inl lt ↦ inl lt | inr ge ↦ inr (omega arith) ]
+outside a (suc n) p out =
+    let parts = or_none (a == p) (list_any (λ q. q == p) (range_with_len (a + 1) n)) out in
+    let away = not_one a p parts.0 in
+    elim (outside (a + 1) n p parts.1) [
+      | inl lt ↦ inl (elim (cases_lt p a) [ inl less ↦ less | inr ge ↦ absurd (away (omega arith)) ])
+      | inr ge ↦ inr (omega arith)
+    ]
+
+-- a range by one place longer
+range-more : (a n : ℕ) → range_with_len a (n + 1) ≡ range_with_len a n ++ (a + n) ∷ []
+range-more a zero = ap (λ k. k ∷ []) (let e : a ≡ a + 0 = omega arith in e)
+range-more a (suc n) =
+    ap (λ k. range_with_len a k) (let e : suc n + 1 ≡ suc (n + 1) = omega arith in e)
+    ∙ ap (λ v. a ∷ v) (range-more (a + 1) n)
+    ∙ ap (λ k. a ∷ (range_with_len (a + 1) n ++ k ∷ [])) (let e : a + 1 + n ≡ a + suc n = omega arith in e)
+
+pub range-pushed : (old mid new : List ℕ) (a n : ℕ) → mid ≡ old ++ range_with_len a n → new ≡ mid ++ (a + n) ∷ [] → new ≡ old ++ range_with_len a (n + 1)
+range-pushed old mid new a n e pushed =
+    pushed ∙ ap (λ v. v ++ (a + n) ∷ []) e ∙ append_assoc old (range_with_len a n) ((a + n) ∷ []) ∙ ap (λ v. old ++ v) (sym (range-more a n))
+
+-- ---- one node is replaced
+
+same-put_leaf : (t : Tree) (i : ℕ) (x : Option LeafNode) → i < leaf_count t → AgreeExceptAt (2 * i ∷ []) (put_leaf 0 t i x) t
+same-put_leaf t i x inside p out =
+    let away = not_one (2 * i) p ((or_none (2 * i == p) false out).0) in
+    node_at-listing (put_leaf 0 t i x) p
+    ∙ ap (λ v. unwrap_or (slice_get v p) None) (listing-put_leaf t i x inside)
+    ∙ ap (λ o. unwrap_or o None) (slice_get-set_other (listing t) (2 * i) p (leaf_entry x) away)
+    ∙ sym (node_at-listing t p)
+
+branch_or_not : (t : Tree) → IsBranch t ⊎ (¬ IsBranch t)
+branch_or_not (leaf x) = inr (λ h. h)
+branch_or_not (branch l n r) = inl tt
+
+parent_or_not : (o : Option Subtree) → IsParent o ⊎ (¬ IsParent o)
+parent_or_not None = inr (λ h. h)
+parent_or_not (Some s) = branch_or_not s.tree
+
+same-put_parent : (t : Tree) (q : ℕ) (x : Option ParentNode) → AgreeExceptAt (q ∷ []) (put_parent 0 t q x) t
+same-put_parent t q x p out =
+    let away = not_one q p ((or_none (q == p) false out).0) in
+    elim (parent_or_not (subtree_at 0 t q)) [
+      | inl there ↦
+          node_at-listing (put_parent 0 t q x) p
+          ∙ ap (λ v. unwrap_or (slice_get v p) None) (listing-put_parent t q x there)
+          ∙ ap (λ o. unwrap_or o None) (slice_get-set_other (listing t) q p (parent_entry x) away)
+          ∙ sym (node_at-listing t p)
+      | inr none ↦ ap (λ v. node_at v p) (put_parent-elsewhere t q x none)
+    ]
+
+-- ---- a half is added or taken away
+
+-- the left half has the nodes of the whole but those from the root on
+left-entry : (l : Tree) (n : Option ParentNode) (r : Tree) (p : ℕ) → (p < 2 * leaf_count l - 1) ⊎ (2 * leaf_count l - 1 + 2 * leaf_count r ≤ p)
+    → node_at l p ≡ node_at (branch l n r) p
+left-entry l n r p away =
+    let whole = length-listing (branch l n r) in
+    node_at-listing l p
+    ∙ ap (λ o. unwrap_or o None)
+    (elim away [
+      | inl lt ↦ sym (slice_get-append_left (listing l) (parent_entry n ∷ listing r) p (omega (arith, length-listing l)))
+      | inr ge ↦
+          slice_get_past (listing l) p (omega (arith, length-listing l))
+          ∙ sym (slice_get_past (listing (branch l n r)) p (omega (arith, whole, length-listing l)))
+    ])
+    ∙ sym (node_at-listing (branch l n r) p)
+
+same-left : (l : Tree) (n : Option ParentNode) (r : Tree) (a c : ℕ) → a ≡ 2 * leaf_count l - 1 → c ≡ 2 * leaf_count r
+    → AgreeExceptAt (range_with_len a c) l (branch l n r)
+same-left l n r a c from count p out =
+    left-entry l n r p (elim (outside a c p out) [ inl lt ↦ inl (omega arith) | inr ge ↦ inr (omega arith) ])
+
+same-right : (l : Tree) (n : Option ParentNode) (r : Tree) (a c : ℕ) → a ≡ 2 * leaf_count l - 1 → c ≡ 2 * leaf_count r
+    → AgreeExceptAt (range_with_len a c) (branch l n r) l
+same-right l n r a c from count p out = sym (same-left l n r a c from count p out)
+
+halves-count : (l r : Tree) (n : Option ParentNode) → IsPerfect (branch l n r) → leaf_count l ≡ leaf_count r
+halves-count l r n h = leaf_count-perfect l h.1 ∙ ap leaves_at h.0 ∙ sym (leaf_count-perfect r h.2)
+
+-- ---- the shape of the tree before one change
+
+pub height-put_parent : (first : ℕ) (t : Tree) (p : ℕ) (x : Option ParentNode) → height (put_parent first t p x) ≡ height t
+height-put_parent first (leaf _) p x = refl
+height-put_parent first (branch l n r) p x =
+    either (λ t. height t ≡ suc (height l)) (p + 1 == 2 * (first + leaf_count l)) (branch l x r)
+    (if nat_lt (p + 1) (2 * (first + leaf_count l)) then branch (put_parent first l p x) n r else branch l n (put_parent (first + leaf_count l) r p x)) refl
+    (either (λ t. height t ≡ suc (height l)) (nat_lt (p + 1) (2 * (first + leaf_count l))) (branch (put_parent first l p x) n r) (branch l n (put_parent (first + leaf_count l) r p x))
+    (ap (λ k. suc k) (height-put_parent first l p x)) refl)
+
+IsPerfect-put_parent : (first : ℕ) (t : Tree) (p : ℕ) (x : Option ParentNode) → IsPerfect t → IsPerfect (put_parent first t p x)
+IsPerfect-put_parent first (leaf _) p x h = h
+IsPerfect-put_parent first (branch l n r) p x h =
+    either IsPerfect (p + 1 == 2 * (first + leaf_count l)) (branch l x r)
+    (if nat_lt (p + 1) (2 * (first + leaf_count l)) then branch (put_parent first l p x) n r else branch l n (put_parent (first + leaf_count l) r p x)) h
+    (either IsPerfect (nat_lt (p + 1) (2 * (first + leaf_count l))) (branch (put_parent first l p x) n r) (branch l n (put_parent (first + leaf_count l) r p x))
+    (height-put_parent first l p x ∙ h.0, IsPerfect-put_parent first l p x h.1, h.2)
+    (h.0 ∙ sym (height-put_parent (first + leaf_count l) r p x), h.1, IsPerfect-put_parent (first + leaf_count l) r p x h.2))
+
+shape-put_leaf : (t : Tree) (i : ℕ) (x : Option LeafNode) → HasShape t → HasShape (put_leaf 0 t i x)
+shape-put_leaf t i x s = record { perfect = IsPerfect-put_leaf 0 t i x s.perfect; low = let low = s.low in omega (arith, height-put_leaf 0 t i x) }
+
+shape-put_parent : (t : Tree) (p : ℕ) (x : Option ParentNode) → HasShape t → HasShape (put_parent 0 t p x)
+shape-put_parent t p x s = record { perfect = IsPerfect-put_parent 0 t p x s.perfect; low = let low = s.low in omega (arith, height-put_parent 0 t p x) }
+
+shape-left_subtree : (t : Tree) → HasShape t → HasShape (left_subtree t)
+shape-left_subtree (leaf x) s = s
+shape-left_subtree (branch l n r) s = record { perfect = s.perfect.1; low = let low = s.low in omega arith }
+
+shape-with_left : (t w : Tree) → HasShape t → HasShape w → height t + 1 ≡ height w → HasShape (with_left t w)
+shape-with_left t (leaf x) s big e = big
+shape-with_left t (branch l n r) s big e = record {
+  perfect = (let level = big.perfect.0 in let same : height t ≡ height r = omega arith in same, s.perfect, big.perfect.2);
+  low = let low = big.low in omega arith;
+}
+
+shape-rejoined : (t w : Tree) → HasShape t → HasShape w → HasShape (rejoined t w)
+shape-rejoined t w s big =
+    elim (cases_eq (height t + 1) (height w)) [
+      | inl e ↦ subst HasShape (sym (rejoined-fits t w e)) (shape-with_left t w s big e)
+      | inr away ↦ subst HasShape (sym (rejoined-not t w away)) s
+    ]
+
+shape-before : (x : UndoEntry) (t : Tree) → HasShape t → HasShape (undone x t)
+shape-before (Leaf i x) t s =
+    either HasShape (nat_lt i (leaf_count t)) (put_leaf 0 t i (option_map (λ b. b.value) x)) t (shape-put_leaf t i (option_map (λ b. b.value) x) s) s
+shape-before (Parent p x) t s = shape-put_parent t p _ s
+shape-before (AddedUnmerged p i) t s = shape-put_parent t p _ s
+shape-before Extended t s = shape-left_subtree t s
+shape-before (Halved b) t s = shape-rejoined t b.value.tree s b.value.shape
+
+-- ---- what is told of one change
+
+-- the tree before a change of a tree of n leaves has m leaves; and the places that `new` names are those of `old` and each at which
+-- the change has done something
+pub record Lists (old new : List ℕ) (n m : ℕ) (x : UndoEntry) : Type 0 where
+  pub count : (t : RatchetTree) → leaf_count t.tree ≡ n → leaf_count (undone x t.tree) ≡ m
+  pub node_indices : (t : RatchetTree) (u : Tree) → leaf_count t.tree ≡ n → AgreeExceptAt old t.tree u → AgreeExceptAt new (undone x t.tree) u
+
+-- where places are added that tell of the change
+lists_changes-added : (old new more : List ℕ) (n m : ℕ) (x : UndoEntry) → new ≡ old ++ more
+    → ((t : RatchetTree) → leaf_count t.tree ≡ n → (leaf_count (undone x t.tree) ≡ m) × AgreeExceptAt more (undone x t.tree) t.tree) → Lists old new n m x
+lists_changes-added old new more n m x pushed changes_listed = record {
+  count = λ t e. (changes_listed t e).0;
+  node_indices = λ t u e same.
+      subst (λ ps. AgreeExceptAt ps (undone x t.tree) u) (sym pushed) (same-append (undone x t.tree) t.tree u old more ((changes_listed t e).1) same);
+}
+
+-- where the change was none
+lists_changes-none : (old new : List ℕ) (n : ℕ) (x : UndoEntry) → new ≡ old → ((t : RatchetTree) → leaf_count t.tree ≡ n → undone x t.tree ≡ t.tree) → Lists old new n n x
+lists_changes-none old new n x stays none = record {
+  count = λ t e. ap leaf_count (none t e) ∙ e;
+  node_indices = λ t u e same p out. ap (λ v. node_at v p) (none t e) ∙ same p (ap (λ ps. list_any (λ q. q == p) ps) (sym stays) ∙ out);
+}
+
+module _ (old new : List ℕ) (n : ℕ) where
+  pub lists_changes-leaf : (i : ℕ) (x : _) → i < n → new ≡ old ++ 2 * i ∷ [] → Lists old new n n (Leaf i x)
+  lists_changes-leaf i x inside pushed =
+      lists_changes-added old new (2 * i ∷ []) n n (Leaf i x) pushed
+      (λ t e.
+      let v = option_map (λ b. b.value) x in
+      let put : undone (Leaf i x) t.tree ≡ put_leaf 0 t.tree i v = below i (leaf_count t.tree) (put_leaf 0 t.tree i v) t.tree (omega arith) in (
+        ap leaf_count put ∙ leaf_count-put_leaf 0 t.tree i v ∙ e,
+        subst (λ w. AgreeExceptAt (2 * i ∷ []) w t.tree) (sym put) (same-put_leaf t.tree i v (omega arith)),
+      ))
+
+  pub lists_changes-no_leaf : (i : ℕ) (x : _) → n ≤ i → new ≡ old → Lists old new n n (Leaf i x)
+  lists_changes-no_leaf i x past stays =
+      lists_changes-none old new n (Leaf i x) stays (λ t e. let v = option_map (λ b. b.value) x in from i (leaf_count t.tree) (put_leaf 0 t.tree i v) t.tree (omega arith))
+
+  pub lists_changes-parent : (p : ℕ) (x : _) → new ≡ old ++ p ∷ [] → Lists old new n n (Parent p x)
+  lists_changes-parent p x pushed =
+      lists_changes-added old new (p ∷ []) n n (Parent p x) pushed (λ t e. (leaf_count-put_parent 0 t.tree p _ ∙ e, same-put_parent t.tree p _))
+
+  pub lists_changes-in_lists : (p i : ℕ) → new ≡ old ++ p ∷ [] → Lists old new n n (AddedUnmerged p i)
+  lists_changes-in_lists p i pushed =
+      lists_changes-added old new (p ∷ []) n n (AddedUnmerged p i) pushed (λ t e. (leaf_count-put_parent 0 t.tree p _ ∙ e, same-put_parent t.tree p _))
+
+-- a tree of one leaf has no half
+no_half : (t : Tree) → leaf_count t ≡ 1 → left_subtree t ≡ t
+no_half (leaf x) e = refl
+no_half (branch l n r) e = absurd (omega (arith, leaf_count-positive l, leaf_count-positive r))
+
+pub lists_changes-one : (old new : List ℕ) (n : ℕ) → n ≡ 1 → new ≡ old → Lists old new n 1 Extended
+lists_changes-one old new n one stays = subst (λ m. Lists old new n m Extended) one (lists_changes-none old new n Extended stays (λ t e. no_half t.tree (e ∙ one)))
+
+half-changes_listed : (t : Tree) (n half : ℕ) → IsPerfect t → leaf_count t ≡ n → n ≢ 1 → half ≡ n / 2
+    → (leaf_count (left_subtree t) ≡ half) × AgreeExceptAt (range_with_len (2 * half - 1) (2 * (n - half))) (left_subtree t) t
+half-changes_listed (leaf x) n half h e more at = absurd (more (sym e))
+half-changes_listed (branch l v r) n half h e more at =
+    let level = halves-count l r v h in
+    (omega arith, same-left l v r (2 * half - 1) (2 * (n - half)) (omega arith) (omega arith))
+
+pub lists_changes-grown : (old new : List ℕ) (n half : ℕ) → n ≢ 1 → half ≡ n / 2 → new ≡ old ++ range_with_len (2 * half - 1) (2 * (n - half)) → Lists old new n half Extended
+lists_changes-grown old new n half more at pushed =
+    lists_changes-added old new (range_with_len (2 * half - 1) (2 * (n - half))) n half Extended pushed (λ t e. half-changes_listed t.tree n half t.shape.perfect e more at)
+
+-- trees are as high as they have leaves
+count-up : (t w : Tree) → IsPerfect t → IsPerfect w → height t + 1 ≡ height w → leaf_count w ≡ 2 * leaf_count t
+count-up t w h k e =
+    let next : height w ≡ suc (height t) = omega arith in
+    let double : leaves_at (height w) ≡ leaves_at (height t) + leaves_at (height t) = ap leaves_at next in
+    omega (arith, leaf_count-perfect t h, leaf_count-perfect w k)
+
+height-up : (t w : Tree) → IsPerfect t → IsPerfect w → leaf_count w ≡ 2 * leaf_count t → height t + 1 ≡ height w
+height-up t w h k e =
+    let a = leaf_count-perfect t h in
+    let b = leaf_count-perfect w k in
+    let pos = leaves_at-positive (height t) in
+    elim (cases_order (height t + 1) (height w)) [
+      | inl at ↦ at
+      | inr (inl lt) ↦
+          (let le : leaves_at (suc (suc (height t))) ≤ leaves_at (height w) = leaves_at-le (suc (suc (height t))) (height w) (omega arith) in
+          absurd (omega arith))
+      | inr (inr gt) ↦
+          (let le : leaves_at (height w) ≤ leaves_at (height t) = leaves_at-le (height w) (height t) (omega arith) in
+          absurd (omega arith))
+    ]
+
+pub lists_changes-no_whole : (old new : List ℕ) (n : ℕ) (b : Box KeptTree Global) → leaf_count b.value.tree ≢ 2 * n → new ≡ old → Lists old new n n (Halved b)
+lists_changes-no_whole old new n b away stays =
+    let w = b.value in
+    lists_changes-none old new n (Halved b) stays
+    (λ t e. rejoined-not t.tree w.tree (λ up. away (count-up t.tree w.tree t.shape.perfect w.shape.perfect up ∙ ap (λ k. 2 * k) e)))
+
+whole-changes_listed : (t w : Tree) (n : ℕ) → IsPerfect t → IsPerfect w → leaf_count t ≡ n → leaf_count w ≡ 2 * n → height t + 1 ≡ height w
+    → (leaf_count (with_left t w) ≡ leaf_count w) × AgreeExceptAt (range_with_len (2 * n - 1) (2 * n)) (with_left t w) t
+whole-changes_listed t (leaf x) n h k e double up = absurd (omega arith)
+whole-changes_listed t (branch l v r) n h k e double up =
+    let level = halves-count l r v k in
+    (omega arith, same-right t v r (2 * n - 1) (2 * n) (omega arith) (omega arith))
+
+pub lists_changes-halved : (old new : List ℕ) (n m : ℕ) (b : Box KeptTree Global) → m ≡ leaf_count b.value.tree → m ≡ 2 * n → new ≡ old ++ range_with_len (2 * n - 1) (2 * n) → Lists old new n m (Halved b)
+lists_changes-halved old new n m b whole double pushed =
+    let w = b.value in
+    lists_changes-added old new (range_with_len (2 * n - 1) (2 * n)) n m (Halved b) pushed
+    (λ t e.
+    let up = height-up t.tree w.tree t.shape.perfect w.shape.perfect (omega arith) in
+    let changes_listed = whole-changes_listed t.tree w.tree n t.shape.perfect w.shape.perfect e (omega arith) up in
+    let fits = rejoined-fits t.tree w.tree up in (
+      ap leaf_count fits ∙ changes_listed.0 ∙ sym whole,
+      subst (λ v. AgreeExceptAt (range_with_len (2 * n - 1) (2 * n)) v t.tree) (sym fits) changes_listed.1,
+    ))
+
+-- ---- what is told of the last changes of a journal
+
+-- the tree before the changes xs has n leaves, and places tell of them all
+pub record AreListedOf (xs : List UndoEntry) (t : Tree) (node_indices : List ℕ) (n : ℕ) : Type 0 where
+  pub shape : HasShape (all_undone xs t)
+  pub count : leaf_count (all_undone xs t) ≡ n
+  pub same : AgreeExceptAt node_indices (all_undone xs t) t
+
+pub changes_listed-start : (all : List UndoEntry) (t : Tree) (node_indices : List ℕ) (n : ℕ) → HasShape t → node_indices ≡ [] → n ≡ leaf_count t → AreListedOf (drop (length all) all) t node_indices n
+changes_listed-start all t node_indices n s none count =
+    subst (λ xs. AreListedOf xs t node_indices n) (sym (drop_of_length-le all (omega arith))) (record { shape = s; count = sym count; same = λ p out. refl })
+
+pub changes_listed-positive : (xs : List UndoEntry) (t : Tree) (node_indices : List ℕ) (n : ℕ) → AreListedOf xs t node_indices n → 0 < n
+changes_listed-positive xs t node_indices n changes_listed = let e = changes_listed.count in omega (arith, leaf_count-positive (all_undone xs t))
+
+pub changes_listed-low : (xs : List UndoEntry) (t : Tree) (node_indices : List ℕ) (n : ℕ) → AreListedOf xs t node_indices n → n ≤ 1048576
+changes_listed-low xs t node_indices n changes_listed =
+    let u = all_undone xs t in
+    let e = changes_listed.count in
+    omega (arith, leaf_count-perfect u changes_listed.shape.perfect, leaves_at-low (height u) changes_listed.shape.low)
+
+-- the change before
+module _ (all : List UndoEntry) (i : ℕ) (x : UndoEntry) (t : Tree) (old : List ℕ) (n : ℕ) (changes_listed : AreListedOf (drop i all) t old n)
+    (some : 0 < i) (inside : i ≤ length all) (here : x ≡ get_or all (i - 1) x) where
+  one_before : drop (i - 1) all ≡ x ∷ drop i all
+  one_before =
+      let next : i - 1 + 1 ≡ i = omega arith in
+      drop_more all (i - 1) x (omega arith) ∙ (λ j. sym here j ∷ drop (next j) all)
+
+  pub changes_listed-step : (new : List ℕ) (m : ℕ)
+      → ((t : RatchetTree) → leaf_count t.tree ≡ n → leaf_count (undone x t.tree) ≡ m)
+      → ((t : RatchetTree) (u : Tree) → leaf_count t.tree ≡ n → AgreeExceptAt old t.tree u → AgreeExceptAt new (undone x t.tree) u)
+      → AreListedOf (drop (i - 1) all) t new m
+  changes_listed-step new m count node_indices =
+      let u : RatchetTree = record { tree = all_undone (drop i all) t; shape = changes_listed.shape } in
+      subst (λ xs. AreListedOf xs t new m) (sym one_before)
+      (record { shape = shape-before x u.tree changes_listed.shape; count = count u changes_listed.count; same = node_indices u t changes_listed.count changes_listed.same })
+
+-- all changes
+pub changes_listed-all : (all : List UndoEntry) (i : ℕ) (t : Tree) (node_indices : List ℕ) (n : ℕ) → AreListedOf (drop i all) t node_indices n → i ≡ 0 → AgreeExceptAt node_indices (all_undone all t) t
+changes_listed-all all i t node_indices n changes_listed first = subst (λ k. AgreeExceptAt node_indices (all_undone (drop k all) t) t) first changes_listed.same

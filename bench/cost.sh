@@ -2,18 +2,18 @@
 # Runs the program on inputs that may cost more than their size, each at n, 2n and 4n, as cost.py makes them. A line for
 # each shape has, for 4n, the bytes that came, and the seconds of the processor and the megabytes that they took beyond
 # what the start alone takes. Then it has the power of n by which the time grew, the bytes of memory for each byte that
-# came, and the last line of the report. Where a message touches much of the group, it also has how much of the time of
-# a start each message takes. The script fails
+# came, and the last line of the report. If a message touches much of the group, it also has how much of the time of a
+# start each message takes. The script fails
 #
-# - at a growth beyond n^1.35, and where a message takes a greater part of a start than cost.py allows
+# - at a growth beyond n^1.35, and if a message takes a greater part of a start than cost.py allows
 # - beyond 25 bytes a byte
-# - at a fault, and where a run takes 100 seconds.
+# - at a fault, and if a run takes 100 seconds.
 #
-# A time below 0.25 seconds and a memory below 8 MB are too small to be judged.
+# A time below 0.25 seconds and a memory below 8 MB are too small to be compared.
 #
 #   cost.sh [SHAPE...]    runs the named shapes, or all
 #
-# PROGRAM in the environment names another program that takes the same words, N scales all sizes (1), and RUNS says how
+# PROGRAM in the environment names another program that takes the same arguments, N scales all sizes (1), and RUNS says how
 # often each run is made, of which the fastest counts (3). It needs GNU time.
 here=$(dirname -- "$(readlink -f -- "$0")")
 folder=$(mktemp -d)
@@ -22,7 +22,7 @@ trap 'exit 130' INT TERM
 program=${PROGRAM:-$here/../mlscheck}
 [ -n "$PROGRAM" ] || "$program" --help >/dev/null || exit
 
-# Prints the least seconds of the processor and the most kilobytes of the runs with these words, and whether one ended
+# Prints the least seconds of the processor and the most kilobytes of the runs with these arguments, and whether one ended
 # with a fault.
 measure() {
     count=${RUNS:-3}

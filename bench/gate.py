@@ -1,11 +1,11 @@
 #!/usr/bin/env python3
-"""Times records of `mlscheck gate --trust` over a pipe, beside `replay`.
+"""Times records of `mlscheck gate --trust` over a pipe, in addition to `replay`.
 
     gate.py [--members N ..] [--log L]
 
-For each number of members it makes a group and a log of L commits with a path each, and has them judged: by `replay` from the
-file, and by the gate, which is sent a message only once the answer to the one before it has come. It prints the seconds from
-the first message to the last answer, and what a record takes beyond a message of `replay`.
+For each number of members it makes a group and a log of L commits with a path each. `replay` processes them from the file,
+and so does the gate, which is sent a message only once the answer to the one before it has come. The script prints the
+seconds from the first message to the last answer, and what a record takes beyond a message of `replay`.
 """
 
 import argparse

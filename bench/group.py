@@ -16,11 +16,11 @@ import collections
 import hashlib
 import random
 
-# What a leaf says, but for where it comes from.
+# The fields of a leaf node, except its source.
 Leaf = collections.namedtuple("Leaf", "encryption signature credential capabilities extensions")
 
 # What a commit does: who sends it, whom it removes, the leaves that it adds, the sender's new leaf, and the
-# keys that are set in place of its path's, by their places in the path.
+# keys that replace those of its path, by their positions in the path.
 Plan = collections.namedtuple("Plan", "committer removed joining renewed keys")
 
 BASIC = bytes.fromhex("020001 020001 00 00 020001")
@@ -110,7 +110,7 @@ class Group:
         return [index for index, leaf in enumerate(self.leaves) if leaf]
 
     def renewed(self, index):
-        """What the member's leaf says after its next commit."""
+        """The fields of the member's leaf after its next commit."""
         leaf = new_leaf("renewed", index, self.epoch)
         return leaf._replace(signature=self.leaves[index].signature)
 
@@ -129,7 +129,7 @@ class Group:
         self.sizes[level][at] = 1 + len(node[2]) if node else below
 
     def hash_again(self, indices):
-        """Makes the hashes of these leaves and of what is above them anew."""
+        """Computes the hashes of these leaves and of the nodes above them again."""
         places = sorted(set(indices))
         for level in range(self.depth + 1):
             for at in places:
@@ -137,7 +137,7 @@ class Group:
             places = sorted({at // 2 for at in places})
 
     def set_leaf(self, index, leaf):
-        """A member joins: a new leaf, unmerged at every set parent above it."""
+        """A member joins: a new leaf, unmerged at every non-blank parent above it."""
         self.leaves[index] = leaf
         self.levels[0][index] = leaf_bytes(leaf, KEY_PACKAGE)
         for level in range(1, self.depth + 1):
@@ -175,7 +175,7 @@ class Group:
         self.hash_again(range(count, 2 * count))
 
     def halve(self):
-        """Halves the tree as often as its right half is blank."""
+        """Truncates the tree as long as its right subtree is blank."""
         while self.depth and self.sizes[self.depth - 1][1] == 0:
             self.depth -= 1
             del self.leaves[1 << self.depth:]

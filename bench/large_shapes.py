@@ -59,7 +59,7 @@ def refused_by(put, group, rule, **touched):
 
 
 def full_group(put, rule):
-    """The tree is full, and grows for the commit. From rule 23 on the hashes of its new half are needed."""
+    """The tree is full, and is extended for the commit. From rule 23 on the hashes of its new right subtree are needed."""
     if rule < 23:
         return refused_by(put, Group(put.full(8_192), put.full(1_024)), rule, touches_all=True)
     return refused_by(put, Group(16_384, 2_048), rule, touches_all=True, share=0.5)
@@ -75,8 +75,8 @@ for at in range(19, 26):
 
 
 def join_refused_by(put, group, rule, **touched):
-    """An external commit for which a full tree grows, again and again, and is made smaller again, since it is refused: by
-    rule 22, before the hashes of the new half are needed, or by 25, after that."""
+    """An external commit for which a full tree is extended, again and again, and restored, since it is refused: by rule 22,
+    before the hashes of the new right subtree are needed, or by 25, after that."""
     leaf, index = joining_with_fault(frozen(group), rule), group.seat()
     path = group.path_bytes(index, group.renew(index, leaf), {0} if rule == 22 else set())
     sent = external_commit(group, [inline(EXTERNAL_INIT)], path)
@@ -103,7 +103,7 @@ def join_list_refused(put):
 
 @shape
 def join_psks(put):
-    """An external commit with a long list of PSKs whose nonces have their first bytes alike, refused by 19."""
+    """An external commit with a long list of PSKs whose nonces have equal first bytes, refused by 19."""
     group = Group(2)
     items = [inline(EXTERNAL_INIT)] + [inline(psk(at)) for at in range(put.size(20_000))]
     return put.replay(group, [external_commit(group, items, false_path(b"", b""))], profile="full")
@@ -154,7 +154,7 @@ def required_changed(put):
 
 @shape
 def grows_and_shrinks(put):
-    """Commits that add one to a full group of 16,384, for whom the tree grows, and commits that remove this one."""
+    """Commits that add one to a full group of 16,384, for whom the tree is extended, and commits that remove this one."""
     group = frozen(Group(16_384, 2_048))
     full, messages = len(group.leaves), []
     for _ in range(put.size(8)):

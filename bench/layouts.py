@@ -45,7 +45,7 @@ class Reader:
 
 
 class Number:
-    """An unsigned integer of so many bytes, perhaps one of a few."""
+    """An unsigned integer of the given number of bytes, perhaps one of a few."""
 
     def __init__(self, size, among=None):
         self.size = size

@@ -3,7 +3,7 @@ from group import KEY_PACKAGE, Group, digest, key, key_package, leaf_bytes, new_
 
 
 class Sparse(Group):
-    """A group whose tree has so many leaves, rounded up to a power of two, of which few are members."""
+    """A group with few members, whose tree has the given number of leaves, rounded up to a power of two."""
 
     def __init__(self, leaves, present, name=b"group"):
         super().__init__(1)
@@ -30,7 +30,7 @@ def with_capabilities(group, capabilities):
 
 
 def frozen(group):
-    """The group, of which `info` and `tree` tell what it is now, whatever commits change later."""
+    """The group, whose `info` and `tree` are those of now, whatever commits change later."""
     info, tree = group.info(), group.tree()
     group.info, group.tree = lambda: info, lambda: tree
     return group
@@ -103,7 +103,7 @@ def inline(body):
 
 
 def small_leaf(at):
-    """A leaf of few bytes, unlike others in its keys."""
+    """A leaf of few bytes, whose keys no other leaf has."""
     name = b"%d" % at
     return new_leaf(at)._replace(encryption=b"e" + name, signature=b"s" + name, credential=b"\x00\x01" + vector(b""))
 

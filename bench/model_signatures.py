@@ -1,4 +1,4 @@
-"""Which signatures of a start and of messages have to be verified, by the words of docs/FORMATS.md, for
+"""Which signatures of a start and of messages have to be verified, by the text of docs/FORMATS.md, for
 random_groups.py.
 
 A signature is its key, its SignContent and itself. None depends on whether others are good.

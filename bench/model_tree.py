@@ -1,4 +1,4 @@
-"""Ratchet trees by the words of RFC 9420, for model_follower.py.
+"""Ratchet trees by the text of RFC 9420, for model_follower.py.
 
 A tree is a tuple of nodes by their node indices (Appendix C). A node is a LeafNode, a ParentNode, or None for a blank
 one. Each function answers a new tree, and makes every hash again: these trees are small.
@@ -62,7 +62,7 @@ def members(tree):
 
 
 def resolution(tree, place):
-    """The node indices that stand for a subtree (4.1.1)."""
+    """The resolution of a node: node indices (4.1.1)."""
     node = tree[place]
     if node and level(place):
         return [place] + [2 * index for index in node.unmerged]
@@ -111,7 +111,7 @@ def update(tree, index, new):
 
 
 def shrink(tree):
-    """The tree is halved while its right half has no members."""
+    """The tree, truncated while its right subtree has no members (7.7)."""
     while len(tree) > 1 and not any(tree[len(tree) // 2 + 1::2]):
         tree = tree[:len(tree) // 2]
     return tree
@@ -122,7 +122,7 @@ def remove(tree, index):
 
 
 def seat(tree):
-    """The leftmost blank leaf, for which the tree is doubled if there is none."""
+    """The leftmost blank leaf, for which the tree is extended if there is none."""
     for index in range(width(tree)):
         if not leaf(tree, index):
             return tree, index

@@ -52,7 +52,7 @@ def new_group(chosen, full):
 
 
 def grown(maker, follower, state, wanted):
-    """The state after one more commit, with a path or of Adds or Removes, towards so many members."""
+    """The state after one more commit, with a path or of Adds or Removes, towards the wanted number of members."""
     chosen, present = maker.chosen, len(trees.members(state.tree))
     if present < wanted and chosen.random() < 0.5:
         most = max(1, wanted - present if present < wanted // 2 else 3)

@@ -1,4 +1,4 @@
-"""Messages of all senders for random_groups.py: as the rules want them, for the state of a group.
+"""Messages of all senders for random_groups.py: as the rules require them, for the state of a group.
 
 A draft is a message that is not yet signed. Signatures are digests of their key and content, so whether one is good
 can be computed, and receipts of all that are made are kept.
@@ -230,7 +230,7 @@ class Maker:
         return self.committed(state, index, entries, items, with_path)
 
     def by_value(self, state, index, items):
-        """Proposals that a member may include by value beside others."""
+        """Proposals that a member may include by value, next to others."""
         gone = {item.proposal[1] for item in items if item.proposal[0] == REMOVE} | {index}
         gone |= {item.sender[1] for item in items if item.proposal[0] == REPLACE}
         proposals = [self.add() for _ in range(self.chosen.choice([0, 0, 1, 1, 2, 4]))]
@@ -272,7 +272,7 @@ class Maker:
         return path._replace(leaf_node=self.signed_leaf(leaf, index))
 
     def external_commit(self, state):
-        """A client joins, or comes back: then it has the credential or the signature key of the leaf that it removes."""
+        """A client joins, or rejoins: then it has the credential or the signature key of the leaf that it removes."""
         proposals = [(EXTERNAL_INIT, self.chosen.randbytes(4))]
         changes = {}
         if self.chosen.random() < 0.45:

@@ -1,18 +1,17 @@
 #!/bin/sh
-# Times `mlscheck replay --trust` on logs of commits (the first argument says how many, or 1,000), each with
-# a path: in one log they have no proposals, in the second they add and remove members too, in the third the
-# newest member adds one with each, and in the last a client joins by each, an external commit. The group has
-# 1,000 members, and then 100,000. How long the start alone takes is told beside it, by a log of no messages,
-# and how much memory was held at most. PROGRAM in the environment names another program that takes the same
-# words, and PEER one that is run beside it, but not on external commits, and has to print the same reports. KINDS
-# names the logs (paths mixed adds joins). It needs GNU time.
+# Times `mlscheck replay --trust` on logs of commits (the first argument is their number, or 1,000), each with a
+# path. In one log the commits have no proposals, in the second they add and remove members too. In the third the
+# newest member adds one with each, and in the last a client joins by each, an external commit. The group has 1,000
+# members, and then 100,000. Also printed is how long the start alone takes, by a log of no messages, and the most
+# memory that was held. PROGRAM in the environment names another program that takes the same arguments. PEER names
+# one that is run too, except on external commits, and has to print the same reports. KINDS names the logs (paths
+# mixed adds joins). It needs GNU time.
 set -e
 here=$(dirname -- "$(readlink -f -- "$0")")
 folder=$(mktemp -d)
 trap 'rm -rf -- "$folder"' EXIT
 
-# Tells what a program makes of a log, and keeps its report, and how long it worked, in seconds of the
-# processor.
+# Prints the seconds of the processor that a program takes for a log, and stores its report.
 run() {
     env time -o "$folder/usage" -f '%U %S %e %M' "$1" replay --info "$folder/info" \
         --tree "$folder/tree" --log "$folder/$2" --trust $profile >"$folder/report"
@@ -22,7 +21,7 @@ run() {
     used=$(awk '{ print $1 + $2 }' "$folder/usage")
 }
 
-# The same of a log of no messages and then of the log, and what the messages take.
+# Measures a log of no messages and then the log, and prints what the messages take.
 compare() {
     echo "$(basename -- "$1"), $2:"
     run "$1" empty

@@ -25,7 +25,7 @@ X509_ALONE = bytes.fromhex("020001 020001 00 00 020002")
 
 
 def known_key(group, chosen):
-    """A key that stands somewhere in the tree."""
+    """A key that some node of the tree has."""
     keys = [leaf.encryption for leaf in group.leaves if leaf]
     return chosen.choice(keys + [node[0] for level in group.levels[1:] for node in level if node])
 
@@ -43,7 +43,7 @@ def spoilt(group, leaf, chosen):
 
 
 def plan_of(group, chosen):
-    """What a commit that keeps every rule does."""
+    """What a commit that satisfies every rule does."""
     committer = chosen.choice(group.present())
     others = [index for index in group.present() if index != committer]
     removed = chosen.sample(others, min(len(others), chosen.choice([0, 0, 1, 2])))
@@ -57,7 +57,7 @@ def plan_of(group, chosen):
 
 
 def changed_plans(group, plan, chosen):
-    """The same with one thing changed, of which some are refused."""
+    """A commit with one thing changed, of which some are refused."""
     yield plan._replace(keys={0: known_key(group, chosen)})
     yield plan._replace(keys={1: known_key(group, chosen)})
     yield plan._replace(keys={0: key("twice"), 1: key("twice")})

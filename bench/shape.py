@@ -36,7 +36,7 @@ class Input:
             self.write(name, "".join(word + "\n" for word in listed).encode())
 
     def replay(self, group, messages, command="replay", touches_all=False, share=None, profile="members"):
-        """A log through which the group is followed, beside the start alone. If its messages touch all of the tree, the
+        """A log through which the group is followed, in addition to the start alone. If its messages touch all of the tree, the
         tree's bytes count as bytes that came. With a share, each message may take that of the time of a start."""
         log = b"".join(vector(body) for body in messages)
         words = [command, "--info", self.write("info", group.info()), "--tree", self.write("tree", group.tree())]
@@ -47,7 +47,7 @@ class Input:
         return told if share is None else [*told, len(messages), share]
 
     def files(self, words, files):
-        """A command on files, which are named in its words, beside its help."""
+        """A command on files, which its arguments name, in addition to its help."""
         for name, body in files.items():
             self.write(name, body)
         self.lists([os.path.join(self.folder, word) if word in files else word for word in words], ["--help"])

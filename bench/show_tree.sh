@@ -1,7 +1,7 @@
 #!/bin/sh
 # Times `mlscheck show tree` on a tree of 100,000 leaves, whose input has about 15 million bytes: every
-# leaf is set, and so is every second parent of the lowest level, with one unmerged leaf each. The
-# report is thrown away but for its last line.
+# leaf is non-blank, and so is every second parent of the lowest level, with one unmerged leaf each. Of
+# the report only the last line is printed.
 set -e
 here=$(dirname -- "$(readlink -f -- "$0")")
 folder=$(mktemp -d)

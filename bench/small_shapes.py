@@ -13,7 +13,7 @@ from shape import shape
 
 @shape
 def known_add_named_again(put):
-    """A large known add, and a commit that names it many times."""
+    """A large pending Add, and a commit that names it many times."""
     group = Group(2)
     leaf = new_leaf("large")._replace(credential=b"\x00\x01" + vector(bytes(put.size(32_000))))
     sent, item = proposal(group, 0, add(leaf))
@@ -22,7 +22,7 @@ def known_add_named_again(put):
 
 @shape
 def signatures_of_a_known_add_named_again(put):
-    """The same messages: the signature of the leaf is one, and so is the memory that it takes."""
+    """The messages of the shape above, for `signatures`: the leaf has one signature, and takes memory once."""
     group = Group(2)
     leaf = new_leaf("large")._replace(credential=b"\x00\x01" + vector(bytes(put.size(32_000))))
     sent, item = proposal(group, 0, add(leaf))
@@ -31,7 +31,7 @@ def signatures_of_a_known_add_named_again(put):
 
 @shape
 def adds_alike(put):
-    """Adds whose keys have their first eight bytes alike."""
+    """Adds whose keys have equal first eight bytes."""
     group = Group(2)
     leaves = [new_leaf(at) for at in range(put.size(10_000))]
     leaves = [leaf._replace(encryption=bytes(8) + leaf.encryption[8:], signature=bytes(8) + leaf.signature[8:])
@@ -56,7 +56,7 @@ def adds_of_one_key(put):
 
 @shape
 def known_proposals(put):
-    """Proposals that stay known, and no commit."""
+    """Proposals that remain pending, and no commit."""
     group = Group(2)
     return put.replay(group, [proposal(group, 0, remove(1), b"%d" % at)[0] for at in range(put.size(20_000))])
 
@@ -190,7 +190,7 @@ def show_of_adds(put):
 
 @shape
 def validate_unmerged(put):
-    """A valid tree with a path of set parents, below which most leaves are unmerged."""
+    """A valid tree with a path of non-blank parents, below which most leaves are unmerged."""
     leaves = put.full(16_384)
     group = Sparse(leaves, far_members(leaves))
     group.renew(0, group.renewed(0))

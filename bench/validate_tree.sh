@@ -1,9 +1,9 @@
 #!/bin/sh
-# Times `mlscheck validate-tree --trust` on a valid tree of 100,000 members under 131,072 leaves, and
-# beside it how long reading and hashing the tree alone take: with a context of another tree hash the
-# check ends after the hash. The tree is made by so many commits (the first argument, or 1,000) of
-# members that are spread evenly over it, and so many members (the second argument, or 100) who were
-# added since, who are unmerged. With 50,000 commits nearly every parent is set.
+# Times `mlscheck validate-tree --trust` on a valid tree of 100,000 members under 131,072 leaves. Also timed is
+# how long reading and hashing the tree alone take: with a context of another tree hash the check ends after the
+# hash. The tree is made by commits (the first argument is their number, or 1,000) of members that are spread
+# evenly over it. Members who were added since (the second argument is their number, or 100) are unmerged. With
+# 50,000 commits nearly every parent is non-blank.
 set -e
 here=$(dirname -- "$(readlink -f -- "$0")")
 folder=$(mktemp -d)

@@ -1,6 +1,6 @@
 #!/bin/sh
-# Hands inputs that are changed by chance to the libraries, by the program crates/mls_hostile: 100,000 of them, or as
-# many thousands as the first word says, from the input of the number of the second word on. It is run by `rt try`,
+# Passes inputs that are changed by chance to the libraries, by the program crates/mls_hostile: 100,000 of them, or the
+# first argument in thousands, from the input whose number is the second argument on. It is run by `rt try`,
 # which proves nothing, and checks each access. Run it by hand, from anywhere: neither `rt ci` nor any test tries so
 # many. Each thousand is a run. At the first one in which something is wrong it ends with 1, and keeps what was printed
 # till then: a run that crashes, finds something wrong, takes over a minute, or has a call that takes over a second.
@@ -14,7 +14,7 @@ for thousand in $(seq 0 "$((thousands - 1))"); do
     echo "0 $((first + 1000 * thousand)) 1000" >"$made/each/$(printf '%06d' "$thousand")"
 done
 
-# Reads what the runs tell, one after the other: how many inputs were accepted and how long the slowest took, and then
+# Reads what the runs print, one after the other: how many inputs were accepted and how long the slowest took, and then
 # how the run ended. Where it reads no further, no further run is made.
 judge() {
     accepted=0 slowest=0 ended=0

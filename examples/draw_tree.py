@@ -18,7 +18,7 @@ MOST_LEAVES = 64
 # How many bytes of a key are shown.
 KEY_BYTES = 4
 
-# Sizes in pixels: a leaf's column, the space between rows, a line of text, a character, and the room around texts.
+# Sizes in pixels: a leaf's column, the space between rows, a line of text, a character, and the space around texts.
 COLUMN = 94
 ROW_GAP = 40
 LINE = 16
@@ -55,7 +55,7 @@ def half(index):
 
 
 def read(lines):
-    """Returns each node's words, by its node index, and how many leaves and members the last line tells."""
+    """Returns each node's words, by its node index, and the numbers of leaves and members of the last line."""
     nodes, counts = {}, None
     for line in lines:
         words = line.split()
@@ -88,7 +88,7 @@ def joined(numbers):
 
 
 def wrapped(words, width):
-    """Returns the words with commas between, in lines of at most so many characters if no word is longer."""
+    """Returns the words with commas between, in lines of at most `width` characters if no word is longer."""
     lines = [""]
     for at, word in enumerate(words):
         word += "," if at + 1 < len(words) else ""
@@ -108,7 +108,7 @@ def unmerged_of(words):
 
 
 def texts(words):
-    """Returns what stands in a node's box, a line each."""
+    """Returns the lines of a node's box."""
     index = int(words[0])
     leaf = [f"leaf {index // 2}"] if index % 2 == 0 else []
     if words[1] == "blank":

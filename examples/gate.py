@@ -1,11 +1,11 @@
 #!/usr/bin/env python3
-"""Drives the live gate: has each message of a log judged by `mlscheck gate`, with the signatures checked here.
+"""Drives the live gate: `mlscheck gate` processes each message of a log, and the signatures are verified here.
 
     gate.py [--forge] --info FILE [--tree FILE] --log FILE [--save FILE]
     gate.py [--forge] --state FILE --log FILE [--save FILE]
 
-The class `Gate` is all that a service needs: it asks the gate which signatures a message needs, checks those, tells the gate
-which are good, and has the message judged. The gate's answer to each message is printed.
+The class `Gate` is all that a service needs. It queries the gate for the signatures of a message, verifies them, sends the
+receipts of the good ones, and sends the message. The gate's answer to each message is printed.
 
 With `--save` the state after the log is stored in a file, from which a later run begins with `--state`.
 
@@ -65,7 +65,7 @@ class Gate:
         return wanted
 
     def learn(self, wanted):
-        """Checks signatures, and tells the gate which are good."""
+        """Verifies signatures, and sends the gate the receipts of the good ones."""
         good = [r for r, s, k, c, g in wanted if is_good(int(s), bytes_of(k), bytes_of(c), bytes_of(g))]
         self.send(b"r", b"".join(bytes.fromhex(receipt) for receipt in good))
 

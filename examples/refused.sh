@@ -1,7 +1,7 @@
 #!/bin/sh
 # Refuses each allocation, one in each run, of the program crates/mls_hostile, which makes calls of the libraries and says
-# whether want of memory left all as it was. It is run by `rt try`, which proves nothing, and checks each access. Run it by
-# hand, from anywhere: neither `rt ci` nor any test runs it. It ends with 1 where any run is not as it has to be.
+# whether all is unchanged after an allocation failed. It is run by `rt try`, which proves nothing, and checks each access. Run it by
+# hand, from anywhere: neither `rt ci` nor any test runs it. It ends with 1 if any run is not as it has to be.
 set -eu
 
 cd -- "$(dirname -- "$0")/../crates/mls_hostile"
@@ -17,8 +17,8 @@ rt try --steps 100000000 --fail-alloc 1000000 --cases "$made/none" >"$made/out" 
 }
 count=$(sed -n 's/^allocations: \([0-9][0-9]*\)$/\1/p' "$made/notes")
 
-# The allocation behind the last one is refused in each run, and more pieces of memory taken before the calls in each: so
-# it moves from behind the last allocation of the calls to the first.
+# The allocation after the last one is refused in each run, and each run allocates more before the calls. So the refused
+# allocation moves from after the last one of the calls to the first.
 pieces=0
 while [ "$pieces" -le "$count" ]; do
     echo "$pieces 0 0" >"$made/each/$(printf '%06d' "$pieces")"

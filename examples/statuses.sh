@@ -1,5 +1,5 @@
 #!/bin/sh
-# Tries each exit status on the real program, with the files of this folder, and what it prints beside. Run it by hand,
+# Tries each exit status on the real program, with the files of this folder, and what it prints. Run it by hand,
 # from anywhere: neither `rt ci` nor any test runs it. It ends with 1 at the first status or text that is another one.
 set -eu
 
@@ -7,7 +7,7 @@ cd -- "$(dirname -- "$0")/.."
 made=$(mktemp -d)
 trap 'rm -r -- "$made"' EXIT
 
-# Runs the program on the words behind STATUS, STREAM and TEXT, and wants this status, and this text on a stream.
+# Runs the program on the arguments after STATUS, STREAM and TEXT. Expects this status, and this text on a stream.
 expect() {
     status=$1 stream=$2 text=$3
     shift 3

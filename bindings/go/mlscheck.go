@@ -3,7 +3,7 @@
 // A service starts a Follower from a GroupInfo. For each message it calls Query, verifies the signatures that are listed, calls
 // Learn with the receipts of the good ones, and then Judge.
 //
-// What is proved is the library behind the border. This package meets the conditions of include/mls_check.h if a Follower is
+// The library is proved; this package is not. It meets the conditions of include/mls_check.h if a Follower is
 // used by one goroutine at a time.
 package mlscheck
 

@@ -3,7 +3,7 @@
 A service starts a Follower from a GroupInfo. For each message it calls `query`, verifies the signatures that are listed, calls
 `learn` with the receipts of the good ones, and then `judge`. MLS_CHECK_LIB names libmls_check.so, which tools/library makes.
 
-What is proved is the library behind the border. This module meets the conditions of include/mls_check.h as long as a Follower is
+The library is proved; this module is not. It meets the conditions of include/mls_check.h as long as a Follower is
 used by one thread at a time.
 """
 

@@ -3,7 +3,7 @@
 //! A service starts a [`Follower`] from a GroupInfo. For each message it calls [`Follower::query`], verifies the signatures
 //! that are listed, calls [`Follower::learn`] with the receipts of the good ones, and then [`Follower::judge`].
 //!
-//! What is proved is the library behind the border. This crate meets the conditions of `include/mls_check.h` by Rust's types:
+//! The library is proved; this crate is not. It meets the conditions of `include/mls_check.h` by Rust's types:
 //! a slice is never null, a `&mut` overlaps nothing else, and a `Follower` owns its handle and is neither copied nor shared.
 
 /// The receipt of a signature: a digest of the suite, the key, the content and the signature.

@@ -107,7 +107,7 @@ is_successor old x =
     not (bytes_eq old.encryption_key x.encryption_key)
     && (is_same_credential old.credential x.credential || bytes_eq old.signature_key x.signature_key)
 
--- `is_successor_if_set o x`: this holds of a leaf node, if there is one.
+-- `is_successor_if_set old x`: the leaf node `x` may replace `old`, if there is one (RFC 9420, 12.4.3.2).
 abbrev pub is_successor_if_set : Option LeafNode → LeafNode → Bool
 is_successor_if_set None x = true
 is_successor_if_set (Some old) x = is_successor old x

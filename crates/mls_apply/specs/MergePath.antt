@@ -15,8 +15,8 @@ use Rattle.mls_hash.specs.ParentHash.{parent_hash_input}
 abbrev pub path_parent : List ℕ → List ℕ → ParentNode
 path_parent key hash = record { encryption_key = key; parent_hash = hash; unmerged = [] }
 
--- `path_hash H p first away` is the parent hash of such a parent, from the tree hash of its child on the copath, whose
--- first leaf is `first` (RFC 9420, 7.9).
+-- `path_hash H p first away` is the parent hash of a parent `p` that a path makes, from the tree hash of its child on the
+-- copath, whose first leaf is `first` (RFC 9420, 7.9).
 abbrev pub path_hash : (List ℕ → List ℕ) → ParentNode → ℕ → Tree → Option (List ℕ)
 path_hash H p first away =
     option_and_then (λ original. option_map H (parent_hash_input p original)) (tree_hash H first away)
@@ -39,7 +39,7 @@ path_step H (_ ∷ _) first away hash (key ∷ keys) =
     option_map (λ h. record { parent = Some (path_parent key hash); hash = h; keys = keys })
     (path_hash H (path_parent key hash) first away)
 
--- `path_step_at H leaves first away hash keys` is this step, with the resolution of `away`.
+-- `path_step_at H leaves first away hash keys` is `path_step` with the resolution of `away`.
 abbrev pub path_step_at : (List ℕ → List ℕ) → ℕ → ℕ → Tree → List ℕ → List (List ℕ) → Option PathStep
 path_step_at H leaves first away hash keys = path_step H (resolution leaves first away) first away hash keys
 

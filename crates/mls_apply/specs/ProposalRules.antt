@@ -201,13 +201,13 @@ proposal_rules G context t sender p =
     rule ReInitInvalid (valid_if_reinit context p) ∷
     rule ExternalInitMisplaced (is_no_external_init p) ∷ []
 
--- `checked_rules G context t sender p` is these rules, after the one that the sender's leaf is non-blank, if the sender is
--- a member.
+-- `checked_rules G context t sender p` is `proposal_rules`, after the rule that the sender's leaf is non-blank, if the sender
+-- is a member.
 abbrev pub checked_rules : VerifyFn → GroupContext → Tree → Sender → Proposal → List (Rule ApplyFault)
 checked_rules G context t sender p =
     rule NoSuchLeaf (is_present t sender) ∷ proposal_rules G context t sender p
 
--- `checked_refusal G context t sender p` is the refusal of the first of them that fails.
+-- `checked_refusal G context t sender p` is the refusal of the first of `checked_rules` that fails.
 unfoldable pub checked_refusal : VerifyFn → GroupContext → Tree → Sender → Proposal → Option ApplyFault
 checked_refusal G context t sender p = first_failing (checked_rules G context t sender p)
 

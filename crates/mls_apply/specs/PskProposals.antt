@@ -18,15 +18,15 @@ use Rattle.mls_apply.specs.declared.list_item.ListItem.{ListItem}
 
 -- ---- one proposal (12.1.4)
 
--- `is_usable epoch sender usage`: a resumption PSK may be used so. The usages reinit and branch are only for the first
--- commit of a group, which a member sends in epoch 0. Whether the group reinitializes another one, or is a branch of it,
--- no message says (8.4, 12.1.4; own rule).
+-- `is_usable epoch sender usage`: the sender may propose a resumption PSK of this usage in this epoch. The usages reinit and
+-- branch are only for the first commit of a group, which a member sends in epoch 0. No message says whether the group
+-- reinitializes another one, or is a branch of it (RFC 9420, 8.4 and 12.1.4; own rule).
 abbrev pub is_usable : ℕ → Sender → PskUsage → Bool
 is_usable epoch sender usages.Application = true
 is_usable epoch sender usages.ReInit = epoch == 0 && is_member sender
 is_usable epoch sender usages.Branch = epoch == 0 && is_member sender
 
--- `is_usable_kind epoch sender kind`: the PSK is an external one, or a resumption PSK that may be used so.
+-- `is_usable_kind epoch sender kind`: the PSK is an external one, or a resumption PSK whose usage `is_usable`.
 abbrev pub is_usable_kind : ℕ → Sender → PskKind → Bool
 is_usable_kind epoch sender (kinds.External _) = true
 is_usable_kind epoch sender (kinds.Resumption usage _ _) = is_usable epoch sender usage

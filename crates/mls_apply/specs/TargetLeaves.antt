@@ -41,7 +41,7 @@ updates_set_leaf t sender (PreSharedKey _) = true
 updates_set_leaf t sender (ReInit _) = true
 updates_set_leaf t sender (ExternalInit _) = true
 
--- `update_set_leaves t items`: this holds of each item.
+-- `update_set_leaves t items`: `updates_set_leaf` holds of each item.
 abbrev pub update_set_leaves : Tree → List ListItem → Bool
 update_set_leaves t items = list_all (λ x. updates_set_leaf t x.sender x.proposal) items
 
@@ -50,7 +50,7 @@ update_set_leaves t items = list_all (λ x. updates_set_leaf t x.sender x.propos
 abbrev pub concerns_set_leaf : Tree → ListItem → Bool
 concerns_set_leaf t x = updates_set_leaf t x.sender x.proposal && is_non_blank_if_some t (removed_by x)
 
--- `concern_set_leaves t items`: this holds of each item.
+-- `concern_set_leaves t items`: `concerns_set_leaf` holds of each item.
 abbrev pub concern_set_leaves : Tree → List ListItem → Bool
 concern_set_leaves t items = list_all (concerns_set_leaf t) items
 

@@ -34,13 +34,13 @@ module _ (c : GroupContext) (IsGiven : RatchetTree → Type 0) where
     pub followed : IsSupportedContext c
     pub uses : IsGiven t
 
-  -- `IsReadable c IsGiven t required`: and the group requires `required`, which can be read (RFC 9420, 11.1).
+  -- `IsReadable c IsGiven t required`: `HasTree` holds, and the group requires `required`, which can be read (RFC 9420, 11.1).
   pub record IsReadable (t : RatchetTree) (required : RequiredCapabilities) : Type 0 where
     pub has_tree : HasTree t
     pub requires : Requires c required
 
-  -- `HasValidTree c IsGiven t required`: and the tree is valid for the tree hash of the context (RFC 9420, 7.9.2,
-  -- 12.4.3.1).
+  -- `HasValidTree c IsGiven t required`: `IsReadable` holds, and the tree is valid for the tree hash of the context
+  -- (RFC 9420, 7.9.2, 12.4.3.1).
   pub record HasValidTree (t : RatchetTree) (required : RequiredCapabilities) : Type 0 where
     pub readable : IsReadable t required
     pub valid : Valid (hash_of c.cipher_suite) c.tree_hash t.tree
@@ -61,7 +61,7 @@ module _ (c : GroupContext) (IsGiven : RatchetTree → Type 0) where
     pub first : IsFirstTreeFault (hash_of c.cipher_suite) c.tree_hash tree.tree fault
 
 module _ (G : VerifyFn) (c : GroupContext) (IsGiven : RatchetTree → Type 0) where
-  -- `HasMembers G c IsGiven t required`: and each leaf node is valid (RFC 9420, 7.3).
+  -- `HasMembers G c IsGiven t required`: `HasValidTree` holds, and each leaf node is valid (RFC 9420, 7.3).
   pub record HasMembers (t : RatchetTree) (required : RequiredCapabilities) : Type 0 where
     pub valid_tree : HasValidTree c IsGiven t required
     pub members : LeavesAreValid G c.cipher_suite c.group_id required t.tree

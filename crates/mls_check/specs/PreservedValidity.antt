@@ -11,7 +11,8 @@ pub record HasValidUnmergedLists (t : Tree) : Type 0 where
   pub sorted : HasStrictlyIncreasingLists t
   pub consistent : HasConsistentUnmerged t
 
--- `IsParentHashValidTree H t`: and every non-blank parent is parent-hash valid (RFC 9420, 7.9.2).
+-- `IsParentHashValidTree H t`: `HasValidUnmergedLists` holds, and every non-blank parent is parent-hash valid (RFC 9420,
+-- 7.9.2).
 pub record IsParentHashValidTree (H : List ℕ → List ℕ) (t : Tree) : Type 0 where
   pub sorted : HasStrictlyIncreasingLists t
   pub consistent : HasConsistentUnmerged t

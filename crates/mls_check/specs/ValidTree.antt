@@ -25,23 +25,23 @@ pub record IsFirstUnsorted (H : List ℕ → List ℕ) (hash : List ℕ) (t : Tr
   pub hashed : tree_hash H 0 t ≡ Some hash
   pub first : IsFirstFailure (IsSortedAt t) p
 
--- `IsFirstInconsistent H hash t p`: and the lists are strictly increasing, and p is the first node index with unmerged
--- leaves that are not consistent.
+-- `IsFirstInconsistent H hash t p`: the tree hash is right, the unmerged lists are strictly increasing, and p is the first
+-- node index with unmerged leaves that are not consistent.
 pub record IsFirstInconsistent (H : List ℕ → List ℕ) (hash : List ℕ) (t : Tree) (p : ℕ) : Type 0 where
   pub hashed : tree_hash H 0 t ≡ Some hash
   pub sorted : HasStrictlyIncreasingLists t
   pub first : IsFirstFailure (HasConsistentUnmergedAt t) p
 
--- `IsFirstRepeated H hash t p`: and the lists are consistent, and p is the first node index whose encryption key
--- another node has.
+-- `IsFirstRepeated H hash t p`: the tree hash is right, the unmerged lists are strictly increasing and consistent, and p is
+-- the first node index whose encryption key another node has.
 pub record IsFirstRepeated (H : List ℕ → List ℕ) (hash : List ℕ) (t : Tree) (p : ℕ) : Type 0 where
   pub hashed : tree_hash H 0 t ≡ Some hash
   pub sorted : HasStrictlyIncreasingLists t
   pub consistent : HasConsistentUnmerged t
   pub first : IsFirstFailure (HasUniqueKeyAt t) p
 
--- `IsFirstUnreached H hash t p`: and the encryption keys are distinct, and p is the first node index of a non-blank
--- parent that is not parent-hash valid.
+-- `IsFirstUnreached H hash t p`: the conditions of `Valid` before the last one hold, and p is the first node index of a
+-- non-blank parent that is not parent-hash valid.
 pub record IsFirstUnreached (H : List ℕ → List ℕ) (hash : List ℕ) (t : Tree) (p : ℕ) : Type 0 where
   pub hashed : tree_hash H 0 t ≡ Some hash
   pub sorted : HasStrictlyIncreasingLists t

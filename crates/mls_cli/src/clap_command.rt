@@ -28,7 +28,7 @@ Example:
 /// The heading of `--trust` and `--receipts` in help.
 const SIGNATURES: &str = "Signatures (give one of these)";
 
-/// The same if neither need be given.
+/// The heading of `--trust` and `--receipts` in help if neither need be given.
 const KNOWN_SIGNATURES: &str = "Signatures (give one of these, or none)";
 
 const SHOW_HELP: &str = "\
@@ -41,34 +41,35 @@ Example:
       --tree examples/one-leaf.tree --trust";
 
 const VALIDATE_HELP: &str = "\
-A group is followed from its info, or from the file of a state.
+A group is followed from a GroupInfo, or from the file of a state.
 
 Example:
   mlscheck validate --info examples/one-leaf.info --trust";
 
 const REPLAY_HELP: &str = "\
-A group is followed from its info, or from the file of a state. With --save the
-state after the log is stored, after the report, in place of a file of that name.
+A group is followed from a GroupInfo, or from the file of a state. With --save
+the state after the log is stored, after the report. A file of that name is
+replaced.
 
 Example:
   mlscheck replay --info examples/real/epoch-1.info --log examples/real/handshakes.log \\
       --receipts examples/real/receipts.txt";
 
 const SIGNATURES_HELP: &str = "\
-Prints a line for each signature that is wanted and that no receipt covers:
+Prints a line for each signature that has to be verified and has no receipt:
   RECEIPT SUITE KEY CONTENT SIGNATURE
-Where the signature is good, RECEIPT is its line in the list of good signatures.
-A group is followed from its info, or from the file of a state. A log is followed
-as if each signature were good: give one whose messages another party has
-accepted, or from which bad ones are struck after a first replay.
+If the signature is good, RECEIPT is its line in the list of good signatures.
+A group is followed from a GroupInfo, or from the file of a state. A log is
+processed as if each signature were good: give one whose messages another party
+has accepted, or remove the messages that a first replay refuses.
 
 Example:
   mlscheck signatures --info examples/real/epoch-1.info \\
       --log examples/real/handshakes.log";
 
 const GATE_HELP: &str = "\
-Standard input is a sequence of records, each a letter and what belongs to it,
-behind its length; each is answered before the next is read:
+Standard input is a sequence of records: a length, a letter, and what belongs to
+the letter. Each record is answered before the next is read:
   r RECEIPTS  these signatures are good (32 bytes each); no answer
   b           begin with the signatures that are known to be good
   q MESSAGE   print the signatures of the message that are not known to be good
@@ -171,7 +172,7 @@ fn show_command<'a>(alloc: Global) -> Result<Command<'a>, AllocError>
 {
     let command = titled(alloc, "show", "Prints what a file holds", SHOW_HELP);
     let command = with_words(alloc, command, "What the file holds: tree, info or message")?;
-    let help = "The profile of a message: members, which is taken without it, or full";
+    let help = "The profile of a message: members, which is the default, or full";
     with(command, valued(alloc, "profile", "PROFILE", help))
 }
 
@@ -185,7 +186,7 @@ fn with_checker<'a>(
     ensures app { IfOk result (λ r. app_of r ≡ specs.with_checker (app_of command.entry)) }
     ensures never_help { IfOk result (λ r. (fields_of r).has_globals ≡ false) }
 {
-    let trust = flag(alloc, "trust", "Takes every signature as good");
+    let trust = flag(alloc, "trust", "Accepts every signature");
     let command = with(command, trust.help_heading(heading))?;
     let receipts = file(alloc, "receipts", "The path of the list of good signatures");
     with(command, receipts.help_heading(heading))
@@ -196,11 +197,11 @@ fn validate_tree_command<'a>(alloc: Global) -> Result<Command<'a>, AllocError>
     ensures app { IfOk result (λ c. app_of c ≡ validate_tree_app) }
     ensures never_help { IfOk result (λ c. (fields_of c).has_globals ≡ false) }
 {
-    let about = "Checks a tree against a group context";
+    let about = "Checks a ratchet tree against a GroupContext";
     let command = titled(alloc, "validate-tree", about, VALIDATE_TREE_HELP);
-    let context = needed(alloc, "context", "The group context's path");
+    let context = needed(alloc, "context", "The path of the GroupContext");
     let command = with(command, context)?;
-    let tree = needed(alloc, "tree", "The ratchet tree's path");
+    let tree = needed(alloc, "tree", "The path of the ratchet tree");
     let command = with(command, tree)?;
     with_checker(alloc, command, SIGNATURES)
 }
@@ -211,21 +212,21 @@ fn with_group<'a>(alloc: Global, command: Command<'a>) -> Result<Command<'a>, Al
     ensures app { IfOk result (λ r. app_of r ≡ specs.with_group (app_of command.entry)) }
     ensures never_help { IfOk result (λ r. (fields_of r).has_globals ≡ false) }
 {
-    let info = file(alloc, "info", "The group info's path");
+    let info = file(alloc, "info", "The path of the GroupInfo");
     let command = with(command, info)?;
     let tree = file(
         alloc,
         "tree",
-        "The ratchet tree's path, where the info holds none",
+        "The path of the ratchet tree, if the GroupInfo has none",
     );
     let command = with(command, tree)?;
     let state = file(
         alloc,
         "state",
-        "The path of a state, in place of the info and the tree",
+        "The path of a state, instead of the GroupInfo and the tree",
     );
     let command = with(command, state)?;
-    let help = "The profile of an info: members, which is taken without it, or full";
+    let help = "The profile of a group: members, which is the default, or full";
     with(command, valued(alloc, "profile", "PROFILE", help))
 }
 
@@ -235,7 +236,7 @@ fn validate_command<'a>(alloc: Global) -> Result<Command<'a>, AllocError>
     ensures app { IfOk result (λ c. app_of c ≡ validate_app) }
     ensures never_help { IfOk result (λ c. (fields_of c).has_globals ≡ false) }
 {
-    let about = "Checks a group as its info or its state shows it";
+    let about = "Checks the GroupInfo or the state of a group";
     let command = titled(alloc, "validate", about, VALIDATE_HELP);
     let command = with_group(alloc, command)?;
     with_checker(alloc, command, SIGNATURES)
@@ -253,7 +254,7 @@ fn replay_command<'a>(alloc: Global) -> Result<Command<'a>, AllocError>
     let log = needed(
         alloc,
         "log",
-        "The path of the handshakes, each behind its length",
+        "The path of the handshakes, each after its length",
     );
     let command = with(command, log)?;
     let save = file(
@@ -277,7 +278,7 @@ fn signatures_command<'a>(alloc: Global) -> Result<Command<'a>, AllocError>
     let log = file(
         alloc,
         "log",
-        "The path of the handshakes, each behind its length",
+        "The path of the handshakes, each after its length",
     );
     let command = with(command, log)?;
     let receipts = file(alloc, "receipts", "The path of the list of good signatures");

@@ -1,6 +1,6 @@
 -- Which signatures have to be verified of a message in a state, and what the signatures of a start and of a message
 -- determine (RFC 9420, 5.1.2, 6.1, 12.4.3.1).
--- Used by contracts. `G` and `K`: what a checker answers (`VerifyFn`).
+-- Used by contracts. `G` and `K`: verification functions of checkers.
 use Rattle.std.specs.Prelude.{◌≡◌, ℕ, if◌then◌else◌, List, [], Option}
 use Rattle.mls_nodes.specs.declared.required_capabilities.RequiredCapabilities.{RequiredCapabilities}
 use Rattle.mls_tree.specs.Tree.{Tree}
@@ -19,29 +19,29 @@ use Rattle.mls_follow.specs.MessageRules.{message_rules}
 use Rattle.mls_follow.specs.Start.{UsesTree, IsStart, IsStartFault}
 use Rattle.mls_follow.specs.declared.start_fault.StartFault.{StartFault}
 
--- the signatures of a message in a state, without duplicates; none if the group is over
+-- `message_signatures s m` is the signatures of a message in the state `s`, without duplicates. Empty if the group is over.
 abbrev pub message_signatures : State → Message → List SignatureToVerify
 message_signatures s m =
     if s.ended then [] else lists.message_signatures s.profile s.context s.known s.tree m
 
--- the signatures of all leaves of a state's tree, from left to right
+-- `state_signatures s` is the signatures of all leaves of the tree of `s`, from left to right (RFC 9420, 7.2).
 abbrev pub state_signatures : State → List SignatureToVerify
 state_signatures s = lists.tree_signatures s.context.cipher_suite s.context.group_id 0 s.tree
 
--- `AreSignaturesOf s bytes needed`: `bytes` encode a message, and `needed` are its signatures in the state `s`
+-- `AreSignaturesOf s bytes needed`: `bytes` encode a message, and `needed` are its signatures in the state `s`.
 pub record AreSignaturesOf (s : State) (bytes : List ℕ) (needed : List SignatureToVerify) : Type 0 where
   pub message : Message
   pub encoded : EncodesMessage s.profile message bytes
   pub same : needed ≡ message_signatures s message
 
--- both verify the signatures of a start with the same result, by each tree that the start may use
+-- `AgreeOnStart G K info supplied`: `G` and `K` agree on the signatures of a start, for each tree that it may use.
 abbrev pub AgreeOnStart : VerifyFn → VerifyFn → GroupInfo → Option RatchetTree → Type 0
 AgreeOnStart G K info supplied =
     (t : RatchetTree) → UsesTree supplied info.extensions t → AgreeOn G K (lists.start_signatures info t.tree)
 
 -- ---- theorems
 
--- the signatures of a message, and those of the leaves of the state's tree, determine which rule the message fails first
+-- The signatures of a message, and those of the leaves of the state's tree, determine which rule the message fails first.
 abbrev pub SignaturesDetermineRefusal : Type 0
 SignaturesDetermineRefusal =
     (G K : VerifyFn) (s : State) (required : RequiredCapabilities) (m : Message)
@@ -49,20 +49,20 @@ SignaturesDetermineRefusal =
     → AgreeOn G K (state_signatures s)
     → first_failing (message_rules G s required m) ≡ first_failing (message_rules K s required m)
 
--- the signatures of a start determine whether a follower starts, and in which state
+-- The signatures of a start determine whether a follower starts, and in which state.
 abbrev pub SignaturesDetermineStart : Type 0
 SignaturesDetermineStart =
     (profile : Profile) (G K : VerifyFn) (info : GroupInfo) (supplied : Option RatchetTree) (s : State)
     → AgreeOnStart G K info supplied → IsStart profile G info supplied s → IsStart profile K info supplied s
 
--- the signatures of a start determine why no follower starts
+-- The signatures of a start determine why no follower starts.
 abbrev pub SignaturesDetermineStartFault : Type 0
 SignaturesDetermineStartFault =
     (G K : VerifyFn) (info : GroupInfo) (supplied : Option RatchetTree) (fault : StartFault)
     → AgreeOnStart G K info supplied → IsStartFault G info supplied fault
     → IsStartFault K info supplied fault
 
--- leaf nodes that are valid remain valid if more signatures are good
+-- Leaf nodes that are valid remain valid if more signatures are good (RFC 9420, 7.3).
 abbrev pub MembersStay : Type 0
 MembersStay =
     (G K : VerifyFn) (suite : ℕ) (group_id : List ℕ) (required : RequiredCapabilities) (t : Tree)

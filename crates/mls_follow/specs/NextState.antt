@@ -84,8 +84,8 @@ abbrev pub is_over_after : Option (List ListItem) → Bool
 is_over_after None = false
 is_over_after (Some items) = has_reinit items
 
--- `with_extensions s extensions ended` is the state with these extensions in its context, and with this as whether the
--- group is over.
+-- `with_extensions s extensions ended` is the state with `extensions` in its context (RFC 9420, 12.1.7), and with `ended`
+-- as whether the group is over (11.2).
 abbrev pub with_extensions : State → List Extension → Bool → State
 with_extensions s extensions ended =
     record s { context = record s.context { extensions = extensions }; ended = ended }

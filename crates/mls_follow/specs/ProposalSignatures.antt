@@ -60,7 +60,7 @@ pub record IsKnownSigned (G : VerifyFn) (context : GroupContext) (t : Tree) (k :
   pub reference : reference_of context frame ≡ Some k.reference
   pub signed : is_frame_signed G context key frame ≡ true
 
--- `AreKnownSigned G s`: this holds of each pending proposal of the state.
+-- `AreKnownSigned G s`: `IsKnownSigned` holds of each pending proposal of the state.
 abbrev pub AreKnownSigned : VerifyFn → State → Type 0
 AreKnownSigned G s = All (IsKnownSigned G s.context s.tree) s.known
 

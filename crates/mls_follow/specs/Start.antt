@@ -33,7 +33,8 @@ abbrev pub UsesTree : Option RatchetTree → List Extension → RatchetTree → 
 UsesTree (Some supplied) extensions t = t ≡ supplied
 UsesTree None extensions t = IsTreeIn (extension_of 2 extensions) t
 
--- `UsesNoTree supplied extensions`: there is no such tree.
+-- `UsesNoTree supplied extensions`: the caller passes no tree, and the GroupInfo has none in its first extension of type 2
+-- (RFC 9420, 12.4.3.3).
 abbrev pub UsesNoTree : Option RatchetTree → List Extension → Type 0
 UsesNoTree supplied extensions = (t : RatchetTree) → UsesTree supplied extensions t → ⊥
 

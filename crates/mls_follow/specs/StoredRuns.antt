@@ -44,7 +44,7 @@ ResumptionHasNoFault =
     (G : VerifyFn) (bytes : List ℕ) (s : State) (fault : ResumeFault) → IsResumed G bytes s
     → fault ≢ OutOfMemory → IsResumeFault G bytes fault → ⊥
 
--- `is_unreadable fault`: it is `Unreadable`, with any cause.
+-- `is_unreadable fault`: the fault is `Unreadable`, with any cause.
 abbrev pub is_unreadable : ResumeFault → Bool
 is_unreadable (Unreadable cause) = true
 is_unreadable ChecksumDiffers = false

@@ -199,7 +199,10 @@ fn repeated_key_refusal(alloc: Global, tree: &mut StagedTree, items: &[ListItem<
     ensures base { tree.new.base ≡ tree.old.base }
 {
     match tree.check_list_fits(alloc, items) {
-        Ok(_) => Refusal::KeyRepeated,
+        Ok(added) => {
+            drop(added);
+            Refusal::KeyRepeated
+        }
         Err(fault) => Refusal::from(fault),
     }
 }

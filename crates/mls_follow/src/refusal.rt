@@ -12,7 +12,7 @@ pub enum Refusal {
     /// The bytes are the encoding of no message, or more than 268,435,456 (RFC 9420, 6).
     #[error("the bytes spell no message")]
     Malformed,
-    /// The message is not a PublicMessage: its wire format is not 1 (RFC 9420, 6.2).
+    /// The message is not a PublicMessage: its wire format is not 1 (RFC 9420, 6).
     #[error("the message is not in the open")]
     NotPublic,
     /// The message's group id is not that of the GroupContext (RFC 9420, 6.1).

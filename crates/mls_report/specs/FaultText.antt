@@ -26,7 +26,7 @@ wire_kind_text kind.OddLength = codes "OddLength"
 wire_kind_text kind.Trailing = codes "Trailing"
 wire_kind_text kind.TooLong = codes "TooLong"
 
--- `wire_fault_text f` is this text, and the offset at which the item begins.
+-- `wire_fault_text f` is the text of a wire fault: what is wrong, and the offset at which the item begins.
 abbrev pub wire_fault_text : WireFault → List ℕ
 wire_fault_text f = wire_kind_text f.kind ++ (codes " " ++ decimal f.at)
 

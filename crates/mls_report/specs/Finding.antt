@@ -48,8 +48,8 @@ finding_verdict _ = No
 
 -- ---- the report of a finding
 
--- `ReportsFinding IsFound written0 written1 verdict`: this is found, its line was written whole, and the verdict is
--- its.
+-- `ReportsFinding IsFound written0 written1 verdict`: the line of a finding of which `IsFound` holds was written whole, and
+-- the verdict is that of this finding.
 pub record ReportsFinding (IsFound : Finding → Type 0) (written0 written1 : Option (List ℕ))
     (verdict : Verdict) : Type 0 where
   pub finding : Finding
@@ -57,7 +57,7 @@ pub record ReportsFinding (IsFound : Finding → Type 0) (written0 written1 : Op
   pub wrote : Appends written0 written1 (finding_line finding)
   pub verdict_is : verdict ≡ finding_verdict finding
 
--- `ReportsFindingPrefix IsFound written0 written1`: this is found, and a prefix of its line was written.
+-- `ReportsFindingPrefix IsFound written0 written1`: a prefix of the line of a finding of which `IsFound` holds was written.
 pub record ReportsFindingPrefix (IsFound : Finding → Type 0)
     (written0 written1 : Option (List ℕ)) : Type 0 where
   pub finding : Finding

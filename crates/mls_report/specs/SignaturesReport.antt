@@ -48,7 +48,7 @@ signature_line w =
     ++ (codes " " ++ (hex_text w.content
     ++ (codes " " ++ (hex_text w.signature ++ codes "\n"))))))))
 
--- `line_unless R w` is this line, unless the signature has a receipt.
+-- `line_unless R w` is the line of a signature, or nothing if the signature has a receipt.
 abbrev pub line_unless : VerifyFn → SignatureToVerify → List ℕ
 line_unless R w = if R w.suite w.key w.content w.signature then [] else signature_line w
 
@@ -306,7 +306,8 @@ pub record StartHasSignatures (profile : Profile) (info : GroupInfo) (supplied :
   pub start : IsStart profile all_good info supplied s
   pub needed_is : needed ≡ start_signatures info s.tree
 
--- `ReadsStartSignatures profile info0 info1 tree0 tree1 s needed`: both were read, and so a follower starts from them.
+-- `ReadsStartSignatures profile info0 info1 tree0 tree1 s needed`: the GroupInfo and the tree, if one is passed, were read,
+-- and `StartHasSignatures` holds of them.
 pub record ReadsStartSignatures (profile : Profile) (info0 info1 : Option (List ℕ))
     (tree0 tree1 : Option (Option (List ℕ))) (s : State) (needed : List SignatureToVerify) : Type 0 where
   pub info_bytes : List ℕ
@@ -325,7 +326,7 @@ module _ (profile : Profile) (R : VerifyFn) (info0 info1 : Option (List ℕ))
       SignaturesFrom R (ReadsStartSignatures profile info0 info1 tree0 tree1)
       (ReadsAndDeclines profile all_good info0 info1 tree0 tree1) log0 log1 written0 written1
 
-  -- `SignaturesPart profile R info0 info1 tree0 tree1 log0 log1 written0 written1 fault`: it was not written whole.
+  -- `SignaturesPart profile R info0 info1 tree0 tree1 log0 log1 written0 written1 fault`: the report was not written whole.
   abbrev pub SignaturesPart : RunFault → Type 0
   SignaturesPart =
       SignaturesPartFrom R (ReadsStartSignatures profile info0 info1 tree0 tree1)
@@ -348,7 +349,7 @@ module _ (R : VerifyFn) (state0 state1 : Option (List ℕ)) (log0 log1 : Option 
       SignaturesFrom R (ReadsStateSignatures state0 state1) (ReadsAndDeclinesState all_good state0 state1)
       log0 log1 written0 written1
 
-  -- `SignaturesStatePart R state0 state1 log0 log1 written0 written1 fault`: it was not written whole.
+  -- `SignaturesStatePart R state0 state1 log0 log1 written0 written1 fault`: the report was not written whole.
   abbrev pub SignaturesStatePart : RunFault → Type 0
   SignaturesStatePart =
       SignaturesPartFrom R (ReadsStateSignatures state0 state1) (ReadsAndDeclinesState all_good state0 state1)

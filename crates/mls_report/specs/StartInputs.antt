@@ -109,7 +109,8 @@ pub record ReadsBoth (info0 info1 : Option (List ℕ)) (tree0 tree1 : Option (Op
   pub info : ReadsAll info0 info1 info_bytes
   pub tree : ReadsSupplied tree0 tree1 tree_bytes
 
--- `ReadsAndStarts profile G info0 info1 tree0 tree1 s`: both were read, and a follower starts from them in this state.
+-- `ReadsAndStarts profile G info0 info1 tree0 tree1 s`: the GroupInfo and the tree, if one is passed, were read. A follower
+-- starts from them in the state `s`.
 pub record ReadsAndStarts (profile : Profile) (G : VerifyFn) (info0 info1 : Option (List ℕ))
     (tree0 tree1 : Option (Option (List ℕ))) (s : State) : Type 0 where
   pub info_bytes : List ℕ
@@ -117,8 +118,8 @@ pub record ReadsAndStarts (profile : Profile) (G : VerifyFn) (info0 info1 : Opti
   pub both_read : ReadsBoth info0 info1 tree0 tree1 info_bytes tree_bytes
   pub started : IsStarted profile G info_bytes tree_bytes s
 
--- `ReadsAndDeclines profile G info0 info1 tree0 tree1 finding`: both were read, and no follower starts from them, for
--- this finding.
+-- `ReadsAndDeclines profile G info0 info1 tree0 tree1 finding`: the GroupInfo and the tree, if one is passed, were read. No
+-- follower starts from them, for this finding.
 pub record ReadsAndDeclines (profile : Profile) (G : VerifyFn) (info0 info1 : Option (List ℕ))
     (tree0 tree1 : Option (Option (List ℕ))) (finding : Finding) : Type 0 where
   pub info_bytes : List ℕ

@@ -7,8 +7,8 @@ use Rattle.mls_check.specs.declared.receipts.ReceiptsFault.TheVariants as faults
 use Rattle.mls_report.specs.declared.verdict.Verdict.{Verdict}
 use Rattle.mls_report.specs.declared.verdict.Verdict.TheVariants.{No}
 
--- `receipts_line fault` is this line. It has the number of the first line without a digest, or says that the file is
--- too long. OutOfMemory has no line.
+-- `receipts_line fault` is the line of a receipts file that cannot be read. It has the number of the first line without a
+-- digest, or says that the file is too long. OutOfMemory has no line.
 abbrev pub receipts_line : ReceiptsFault → List ℕ
 receipts_line (faults.BadLine line) = codes "receipts unreadable " ++ (decimal line ++ codes "\n")
 receipts_line faults.TooLong = codes "receipts unreadable TooLong\n"

@@ -1,6 +1,6 @@
 -- The leaves that the Adds of a commit's list add, in walks along the list and along these leaves.
-use Rattle.std.proofs.Common.{◌≡◌, ◌≢◌, ◌∙◌, ℕ, zero, suc, ◌+◌, ◌<◌, ◌≤◌, List, [], ◌∷◌, ◌++◌, map, take, drop, get_or, length, Bool, true, false, cond, not, Option, Some, None, refl, sym, ap, subst, arith, append_assoc, append-nil}
-use Rattle.std.specs.Prelude.{⊤, IfSome, option_map, option_and_then, slice_get, codes, ◌==◌}
+use Rattle.std.proofs.Common.{◌≡◌, ◌≢◌, ◌∙◌, ℕ, zero, suc, ◌+◌, ◌<◌, ◌≤◌, List, [], ◌∷◌, ◌++◌, take, drop, get_or, length, Bool, true, false, cond, Option, Some, None, refl, sym, ap, subst, arith, append_assoc, append-nil, length-append}
+use Rattle.std.specs.Prelude.{IfSome, option_map, option_and_then, slice_get, codes}
 use Rattle.std.specs.Borrow.{Bor}
 use Rattle.std.specs.Ordering.{nat_cmp}
 use Rattle.std.specs.Cmp.{unsigned_ties}
@@ -11,7 +11,7 @@ use Rattle.std.specs.BTreeSet as set
 use Rattle.std.proofs.lemmas.Bool.{eqb-true, eqb-false, false≢true}
 use Rattle.std.proofs.lemmas.List.{take_more, take_all, drop_all, map-append}
 use Rattle.std.proofs.lemmas.Option.{same_Some, none-some}
-use Rattle.mls_wire.specs.Encoding.{◌⊕◌, number, vector}
+use Rattle.mls_wire.specs.Encoding.{◌⊕◌}
 use Rattle.mls_nodes.specs.declared.leaf.LeafNode.{LeafNode}
 use Rattle.mls_nodes.specs.declared.leaf_source.LeafSource.{LeafSource}
 use Rattle.mls_nodes.specs.declared.leaf_source.LeafSource.TheVariants as sources
@@ -20,20 +20,18 @@ use Rattle.mls_nodes.specs.Layout.{unsigned_leaf}
 use Rattle.mls_tree.specs.Tree.{Tree, leaf_at}
 use Rattle.mls_msgs.specs.declared.framed_content.Sender.{Sender}
 use Rattle.mls_msgs.specs.declared.key_package.KeyPackage.{KeyPackage}
-use Rattle.mls_msgs.specs.declared.proposal.Proposal.{Proposal}
 use Rattle.mls_msgs.specs.declared.proposal.Proposal.TheVariants as proposals
 use Rattle.mls_msgs.specs.declared.proposal.ProposalOrRef.{ProposalOrRef}
 use Rattle.mls_msgs.specs.declared.proposal.ProposalOrRef.TheVariants as entries
 use Rattle.mls_apply.specs.declared.list_item.KnownProposal.{KnownProposal}
 use Rattle.mls_apply.specs.declared.list_item.ListItem.{ListItem}
 use Rattle.mls_apply.specs.ResolvedList.{resolved, with_first, entry_item, item_of, find_known}
-use Rattle.mls_apply.specs.AppliedList.{AppliedTree, applied_tree, outcome, new_members, added_to}
+use Rattle.mls_apply.specs.AppliedList.{applied_tree, outcome, new_members, added_to}
 use Rattle.mls_apply.specs.Outline.{IsApart, AreAt, IsOutline}
 use Rattle.mls_apply.proofs.Adding.{no_add, same_members}
 use Rattle.mls_apply.proofs.Updating.{next_item}
 use Rattle.mls_apply.proofs.AddedLeaves.{outcome_members}
-use Rattle.mls_check.specs.Signatures.{sign_content}
-use Rattle.mls_signatures.specs.AddedLeaves.{reference_of, reference_at, leaf_of, leaf_in, NamesAre, HasNames, indices, leaf_nodes, name_of, AreAdded, IsNamedBy, AreNamedBy, AreNamedAlike, IsAfter, IsMapOf, added_signatures, is_from_key_package, HaveOneName, IsRepeat, Extends}
+use Rattle.mls_signatures.specs.AddedLeaves.{reference_of, reference_at, leaf_of, leaf_in, NamesAre, HasNames, indices, leaf_nodes, name_of, AreAdded, IsNamedBy, AreNamedBy, AreNamedAlike, IsAfter, IsMapOf, added_signatures, is_from_key_package, IsRepeat, Extends}
 use Rattle.mls_signatures.specs.SignaturesToVerify.{labeled_signatures, leaf_signatures, non_blank_leaf_signatures, signatures_at}
 use Rattle.mls_signatures.specs.declared.added_leaves.AddedLeaf.{AddedLeaf}
 use Rattle.mls_signatures.specs.declared.signature_to_verify.SignatureToVerify.{SignatureToVerify}
@@ -55,28 +53,32 @@ reference_past (x ∷ xs) (suc i) past = reference_past xs i (omega arith)
 abbrev leaf_known : List KnownProposal → List ℕ → Option LeafNode
 leaf_known known r = option_and_then (λ (x : ListItem). leaf_of x.proposal) (option_map item_of (find_known known r))
 
+entry_named : (committer : Sender) (known : List KnownProposal) (y : ProposalOrRef) (it : ListItem) (r : List ℕ) → entry_item committer known y ≡ Some it → reference_of y ≡ Some r
+    → leaf_known known r ≡ leaf_of it.proposal
+entry_named committer known (entries.Proposal p) it r is at = absurd (none-some r at)
+entry_named committer known (entries.Reference s) it r is at =
+    ap (λ n. option_and_then (λ (z : ListItem). leaf_of z.proposal) (option_map item_of (find_known known n))) (sym (same_Some s r at))
+    ∙ ap (option_and_then (λ (z : ListItem). leaf_of z.proposal)) is
+
+names_more : (committer : Sender) (known : List KnownProposal) (x : ProposalOrRef) (xs : List ProposalOrRef) (it : ListItem) (more : List ListItem)
+    → entry_item committer known x ≡ Some it → NamesAre (leaf_known known) xs more → NamesAre (leaf_known known) (x ∷ xs) (it ∷ more)
+names_more committer known x xs it more is rest zero r at = entry_named committer known x it r is at
+names_more committer known x xs it more is rest (suc i) r at = rest i r at
+
+names_first : (committer : Sender) (known : List KnownProposal) (x : ProposalOrRef) (xs : List ProposalOrRef) (items : List ListItem) (o : Option ListItem) (p : Option (List ListItem))
+    → entry_item committer known x ≡ o → ((more : List ListItem) → p ≡ Some more → NamesAre (leaf_known known) xs more) → with_first o p ≡ Some items
+    → NamesAre (leaf_known known) (x ∷ xs) items
+names_first committer known x xs items None p is rest f = absurd (none-some items f)
+names_first committer known x xs items (Some it) None is rest f = absurd (none-some items f)
+names_first committer known x xs items (Some it) (Some more) is rest f =
+    subst (λ ys. NamesAre (leaf_known known) (x ∷ xs) ys) (same_Some (it ∷ more) items f) (names_more committer known x xs it more is (rest more refl))
+
 names_resolved : (committer : Sender) (known : List KnownProposal) (es : List ProposalOrRef) (items : List ListItem)
     → resolved committer known es ≡ Some items → NamesAre (leaf_known known) es items
 names_resolved committer known [] items e = λ i r at. absurd (none-some r at)
-names_resolved committer known (x ∷ xs) items e = go (entry_item committer known x) (resolved committer known xs) refl refl e
-  where
-    first : (y : ProposalOrRef) (it : ListItem) (r : List ℕ) → entry_item committer known y ≡ Some it → reference_of y ≡ Some r → leaf_known known r ≡ leaf_of it.proposal
-    first (entries.Proposal p) it r is at = absurd (none-some r at)
-    first (entries.Reference s) it r is at =
-        ap (λ n. option_and_then (λ (z : ListItem). leaf_of z.proposal) (option_map item_of (find_known known n))) (sym (same_Some s r at))
-        ∙ ap (option_and_then (λ (z : ListItem). leaf_of z.proposal)) is
-
-    go : (o : Option ListItem) (p : Option (List ListItem)) → entry_item committer known x ≡ o → resolved committer known xs ≡ p → with_first o p ≡ Some items
-        → NamesAre (leaf_known known) (x ∷ xs) items
-    go None p is rest f = absurd (none-some items f)
-    go (Some it) None is rest f = absurd (none-some items f)
-    go (Some it) (Some more) is rest f =
-        subst (λ ys. NamesAre (leaf_known known) (x ∷ xs) ys) (same_Some (it ∷ more) items f) (each it more is rest)
-      where
-        each : (it : ListItem) (more : List ListItem) → entry_item committer known x ≡ Some it → resolved committer known xs ≡ Some more
-            → (i : ℕ) (r : List ℕ) → reference_at (x ∷ xs) i ≡ Some r → leaf_known known r ≡ leaf_in (it ∷ more) i
-        each it more is rest zero r at = first x it r is at
-        each it more is rest (suc i) r at = names_resolved committer known xs more rest i r at
+names_resolved committer known (x ∷ xs) items e =
+    names_first committer known x xs items (entry_item committer known x) (resolved committer known xs) refl
+    (λ more rest. names_resolved committer known xs more rest) e
 
 pub resolved_names : (committer : Sender) (known : List KnownProposal) (es : List ProposalOrRef) (items : List ListItem)
     → resolved committer known es ≡ Some items → HasNames es items
@@ -111,12 +113,8 @@ module _ (es : List ProposalOrRef) (items : List ListItem) (added : List ℕ) wh
   module _ (enough : length added ≡ length (new_members items)) where
     counted : (i position : ℕ) (leaves : List AddedLeaf) → Collecting i position leaves
         → length leaves + length (new_members (drop i items)) ≡ length added
-    counted i position leaves k = omega (arith, length-parts (leaf_nodes leaves) (new_members (drop i items)), ap length k.nodes, length-nodes leaves, enough)
+    counted i position leaves k = omega (arith, length-append (leaf_nodes leaves) (new_members (drop i items)), ap length k.nodes, length-nodes leaves, enough)
       where
-        length-parts : {X : Type 0} (xs ys : List X) → length (xs ++ ys) ≡ length xs + length ys
-        length-parts [] ys = refl
-        length-parts (x ∷ xs) ys = omega (arith, length-parts xs ys)
-
         length-nodes : (xs : List AddedLeaf) → length (leaf_nodes xs) ≡ length xs
         length-nodes [] = refl
         length-nodes (x ∷ xs) = ap (λ n. suc n) (length-nodes xs)
@@ -348,7 +346,6 @@ module _ (suite : ℕ) (group_id : List ℕ) where
       ap (λ p. labeled_signatures suite x.signature_key (codes "MLS 1.0 LeafNodeTBS") (unsigned_leaf x ⊕ p) x.signature) (go x.source e)
     where
       go : (s : LeafSource) → is_from_key_package s ≡ true → tbs_suffix s group_id i ≡ tbs_suffix s group_id j
-      unfolding tbs_suffix
       go (sources.KeyPackage l) e = refl
       go sources.Update e = absurd (false≢true e)
       go (sources.Commit h) e = absurd (false≢true e)

@@ -1,7 +1,6 @@
 -- Signatures that are left out of a list, since an equal one is in it.
 use Rattle.std.proofs.Common.{◌≡◌, ◌∙◌, ℕ, List, [], ◌∷◌, ◌++◌, Bool, true, false, cond, not, refl, sym, ap, append_assoc, append-nil}
 use Rattle.std.specs.Prelude.{◌==◌, ◌&&◌, ◌||◌, ⊤}
-use Rattle.std.specs.List.{list_any}
 use Rattle.std.proofs.lemmas.Bool.{eq-eqb}
 use Rattle.std.proofs.lemmas.List.Folds.{list_any-append}
 use Rattle.std.proofs.lemmas.Slice.Eq.{bytes_eq-Decides}
@@ -48,24 +47,24 @@ all_itself (q ∷ qs) = (ap (λ b. b || is_met qs q) (same_itself q), all_behind
 
 -- ---- without duplicates
 
+kept_one : (r q w : SignatureToVerify) → is_same r q ≡ false → (kept ws : List SignatureToVerify) → is_met kept q ≡ is_met ws q → (b : Bool) → is_same r w ≡ b
+    → is_met (cond (not b) (w ∷ kept) kept) q ≡ (is_same w q || is_met ws q)
+kept_one r q w apart kept ws same true e = same ∙ ap (λ b. b || is_met ws q) (sym (ap (λ v. is_same v q) (sym (same_is r w e)) ∙ apart))
+kept_one r q w apart kept ws same false e = ap (λ b. is_same w q || b) same
+
 kept_met : (r q : SignatureToVerify) → is_same r q ≡ false → (ws : List SignatureToVerify) → is_met (without r ws) q ≡ is_met ws q
 kept_met r q apart [] = refl
-kept_met r q apart (w ∷ ws) = go (is_same r w) refl
-  where
-    go : (b : Bool) → is_same r w ≡ b → is_met (cond (not b) (w ∷ without r ws) (without r ws)) q ≡ (is_same w q || is_met ws q)
-    go true e =
-        kept_met r q apart ws
-        ∙ ap (λ b. b || is_met ws q) (sym (ap (λ v. is_same v q) (sym (same_is r w e)) ∙ apart))
-    go false e = ap (λ b. is_same w q || b) (kept_met r q apart ws)
+kept_met r q apart (w ∷ ws) = kept_one r q w apart (without r ws) ws (kept_met r q apart ws) (is_same r w) refl
 
 -- what is in a list is in it without its duplicates
+met_behind_one : (r q : SignatureToVerify) (rs : List SignatureToVerify) → is_met (deduplicated rs) q ≡ is_met rs q → (b : Bool) → is_same r q ≡ b
+    → (b || is_met (without r (deduplicated rs)) q) ≡ (b || is_met rs q)
+met_behind_one r q rs same true e = refl
+met_behind_one r q rs same false e = kept_met r q e (deduplicated rs) ∙ same
+
 met_deduplicated : (ws : List SignatureToVerify) (q : SignatureToVerify) → is_met (deduplicated ws) q ≡ is_met ws q
 met_deduplicated [] q = refl
-met_deduplicated (r ∷ rs) q = go (is_same r q) refl
-  where
-    go : (b : Bool) → is_same r q ≡ b → (b || is_met (without r (deduplicated rs)) q) ≡ (b || is_met rs q)
-    go true e = refl
-    go false e = kept_met r q e (deduplicated rs) ∙ met_deduplicated rs q
+met_deduplicated (r ∷ rs) q = met_behind_one r q rs (met_deduplicated rs q) (is_same r q) refl
 
 -- what is appended to lists that are alike
 pub deduplicated-behind : (xs ys qs : List SignatureToVerify) → deduplicated xs ≡ deduplicated ys → deduplicated (xs ++ qs) ≡ deduplicated (ys ++ qs)

@@ -128,6 +128,6 @@ pub record IsRepeat (xs : List AddedLeaf) (i : ℕ) : Type 0 where
   pub named : HaveOneName there here
   pub source : is_from_key_package here.leaf.now.source ≡ true
 
--- `Extends old qs new`: without duplicates, `new` is `old` with `qs` behind it.
+-- `Extends old qs new`: without duplicates, `new` is `old` followed by `qs`.
 abbrev pub Extends : List SignatureToVerify → List SignatureToVerify → List SignatureToVerify → Type 0
 Extends old qs new = deduplicated new ≡ deduplicated (old ++ qs)

@@ -40,57 +40,62 @@ use Rattle.mls_signatures.specs.declared.signature_to_verify.SignatureToVerify.{
 
 -- ---- the signature of one thing that is signed, if it has one
 
--- the signature over a SignContent (5.1.2); none if there is no SignContent
+-- `sign_content_signatures suite key signature content` is the signature over a SignContent (RFC 9420, 5.1.2). Empty if there
+-- is no SignContent.
 abbrev pub sign_content_signatures : ℕ → List ℕ → List ℕ → Option (List ℕ) → List SignatureToVerify
 sign_content_signatures suite key signature None = []
 sign_content_signatures suite key signature (Some content) =
     record { suite = suite; key = key; content = content; signature = signature } ∷ []
 
--- the signature over bytes under a label (5.1.2); none if the bytes, or their SignContent, have no encoding
+-- `labeled_signatures suite key label tbs signature` is the signature over `tbs` under a label (RFC 9420, 5.1.2). Empty if
+-- `tbs` or its SignContent has no encoding.
 abbrev pub labeled_signatures : ℕ → List ℕ → List ℕ → Option (List ℕ) → List ℕ → List SignatureToVerify
 labeled_signatures suite key label None signature = []
 labeled_signatures suite key label (Some tbs) signature =
     sign_content_signatures suite key signature (sign_content label tbs)
 
--- the signature of the leaf node at leaf index i (7.2)
+-- `leaf_signatures suite group_id i x` is the signature of the leaf node `x` at leaf index i (RFC 9420, 7.2).
 abbrev pub leaf_signatures : ℕ → List ℕ → ℕ → LeafNode → List SignatureToVerify
 leaf_signatures suite group_id i x =
     labeled_signatures suite x.signature_key (codes "MLS 1.0 LeafNodeTBS")
     (leaf_tbs x group_id i) x.signature
 
--- the signature of a KeyPackage (10.1)
+-- `package_signatures suite k` is the signature of a KeyPackage (RFC 9420, 10.1).
 abbrev pub package_signatures : ℕ → KeyPackage → List SignatureToVerify
 package_signatures suite k =
     labeled_signatures suite k.leaf_node.signature_key package_label (package_tbs k) k.signature
 
--- the signature of an AuthenticatedContent under this key. The group's context is signed too, as the sender demands (6.1)
+-- `framed_content_signatures context key a` is the signature of an AuthenticatedContent under a key. `signed_context` says
+-- whether the GroupContext is signed too (RFC 9420, 6.1).
 abbrev pub framed_content_signatures : GroupContext → List ℕ → AuthenticatedParts → List SignatureToVerify
 framed_content_signatures context key a =
     labeled_signatures context.cipher_suite key content_label
     (content_tbs a (signed_context context a.content.sender)) a.signature
 
--- the signature of a GroupInfo, under the key of its signer's leaf (12.4.3); none if that leaf is blank
+-- `info_signatures info x` is the signature of a GroupInfo under the key of its signer's leaf `x` (RFC 9420, 12.4.3). Empty if
+-- the leaf is blank.
 abbrev pub info_signatures : GroupInfo → Option LeafNode → List SignatureToVerify
 info_signatures info None = []
 info_signatures info (Some x) =
     labeled_signatures info.context.cipher_suite x.signature_key info_label
     (info_tbs info) info.signature
 
--- ---- those of the leaves of a tree
+-- ---- the signatures of the leaves of a tree
 
--- the signature of the leaf at leaf index i; none if it is blank
+-- `non_blank_leaf_signatures suite group_id i x` is the signature of the leaf at leaf index i. Empty if the leaf is blank.
 abbrev pub non_blank_leaf_signatures : ℕ → List ℕ → ℕ → Option LeafNode → List SignatureToVerify
 non_blank_leaf_signatures suite group_id i None = []
 non_blank_leaf_signatures suite group_id i (Some x) = leaf_signatures suite group_id i x
 
--- the signatures of all leaves, from left to right, of a tree whose first leaf has the leaf index `first`
+-- `tree_signatures suite group_id first t` is the signatures of all leaves of a tree whose first leaf is `first`, from left to
+-- right.
 abbrev pub tree_signatures : ℕ → List ℕ → ℕ → Tree → List SignatureToVerify
 tree_signatures suite group_id first (leaf x) = non_blank_leaf_signatures suite group_id first x
 tree_signatures suite group_id first (branch l _ r) =
     tree_signatures suite group_id first l ++
     tree_signatures suite group_id (first + leaf_count l) r
 
--- the signatures of the leaves of a tree at these leaf indices, in their order
+-- `signatures_at suite group_id t js` is the signatures of the leaves at the leaf indices `js`, in this order.
 abbrev pub signatures_at : ℕ → List ℕ → Tree → List ℕ → List SignatureToVerify
 signatures_at suite group_id t [] = []
 signatures_at suite group_id t (j ∷ js) =
@@ -98,33 +103,34 @@ signatures_at suite group_id t (j ∷ js) =
 
 -- ---- without duplicates
 
--- whether two are equal
+-- `is_same a b`: the two signatures are equal, with their suites, keys and contents.
 abbrev pub is_same : SignatureToVerify → SignatureToVerify → Bool
 is_same a b =
     a.suite == b.suite && bytes_eq a.key b.key && bytes_eq a.content b.content
     && bytes_eq a.signature b.signature
 
--- those that are not equal to this one
+-- `without a qs` is the signatures of `qs` that are not equal to `a`.
 abbrev pub without : SignatureToVerify → List SignatureToVerify → List SignatureToVerify
 without a qs = filter (λ q. not (is_same a q)) qs
 
--- the list without those that are equal to an earlier one, in its order
+-- `deduplicated qs` is the list without the signatures that are equal to an earlier one.
 abbrev pub deduplicated : List SignatureToVerify → List SignatureToVerify
 deduplicated [] = []
 deduplicated (q ∷ qs) = q ∷ without q (deduplicated qs)
 
--- ---- those of a start (12.4.3.1)
+-- ---- the signatures of a start (RFC 9420, 12.4.3.1)
 
--- whether the version and the cipher suite of a context are supported (17.1)
+-- `is_supported_context context`: the version and the cipher suite of the context are supported (RFC 9420, 6 and 17.1).
 abbrev pub is_supported_context : GroupContext → Bool
 is_supported_context context =
     context.version == 1 && nat_le 1 context.cipher_suite && nat_le context.cipher_suite 7
 
--- whether those of the context of a GroupInfo are
+-- `is_supported info`: the version and the cipher suite of the GroupInfo's context are supported.
 abbrev pub is_supported : GroupInfo → Bool
 is_supported info = is_supported_context info.context
 
--- the GroupInfo's, then each leaf's from left to right; none if the version or the cipher suite isn't supported
+-- `all_start_signatures info t` is the signature of the GroupInfo, then each leaf's from left to right. Empty if the version or
+-- the cipher suite is not supported.
 abbrev pub all_start_signatures : GroupInfo → Tree → List SignatureToVerify
 all_start_signatures info t =
     if is_supported info
@@ -132,18 +138,20 @@ all_start_signatures info t =
     tree_signatures info.context.cipher_suite info.context.group_id 0 t
     else []
 
--- the signatures of a start, without duplicates
+-- `start_signatures info t` is the signatures of a start from a GroupInfo and a tree, without duplicates.
 abbrev pub start_signatures : GroupInfo → Tree → List SignatureToVerify
 start_signatures info t = deduplicated (all_start_signatures info t)
 
--- ---- those of proposals (12.1)
+-- ---- the signatures of proposals (RFC 9420, 12.1)
 
--- of an Update the new leaf's, at the index of the member that sends it; none if no member sends it
+-- `update_signatures context sender x` is the signature of the leaf node of an Update, at the leaf index of its sender
+-- (RFC 9420, 7.2 and 12.1.2). Empty if the sender is no member.
 abbrev pub update_signatures : GroupContext → Option ℕ → LeafNode → List SignatureToVerify
 update_signatures context None x = []
 update_signatures context (Some i) x = leaf_signatures context.cipher_suite context.group_id i x
 
--- of an Add of this sender the leaf's, then the KeyPackage's; of an Update the leaf's; of other proposals none
+-- `proposal_signatures context sender p` is the signatures of a proposal. An Add has those of its leaf node and of its
+-- KeyPackage (RFC 9420, 12.1.1), an Update that of its leaf node (12.1.2), other proposals have none.
 abbrev pub proposal_signatures : GroupContext → Sender → Proposal → List SignatureToVerify
 proposal_signatures context sender (proposals.Add k) =
     leaf_signatures context.cipher_suite context.group_id 0 k.leaf_node ++
@@ -155,62 +163,64 @@ proposal_signatures context sender (proposals.PreSharedKey _) = []
 proposal_signatures context sender (proposals.ReInit _) = []
 proposal_signatures context sender (proposals.ExternalInit _) = []
 
--- of an entry of a proposal list: those of a proposal by value; of a reference none
+-- `entry_signatures context committer e` is the signatures of an entry that is a proposal by value (RFC 9420, 12.4). Empty for
+-- a reference.
 abbrev pub entry_signatures : GroupContext → Sender → ProposalOrRef → List SignatureToVerify
 entry_signatures context committer (entries.Proposal p) = proposal_signatures context committer p
 entry_signatures context committer (entries.Reference _) = []
 
--- of pending proposals, in their order
+-- `pending_signatures context known` is the signatures of the pending proposals, in their order.
 abbrev pub pending_signatures : GroupContext → List KnownProposal → List SignatureToVerify
 pending_signatures context [] = []
 pending_signatures context (k ∷ ks) =
     proposal_signatures context k.sender k.proposal ++ pending_signatures context ks
 
--- of the entries of a proposal list, in their order
+-- `entries_signatures context committer es` is the signatures of the entries of a Commit, in their order.
 abbrev pub entries_signatures : GroupContext → Sender → List ProposalOrRef → List SignatureToVerify
 entries_signatures context committer [] = []
 entries_signatures context committer (e ∷ es) =
     entry_signatures context committer e ++ entries_signatures context committer es
 
--- ---- those of resuming in a state with this context, this tree and these pending proposals (own rule)
+-- ---- the signatures of a resumption, in a state with a context, a tree and pending proposals (own rule)
 
--- each leaf's from left to right, then those of the pending proposals; none if the version or the cipher suite isn't
--- supported
+-- `all_resumption_signatures context t known` is each leaf's signature from left to right, then those of the pending
+-- proposals. Empty if the version or the cipher suite is not supported.
 abbrev pub all_resumption_signatures : GroupContext → Tree → List KnownProposal → List SignatureToVerify
 all_resumption_signatures context t ks =
     if is_supported_context context
     then tree_signatures context.cipher_suite context.group_id 0 t ++ pending_signatures context ks
     else []
 
--- the signatures of a resumption, without duplicates
+-- `resumption_signatures context t known` is the signatures of a resumption, without duplicates.
 abbrev pub resumption_signatures : GroupContext → Tree → List KnownProposal → List SignatureToVerify
 resumption_signatures context t ks = deduplicated (all_resumption_signatures context t ks)
 
--- ---- those of the leaves that a commit adds or replaces (7.3, 12.4.2)
+-- ---- the signatures of the leaves that a commit adds or replaces (RFC 9420, 7.3 and 12.4.2)
 
--- an index before others, if there is one
+-- `index_before j js` is the index `j`, if there is one, followed by `js`.
 abbrev pub index_before : Option ℕ → List ℕ → List ℕ
 index_before None js = js
 index_before (Some j) js = j ∷ js
 
--- the leaves that the Updates of a list replace, in its order
+-- `replaced_leaves items` is the leaf indices that the Updates of a list replace, in the order of the list.
 abbrev pub replaced_leaves : List ListItem → List ℕ
 replaced_leaves [] = []
 replaced_leaves (x ∷ xs) =
     index_before (replaced_leaf x.sender x.proposal) (replaced_leaves xs)
 
--- the leaves that a proposal list adds or replaces: the replaced ones, then the added ones
+-- `new_leaves items g` is the leaf indices that a proposal list replaces, then those that it adds.
 abbrev pub new_leaves : List ListItem → AppliedTree → List ℕ
 new_leaves items g = replaced_leaves items ++ g.added
 
--- the signature of the leaf of an UpdatePath of member i; none without a path
+-- `path_signatures context i path` is the signature of the leaf node of an UpdatePath of member i (RFC 9420, 7.6). Empty without
+-- a path.
 abbrev pub path_signatures : GroupContext → ℕ → Option UpdatePath → List SignatureToVerify
 path_signatures context i None = []
 path_signatures context i (Some path) =
     leaf_signatures context.cipher_suite context.group_id i path.leaf_node
 
--- of the leaves that a list adds or replaces, in the tree after it, then of the path's leaf; none if no tree is after the
--- list
+-- `applied_list_signatures context i path items g` is the signatures of the leaves that a list replaces or adds, as they are in
+-- the tree after the list, then that of the path's leaf node. Empty if there is no such tree.
 abbrev pub applied_list_signatures : GroupContext → ℕ → Option UpdatePath → List ListItem → Option AppliedTree
     → List SignatureToVerify
 applied_list_signatures context i path items None = []
@@ -218,10 +228,10 @@ applied_list_signatures context i path items (Some g) =
     signatures_at context.cipher_suite context.group_id g.tree (new_leaves items g) ++
     path_signatures context i path
 
--- ---- those of a message of a group with this context, these pending proposals and this tree
+-- ---- the signatures of a message, for a context, pending proposals and a tree
 
--- of a commit of member i those of its proposals by value, then those of the leaves that it adds or replaces; none if a
--- reference is unknown
+-- `commit_signatures context t i c items` is the signatures of a Commit of member i with the proposal list `items`. They are
+-- those of its proposals by value, then those of the leaves that it replaces or adds. Empty if a reference is unknown.
 abbrev pub commit_signatures : GroupContext → Tree → ℕ → Commit → Option (List ListItem)
     → List SignatureToVerify
 commit_signatures context t i c None = []
@@ -229,8 +239,8 @@ commit_signatures context t i c (Some items) =
     entries_signatures context (senders.Member i) c.proposals ++
     applied_list_signatures context i c.path items (outcome items t)
 
--- of what member i, whose leaf is x, has sent: the message's own, then those of the proposal or the commit; of application
--- data none
+-- `content_signatures context known t a i x content` is the signatures of what member i, whose leaf is `x`, has sent. They are
+-- that of the message, then those of the proposal or the Commit. Application data has none.
 abbrev pub content_signatures : GroupContext → List KnownProposal → Tree → AuthenticatedParts → ℕ → LeafNode
     → Content → List SignatureToVerify
 content_signatures context known t a i x (contents.Application _) = []
@@ -240,14 +250,14 @@ content_signatures context known t a i x (contents.Commit c) =
     framed_content_signatures context x.signature_key a
     ++ commit_signatures context t i c (resolved (senders.Member i) known c.proposals)
 
--- of what member i has sent; none if its leaf is blank
+-- `member_signatures context known t a i x` is the signatures of what member i has sent. Empty if its leaf `x` is blank.
 abbrev pub member_signatures : GroupContext → List KnownProposal → Tree → AuthenticatedParts → ℕ
     → Option LeafNode → List SignatureToVerify
 member_signatures context known t a i None = []
 member_signatures context known t a i (Some x) = content_signatures context known t a i x a.content.content
 
--- of a proposal that a sender outside the group has sent under this key: the message's own, then those of the proposal; none
--- if the sender may not send it
+-- `outside_proposal_signatures context a sender key p` is the signatures of a proposal of a sender outside the group: that of
+-- the message under the sender's key, then those of the proposal. Empty if the sender may not send it (RFC 9420, 12.1.8).
 abbrev pub outside_proposal_signatures : GroupContext → AuthenticatedParts → Sender → List ℕ → Proposal
     → List SignatureToVerify
 outside_proposal_signatures context a sender key p =
@@ -255,7 +265,8 @@ outside_proposal_signatures context a sender key p =
     then framed_content_signatures context key a ++ proposal_signatures context sender p
     else []
 
--- of what such a sender has sent; none if it is no proposal
+-- `outside_content_signatures context a sender key content` is the signatures of what a sender outside the group has sent under
+-- a key. Empty if the content is no proposal.
 abbrev pub outside_content_signatures : GroupContext → AuthenticatedParts → Sender → List ℕ → Content
     → List SignatureToVerify
 outside_content_signatures context a sender key (contents.Application _) = []
@@ -263,44 +274,46 @@ outside_content_signatures context a sender key (contents.Proposal p) =
     outside_proposal_signatures context a sender key p
 outside_content_signatures context a sender key (contents.Commit _) = []
 
--- of what a sender outside the group has sent, if it has a key
+-- `outside_signatures context a sender key` is the signatures of what a sender outside the group has sent. Empty without a key.
 abbrev pub outside_signatures : GroupContext → AuthenticatedParts → Sender → Option (List ℕ) → List SignatureToVerify
 outside_signatures context a sender None = []
 outside_signatures context a sender (Some key) = outside_content_signatures context a sender key a.content.content
 
--- of a client that joins with a commit, its path's leaf, at the leaf that it takes in the tree after the list (12.4.3.2); none
--- if no tree is after the list
+-- `seated_signatures context path g` is the signature of the path's leaf node of a client that joins with a commit, at the leaf
+-- index that it takes in the tree after the list (RFC 9420, 12.4.3.2). Empty if there is no such tree.
 abbrev pub seated_signatures : GroupContext → UpdatePath → Option AppliedTree → List SignatureToVerify
 seated_signatures context path None = []
 seated_signatures context path (Some g) =
     leaf_signatures context.cipher_suite context.group_id (added_leaf g.tree) path.leaf_node
 
--- of this external commit with this path that leaf's; none if its list is not one of an external commit
+-- `join_list_signatures context t c path` is the signature of the path's leaf node of an external commit. Empty if its list is
+-- not one of an external commit (RFC 9420, 12.4.3.2).
 abbrev pub join_list_signatures : GroupContext → Tree → Commit → UpdatePath → List SignatureToVerify
 join_list_signatures context t c path =
     if is_join_list c.proposals
     then seated_signatures context path (outcome (join_items c.proposals) t)
     else []
 
--- of an external commit with this path: the message's own, under the key of the path's leaf, then that of the leaf; none
--- without a path
+-- `join_signatures context t a c path` is the signatures of an external commit: that of the message under the key of the path's
+-- leaf node, then that of the leaf node. Empty without a path.
 abbrev pub join_signatures : GroupContext → Tree → AuthenticatedParts → Commit → Option UpdatePath → List SignatureToVerify
 join_signatures context t a c None = []
 join_signatures context t a c (Some path) =
     framed_content_signatures context path.leaf_node.signature_key a ++ join_list_signatures context t c path
 
--- of what a client that joins with a commit has sent; none if it is no commit
+-- `join_content_signatures context t a content` is the signatures of what a client that joins with a commit has sent. Empty if
+-- the content is no Commit.
 abbrev pub join_content_signatures : GroupContext → Tree → AuthenticatedParts → Content → List SignatureToVerify
 join_content_signatures context t a (contents.Application _) = []
 join_content_signatures context t a (contents.Proposal _) = []
 join_content_signatures context t a (contents.Commit c) = join_signatures context t a c c.path
 
--- these in the full profile; none in the members' profile
+-- `in_full profile qs` is the signatures `qs` in the full profile. Empty in the members' profile (own rule).
 abbrev pub in_full : Profile → List SignatureToVerify → List SignatureToVerify
 in_full Members qs = []
 in_full Full qs = qs
 
--- of what a sender has sent
+-- `sender_signatures profile context known t a sender` is the signatures of what a sender has sent (RFC 9420, 6).
 abbrev pub sender_signatures : Profile → GroupContext → List KnownProposal → Tree → AuthenticatedParts → Sender
     → List SignatureToVerify
 sender_signatures profile context known t a (senders.Member i) = member_signatures context known t a i (leaf_at 0 t i)
@@ -313,7 +326,8 @@ sender_signatures profile context known t a senders.NewMemberProposal =
 sender_signatures profile context known t a senders.NewMemberCommit =
     in_full profile (join_content_signatures context t a a.content.content)
 
--- of an AuthenticatedContent; none if it is of another group or epoch (6.1)
+-- `authenticated_signatures profile context known t a` is the signatures of an AuthenticatedContent. Empty if it is of another
+-- group or epoch (RFC 9420, 6.1).
 abbrev pub authenticated_signatures : Profile → GroupContext → List KnownProposal → Tree → AuthenticatedParts
     → List SignatureToVerify
 authenticated_signatures profile context known t a =
@@ -321,7 +335,8 @@ authenticated_signatures profile context known t a =
     then sender_signatures profile context known t a a.content.sender
     else []
 
--- of a message; none if it is no PublicMessage
+-- `all_message_signatures profile context known t m` is the signatures of a message. Empty if it is no PublicMessage (RFC 9420,
+-- 6.2).
 abbrev pub all_message_signatures : Profile → GroupContext → List KnownProposal → Tree → Message
     → List SignatureToVerify
 all_message_signatures profile context known t (messages.Public m) =
@@ -330,7 +345,7 @@ all_message_signatures profile context known t (messages.Unread _ _) = []
 all_message_signatures profile context known t (messages.GroupInfo _) = []
 all_message_signatures profile context known t (messages.KeyPackage _) = []
 
--- the signatures of a message, without duplicates
+-- `message_signatures profile context known t m` is the signatures of a message, without duplicates.
 abbrev pub message_signatures : Profile → GroupContext → List KnownProposal → Tree → Message
     → List SignatureToVerify
 message_signatures profile context known t m = deduplicated (all_message_signatures profile context known t m)

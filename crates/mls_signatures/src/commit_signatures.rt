@@ -126,9 +126,9 @@ fn push_path_signature(
 
 /// A tree that lacks the leaf nodes of the leaves that a list adds, and these leaves.
 #[derive(Clone, Copy)]
-struct Outline<'a> {
-    tree: &'a PublicTree,
-    leaves: &'a [AddedLeaf<'a>],
+struct Outline<'s, 'a> {
+    tree: &'s PublicTree,
+    leaves: &'s [AddedLeaf<'a>],
 }
 
 /// Appends the signatures of the leaves that the Updates of a list replace, in the tree after it.
@@ -136,7 +136,7 @@ fn push_update_leaf_signatures(
     alloc: Global,
     context: &GroupContext,
     items: &[ListItem],
-    outline: &Outline<'_>,
+    outline: &Outline<'_, '_>,
     list: &mut Vec<SignatureToVerify>,
 ) -> Result<(), OutOfMemory>
     ensures { let suite = context.now.cipher_suite in
@@ -151,7 +151,9 @@ fn push_update_leaf_signatures(
         tree: outline.tree,
         added: &added,
     };
-    push_replaced_leaf_signatures(alloc, context, &after, replaced.as_slice(), list)
+    let answer = push_replaced_leaf_signatures(alloc, context, &after, replaced.as_slice(), list);
+    drop(added);
+    answer
 }
 
 /// Appends the signatures of the leaves that a list replaces or adds, in the tree after it, then that of the leaf of the path.
@@ -159,7 +161,7 @@ fn push_new_leaf_signatures(
     alloc: Global,
     commit: &MemberCommit<'_>,
     items: &[ListItem],
-    outline: &Outline<'_>,
+    outline: &Outline<'_, '_>,
     list: &mut Vec<SignatureToVerify>,
 ) -> Result<(), OutOfMemory>
     requires { AreNamedAlike outline.now.leaves.now }
@@ -211,7 +213,9 @@ fn apply_and_push_signatures(
         tree: tree.tree(),
         leaves: leaves.as_slice(),
     };
-    push_new_leaf_signatures(alloc, commit, items, &outline, list)
+    let answer = push_new_leaf_signatures(alloc, commit, items, &outline, list);
+    drop(leaves);
+    answer
 }
 
 /// Appends the signatures of the leaves that a proposal list adds or replaces, and of the path's leaf, if the list can be

@@ -20,13 +20,13 @@ use std::collections::{BTreeMap, BTreeSet};
 
 /// The tree after a list: a tree that lacks the leaf nodes of its Adds, and these by their leaf indices.
 #[derive(Clone, Copy)]
-pub(crate) struct TreeAfter<'a> {
+pub(crate) struct TreeAfter<'m, 'a> {
     pub(crate) tree: &'a PublicTree,
-    pub(crate) added: &'a BTreeMap<u32, &'a LeafNode>,
+    pub(crate) added: &'m BTreeMap<u32, &'a LeafNode>,
 }
 
 /// Returns the leaf of the tree after a list, if it is non-blank.
-fn leaf_after<'a>(after: &TreeAfter<'a>, index: u32) -> Option<&'a LeafNode>
+fn leaf_after<'a>(after: &TreeAfter<'_, 'a>, index: u32) -> Option<&'a LeafNode>
     ensures { (t : Tree) → IsMapOf t after.now.tree.now.tree after.now.added.now
         → option_copied result ≡ leaf_at 0 t index }
 {
@@ -40,7 +40,7 @@ fn leaf_after<'a>(after: &TreeAfter<'a>, index: u32) -> Option<&'a LeafNode>
 fn push_signature_after(
     alloc: Global,
     context: &GroupContext,
-    after: &TreeAfter<'_>,
+    after: &TreeAfter<'_, '_>,
     index: u32,
     list: &mut Vec<SignatureToVerify>,
 ) -> Result<(), OutOfMemory>
@@ -60,7 +60,7 @@ fn push_signature_after(
 pub(crate) fn push_replaced_leaf_signatures(
     alloc: Global,
     context: &GroupContext,
-    after: &TreeAfter<'_>,
+    after: &TreeAfter<'_, '_>,
     replaced: &[u32],
     list: &mut Vec<SignatureToVerify>,
 ) -> Result<(), OutOfMemory>

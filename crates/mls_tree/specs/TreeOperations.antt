@@ -76,7 +76,7 @@ abbrev pub is_overfilled : ℕ → Option ParentNode → Bool
 is_overfilled i None = false
 is_overfilled i (Some p) = nat_lt leaf_limit (length (insert_number i p.unmerged))
 
--- `is_overfilled_above first t i`: this is so of some parent above leaf i.
+-- `is_overfilled_above first t i`: `is_overfilled` holds of some parent above leaf i.
 abbrev pub is_overfilled_above : ℕ → Tree → ℕ → Bool
 is_overfilled_above first (leaf x) i = false
 is_overfilled_above first (branch l n r) i =

@@ -10,14 +10,14 @@ returns-in_err-write_text-clause-part g c =
     IfErr-is c.from_residual-in_err-write_text.result _ Write (search rules) (record {
       answer = c.take-answer.result;
       new = state_of c.take-answer.new.self;
-      is_answer = let t = c.take-answer.ensures in answered _ _ _ c.take-answer.result _ t.accepted t.next t.refused t.stays (first_of (search rules, grind arith));
+      is_answer = let t = c.take-answer.ensures in answered _ _ _ c.take-answer.result _ t.accepted t.next t.refused t.unchanged_on_error (first_of (search rules, grind arith));
       wrote = search rules;
     })
 
 pub returns-clause-printed : goal.returns-clause-printed
 returns-clause-printed g c = record {
   answer = c.take-answer.result;
-  is_answer = let t = c.take-answer.ensures in answered _ _ _ c.take-answer.result _ t.accepted t.next t.refused t.stays (first_of (search rules, grind arith));
+  is_answer = let t = c.take-answer.ensures in answered _ _ _ c.take-answer.result _ t.accepted t.next t.refused t.unchanged_on_error (first_of (search rules, grind arith));
   counted = search rules;
   wrote = search rules;
 }

@@ -18,7 +18,7 @@ returns-clause-printed g c =
       has_signatures = printed.has_signatures;
       answer = c.take-answer.result;
       is_answer = subst (λ (s : State). IsAnswer all_good s c.args.body.now c.take-answer.result (state_of c.take-answer.new.self))
-          c.in_ok-printed.ensures.state (let t = c.take-answer.ensures in answered _ _ _ c.take-answer.result _ t.accepted t.next t.refused t.stays (first_of (search rules, grind arith)));
+          c.in_ok-printed.ensures.state (let t = c.take-answer.ensures in answered _ _ _ c.take-answer.result _ t.accepted t.next t.refused t.unchanged_on_error (first_of (search rules, grind arith)));
       wrote = subst (Appends _ _) (c.as_str.ensures.value ∙ printed.text_is) c.in_ok-write_text.ensures.all;
       read = printed.read;
     }
@@ -32,6 +32,6 @@ returns-in_err-write_text-clause-part g c =
       answer = c.take-answer.result;
       new = state_of c.take-answer.new.self;
       is_answer = subst (λ (s : State). IsAnswer all_good s c.args.body.now c.take-answer.result (state_of c.take-answer.new.self))
-          c.in_ok-printed.ensures.state (let t = c.take-answer.ensures in answered _ _ _ c.take-answer.result _ t.accepted t.next t.refused t.stays (first_of (search rules, grind arith)));
+          c.in_ok-printed.ensures.state (let t = c.take-answer.ensures in answered _ _ _ c.take-answer.result _ t.accepted t.next t.refused t.unchanged_on_error (first_of (search rules, grind arith)));
       wrote = subst (AppendsPrefix _ _) (c.as_str.ensures.value ∙ printed.text_is) c.in_err-write_text.ensures.part;
     })

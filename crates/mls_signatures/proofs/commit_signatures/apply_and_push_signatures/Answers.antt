@@ -1,6 +1,8 @@
-use Rattle.std.proofs.Common.{◌++◌, ap, refl, subst}
-use Rattle.mls_signatures.specs.AddedLeaves.{Extends}
-use Rattle.mls_signatures.specs.SignaturesToVerify.{applied_list_signatures, path_signatures, replaced_leaves, signatures_at}
+use Rattle.std.proofs.Common.{◌≡◌, ◌∙◌, ◌++◌, ap, refl, subst, sym}
+use Rattle.std.specs.Prelude.{OnOk}
+use Rattle.mls_signatures.specs.AddedLeaves.{Extends, IsAfter, indices, leaf_nodes}
+use Rattle.mls_apply.specs.AppliedList.{new_members}
+use Rattle.mls_signatures.specs.SignaturesToVerify.{path_signatures, replaced_leaves, signatures_at}
 use Rattle.mls_signatures.proofs.AddedLeaves.{outline_after, outline_count}
 use Rattle.mls_signatures.proofs.LeafLists.{outcome_none}
 use Rattle.mls_signatures.proofs.Repeats.{extends-none}
@@ -16,3 +18,28 @@ pub returns-in-Err-TooManyLeaves-clause-signatures : goal.returns-in-Err-TooMany
 returns-in-Err-TooManyLeaves-clause-signatures c =
     let known = rw c.in-Err-TooManyLeaves.field-0-is at c.in-Err-TooManyLeaves.ensures in
     rw ((known.too_many_leaves refl).1) (extends-none c.args.list.now.items)
+
+pub added_leaves-leaves-requires : goal.added_leaves-leaves-requires
+added_leaves-leaves-requires c =
+    rw c.as_slice.ensures (outline_count c.args.items.now c.args.tree.now.tree c.check_list_fits.new.self.tree c.in-Ok.added c.in-Ok.ensures.outline)
+
+pub returns-clause-signatures : goal.returns-clause-signatures
+returns-clause-signatures c =
+    let commit = c.args.commit.now in
+    let context = commit.context.now in
+    let items = c.args.items.now in
+    let added = c.in-Ok.added in
+    let o = c.in-Ok.ensures.outline in
+    let leaves = c.as_slice-2.result.now in
+    let node_indices : indices leaves ≡ added = ap indices c.as_slice-2.ensures.value ∙ c.in_ok-leaves.ensures.indices ∙ c.as_slice.ensures in
+    let nodes : leaf_nodes leaves ≡ new_members items = ap leaf_nodes c.as_slice-2.ensures.value ∙ c.in_ok-leaves.ensures.leaf_nodes in
+    let after : IsAfter o.tree c.tree.result.now.tree leaves =
+    subst (λ u. IsAfter o.tree u leaves) (sym c.tree.ensures) (outline_after items c.args.tree.now.tree c.check_list_fits.new.self.tree added o leaves node_indices nodes) in
+    rw o.is
+    (subst
+    (λ js.
+    OnOk c.push_new_leaf_signatures-answer.result
+    (Extends c.args.list.now.items
+    (signatures_at context.cipher_suite context.group_id o.tree (replaced_leaves items ++ js) ++ path_signatures context commit.committer commit.commit.now.path)
+    c.push_new_leaf_signatures-answer.new.list.items))
+    node_indices (c.push_new_leaf_signatures-answer.ensures o.tree after))

@@ -1,4 +1,4 @@
-use Rattle.std.proofs.Common.{◌≡◌, ◌∙◌, ◌+◌, Bool, ap, not, true, false, refl, sym, subst}
+use Rattle.std.proofs.Common.{◌≡◌, ◌∙◌, ◌+◌, Bool, not, true, false, refl, sym, subst}
 use Rattle.std.proofs.lemmas.Bool.{false≢true}
 use Rattle.mls_signatures.proofs.AddedLeaves.{Walked, walked-start, walked-push, walked-skip, walked-all}
 use Rattle.mls_signatures.proofs.new_leaf_signatures.push_replaced_leaf_signatures.Goals.{then-is_new+in_ok-push_signature_after, else-is_new}

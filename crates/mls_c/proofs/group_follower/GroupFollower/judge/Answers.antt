@@ -7,5 +7,5 @@ pub returns : goal.returns
 returns c =
     let e = c.take-answer.ensures in
     Judges.judges c.take-answer.result (search rules)
-    (record { takes = takes _ _ _ c.take-answer.result _ e.accepted e.next e.refused e.stays; meaning = e.checker; limit = e.too_long; header = e.no_header; unread = e.unread })
+    (record { takes = takes _ _ _ c.take-answer.result _ e.accepted e.next e.refused e.unchanged_on_error; meaning = e.checker; limit = e.too_long; header = e.no_header; unread = e.unread })
     c.judgement_of.ensures c.put_reference.ensures

@@ -22,4 +22,4 @@ returns-in-Public g c =
     let group = c.args.self.now in
     let taken = c.take_frame.ensures in
     rw c.in-Public.is (frame_taken _ (group_state group) group.required group.requires_these c.in-Public.public c.auth.result.now c.auth.ensures.value
-    c.take_frame.result (group_state c.take_frame.new.self) taken.kept taken.next taken.refused taken.stays)
+    c.take_frame.result (group_state c.take_frame.new.self) taken.rules_hold taken.next taken.refused taken.unchanged_on_error)
